@@ -1,0 +1,4 @@
+pub mod Algorithms
+pub mod Bytes
+pub mod DigestFields
+pub mod Salted

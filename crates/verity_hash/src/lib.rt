@@ -1,0 +1,10 @@
+//! The salted hash of the Linux kernel's dm-verity and fs-verity: algorithms, digests, and where the salt goes.
+#![tactic(auto)]
+
+mod algorithm;
+mod digest;
+mod salting;
+
+pub use algorithm::Algorithm;
+pub use digest::Digest;
+pub use salting::{SaltRule, salted};
