@@ -6,21 +6,20 @@ use Rattle.std.proofs.lemmas.Nat.{mod_below}
 use Rattle.verity_hash.specs.Algorithms.{input_block_of}
 use Rattle.verity_hash.specs.declared.algorithm.Algorithm.{Algorithm}
 use Rattle.verity_hash.specs.declared.algorithm.Algorithm.TheVariants.{Sha256, Sha512}
-use Rattle.verity_hash.specs.Bytes.{filled, IsFilled}
+use Rattle.verity_hash.specs.Bytes.{filled, IsHeld}
 
--- 64 zeros with bytes written over their front
-pub IsFilled-front : (bytes front : List ℕ) → front ≡ bytes → 0 < length bytes → length bytes ≤ 64
-    → IsFilled (front ++ drop (length bytes) (replicate 64 0)) (length bytes)
-IsFilled-front bytes front same some most =
-    let rest : drop (length bytes) (replicate 64 0) ≡ replicate (64 - length bytes) 0 = drop-replicate (length bytes) 64 0 in
-    let whole : front ++ drop (length bytes) (replicate 64 0) ≡ filled 64 bytes =
-    ap (λ (xs : List ℕ). xs ++ drop (length bytes) (replicate 64 0)) same ∙ ap (λ (xs : List ℕ). bytes ++ xs) rest in
-    let back : take (length bytes) (filled 64 bytes) ≡ bytes = take_at bytes (replicate (64 - length bytes) 0) (length bytes) refl in
+-- zeros with bytes written over their front
+pub IsHeld-front : (n : ℕ) (bytes front : List ℕ) → front ≡ bytes → length bytes ≤ n
+    → IsHeld n (front ++ drop (length bytes) (replicate n 0)) (length bytes)
+IsHeld-front n bytes front same most =
+    let rest : drop (length bytes) (replicate n 0) ≡ replicate (n - length bytes) 0 = drop-replicate (length bytes) n 0 in
+    let whole : front ++ drop (length bytes) (replicate n 0) ≡ filled n bytes =
+    ap (λ (xs : List ℕ). xs ++ drop (length bytes) (replicate n 0)) same ∙ ap (λ (xs : List ℕ). bytes ++ xs) rest in
+    let back : take (length bytes) (filled n bytes) ≡ bytes = take_at bytes (replicate (n - length bytes) 0) (length bytes) refl in
     record {
-      size = ap length whole ∙ omega (arith, length-append bytes (replicate (64 - length bytes) 0), length-replicate {A = ℕ});
-      some = some;
+      whole = ap length whole ∙ omega (arith, length-append bytes (replicate (n - length bytes) 0), length-replicate {A = ℕ}, most);
       most = most;
-      zeros = whole ∙ sym (ap (filled 64) (ap (take (length bytes)) whole ∙ back));
+      zeros = whole ∙ sym (ap (filled n) (ap (take (length bytes)) whole ∙ back));
     }
 
 -- the zeros that fill bytes up to whole blocks of 1 to 128 bytes

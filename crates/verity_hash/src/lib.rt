@@ -4,7 +4,9 @@
 mod algorithm;
 mod digest;
 mod salting;
+mod short_bytes;
 
 pub use algorithm::Algorithm;
 pub use digest::Digest;
 pub use salting::{SaltRule, salted};
+pub use short_bytes::ShortBytes;

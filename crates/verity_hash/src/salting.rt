@@ -1,5 +1,5 @@
 //! The salted hash of a block.
-ghost use Rattle.std.specs.Prelude.{◌≡◌};
+ghost use Rattle.std.specs.Prelude.{◌≡◌, ◌<◌, ◌≤◌, length};
 ghost use Rattle.verity_hash.specs.Salted.{salted_input, salted_hash};
 
 use crate::{Algorithm, Digest};
@@ -39,6 +39,15 @@ fn fed<H: Hasher>(algorithm: Algorithm, rule: SaltRule, salt: &[u8], block: &[u8
     hasher
 }
 
+/// The digest of these bytes, of which there are 1 to 64.
+fn digest_of(bytes: &[u8]) -> Digest
+    requires some { 0 < length bytes.now }
+    requires most { length bytes.now ≤ 64 }
+    ensures { result ≡ bytes.now }
+{
+    Digest::from_bytes(bytes).unwrap()
+}
+
 /// The salted hash of a block of any length, with a salt of any length. The same rule serves data blocks and hash
 /// blocks (Linux kernel, dm-verity page, "Hash Tree"; fs-verity page, "Merkle tree").
 pub fn salted(algorithm: Algorithm, rule: SaltRule, salt: &[u8], block: &[u8]) -> Digest
@@ -47,11 +56,11 @@ pub fn salted(algorithm: Algorithm, rule: SaltRule, salt: &[u8], block: &[u8]) -
     match algorithm {
         Algorithm::Sha256 => {
             let hasher: Sha256 = fed(algorithm, rule, salt, block);
-            Digest::of(&hasher.finalize())
+            digest_of(&hasher.finalize())
         }
         Algorithm::Sha512 => {
             let hasher: Sha512 = fed(algorithm, rule, salt, block);
-            Digest::of(&hasher.finalize())
+            digest_of(&hasher.finalize())
         }
     }
 }
