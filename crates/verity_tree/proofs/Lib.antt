@@ -1,0 +1,4 @@
+pub mod LeastLemmas
+pub mod CountLemmas
+pub mod FanLemmas
+pub mod FitLemmas
