@@ -1,0 +1,5 @@
+pub mod Numbers
+pub mod Salts
+pub mod Options
+pub mod Lines
+pub mod Messages
