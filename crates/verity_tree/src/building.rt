@@ -66,6 +66,7 @@ fn pass<S: Source, D: Device>(
     device: &mut D,
 ) -> Result<Digest, BuildFault>
     requires { store_length_of plan.now ≤ length store.old }
+    ensures size { IfOk result (λ root. length root ≡ digest_len plan.now.settings) }
     ensures source_told { S.tells source.old → S.tells source.new }
     ensures device_told { D.tells device.old → D.tells device.new }
     ensures source_count { CountsSource result (S.failures source.old) (S.failures source.new) }
@@ -107,6 +108,7 @@ pub fn build<S: Source, D: Device>(
 ) -> Result<Digest, BuildFault>
     requires { store.old ≡ store_length_of plan.now }
     ensures kept { store.new ≡ store.old }
+    ensures size { IfOk result (λ root. length root ≡ digest_len plan.now.settings) }
     ensures source_told { S.tells source.old → S.tells source.new }
     ensures device_told { D.tells device.old → D.tells device.new }
 
@@ -131,6 +133,7 @@ pub fn root_only<S: Source>(
 ) -> Result<Digest, BuildFault>
     requires { store.old ≡ store_length_of plan.now }
     ensures kept { store.new ≡ store.old }
+    ensures size { IfOk result (λ root. length root ≡ digest_len plan.now.settings) }
     ensures told { S.tells source.old → S.tells source.new }
     ensures count { CountsSource result (S.failures source.old) (S.failures source.new) }
     ensures fault { IfErr result IsOfSource }

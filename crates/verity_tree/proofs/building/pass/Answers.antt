@@ -1,4 +1,5 @@
-use Rattle.std.proofs.Common.{◌≡◌, ℕ, ◌+◌, ◌-◌, ◌*◌, ◌<◌, ◌≤◌, List, length, arith, sym, ap, ◌∙◌, refl}
+use Rattle.std.proofs.Common.{◌≡◌, ℕ, ◌+◌, ◌-◌, ◌*◌, ◌<◌, ◌≤◌, List, length, arith, sym, ap, ◌∙◌, refl, rules}
+use Rattle.std.proofs.lemmas.List.{length-replicate}
 use Rattle.verity_tree.specs.ClosingOrder.{order}
 use Rattle.verity_tree.specs.Image.{written}
 use Rattle.verity_tree.specs.Plans.{data_blocks, levels_of}
@@ -15,6 +16,7 @@ loop-i-init g c =
     let planned = c.blocks-i-end.ensures.planned in
     record {
       size = c.fill.ensures.len;
+      root_size = search (rules, length-replicate);
       source_told = λ t. t;
       device_told = λ t. t;
       source_failures = refl;
@@ -36,6 +38,7 @@ loop-i-preserved g c =
     let many : p.blocks ≡ length blocks = sym (length-cut s p.blocks p.wanted bytes) in
     let below : c.loop-i.i < p.blocks = omega (arith, c.loop-i-test.true, c.blocks-i-end.ensures.value) in
     record {
+      root_size = c.in-Ok-carry.ensures.size;
       size = c.carry.auto.store ∙ c.take_data_block.auto.store ∙ inv.size;
       source_told = λ t. c.in-Ok.ensures.told (inv.source_told t);
       device_told = λ t. c.in-Ok-carry.ensures.told (inv.device_told t);

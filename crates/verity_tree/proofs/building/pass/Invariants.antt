@@ -3,12 +3,14 @@ use Rattle.verity_tree.specs.Building.{HasGiven, begun_after, bytes_of}
 use Rattle.verity_tree.specs.Levels.{root}
 use Rattle.verity_tree.specs.OpenBlocks.{AreOpen}
 use Rattle.verity_tree.specs.Plans.{data_blocks, levels_of}
+use Rattle.verity_tree.specs.Settings.{digest_len}
 use Rattle.verity_tree.proofs.building.pass.Given as goal
 
 -- the tree stands as after i data blocks
 abbrev pub invariant-loop-i : goal.invariant-loop-i
 invariant-loop-i g l = record {
   size : length l.store ≡ length l.fn.store;
+  root_size : length l.root ≡ digest_len l.plan.settings;
   source_told : g.S.Source.tells l.fn.source → g.S.Source.tells l.source;
   device_told : g.D.Device.tells l.fn.device → g.D.Device.tells l.device;
   source_failures : g.S.Source.failures l.source ≡ g.S.Source.failures l.fn.source;
