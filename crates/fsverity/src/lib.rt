@@ -1,14 +1,27 @@
-//! File digests of fs-verity, made without the kernel: the options, the digest of a file, and its line.
+//! File digests of fs-verity, made without the kernel: the options, the digest of a file, its line, and a run over files.
 #![tactic(auto)]
 
+mod digesting;
 mod fault;
+mod file_opener;
 mod line;
+mod memory_opener;
 mod numbers;
+mod opener;
 mod option_fault;
 mod options;
+mod run_fault;
+mod running;
 mod salts;
+mod telling;
 
+pub use digesting::{FileDigest, digest_file};
 pub use fault::{DigestFault, digest_message};
+pub use file_opener::FileOpener;
 pub use line::{Form, digest_line};
+pub use memory_opener::MemoryOpener;
+pub use opener::Opener;
 pub use option_fault::{FsOptionFault, option_message};
 pub use options::{DigestOptions, digest_settings};
+pub use run_fault::RunFault;
+pub use running::run_digest;
