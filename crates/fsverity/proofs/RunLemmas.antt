@@ -6,7 +6,7 @@ use Rattle.std.specs.Io.KnownBytes.{Appends}
 use Rattle.verity_format.proofs.KnownLemmas.{appends_twice}
 use Rattle.verity_tree.specs.Settings.{Settings}
 use Rattle.fsverity.specs.Runs.{StandsOf, HasReason, WritesLine, WritesPart, WritesUpTo, lines, file_line}
-use Rattle.fsverity.specs.declared.line.Form.{Form}
+use Rattle.fsverity.specs.declared.digest_lines.Form.{Form}
 use Rattle.fsverity.specs.declared.fault.DigestFault.TheVariants.{TooLarge, SourceShort, SourceFailed, Memory}
 use Rattle.fsverity.specs.declared.run_fault.RunFault.{RunFault}
 use Rattle.fsverity.specs.declared.run_fault.RunFault.TheVariants.{NotOpened, Digest, NotWritten}

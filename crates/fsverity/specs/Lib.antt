@@ -6,3 +6,5 @@ pub mod Messages
 pub mod Opening
 pub mod Digests
 pub mod Runs
+pub mod CommandLines
+pub mod LineFaults

@@ -4,8 +4,8 @@ use Rattle.std.specs.List.{concat}
 use Rattle.hex.specs.Hex.{encode_lower}
 use Rattle.verity_hash.specs.Algorithms.{name_of}
 use Rattle.verity_hash.specs.declared.algorithm.Algorithm.{Algorithm}
-use Rattle.fsverity.specs.declared.line.Form.{Form}
-use Rattle.fsverity.specs.declared.line.Form.TheVariants.{Full}
+use Rattle.fsverity.specs.declared.digest_lines.Form.{Form}
+use Rattle.fsverity.specs.declared.digest_lines.Form.TheVariants.{Full}
 
 -- the line of a file digest
 abbrev pub line : Form → Algorithm → List ℕ → List ℕ → List ℕ

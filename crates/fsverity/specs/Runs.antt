@@ -10,7 +10,7 @@ use Rattle.fsverity.specs.Lines.{line}
 use Rattle.fsverity.specs.Messages.{fault_text}
 use Rattle.fsverity.specs.declared.digesting.FileDigest.{FileDigest}
 use Rattle.fsverity.specs.declared.fault.DigestFault.TheVariants.{TooLarge, SourceShort, SourceFailed, Memory}
-use Rattle.fsverity.specs.declared.line.Form.{Form}
+use Rattle.fsverity.specs.declared.digest_lines.Form.{Form}
 use Rattle.fsverity.specs.declared.run_fault.RunFault.{RunFault}
 use Rattle.fsverity.specs.declared.run_fault.RunFault.TheVariants.{NotOpened, Digest, NotWritten}
 

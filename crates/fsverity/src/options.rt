@@ -1,5 +1,6 @@
 //! The options of `fsverity digest`.
-ghost use Rattle.std.specs.Prelude.{◌≡◌, option_copied};
+ghost use Rattle.std.specs.Prelude.{◌≡◌, IfOk, option_copied};
+ghost use Rattle.verity_hash.specs.declared.salting.SaltRule.TheVariants.{PaddedBefore};
 ghost use Rattle.fsverity.specs.Options.{algorithm_of, block_size_of, salt_bytes_of, fs_settings};
 
 use crate::FsOptionFault;
@@ -22,7 +23,8 @@ pub struct DigestOptions<'a> {
 /// The settings that the options stand for, or the first option that is refused: the algorithm, then the block size, then
 /// the salt (Linux kernel, fs-verity page, "FS_IOC_ENABLE_VERITY").
 pub fn digest_settings(options: &DigestOptions<'_>) -> Result<TreeSettings, FsOptionFault>
-    ensures { result ≡ fs_settings (option_copied options.now.hash_alg) (option_copied options.now.block_size) (option_copied options.now.salt) }
+    ensures value { result ≡ fs_settings (option_copied options.now.hash_alg) (option_copied options.now.block_size) (option_copied options.now.salt) }
+    ensures rule { IfOk result (λ settings. settings.rule ≡ PaddedBefore) }
 {
     let algorithm = algorithm(options.hash_alg).ok_or(FsOptionFault::UnknownHash)?;
     let block = block_size(algorithm, options.block_size).ok_or(FsOptionFault::BadBlockSize)?;
