@@ -30,7 +30,7 @@ fn filled(alloc: Global, parts: &[&[u8]], len: usize) -> Result<Vec<u8>, AllocEr
     for part in parts {
         bytes.extend_from_slice(part)?;
     }
-    while bytes.len() < len {
+    for _ in bytes.len()..len {
         bytes.push(0)?;
     }
     Ok(bytes)
@@ -120,14 +120,34 @@ const LONG_SALT: &str = "0000000000000000000000000000000000000000000000000000000
 fn options_are_refused(rt: HostRuntime) {
     let sha512 = Some("sha512");
     let cases = [
-        (Some("md5"), Some("x"), None, Some(FsOptionFault::UnknownHash)),
+        (
+            Some("md5"),
+            Some("x"),
+            None,
+            Some(FsOptionFault::UnknownHash),
+        ),
         (Some("SHA256"), None, None, Some(FsOptionFault::UnknownHash)),
-        (sha512, Some("64"), Some("x"), Some(FsOptionFault::BadBlockSize)),
+        (
+            sha512,
+            Some("64"),
+            Some("x"),
+            Some(FsOptionFault::BadBlockSize),
+        ),
         (sha512, Some("128"), None, None),
         (None, Some("+512"), None, Some(FsOptionFault::BadBlockSize)),
         (None, Some(""), None, Some(FsOptionFault::BadBlockSize)),
-        (None, Some("4294971392"), None, Some(FsOptionFault::BadBlockSize)),
-        (None, Some("18446744073709551616"), None, Some(FsOptionFault::BadBlockSize)),
+        (
+            None,
+            Some("4294971392"),
+            None,
+            Some(FsOptionFault::BadBlockSize),
+        ),
+        (
+            None,
+            Some("18446744073709551616"),
+            None,
+            Some(FsOptionFault::BadBlockSize),
+        ),
         (None, Some("64"), Some(""), None),
         (None, None, Some("-"), Some(FsOptionFault::BadSalt)),
         (None, None, Some("abc"), Some(FsOptionFault::BadSalt)),
@@ -178,10 +198,21 @@ fn a_missing_file_ends_a_run(rt: HostRuntime) -> Result<(), Fail> {
     let mut opener = StatingOpener::new(&files, 0);
     let mut out = Vec::new(alloc);
     let mut msgs = Vec::new(alloc);
-    let status = run_digest(alloc, &settings, Form::Full, &names, &mut opener, &mut out, &mut msgs);
+    let status = run_digest(
+        alloc,
+        &settings,
+        Form::Full,
+        &names,
+        &mut opener,
+        &mut out,
+        &mut msgs,
+    );
     assert_eq!(rt; status, 1);
     assert_eq!(rt; out.as_slice(), empty_line(alloc, "first")?.as_bytes());
-    assert_eq!(rt; msgs.as_slice(), b"fsverity: cannot open se cond.\n".as_slice());
+    assert_eq!(rt;
+        msgs.as_slice(),
+        b"fsverity: cannot open se cond.\n".as_slice()
+    );
     assert_eq!(rt; opener.started(), 2);
     Ok(())
 }
@@ -195,7 +226,15 @@ fn empty_files_have_lines(rt: HostRuntime) -> Result<(), Fail> {
     let mut opener = MemoryOpener::new(&files);
     let mut out = Vec::new(alloc);
     let mut msgs = Vec::new(alloc);
-    let status = run_digest(alloc, &settings, Form::Full, &names, &mut opener, &mut out, &mut msgs);
+    let status = run_digest(
+        alloc,
+        &settings,
+        Form::Full,
+        &names,
+        &mut opener,
+        &mut out,
+        &mut msgs,
+    );
     let one = empty_line(alloc, "one")?;
     let two = empty_line(alloc, "two")?;
     let lines = filled(alloc, &[one.as_bytes(), two.as_bytes()], 0)?;
@@ -214,7 +253,15 @@ fn a_short_file_ends_a_run(rt: HostRuntime) -> Result<(), Fail> {
     let mut opener = StatingOpener::new(&files, 1);
     let mut out = Vec::new(alloc);
     let mut msgs = Vec::new(alloc);
-    let status = run_digest(alloc, &settings, Form::Full, &["short"], &mut opener, &mut out, &mut msgs);
+    let status = run_digest(
+        alloc,
+        &settings,
+        Form::Full,
+        &["short"],
+        &mut opener,
+        &mut out,
+        &mut msgs,
+    );
     assert_eq!(rt; status, 1);
     assert!(rt; out.is_empty());
     assert_eq!(rt;

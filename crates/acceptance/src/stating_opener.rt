@@ -63,6 +63,8 @@ impl<'a> Opener for StatingOpener<'a> {
     }
 
     fn end(&mut self, stream: MemorySource<'a>) {
+        // A source over memory has no failures to add.
+        let _failures = self.failures;
         drop(stream);
     }
 }
