@@ -1,8 +1,8 @@
 //! Digests of files: descriptors, lines and messages. Expected digests are those of sha2 over stated bytes.
 use crate::stating_opener::StatingOpener;
 use fsverity::{
-    DigestFault, DigestOptions, Form, FsOptionFault, MemoryOpener, digest_file, digest_settings,
-    option_message, run_digest,
+    DigestFault, DigestOptions, Form, FsOptionFault, FusedOpener, MemoryOpener, digest_file,
+    digest_settings, option_message, run_digest,
 };
 use sha2::{Digest as Hasher, Sha256, Sha512};
 use std::alloc::{AllocError, Global};
@@ -267,6 +267,38 @@ fn a_short_file_ends_a_run(rt: HostRuntime) -> Result<(), Fail> {
     assert_eq!(rt;
         msgs.as_slice(),
         b"fsverity: file ends before the end of block 1: short.\n".as_slice()
+    );
+    Ok(())
+}
+
+#[test]
+fn a_failed_read_ends_a_run(rt: HostRuntime) -> Result<(), Fail> {
+    let alloc = rt.alloc();
+    let settings = digest_settings(&DEFAULTS)?;
+    let bytes = data(alloc, 4097)?;
+    let names = ["empty", "second", "third"];
+    let files = [
+        Some(b"".as_slice()),
+        Some(bytes.as_slice()),
+        Some(bytes.as_slice()),
+    ];
+    let mut opener = FusedOpener::new(MemoryOpener::new(&files), 2);
+    let mut out = Vec::new(alloc);
+    let mut msgs = Vec::new(alloc);
+    let status = run_digest(
+        alloc,
+        &settings,
+        Form::Full,
+        &names,
+        &mut opener,
+        &mut out,
+        &mut msgs,
+    );
+    assert_eq!(rt; status, 1);
+    assert_eq!(rt; out.as_slice(), empty_line(alloc, "empty")?.as_bytes());
+    assert_eq!(rt;
+        msgs.as_slice(),
+        b"fsverity: cannot read block 1: second.\n".as_slice()
     );
     Ok(())
 }

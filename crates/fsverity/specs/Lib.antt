@@ -8,3 +8,4 @@ pub mod Digests
 pub mod Runs
 pub mod CommandLines
 pub mod LineFaults
+pub mod FusedOpeners

@@ -1,30 +1,24 @@
 -- The loop over the data blocks.
-use Rattle.std.proofs.Common.{◌≡◌, ℕ, zero, suc, ◌+◌, ◌-◌, ◌*◌, ◌/◌, ◌%◌, ◌^◌, ◌<◌, ◌≤◌, min, List, [], ◌∷◌, ◌++◌, get_or, take, drop, length, map, replicate, arith, sym, ◌∙◌, ap, subst, refl, inl, inr, length-drop, length-append}
-use Rattle.std.proofs.lemmas.Bool.{cases_lt}
-use Rattle.std.proofs.lemmas.List.{drop-replicate, take-replicate, length-take-le, length-replicate, drop-drop}
-use Rattle.std.proofs.lemmas.List.FromFn.{get_or-map-range_with_len}
-use Rattle.std.proofs.lemmas.Slice.{between_is, take-put_mid_below, between-put_mid}
+use Rattle.std.proofs.Common.{◌≡◌, ℕ, ◌+◌, ◌-◌, ◌*◌, ◌/◌, ◌%◌, ◌^◌, ◌<◌, ◌≤◌, List, [], ◌∷◌, ◌++◌, take, drop, length, replicate, arith, sym, ◌∙◌, ap, subst, refl}
+use Rattle.std.proofs.lemmas.List.{drop-replicate, take-replicate}
+use Rattle.std.proofs.lemmas.Slice.{between_is, take-put_mid_below}
 use Rattle.std.proofs.lemmas.Nat.{div-mul-add, mod-mul-add}
 use borrow.Rule.Slice.PartMut.{put_mid}
-use Rattle.std.proofs.Math.Nat.{pow-zero, one-le-pow, mul-le-mul_right}
+use Rattle.std.proofs.Math.Nat.{one-le-pow, mul-le-mul_right}
 use Rattle.std.proofs.lemmas.List.Elements.{Contains-append_left, Contains-append_right}
 use Rattle.std.specs.Prelude.{Contains}
-use Rattle.std.specs.Fork.{slice_chunk}
-use Rattle.std.specs.List.{range_with_len}
-use Rattle.verity_hash.specs.Bytes.{filled}
-use Rattle.verity_tree.specs.Settings.{Settings, hash, fan}
-use Rattle.verity_tree.specs.Levels.{risen, cut, block_at, digest_of_block, hash_block_of}
+use Rattle.verity_tree.specs.Settings.{Settings, fan}
+use Rattle.verity_tree.specs.Levels.{hash_block_of}
 use Rattle.verity_tree.specs.ClosingOrder.{order, closing}
 use Rattle.verity_tree.specs.Writing.{Spoiled}
-use Rattle.verity_tree.specs.Image.{written, byte_at}
+use Rattle.verity_tree.specs.Image.{written}
 use Rattle.verity_tree.specs.ClosingOrder.{closed_to}
-use Rattle.verity_tree.proofs.CountLemmas.{mul-lt_div_ceil, le-div_ceil, div_ceil-pos}
 use Rattle.verity_tree.proofs.OrderSplit.{closing-front, order-front, written-append, written-order}
 use Rattle.verity_tree.specs.Building.{GivesUpTo, HasGiven, StopsAt, begun_after, bytes_of}
 use Rattle.verity_tree.specs.Cascade.{ClosesWith}
 use Rattle.verity_tree.specs.Plans.{Planned, byte_of}
-use Rattle.verity_tree.specs.OpenBlocks.{digests_under, open_block, AreOpen, carried}
-use Rattle.verity_tree.proofs.StreamStep.{hash_block_of-none, place-first}
+use Rattle.verity_tree.specs.OpenBlocks.{digests_under, open_block, AreOpen}
+use Rattle.verity_tree.proofs.StreamStep.{hash_block_of-none}
 
 mul_le : (a b w : ℕ) → a ≤ b → a * w ≤ b * w
 mul_le a b w h = mul-le-mul_right w h

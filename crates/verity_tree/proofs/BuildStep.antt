@@ -1,22 +1,20 @@
 -- One level of the cascade, with the device.
-use Rattle.std.proofs.Common.{◌≡◌, ℕ, zero, suc, ◌+◌, ◌-◌, ◌*◌, ◌/◌, ◌%◌, ◌^◌, ◌<◌, ◌≤◌, ◌⊎◌, Bool, true, false, eqb, List, [], ◌∷◌, ◌++◌, get_or, take, drop, length, map, arith, sym, ◌∙◌, ap, subst, refl, inl, inr}
+use Rattle.std.proofs.Common.{◌≡◌, ℕ, zero, suc, ◌+◌, ◌-◌, ◌*◌, ◌/◌, ◌%◌, ◌^◌, ◌<◌, ◌≤◌, ◌⊎◌, Bool, true, false, eqb, List, [], get_or, take, drop, length, arith, sym, ◌∙◌, ap, subst, refl, inl, inr}
 use Rattle.std.proofs.lemmas.Bool.{cases_lt}
 use Rattle.std.proofs.lemmas.Bool.Decides.{eqb_tells}
 use Rattle.std.proofs.lemmas.Nat.{div-add-mod', div-mul-add}
-use Rattle.std.proofs.Math.Nat.{one-le-pow, mul-le-mul_left, mul-le-mul_right, pow-suc}
-use Rattle.std.specs.Fork.{slice_chunk}
+use Rattle.std.proofs.Math.Nat.{one-le-pow, mul-le-mul_right, pow-suc}
 use Rattle.std.specs.Int.{div_ceil}
 use Rattle.verity_tree.specs.Settings.{Settings, hash, fan}
-use Rattle.verity_tree.specs.Levels.{risen, hash_block_of}
-use Rattle.verity_tree.specs.Counts.{level_count, level_size, IsTreeBlock}
+use Rattle.verity_tree.specs.Levels.{risen}
+use Rattle.verity_tree.specs.Counts.{level_count, level_size}
 use Rattle.verity_tree.specs.ClosingOrder.{closing, closes}
-use Rattle.verity_tree.specs.Places.{place, end_place, PlacesAreOnce}
-use Rattle.verity_tree.specs.OpenBlocks.{digests_under, open_block, filling, AreOpen, carried, IsReached, IsCarrying, IsNext, IsClosed, IsKept, IsCarriedOn}
+use Rattle.verity_tree.specs.Places.{place}
+use Rattle.verity_tree.specs.OpenBlocks.{digests_under, open_block, filling, IsReached, IsCarrying, IsNext, IsClosed, IsKept}
 use Rattle.verity_tree.specs.Writing.{put, Spoiled}
 use Rattle.verity_tree.specs.Image.{written, byte_at}
 use Rattle.verity_tree.specs.ClosingOrder.{closed_to}
 use Rattle.verity_tree.proofs.CountLemmas.{le-div_ceil}
-use Rattle.verity_tree.proofs.PlaceLemmas.{PlacesAreOnce-all}
 use Rattle.verity_tree.proofs.StreamNumbers.{quotient-next, IsReached-full}
 use Rattle.verity_tree.proofs.StreamStep.{carried-below, carried-next, carried-root}
 use Rattle.verity_tree.proofs.OrderSplit.{closing-prefix, closing-all, closes-reached, closes-last, closes-none, written-more}
@@ -30,21 +28,23 @@ positive (suc k) h = omega arith
 
 -- what is reached was reached at the levels below
 reached-before : (f i m : ℕ) → 0 < f → IsReached f i (m + 1) → IsReached f i m
-reached-before f i m some h = record { whole =
-    let w = f ^ m in
-    let k = (i / f ^ (m + 1) + 1) * f in
-    let e : m + 1 ≡ suc m = omega arith in
-    let power : f ^ (m + 1) ≡ w * f = ap (λ (n : ℕ). f ^ n) e ∙ pow-suc f m in
-    let wide : 0 < w = one-le-pow m f some in
-    let whole : i + 1 ≡ k * w = omega (arith, h.whole, ap (λ (n : ℕ). (i / f ^ (m + 1) + 1) * n) power) in
-    let split = div-add-mod' i w in
-    let one : k ≡ (k - 1) + 1 = positive k (λ none. omega (arith, whole, ap (λ (n : ℕ). n * w) none)) in
-    let area : k * w ≡ (k - 1) * w + w = ap (λ (n : ℕ). n * w) one ∙ (let t : (k - 1 + 1) * w ≡ (k - 1) * w + w = omega arith in t) in
-    let here : i ≡ (k - 1) * w + (w - 1) = omega (arith, whole, area, wide) in
-    let less : w - 1 < w = omega (arith, wide) in
-    let q : i / w ≡ k - 1 = ap (λ (n : ℕ). n / w) here ∙ div-mul-add (k - 1) w (w - 1) less in
-    let next : i / w + 1 ≡ k = omega (arith, q, one) in
-    whole ∙ ap (λ (n : ℕ). n * w) (sym next) }
+reached-before f i m some h = record {
+  whole =
+      let w = f ^ m in
+      let k = (i / f ^ (m + 1) + 1) * f in
+      let e : m + 1 ≡ suc m = omega arith in
+      let power : f ^ (m + 1) ≡ w * f = ap (λ (n : ℕ). f ^ n) e ∙ pow-suc f m in
+      let wide : 0 < w = one-le-pow m f some in
+      let whole : i + 1 ≡ k * w = omega (arith, h.whole, ap (λ (n : ℕ). (i / f ^ (m + 1) + 1) * n) power) in
+      let split = div-add-mod' i w in
+      let one : k ≡ (k - 1) + 1 = positive k (λ none. omega (arith, whole, ap (λ (n : ℕ). n * w) none)) in
+      let area : k * w ≡ (k - 1) * w + w = ap (λ (n : ℕ). n * w) one ∙ (let t : (k - 1 + 1) * w ≡ (k - 1) * w + w = omega arith in t) in
+      let here : i ≡ (k - 1) * w + (w - 1) = omega (arith, whole, area, wide) in
+      let less : w - 1 < w = omega (arith, wide) in
+      let q : i / w ≡ k - 1 = ap (λ (n : ℕ). n / w) here ∙ div-mul-add (k - 1) w (w - 1) less in
+      let next : i / w + 1 ≡ k = omega (arith, q, one) in
+      whole ∙ ap (λ (n : ℕ). n * w) (sym next);
+}
 
 reached-down-by : (f i l k : ℕ) → 0 < f → IsReached f i (l + k) → IsReached f i l
 reached-down-by f i l zero some h = let e : l + 0 ≡ l = omega arith in subst (λ (n : ℕ). IsReached f i n) e h

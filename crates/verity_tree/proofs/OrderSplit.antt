@@ -1,5 +1,5 @@
 -- The closing order, cut between data blocks and between levels.
-use Rattle.std.proofs.Common.{◌≡◌, ℕ, zero, suc, ◌+◌, ◌-◌, ◌*◌, ◌/◌, ◌%◌, ◌^◌, ◌<◌, ◌≤◌, ◌⊎◌, Bool, true, false, cond, eqb, List, [], ◌∷◌, ◌++◌, map, length, arith, sym, ◌∙◌, ap, subst, refl, inl, inr, append_assoc}
+use Rattle.std.proofs.Common.{◌≡◌, ℕ, zero, suc, ◌+◌, ◌-◌, ◌*◌, ◌/◌, ◌%◌, ◌^◌, ◌<◌, ◌≤◌, Bool, true, false, cond, eqb, List, [], ◌∷◌, ◌++◌, map, length, arith, sym, ◌∙◌, ap, refl, inl, inr, append_assoc}
 use Rattle.std.proofs.lemmas.Bool.Decides.{nat_tests, eqb_tells}
 use Rattle.std.proofs.lemmas.Nat.{div-add-mod', mod-mul-add}
 use Rattle.std.proofs.lemmas.List.FromFn.{map-range_with_len_more}
@@ -83,7 +83,7 @@ closes-none f n i m l some h room more above =
     let w = f ^ (l + 1) in
     let stays : (i + 1) / w ≡ i / w = quotient-stays f i m (l + 1) some h room (omega arith) in
     let apart : (i + 1) % w ≡ 0 → ⊥ = λ whole.
-        omega (arith, div-add-mod' (i + 1) w, div-add-mod' i w, whole, ap (λ (x : ℕ). x * w) stays) in
+    omega (arith, div-add-mod' (i + 1) w, div-add-mod' i w, whole, ap (λ (x : ℕ). x * w) stays) in
     or_none ((i + 1) % w == 0) (i + 1 == n) (eqb_apart ((i + 1) % w) 0 apart) (eqb_apart (i + 1) n (λ same. omega (arith, more, same)))
 
 -- one pair more
@@ -101,7 +101,7 @@ written-append s blocks base (p ∷ ps) qs device =
 pub written-more : (s : Settings) (blocks : List (List ℕ)) (base i m : ℕ) (device : List ℕ)
     → written s blocks base (closed_to (fan s) i (m + 1)) device
     ≡ put (written s blocks base (closed_to (fan s) i m) device) (byte_at s (length blocks) base m (i / fan s ^ (m + 1)))
-        (slice_index_or (risen s blocks (m + 1)) (i / fan s ^ (m + 1)) [])
+    (slice_index_or (risen s blocks (m + 1)) (i / fan s ^ (m + 1)) [])
 unfolding written
 written-more s blocks base i m device =
     ap (λ (ps : List (ℕ × ℕ)). written s blocks base ps device) (closed_to-more (fan s) i m)
@@ -127,8 +127,8 @@ order-prefix f n i (suc k) =
     let before = order-prefix f n i k in (
       before.0 ++ closing f n (suc (i + k)),
       ap (order f n) e
-      ∙ ap (λ (ps : List (ℕ × ℕ)). ps ++ closing f n (suc (i + k))) before.1
-      ∙ append_assoc (order f n i) before.0 (closing f n (suc (i + k))),
+          ∙ ap (λ (ps : List (ℕ × ℕ)). ps ++ closing f n (suc (i + k))) before.1
+          ∙ append_assoc (order f n i) before.0 (closing f n (suc (i + k))),
     )
 
 -- the first numbers pass a test
@@ -140,7 +140,7 @@ filter-front c a (suc m) (suc n) pass le =
     let after = filter-front c (a + 1) m n (λ l from to. pass l (omega (arith, from)) (omega (arith, to))) (omega arith) in (
       after.0,
       ap (λ (b : Bool). cond b (a ∷ filter c (range_with_len (a + 1) n)) (filter c (range_with_len (a + 1) n))) (pass a (omega arith) (omega arith))
-      ∙ ap (λ (xs : List ℕ). a ∷ xs) after.1,
+          ∙ ap (λ (xs : List ℕ). a ∷ xs) after.1,
     )
 
 -- where the levels up to this one close, its pair comes after those of the levels below
@@ -152,11 +152,11 @@ closing-front f n i m some below pass =
     let h : ℕ → ℕ × ℕ = λ level. (level, i / f ^ (level + 1)) in (
       map g front.0,
       ap (map g) front.1
-      ∙ map-append g (range_with_len 0 (m + 1)) front.0
-      ∙ ap (λ (ps : List (ℕ × ℕ)). ps ++ map g front.0) (map-same g h (range_with_len 0 (m + 1)) (λ l.
-      let e : div_ceil (i + 1) (f ^ (l + 1)) - 1 ≡ i / f ^ (l + 1) = omega (arith, div_ceil-last i (f ^ (l + 1)) (one-le-pow (l + 1) f some)) in
-      ap (λ (j : ℕ). (l, j)) e))
-      ∙ ap (λ (ps : List (ℕ × ℕ)). ps ++ map g front.0) (closed_to-more f i m),
+          ∙ map-append g (range_with_len 0 (m + 1)) front.0
+          ∙ ap (λ (ps : List (ℕ × ℕ)). ps ++ map g front.0) (map-same g h (range_with_len 0 (m + 1)) (λ l.
+          let e : div_ceil (i + 1) (f ^ (l + 1)) - 1 ≡ i / f ^ (l + 1) = omega (arith, div_ceil-last i (f ^ (l + 1)) (one-le-pow (l + 1) f some)) in
+          ap (λ (j : ℕ). (l, j)) e))
+          ∙ ap (λ (ps : List (ℕ × ℕ)). ps ++ map g front.0) (closed_to-more f i m),
     )
 
 -- the blocks before a block that closes are the first ones of the order
@@ -171,7 +171,7 @@ order-front f n i m some below inside pass =
     let pair : List (ℕ × ℕ) = (m, i / f ^ (m + 1)) ∷ [] in (
       front.0 ++ after.0,
       ap (order f n) e ∙ after.1
-      ∙ ap (λ (ps : List (ℕ × ℕ)). ps ++ after.0)
-      (ap (order f n) one ∙ ap (λ (k : ℕ). order f n i ++ closing f n k) (sym one) ∙ ap (λ (ps : List (ℕ × ℕ)). order f n i ++ ps) front.1)
-      ∙ simp append_assoc,
+          ∙ ap (λ (ps : List (ℕ × ℕ)). ps ++ after.0)
+          (ap (order f n) one ∙ ap (λ (k : ℕ). order f n i ++ closing f n k) (sym one) ∙ ap (λ (ps : List (ℕ × ℕ)). order f n i ++ ps) front.1)
+          ∙ simp append_assoc,
     )

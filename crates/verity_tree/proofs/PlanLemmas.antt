@@ -1,5 +1,5 @@
 -- Sizes and places computed level by level.
-use Rattle.std.proofs.Common.{◌≡◌, ℕ, zero, suc, ◌+◌, ◌-◌, ◌*◌, ◌/◌, ◌^◌, ◌<◌, ◌≤◌, arith, sym, ◌∙◌, ap, subst, refl, inl, inr}
+use Rattle.std.proofs.Common.{◌≡◌, ℕ, zero, suc, ◌+◌, ◌-◌, ◌*◌, ◌/◌, ◌^◌, ◌<◌, ◌≤◌, arith, sym, ◌∙◌, ap, refl, inl, inr}
 use Rattle.std.proofs.lemmas.Bool.{cases_lt}
 use Rattle.std.proofs.Math.Nat.{pow-zero, pow-suc, pow-le-pow_left, pow-le-pow_right, one-le-pow, mul-le-mul_left, mul-le-mul_right, mul-le-mul, div-mul-le_self, zero-div}
 use Rattle.std.proofs.Math.Bool.{and-false}
@@ -9,12 +9,12 @@ use Rattle.std.specs.Prelude.{nat_le, nat_eq, true, false, Ok, Err}
 use Rattle.verity_tree.specs.MakingPlans.{planned}
 use Rattle.verity_tree.specs.declared.plan.PlanFault.TheVariants.{TooLarge}
 use Rattle.std.specs.Int.{div_ceil}
-use Rattle.verity_tree.specs.Counts.{level_count, level_size, blocks_from, IsTreeBlock}
-use Rattle.verity_tree.specs.Plans.{Planned, IsPlanned, HasBlock, byte_of, place_of, levels_of, end_of, size_of_level, store_length_of, has_room, most_bytes}
+use Rattle.verity_tree.specs.Counts.{level_count, level_size}
+use Rattle.verity_tree.specs.Plans.{Planned, IsPlanned, HasBlock, byte_of, place_of, levels_of, end_of, store_length_of, has_room, most_bytes}
 use Rattle.verity_tree.specs.Settings.{fan}
-use Rattle.verity_tree.proofs.CountLemmas.{div_ceil-div_ceil, IsLevelCount-level_count, le-div_ceil, div_ceil-le, div_ceil-lt}
+use Rattle.verity_tree.proofs.CountLemmas.{div_ceil-div_ceil, IsLevelCount-level_count, le-div_ceil, div_ceil-le}
 use Rattle.verity_tree.proofs.FanLemmas.{fan-two, some_data, two_slots, digest_len_of-pos, data_most, hash_most}
-use Rattle.verity_tree.proofs.PlaceLemmas.{blocks_from-level, PlacesAreOnce-all}
+use Rattle.verity_tree.proofs.PlaceLemmas.{PlacesAreOnce-all}
 
 -- one level more
 pub size-more : (fan n k size : ℕ) → 0 < fan → size ≡ div_ceil n (fan ^ k) → div_ceil size fan ≡ level_size fan n k

@@ -1,13 +1,13 @@
 -- The root, and what is left of it one level up.
-use Rattle.std.proofs.Common.{◌≡◌, ℕ, zero, suc, ◌+◌, ◌-◌, ◌*◌, ◌^◌, ◌<◌, ◌≤◌, List, [], ◌∷◌, length, map, get_or, arith, sym, ◌∙◌, ap, refl, inl, inr}
+use Rattle.std.proofs.Common.{◌≡◌, ℕ, zero, suc, ◌^◌, ◌<◌, ◌≤◌, List, [], length, map, get_or, arith, sym, ◌∙◌, ap, refl, inl, inr}
 use Rattle.std.proofs.lemmas.Bool.{cases_lt}
 use Rattle.std.proofs.lemmas.List.{length-map, get_or-map}
-use Rattle.std.proofs.Math.Nat.{pow-zero, pow-suc, one-le-pow, mul-le-mul_right}
+use Rattle.std.proofs.Math.Nat.{pow-zero, pow-suc, one-le-pow}
 use Rattle.std.specs.Int.{div_ceil}
 use Rattle.verity_tree.specs.Counts.{level_count, IsLevelCount}
 use Rattle.verity_tree.specs.Settings.{Settings, hash, fan}
-use Rattle.verity_tree.specs.Levels.{pack, up, risen, height, root, digests_risen, root_of_digests}
-use Rattle.verity_tree.proofs.CountLemmas.{IsLevelCount-level_count, le-div_ceil, div_ceil-le, mul-lt_div_ceil, div_ceil-pos}
+use Rattle.verity_tree.specs.Levels.{pack, risen, root, digests_risen, root_of_digests}
+use Rattle.verity_tree.proofs.CountLemmas.{IsLevelCount-level_count, le-div_ceil, mul-lt_div_ceil, div_ceil-pos}
 use Rattle.verity_tree.proofs.TreeLemmas.{length-pack, length-risen, height-level_count}
 
 -- two numbers of levels are one

@@ -1,8 +1,8 @@
 -- Worked rows.
-use Rattle.std.proofs.Common.{◌≡◌, ℕ, List, [], ◌∷◌, length, refl}
+use Rattle.std.proofs.Common.{◌≡◌, [], ◌∷◌, refl}
 use Rattle.verity_tree.specs.Least.{least_from}
 use Rattle.verity_tree.specs.Slots.{greatest_fan, least_power}
-use Rattle.verity_tree.specs.Counts.{level_count, level_size}
+use Rattle.verity_tree.specs.Counts.{level_count}
 use Rattle.verity_tree.specs.Places.{place, end_place}
 use Rattle.verity_tree.specs.ClosingOrder.{order}
 

@@ -1,9 +1,8 @@
 -- An open block as digests come to it.
-use Rattle.std.proofs.Common.{◌≡◌, ℕ, zero, suc, ◌+◌, ◌-◌, ◌*◌, ◌/◌, ◌%◌, ◌^◌, ◌<◌, ◌≤◌, min, ◌⊎◌, List, [], ◌∷◌, ◌++◌, get_or, take, drop, length, map, replicate, arith, sym, ◌∙◌, ap, refl, inl, inr, length-append, length-drop, append_assoc}
-use Rattle.std.proofs.lemmas.Bool.{cases_lt}
+use Rattle.std.proofs.Common.{◌≡◌, ℕ, suc, ◌+◌, ◌-◌, ◌*◌, ◌/◌, ◌%◌, ◌<◌, ◌≤◌, ◌⊎◌, List, [], ◌∷◌, ◌++◌, get_or, take, drop, length, map, replicate, arith, sym, ◌∙◌, ap, inl, inr, length-append, length-drop, append_assoc}
 use Rattle.std.proofs.Math.Nat.{mul-le-mul_right}
 use Rattle.std.proofs.lemmas.Nat.{div-add-mod', mod_below}
-use Rattle.std.proofs.lemmas.List.{length-map, length-take, length-take-le, get_or-map, get_or-drop, take-map, drop-map, take_at, drop_at, drop-replicate, drop-drop, length-replicate, replicate-append-replicate, take_all, append-nil}
+use Rattle.std.proofs.lemmas.List.{length-map, length-take-le, get_or-map, get_or-drop, take-map, drop-map, take_at, drop-replicate, length-replicate, replicate-append-replicate, take_all, append-nil}
 use Rattle.std.proofs.lemmas.List.Concat.{flat_map-cons}
 use Rattle.std.proofs.lemmas.Grind.{flat_map-append}
 use Rattle.std.proofs.Math.Seq.{take-suc, drop-append-add}
@@ -13,10 +12,9 @@ use Rattle.std.specs.Int.{div_ceil}
 use Rattle.verity_hash.specs.Bytes.{filled}
 use Rattle.verity_hash.proofs.HashLemmas.{length-salted_hash}
 use Rattle.verity_tree.specs.Settings.{Settings, hash, fan, slot, slot_width, digest_len}
-use Rattle.verity_tree.specs.Levels.{hash_block_of, risen, pack}
-use Rattle.verity_tree.specs.OpenBlocks.{digests_under, open_block, carried}
+use Rattle.verity_tree.specs.Levels.{hash_block_of, risen}
+use Rattle.verity_tree.specs.OpenBlocks.{digests_under, open_block}
 use Rattle.verity_tree.proofs.PrefixLemmas.{get_or-pack}
-use Rattle.verity_tree.proofs.TreeLemmas.{length-risen}
 
 pub length-hash : (s : Settings) (x : List ℕ) → length (hash s x) ≡ digest_len s
 unfolding hash

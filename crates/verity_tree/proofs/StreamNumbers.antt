@@ -1,8 +1,8 @@
 -- Where the levels stand as one more data block comes.
-use Rattle.std.proofs.Common.{◌≡◌, ℕ, zero, suc, ◌+◌, ◌-◌, ◌*◌, ◌/◌, ◌%◌, ◌^◌, ◌<◌, ◌≤◌, arith, sym, ◌∙◌, ap, refl, inl, inr}
+use Rattle.std.proofs.Common.{◌≡◌, ℕ, zero, suc, ◌+◌, ◌-◌, ◌*◌, ◌/◌, ◌%◌, ◌^◌, ◌<◌, ◌≤◌, arith, sym, ◌∙◌, ap, inl, inr}
 use Rattle.std.proofs.lemmas.Bool.{cases_lt}
 use Rattle.std.proofs.lemmas.Nat.{div-add-mod', mod_below, mod-mul-add, div-mul-add}
-use Rattle.std.proofs.Math.Nat.{div-div-eq-div-mul, pow-suc, pow-zero, one-le-pow, mul-le-mul_right}
+use Rattle.std.proofs.Math.Nat.{div-div-eq-div-mul, pow-suc, pow-zero, one-le-pow}
 use Rattle.std.specs.Int.{div_ceil}
 use Rattle.verity_tree.specs.OpenBlocks.{IsReached}
 use Rattle.verity_tree.proofs.CountLemmas.{le-div_ceil, div_ceil-le}
@@ -26,10 +26,12 @@ div_ceil-last i w some =
     omega (arith, high, low)
 
 pub IsReached-zero : (f i : ℕ) → IsReached f i 0
-IsReached-zero f i = record { whole =
-    let one : f ^ 0 ≡ 1 = pow-zero f in
-    let e : (i / f ^ 0 + 1) * f ^ 0 ≡ (i / 1 + 1) * 1 = ap (λ (k : ℕ). (i / k + 1) * k) one in
-    omega (arith, e) }
+IsReached-zero f i = record {
+  whole =
+      let one : f ^ 0 ≡ 1 = pow-zero f in
+      let e : (i / f ^ 0 + 1) * f ^ 0 ≡ (i / 1 + 1) * 1 = ap (λ (k : ℕ). (i / k + 1) * k) one in
+      omega (arith, e);
+}
 
 -- the next place of a level
 pub quotient-reached : (f i m : ℕ) → 0 < f → IsReached f i m → (i + 1) / f ^ m ≡ i / f ^ m + 1
@@ -40,16 +42,18 @@ quotient-reached f i m some h =
 
 -- a full block of level m sends its digest up
 pub IsReached-full : (f i m : ℕ) → 0 < f → IsReached f i m → i / f ^ m % f + 1 ≡ f → IsReached f i (m + 1)
-IsReached-full f i m some h full = record { whole =
-    let q = i / f ^ m in
-    let split : q / f * f + q % f ≡ q = div-add-mod' q f in
-    let next : q + 1 ≡ (q / f + 1) * f = omega (arith, split, full) in
-    let area : (q + 1) * f ^ m ≡ (q / f + 1) * f * f ^ m = ap (λ (k : ℕ). k * f ^ m) next in
-    let e : m + 1 ≡ suc m = omega arith in
-    let power : f ^ (m + 1) ≡ f ^ m * f = ap (λ (k : ℕ). f ^ k) e ∙ pow-suc f m in
-    let goal : (i / f ^ (m + 1) + 1) * f ^ (m + 1) ≡ (q / f + 1) * (f ^ m * f) =
-    ap (λ (k : ℕ). (k + 1) * f ^ (m + 1)) (quotient-next f i m) ∙ ap (λ (k : ℕ). (q / f + 1) * k) power in
-    omega (arith, h.whole, area, goal) }
+IsReached-full f i m some h full = record {
+  whole =
+      let q = i / f ^ m in
+      let split : q / f * f + q % f ≡ q = div-add-mod' q f in
+      let next : q + 1 ≡ (q / f + 1) * f = omega (arith, split, full) in
+      let area : (q + 1) * f ^ m ≡ (q / f + 1) * f * f ^ m = ap (λ (k : ℕ). k * f ^ m) next in
+      let e : m + 1 ≡ suc m = omega arith in
+      let power : f ^ (m + 1) ≡ f ^ m * f = ap (λ (k : ℕ). f ^ k) e ∙ pow-suc f m in
+      let goal : (i / f ^ (m + 1) + 1) * f ^ (m + 1) ≡ (q / f + 1) * (f ^ m * f) =
+      ap (λ (k : ℕ). (k + 1) * f ^ (m + 1)) (quotient-next f i m) ∙ ap (λ (k : ℕ). (q / f + 1) * k) power in
+      omega (arith, h.whole, area, goal);
+}
 
 -- a full block leaves an empty one
 pub slots-full : (f q : ℕ) → 0 < f → q % f + 1 ≡ f → (q + 1) % f ≡ 0

@@ -1,21 +1,19 @@
 -- One level of the cascade.
-use Rattle.std.proofs.Common.{◌≡◌, ℕ, zero, suc, ◌+◌, ◌-◌, ◌*◌, ◌/◌, ◌%◌, ◌^◌, ◌<◌, ◌≤◌, ◌⊎◌, Bool, true, false, eqb, List, [], ◌∷◌, ◌++◌, get_or, take, drop, length, map, replicate, arith, sym, ◌∙◌, ap, subst, refl, inl, inr, length-drop}
+use Rattle.std.proofs.Common.{◌≡◌, ℕ, ◌+◌, ◌-◌, ◌*◌, ◌/◌, ◌%◌, ◌^◌, ◌<◌, ◌≤◌, ◌⊎◌, Bool, true, false, eqb, List, [], ◌++◌, get_or, take, drop, length, map, replicate, arith, sym, ◌∙◌, ap, subst, inl, inr, length-drop}
 use Rattle.std.proofs.lemmas.Bool.{cases_lt}
 use Rattle.std.proofs.lemmas.Bool.Decides.{eqb_tells}
 use Rattle.std.proofs.lemmas.Nat.{div-add-mod', mod_below, div-mul-add}
 use Rattle.std.proofs.lemmas.List.{length-map, length-take-le, length-replicate}
 use Rattle.std.proofs.lemmas.Slice.{between_is, take-put_mid_below, drop-put_mid, between-put_mid}
-use borrow.Rule.Slice.PartMut.{put_mid, post_of}
+use borrow.Rule.Slice.PartMut.{put_mid}
 use Rattle.std.proofs.Math.Nat.{one-le-pow, pow-zero, mul-le-mul_right}
 use Rattle.std.specs.Fork.{slice_chunk}
-use Rattle.std.specs.List.{flat_map}
 use Rattle.std.specs.Int.{div_ceil}
-use Rattle.verity_hash.specs.Bytes.{filled}
-use Rattle.verity_tree.specs.Settings.{Settings, hash, fan, slot, slot_width, digest_len}
-use Rattle.verity_tree.specs.Levels.{hash_block_of, risen, pack, root, height}
+use Rattle.verity_tree.specs.Settings.{Settings, hash, fan, slot_width, digest_len}
+use Rattle.verity_tree.specs.Levels.{hash_block_of, risen, root}
 use Rattle.verity_tree.specs.Counts.{level_count}
-use Rattle.verity_tree.specs.OpenBlocks.{digests_under, open_block, filling, AreOpen, carried, IsReached, IsCarrying, IsNext, IsClosed, IsKept, IsCarriedOn}
-use Rattle.verity_tree.proofs.CountLemmas.{le-div_ceil, IsLevelCount-level_count, mul-lt_div_ceil}
+use Rattle.verity_tree.specs.OpenBlocks.{digests_under, open_block, filling, AreOpen, carried, IsCarrying, IsNext, IsClosed, IsKept, IsCarriedOn}
+use Rattle.verity_tree.proofs.CountLemmas.{le-div_ceil, IsLevelCount-level_count}
 use Rattle.verity_tree.proofs.TreeLemmas.{length-risen, height-level_count}
 use Rattle.verity_tree.proofs.StreamNumbers.{quotient-next, div_ceil-last, IsReached-zero, quotient-reached, IsReached-full, slots-full, slots-more, quotient-stays}
 use Rattle.verity_tree.proofs.StreamLists.{open-push, open-close, block-up}

@@ -11,7 +11,7 @@ use Rattle.verity_tree.specs.Building.{HasGiven, EndsWithin, FailsWithin, bytes_
 use Rattle.verity_tree.specs.DataBlocks.{HoldsBlock, HoldsFront, StopsWithin}
 use Rattle.verity_tree.specs.Levels.{block_at, digest_of_block, cut, risen}
 use Rattle.verity_tree.specs.OpenBlocks.{carried}
-use Rattle.verity_tree.specs.Plans.{Planned, IsPlanned, block_count, data_blocks}
+use Rattle.verity_tree.specs.Plans.{Planned, IsPlanned, data_blocks}
 use Rattle.verity_tree.specs.Settings.{Settings, hash, fan}
 use Rattle.verity_tree.proofs.CountLemmas.{mul-lt_div_ceil, le-div_ceil, div_ceil-pos}
 use Rattle.verity_tree.proofs.FanLemmas.{some_data}

@@ -1,5 +1,5 @@
 -- Lengths of levels.
-use Rattle.std.proofs.Common.{◌≡◌, ℕ, zero, suc, ◌+◌, ◌-◌, ◌*◌, ◌/◌, ◌%◌, ◌^◌, ◌<◌, ◌≤◌, List, length, map, arith, sym, ◌∙◌, ap, subst, refl}
+use Rattle.std.proofs.Common.{◌≡◌, ℕ, zero, suc, ◌^◌, ◌<◌, List, length, map, arith, sym, ◌∙◌, ap}
 use Rattle.std.proofs.lemmas.List.{length-map}
 use Rattle.std.proofs.lemmas.List.FromFn.{length-map-range_with_len}
 use Rattle.std.proofs.Math.Nat.{pow-zero, pow-suc, one-le-pow}
@@ -7,7 +7,6 @@ use Rattle.std.specs.Int.{div_ceil}
 use Rattle.std.specs.Prelude.{nat_le}
 use Rattle.verity_tree.specs.Settings.{Settings, fan, hash}
 use Rattle.verity_tree.specs.Levels.{pack, up, risen, height}
-use Rattle.verity_tree.specs.Least.{least_from}
 use Rattle.verity_tree.specs.Counts.{level_count}
 use Rattle.verity_tree.proofs.LeastLemmas.{least_from-same}
 use Rattle.verity_tree.proofs.CountLemmas.{div_ceil-div_ceil, leb-div_ceil_one}

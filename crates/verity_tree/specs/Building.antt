@@ -1,12 +1,12 @@
 -- What a pass over the data answers, what has left the source, and what stands on the device.
-use Rattle.std.specs.Prelude.{◌≡◌, ℕ, ◌+◌, ◌-◌, ◌*◌, ◌/◌, ◌<◌, ◌≤◌, ◌^◌, min, List, [], ◌∷◌, ◌++◌, length, drop, Contains, Result, Ok, Err}
+use Rattle.std.specs.Prelude.{◌≡◌, ℕ, ◌+◌, ◌*◌, ◌<◌, ◌≤◌, min, List, [], ◌∷◌, ◌++◌, length, drop, Contains, Result, Ok, Err}
 use Rattle.verity_hash.specs.declared.digest.Digest.{Digest}
 use Rattle.verity_tree.specs.ClosingOrder.{closing, order}
 use Rattle.verity_tree.specs.Counting.{last_count}
 use Rattle.verity_tree.specs.Image.{written}
 use Rattle.verity_tree.specs.Levels.{root}
 use Rattle.verity_tree.specs.Plans.{Planned, byte_of, data_blocks}
-use Rattle.verity_tree.specs.Settings.{Settings, fan}
+use Rattle.verity_tree.specs.Settings.{fan}
 use Rattle.verity_tree.specs.Writing.{Spoiled}
 use Rattle.verity_tree.specs.declared.building.BuildFault.{BuildFault}
 use Rattle.verity_tree.specs.declared.building.BuildFault.TheVariants.{SourceShort, SourceFailed, DeviceFailed}

@@ -1,5 +1,5 @@
 -- How one data block is read from a source.
-use Rattle.std.specs.Prelude.{◌≡◌, ℕ, ◌+◌, ◌-◌, ◌<◌, ◌≤◌, ◌^◌, min, List, [], ◌++◌, length, take, drop, Result, Ok, Err}
+use Rattle.std.specs.Prelude.{◌≡◌, ℕ, ◌+◌, ◌<◌, ◌≤◌, min, List, [], ◌++◌, length, take, drop, Result, Ok, Err}
 use Rattle.verity_hash.specs.Bytes.{filled}
 use Rattle.verity_tree.specs.Counting.{last_count}
 use Rattle.verity_tree.specs.declared.data_block.BlockFault.{BlockFault}

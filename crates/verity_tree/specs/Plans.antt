@@ -1,5 +1,5 @@
 -- A plan: what is read, and where each hash block goes.
-use Rattle.std.specs.Prelude.{◌≡◌, ◌<◌, ◌≤◌, ℕ, ◌+◌, ◌-◌, ◌*◌, ◌^◌, ◌==◌, ◌&&◌, Bool, List, Result, Ok, Err, if◌then◌else◌, nat_le}
+use Rattle.std.specs.Prelude.{◌≡◌, ◌<◌, ◌≤◌, ℕ, ◌+◌, ◌-◌, ◌*◌, ◌^◌, ◌&&◌, Bool, List, nat_le}
 use Rattle.std.specs.Int.{div_ceil}
 use Rattle.verity_tree.specs.Counts.{level_count, level_size, IsTreeBlock}
 use Rattle.verity_tree.specs.Levels.{cut}

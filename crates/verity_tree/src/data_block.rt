@@ -34,11 +34,7 @@ pub(crate) fn read_data_block<S: Source>(
 }
 
 /// Reads the next bytes to the front of a block.
-fn read_front<S: Source>(
-    source: &mut S,
-    block: &mut [u8],
-    want: usize,
-) -> Result<(), BlockFault>
+fn read_front<S: Source>(source: &mut S, block: &mut [u8], want: usize) -> Result<(), BlockFault>
     requires { want ≤ length block.old }
     ensures told { S.tells source.old → S.tells source.new }
     ensures count { CountsBlock result (S.failures source.old) (S.failures source.new) }

@@ -72,7 +72,12 @@ impl Plan {
         Plan::checked(settings, blocks, size, base)
     }
 
-    fn checked(settings: &TreeSettings, blocks: u64, wanted: u64, base: u64) -> Result<Plan, PlanFault>
+    fn checked(
+        settings: &TreeSettings,
+        blocks: u64,
+        wanted: u64,
+        base: u64,
+    ) -> Result<Plan, PlanFault>
         requires { blocks ≡ div_ceil wanted settings.now.data_block }
         ensures { result ≡ planned (record { settings = settings.now; blocks = blocks; wanted = wanted; base = base }) }
     {

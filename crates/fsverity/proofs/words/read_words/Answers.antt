@@ -16,5 +16,5 @@ returns-clause-holds c =
     let met = met_rows _ _ (c.in-Some.ensures.rows) in (
       met.0,
       sym (ap (λ (a : App). subcommand_of a (map (λ w. w.now) c.args.words.now)) app) ∙ sym matches ∙ met.1,
-      subst (λ (rows : List Row). HoldsRows rows c.in_ok-line_of-in-Some.field-0) (sym met.2) c.in_ok-line_of-in-Some.ensures,
+      subst (λ (given : List Row). HoldsRows given c.in_ok-line_of-in-Some.field-0) (sym met.2) c.in_ok-line_of-in-Some.ensures,
     )

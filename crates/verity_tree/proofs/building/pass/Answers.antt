@@ -1,4 +1,4 @@
-use Rattle.std.proofs.Common.{◌≡◌, ℕ, ◌+◌, ◌-◌, ◌*◌, ◌<◌, ◌≤◌, List, length, arith, sym, ap, ◌∙◌, refl, rules}
+use Rattle.std.proofs.Common.{◌≡◌, ◌<◌, length, arith, sym, ◌∙◌, refl, rules}
 use Rattle.std.proofs.lemmas.List.{length-replicate}
 use Rattle.verity_tree.specs.ClosingOrder.{order}
 use Rattle.verity_tree.specs.Image.{written}
@@ -6,7 +6,7 @@ use Rattle.verity_tree.specs.Plans.{data_blocks, levels_of}
 use Rattle.verity_tree.proofs.BuildLoop.{AreOpen-zeros, gives-up-to, image-next, image-stopped}
 use Rattle.verity_tree.proofs.FitLemmas.{fan-pos}
 use Rattle.verity_tree.proofs.LevelLemmas.{length-cut}
-use Rattle.verity_tree.proofs.TakeLemmas.{HasGiven-all, HasGiven-none, blocks-some}
+use Rattle.verity_tree.proofs.TakeLemmas.{HasGiven-none, blocks-some}
 use Rattle.verity_tree.proofs.building.pass.Goals as goal
 
 pub loop-i-init : goal.loop-i-init

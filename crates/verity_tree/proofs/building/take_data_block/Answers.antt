@@ -1,4 +1,4 @@
-use Rattle.std.proofs.Common.{◌≡◌, ℕ, ◌+◌, ◌-◌, ◌*◌, ◌<◌, ◌≤◌, min, List, length, arith, ap, ◌∙◌, Err}
+use Rattle.std.proofs.Common.{◌≡◌, ℕ, ◌-◌, ◌*◌, ◌<◌, min, List, length, arith, ap, ◌∙◌, Err}
 use Rattle.verity_tree.specs.Building.{HasGiven, bytes_of}
 use Rattle.verity_tree.specs.DataBlocks.{StopsBy}
 use Rattle.verity_tree.specs.Plans.{Planned, IsPlanned, levels_of}

@@ -1,15 +1,13 @@
-use Rattle.std.proofs.Common.{◌≡◌, ℕ, ◌+◌, ◌-◌, ◌*◌, ◌/◌, ◌%◌, ◌<◌, ◌≤◌, ◌^◌, List, length, Bool, true, arith, sym, ap, subst, ◌∙◌, refl}
+use Rattle.std.proofs.Common.{◌≡◌, ℕ, ◌+◌, ◌-◌, ◌*◌, ◌/◌, ◌<◌, ◌≤◌, ◌^◌, List, true, arith, sym, ap, subst, ◌∙◌, refl}
 use Rattle.verity_tree.specs.ClosingOrder.{closed_to, closing, closes}
-use Rattle.verity_tree.specs.Cascade.{ClosesWith}
 use Rattle.verity_tree.specs.Counts.{level_count}
 use Rattle.verity_tree.specs.Image.{written, byte_at}
-use Rattle.verity_tree.specs.OpenBlocks.{AreOpen, carried, IsCarrying}
+use Rattle.verity_tree.specs.OpenBlocks.{IsCarrying}
 use Rattle.verity_tree.specs.Plans.{byte_of, levels_of}
-use Rattle.verity_tree.specs.Settings.{hash, fan, digest_len}
+use Rattle.verity_tree.specs.Settings.{fan}
 use Rattle.verity_tree.specs.Writing.{Spoiled}
-use Rattle.verity_tree.proofs.StreamNumbers.{quotient-next}
 use Rattle.verity_tree.proofs.StreamStep.{carry-closed, carry-kept, carry-all, IsCarrying-first, place-first}
-use Rattle.verity_tree.proofs.BuildStep.{carried-is_next, device-closed, device-kept, device-all, device-spoiled, closing-below, closing-place, closes-stopped_all}
+use Rattle.verity_tree.proofs.BuildStep.{carried-is_next, device-closed, device-kept, device-all, closing-below, closing-place, closes-stopped_all}
 use Rattle.verity_tree.proofs.cascade.carry.Goals as goal
 
 pub overflow_add-last : goal.overflow_add-last

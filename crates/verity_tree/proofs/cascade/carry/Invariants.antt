@@ -1,5 +1,5 @@
-use Rattle.std.proofs.Common.{◌≡◌, ℕ, ◌+◌, ◌-◌, ◌*◌, ◌/◌, ◌<◌, ◌≤◌, ◌^◌, List, length}
-use Rattle.verity_tree.specs.Settings.{Settings, hash, fan, digest_len}
+use Rattle.std.proofs.Common.{◌≡◌, ℕ, ◌/◌, ◌^◌, List, length}
+use Rattle.verity_tree.specs.Settings.{fan, digest_len}
 use Rattle.verity_tree.specs.OpenBlocks.{AreOpen, carried, IsCarrying}
 use Rattle.verity_tree.specs.ClosingOrder.{closed_to}
 use Rattle.verity_tree.specs.Image.{written}

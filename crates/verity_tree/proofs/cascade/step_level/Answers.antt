@@ -1,5 +1,5 @@
-use Rattle.std.proofs.Common.{rules, ◌≡◌, ℕ, ◌+◌, ◌-◌, ◌*◌, ◌/◌, ◌%◌, ◌<◌, ◌≤◌, ◌^◌, ◌⊎◌, List, [], length, Bool, true, false, ap, ◌∙◌, arith, subst, inl, inr, replicate}
-use Rattle.verity_tree.specs.Settings.{Settings, hash, fan, digest_len}
+use Rattle.std.proofs.Common.{◌≡◌, ℕ, ◌/◌, List, length, ap, ◌∙◌, arith, subst, inl, inr, replicate}
+use Rattle.verity_tree.specs.Settings.{hash, fan}
 use Rattle.verity_tree.specs.Writing.{put, Spoiled}
 use Rattle.verity_tree.proofs.StreamLists.{length-hash}
 use Rattle.verity_tree.proofs.StreamStep.{slot-room, filling-put, slots-all, slots-left}

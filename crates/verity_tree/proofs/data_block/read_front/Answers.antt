@@ -1,4 +1,4 @@
-use Rattle.std.proofs.Common.{◌≡◌, ℕ, ◌+◌, ◌<◌, ◌≤◌, List, ◌++◌, length, drop, arith, ap, sym, ◌∙◌, refl, length-append}
+use Rattle.std.proofs.Common.{length, drop, arith, ap, sym, ◌∙◌, refl, length-append}
 use Rattle.std.proofs.lemmas.List.{drop_at, length-take-le}
 use Rattle.verity_tree.proofs.data_block.read_front.Goals as goal
 

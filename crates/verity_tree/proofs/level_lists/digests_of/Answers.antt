@@ -1,5 +1,5 @@
 -- Each block gives its digest, and the blocks end where the bytes do.
-use Rattle.std.proofs.Common.{◌≡◌, ℕ, List, map, take, arith, sym, ◌∙◌, ap, length}
+use Rattle.std.proofs.Common.{◌≡◌, ℕ, List, map, arith, sym, ◌∙◌, ap, length}
 use Rattle.std.proofs.lemmas.List.{take_all}
 use Rattle.std.specs.List.{range_with_len}
 use Rattle.std.specs.Int.{div_ceil}

@@ -1,5 +1,5 @@
 -- Each level up is shorter and has the same root; a single digest is the root.
-use Rattle.std.proofs.Common.{◌≡◌, ◌<◌, ◌≤◌, ℕ, List, length, map, get_or, vec_len, arith, sym, ◌∙◌, ap}
+use Rattle.std.proofs.Common.{◌≡◌, ◌<◌, ◌≤◌, ℕ, List, length, map, vec_len, arith, sym, ◌∙◌, ap}
 use Rattle.std.proofs.lemmas.List.{get_or_read}
 use Rattle.verity_tree.specs.Settings.{hash, fan}
 use Rattle.verity_tree.specs.Levels.{root_of_digests, pack}

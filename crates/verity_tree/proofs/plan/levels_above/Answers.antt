@@ -1,5 +1,4 @@
-use Rattle.std.proofs.Common.{◌≡◌, ℕ, ◌+◌, ◌-◌, ◌*◌, ◌^◌, ◌≤◌, ◌<◌, arith, sym, ◌∙◌, ap}
-use Rattle.std.specs.Int.{div_ceil}
+use Rattle.std.proofs.Common.{◌≡◌, ℕ, ◌-◌, ◌<◌, arith, ◌∙◌, ap}
 use Rattle.verity_tree.specs.Counts.{level_count, blocks_from}
 use Rattle.verity_tree.proofs.CountLemmas.{div_ceil-pos, div_ceil-lt}
 use Rattle.verity_tree.proofs.PlaceLemmas.{blocks_from-level}

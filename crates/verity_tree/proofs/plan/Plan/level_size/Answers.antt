@@ -1,4 +1,4 @@
-use Rattle.std.proofs.Common.{◌≡◌, ℕ, ◌+◌, ◌^◌, ◌≤◌, ◌<◌, arith, sym, ◌∙◌, ap, subst}
+use Rattle.std.proofs.Common.{◌≡◌, ℕ, ◌<◌, arith, ◌∙◌, ap, subst}
 use Rattle.std.specs.Int.{div_ceil}
 use Rattle.verity_tree.specs.Plans.{IsPlanned}
 use Rattle.verity_tree.specs.Settings.{fan}

@@ -1,7 +1,7 @@
-use Rattle.std.proofs.Common.{◌≡◌, ℕ, ◌+◌, ◌-◌, ◌^◌, ◌≤◌, ◌<◌, arith, sym, ◌∙◌, ap, subst}
+use Rattle.std.proofs.Common.{◌≡◌, ℕ, ◌+◌, ◌-◌, ◌<◌, arith, ◌∙◌, ap, subst}
 use Rattle.std.specs.Int.{div_ceil}
 use Rattle.verity_tree.specs.Counts.{level_size, blocks_from}
-use Rattle.verity_tree.specs.Plans.{IsPlanned, levels_of, end_of}
+use Rattle.verity_tree.specs.Plans.{IsPlanned, levels_of}
 use Rattle.verity_tree.specs.Settings.{fan}
 use Rattle.verity_tree.proofs.PlaceLemmas.{blocks_from-level, PlacesAreOnce-all}
 use Rattle.verity_tree.proofs.PlanLemmas.{size-more, levels_few, end_few}

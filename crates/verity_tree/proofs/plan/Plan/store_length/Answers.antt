@@ -1,5 +1,4 @@
-use Rattle.std.proofs.Common.{◌≡◌, ℕ, ◌+◌, ◌*◌, ◌≤◌, arith, subst, ap, ◌∙◌}
-use Rattle.verity_tree.specs.Plans.{IsPlanned, store_length_of}
+use Rattle.std.proofs.Common.{ℕ, ◌*◌, arith, ap}
 use Rattle.verity_tree.proofs.PlanLemmas.{store_few}
 use Rattle.verity_tree.proofs.plan.Plan.store_length.Goals as goal
 
