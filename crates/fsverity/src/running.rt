@@ -25,8 +25,9 @@ fn digest_opened<O: Opener>(
     ensures told { O.tells opener.old ↔ O.tells opener.new }
     ensures files { O.files opener.new ≡ O.files opener.old }
     ensures failures { O.failures opener.old ≤ O.failures opener.new }
-    ensures reason { IfErr result (HasReason (O.tells opener.old) (IsRefused settings.now (O.files opener.old) (O.next opener.old))
-        (O.files opener.old) (O.next opener.old) (O.failures opener.old) (O.failures opener.new)) }
+    ensures reason { IfErr result (HasReason (O.tells opener.old)
+        (IsRefused settings.now (O.files opener.old) (O.next opener.old)) (O.files opener.old) (O.next opener.old)
+        (O.failures opener.old) (O.failures opener.new)) }
     ensures digest { O.tells opener.old → IfOk result (IsDigestAt settings.now (O.files opener.old) (O.next opener.old)) }
 {
     match opener.start() {
@@ -58,12 +59,13 @@ fn digest_next<O: Opener, W: Write>(
     ensures told { O.tells opener.old ↔ O.tells opener.new }
     ensures files { O.files opener.new ≡ O.files opener.old }
     ensures failures { O.failures opener.old ≤ O.failures opener.new }
-    ensures reason { IfErr result (HasReason (O.tells opener.old) (IsRefused settings.now (O.files opener.old) (O.next opener.old))
-        (O.files opener.old) (O.next opener.old) (O.failures opener.old) (O.failures opener.new)) }
-    ensures line { O.tells opener.old → OnOk result (WritesLine settings.now form name.now (O.files opener.old) (O.next opener.old)
-        (W.contents out.old) (W.contents out.new)) }
-    ensures part { O.tells opener.old → IfErr result (λ fault. WritesPart settings.now form name.now (O.files opener.old) (O.next opener.old) fault
-        (W.contents out.old) (W.contents out.new)) }
+    ensures reason { IfErr result (HasReason (O.tells opener.old)
+        (IsRefused settings.now (O.files opener.old) (O.next opener.old)) (O.files opener.old) (O.next opener.old)
+        (O.failures opener.old) (O.failures opener.new)) }
+    ensures line { O.tells opener.old → OnOk result (WritesLine settings.now form name.now
+        (O.files opener.old) (O.next opener.old) (W.contents out.old) (W.contents out.new)) }
+    ensures part { O.tells opener.old → IfErr result (λ fault. WritesPart settings.now form name.now
+        (O.files opener.old) (O.next opener.old) fault (W.contents out.old) (W.contents out.new)) }
 {
     let made = digest_opened(alloc, settings, opener)?;
     match digest_line(alloc, form, settings.algorithm(), &made.digest, name) {
@@ -93,12 +95,18 @@ pub fn run_digest<O: Opener, W: Write, M: Write>(
     requires names { length names.now ≡ O.count opener.old }
     requires first { O.next opener.old ≡ 0 }
     ensures status { (result ≡ 0) ⊎ (result ≡ 1) }
+
+    // All files have lines.
     ensures done { result ≡ 0 → O.next opener.new ≡ length names.now }
     ensures quiet { result ≡ 0 → msgs.new ≡ msgs.old }
     ensures all { O.tells opener.old → result ≡ 0 → stop settings.now (O.files opener.old) ≡ length names.now }
     ensures lines { O.tells opener.old → result ≡ 0
-        → Appends (W.contents out.old) (W.contents out.new) (lines settings.now form (zip (map (λ n. n.now) names.now) (O.files opener.old))) }
-    ensures ended { result ≡ 1 → EndsAt (O.tells opener.old) settings.now form (map (λ n. n.now) names.now) (O.files opener.old)
+        → Appends (W.contents out.old) (W.contents out.new)
+        (lines settings.now form (zip (map (λ n. n.now) names.now) (O.files opener.old))) }
+
+    // The run ended at one file, with its message.
+    ensures ended { result ≡ 1 → EndsAt (O.tells opener.old) settings.now form
+        (map (λ n. n.now) names.now) (O.files opener.old)
         (O.next opener.new) (O.failures opener.old) (O.failures opener.new)
         (W.contents out.old) (W.contents out.new) (M.contents msgs.old) (M.contents msgs.new) }
 {
