@@ -1,0 +1,7 @@
+pub mod Drawn
+pub mod Numbers
+pub mod Salts
+pub mod Roots
+pub mod Uuids
+pub mod Options
+pub mod Choosing

@@ -1,0 +1,13 @@
+//! What the program veritysetup does, without the kernel: options, the report, and the runs of format, dump and verify.
+#![tactic(auto)]
+
+mod drawing;
+mod numbers;
+mod options;
+mod parameters;
+mod roots;
+mod salts;
+mod uuids;
+
+pub use drawing::draw;
+pub use options::{OptionFault, OptionName, RawOptions};
