@@ -5,3 +5,4 @@ pub mod Roots
 pub mod Uuids
 pub mod Options
 pub mod Choosing
+pub mod Messages

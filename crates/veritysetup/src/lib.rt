@@ -2,6 +2,7 @@
 #![tactic(auto)]
 
 mod drawing;
+mod messages;
 mod numbers;
 mod options;
 mod parameters;
@@ -10,4 +11,5 @@ mod salts;
 mod uuids;
 
 pub use drawing::draw;
+pub use messages::{build_message, compare_message, option_message};
 pub use options::{OptionFault, OptionName, RawOptions};

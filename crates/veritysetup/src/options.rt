@@ -1,4 +1,7 @@
 //! Options as the command line gives them, and why they are refused.
+ghost use Rattle.std.specs.Prelude.{◌≡◌};
+ghost use Rattle.veritysetup.specs.Messages.{option_name};
+
 /// The texts of the options of format and verify, each `None` where it is not given (veritysetup(8)).
 #[derive(Clone, Copy)]
 pub struct RawOptions<'a> {
@@ -27,6 +30,19 @@ pub enum OptionName {
     DataBlockSize,
     /// `--hash-block-size`.
     HashBlockSize,
+}
+
+impl OptionName {
+    /// The long name without its dashes.
+    pub fn name(self) -> &'static str
+        ensures { result.now ≡ option_name self }
+    {
+        match self {
+            OptionName::Format => "format",
+            OptionName::DataBlockSize => "data-block-size",
+            OptionName::HashBlockSize => "hash-block-size",
+        }
+    }
 }
 
 /// The first thing for which options are refused.
