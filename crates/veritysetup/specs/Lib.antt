@@ -4,5 +4,6 @@ pub mod Salts
 pub mod Roots
 pub mod Uuids
 pub mod Options
+pub mod Chosen
 pub mod Choosing
 pub mod Messages

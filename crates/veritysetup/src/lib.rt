@@ -8,8 +8,10 @@ mod options;
 mod parameters;
 mod roots;
 mod salts;
+mod settings;
 mod uuids;
 
 pub use drawing::draw;
 pub use messages::{build_message, compare_message, option_message};
 pub use options::{OptionFault, OptionName, RawOptions};
+pub use settings::{Settings, settings_of};

@@ -82,7 +82,12 @@ fn unread_message(alloc: Global, block: u64) -> Result<String, AllocError>
 }
 
 /// The message of a stored hash block that is not the computed one.
-fn difference_message(alloc: Global, level: usize, block: u64, part: Part) -> Result<String, AllocError>
+fn difference_message(
+    alloc: Global,
+    level: usize,
+    block: u64,
+    part: Part,
+) -> Result<String, AllocError>
     ensures { IfOk result (λ s. string_bytes s ≡ difference_text level block part) }
 {
     match part {

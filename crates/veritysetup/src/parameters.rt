@@ -1,6 +1,7 @@
 //! What the texts of options choose, before the data is looked at.
-ghost use Rattle.std.specs.Prelude.{◌≡◌, Some, option_map, replicate, take, drop};
+ghost use Rattle.std.specs.Prelude.{◌≡◌, IfOk, Some, option_map, replicate, take, drop};
 ghost use Rattle.veritysetup.specs.Options.{texts_of, number_or, algorithm_of, hash_type_of, block_size_of, salt_or_random, uuid_or_random};
+ghost use Rattle.verity_tree.specs.MakingSettings.{rule_of};
 ghost use Rattle.veritysetup.specs.Choosing.{parameters};
 
 use crate::numbers::read_number;
@@ -25,7 +26,8 @@ pub struct Parameters {
 impl Parameters {
     /// What the texts choose, or the first that chooses nothing.
     pub fn chosen(raw: &RawOptions, random: Option<&[u8; 48]>) -> Result<Parameters, OptionFault>
-        ensures { result ≡ parameters (texts_of raw.now) (option_map (λ b. b.now) random.entry) }
+        ensures value { result ≡ parameters (texts_of raw.now) (option_map (λ b. b.now) random.entry) }
+        ensures of_type { IfOk result (λ chosen. chosen.tree.rule ≡ rule_of chosen.hash_type) }
     {
         let format = number_or(1, raw.format).ok_or(OptionFault::BadNumber(OptionName::Format))?;
         let data_size = number_or(4096, raw.data_block_size).ok_or(OptionFault::BadNumber(
