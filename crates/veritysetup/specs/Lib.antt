@@ -7,3 +7,4 @@ pub mod Options
 pub mod Chosen
 pub mod Choosing
 pub mod Messages
+pub mod Reports

@@ -9,6 +9,8 @@ use Rattle.verity_tree.specs.declared.compare.CompareFault.{CompareFault}
 use Rattle.verity_tree.specs.declared.compare.CompareFault.TheVariants as compare
 use Rattle.verity_tree.specs.declared.compare.Part.{Part}
 use Rattle.verity_tree.specs.declared.compare.Part.TheVariants.{Missing, Child, Spare}
+use Rattle.verity_format.specs.declared.super_fault.SuperFault.{SuperFault}
+use Rattle.verity_format.specs.declared.super_fault.SuperFault.TheVariants as super
 use Rattle.veritysetup.specs.declared.options.OptionName.{OptionName}
 use Rattle.veritysetup.specs.declared.options.OptionName.TheVariants.{Format, DataBlockSize, HashBlockSize}
 use Rattle.veritysetup.specs.declared.options.OptionFault.{OptionFault}
@@ -37,6 +39,24 @@ option_text BadUuid = codes "UUID is not valid.\n"
 option_text NoData = no_data_text
 option_text TooLarge = too_large_text
 option_text Overlap = codes "Data area and hash area overlap.\n"
+
+-- a number in a superblock that is not taken
+abbrev pub refused_text : List ℕ → ℕ → List ℕ → List ℕ
+refused_text field number verdict =
+    concat (codes "Superblock " ∷ field ∷ codes " " ∷ decimal number ∷ codes " is not " ∷ verdict ∷ codes ".\n" ∷ [])
+
+-- bytes that are no superblock
+abbrev pub super_text : SuperFault → List ℕ
+super_text super.Short = codes "Superblock is too short.\n"
+super_text super.Signature = codes "No verity superblock.\n"
+super_text (super.Version version) = refused_text (codes "version") version (codes "supported")
+super_text (super.HashType number) = refused_text (codes "hash type") number (codes "supported")
+super_text (super.DataBlockSize size) = refused_text (codes "data block size") size (codes "valid")
+super_text (super.HashBlockSize size) = refused_text (codes "hash block size") size (codes "valid")
+super_text super.Algorithm = codes "Superblock hash algorithm is not supported.\n"
+super_text (super.SaltSize size) = refused_text (codes "salt size") size (codes "valid")
+super_text super.NoData = no_data_text
+super_text super.TooLarge = too_large_text
 
 -- data that ends too early, and a data block that can't be read
 abbrev pub short_text : ℕ → List ℕ

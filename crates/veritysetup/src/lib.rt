@@ -6,12 +6,14 @@ mod messages;
 mod numbers;
 mod options;
 mod parameters;
+mod reporting;
 mod roots;
 mod salts;
 mod settings;
 mod uuids;
 
 pub use drawing::draw;
-pub use messages::{build_message, compare_message, option_message};
+pub use messages::{build_message, compare_message, option_message, super_message};
 pub use options::{OptionFault, OptionName, RawOptions};
+pub use reporting::report;
 pub use settings::{Settings, settings_of};

@@ -1,9 +1,10 @@
 //! Messages, one line each.
 ghost use Rattle.std.specs.Prelude.{◌≡◌, IfOk, string_bytes};
-ghost use Rattle.veritysetup.specs.Messages.{option_text, short_text, unread_text, build_text, difference_text, compare_text};
+ghost use Rattle.veritysetup.specs.Messages.{option_text, super_text, short_text, unread_text, build_text, difference_text, compare_text};
 
 use crate::{OptionFault, OptionName};
 use std::alloc::{AllocError, Global};
+use verity_format::SuperFault;
 use verity_tree::{BuildFault, CompareFault, Part};
 
 /// The data holds no whole block, or a superblock tells of none.
@@ -30,6 +31,35 @@ pub fn option_message(alloc: Global, fault: &OptionFault) -> Result<String, Allo
         OptionFault::NoData => NO_DATA,
         OptionFault::TooLarge => TOO_LARGE,
         OptionFault::Overlap => "Data area and hash area overlap.\n",
+    };
+    String::from_str(alloc, text)
+}
+
+/// The message of bytes that are no superblock.
+pub fn super_message(alloc: Global, fault: &SuperFault) -> Result<String, AllocError>
+    ensures { IfOk result (λ s. string_bytes s ≡ super_text fault.now) }
+{
+    let text = match fault {
+        SuperFault::Version(version) => {
+            return format!(in alloc; "Superblock version {version} is not supported.\n");
+        }
+        SuperFault::HashType(number) => {
+            return format!(in alloc; "Superblock hash type {number} is not supported.\n");
+        }
+        SuperFault::DataBlockSize(size) => {
+            return format!(in alloc; "Superblock data block size {size} is not valid.\n");
+        }
+        SuperFault::HashBlockSize(size) => {
+            return format!(in alloc; "Superblock hash block size {size} is not valid.\n");
+        }
+        SuperFault::SaltSize(size) => {
+            return format!(in alloc; "Superblock salt size {size} is not valid.\n");
+        }
+        SuperFault::Short => "Superblock is too short.\n",
+        SuperFault::Signature => "No verity superblock.\n",
+        SuperFault::Algorithm => "Superblock hash algorithm is not supported.\n",
+        SuperFault::NoData => NO_DATA,
+        SuperFault::TooLarge => TOO_LARGE,
     };
     String::from_str(alloc, text)
 }
