@@ -8,3 +8,6 @@ pub mod Chosen
 pub mod Choosing
 pub mod Messages
 pub mod Reports
+pub mod Printing
+pub mod Stored
+pub mod Dumping

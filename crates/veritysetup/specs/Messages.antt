@@ -28,6 +28,18 @@ no_data_text = codes "No data blocks.\n"
 abbrev pub too_large_text : List ℕ
 too_large_text = codes "Data or hash area is too large.\n"
 
+abbrev pub memory_text : List ℕ
+memory_text = codes "Out of memory.\n"
+
+abbrev pub unread_superblock_text : List ℕ
+unread_superblock_text = codes "Cannot read superblock.\n"
+
+abbrev pub unwritten_superblock_text : List ℕ
+unwritten_superblock_text = codes "Cannot write superblock.\n"
+
+abbrev pub unwritten_output_text : List ℕ
+unwritten_output_text = codes "Cannot write output.\n"
+
 -- a refused option
 abbrev pub option_text : OptionFault → List ℕ
 option_text (BadNumber option) = concat (codes "Option --" ∷ option_name option ∷ codes " is not a number.\n" ∷ [])

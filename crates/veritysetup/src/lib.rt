@@ -2,17 +2,21 @@
 #![tactic(auto)]
 
 mod drawing;
+mod dumping;
 mod messages;
 mod numbers;
 mod options;
 mod parameters;
+mod printing;
 mod reporting;
 mod roots;
 mod salts;
 mod settings;
+mod stored;
 mod uuids;
 
 pub use drawing::draw;
+pub use dumping::run_dump;
 pub use messages::{build_message, compare_message, option_message, super_message};
 pub use options::{OptionFault, OptionName, RawOptions};
 pub use reporting::report;

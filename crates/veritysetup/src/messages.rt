@@ -13,6 +13,18 @@ const NO_DATA: &str = "No data blocks.\n";
 /// The data area or the hash area is past its limit.
 const TOO_LARGE: &str = "Data or hash area is too large.\n";
 
+/// There is no memory. The text is fixed, so that it takes none.
+pub const OUT_OF_MEMORY: &str = "Out of memory.\n";
+
+/// The device could not be read at the superblock.
+pub const SUPERBLOCK_UNREAD: &str = "Cannot read superblock.\n";
+
+/// The superblock could not be written.
+pub const SUPERBLOCK_UNWRITTEN: &str = "Cannot write superblock.\n";
+
+/// The report could not be written.
+pub const OUTPUT_UNWRITTEN: &str = "Cannot write output.\n";
+
 /// The message of a refused option.
 pub fn option_message(alloc: Global, fault: &OptionFault) -> Result<String, AllocError>
     ensures { IfOk result (λ s. string_bytes s ≡ option_text fault.now) }
