@@ -11,3 +11,5 @@ pub mod Reports
 pub mod Printing
 pub mod Stored
 pub mod Dumping
+pub mod Images
+pub mod Formatting

@@ -3,8 +3,8 @@ use Rattle.std.specs.Prelude.{ℕ, List, [], ◌∷◌, ◌++◌, codes}
 use Rattle.std.specs.Fmt.{decimal}
 use Rattle.std.specs.List.{concat}
 use Rattle.hex.specs.Hex.{encode_lower}
-use Rattle.verity_tree.specs.declared.build.BuildFault.{BuildFault}
-use Rattle.verity_tree.specs.declared.build.BuildFault.TheVariants as build
+use Rattle.verity_tree.specs.declared.building.BuildFault.{BuildFault}
+use Rattle.verity_tree.specs.declared.building.BuildFault.TheVariants as build
 use Rattle.verity_tree.specs.declared.compare.CompareFault.{CompareFault}
 use Rattle.verity_tree.specs.declared.compare.CompareFault.TheVariants as compare
 use Rattle.verity_tree.specs.declared.compare.Part.{Part}

@@ -3,6 +3,7 @@
 
 mod drawing;
 mod dumping;
+mod formatting;
 mod messages;
 mod numbers;
 mod options;
@@ -17,6 +18,7 @@ mod uuids;
 
 pub use drawing::draw;
 pub use dumping::run_dump;
+pub use formatting::run_format;
 pub use messages::{build_message, compare_message, option_message, super_message};
 pub use options::{OptionFault, OptionName, RawOptions};
 pub use reporting::report;

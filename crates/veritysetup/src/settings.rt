@@ -2,12 +2,14 @@
 ghost use Rattle.std.specs.Prelude.{◌≡◌, option_map};
 ghost use Rattle.veritysetup.specs.Chosen.{IsChosen};
 ghost use Rattle.veritysetup.specs.Choosing.{settings};
+ghost use Rattle.veritysetup.specs.Images.{superblock_for};
 ghost use Rattle.veritysetup.specs.Options.{texts_of};
 
 use crate::options::{OptionFault, RawOptions};
 use crate::parameters::Parameters;
 use std::marker::Model;
 use uuid::Uuid;
+use verity_format::Superblock;
 use verity_tree::{HashType, Plan, PlanFault};
 
 /// The settings of a hash device. Only `settings_of` makes them, so the parts agree: the plan's tree is of the hash
@@ -52,6 +54,14 @@ impl Settings {
         ensures chosen { IsChosen self.now }
     {
         &self.plan
+    }
+
+    /// The superblock that tells of them.
+    pub fn superblock(&self) -> Superblock
+        ensures { result ≡ superblock_for self.now }
+    {
+        let plan = &self.plan;
+        Superblock::new(plan.settings(), self.uuid(), plan.blocks()).unwrap()
     }
 }
 
