@@ -1,7 +1,7 @@
 -- Fans and slot widths as powers of two.
-use Rattle.std.proofs.Common.{◌≡◌, ℕ, zero, suc, ◌+◌, ◌-◌, ◌*◌, ◌/◌, ◌^◌, ◌<◌, ◌≤◌, max, Bool, true, false, ltb, leb, arith, sym, ◌∙◌, ap, subst, refl, inl, inr}
+use Rattle.std.proofs.Common.{◌≡◌, ℕ, zero, suc, ◌+◌, ◌*◌, ◌/◌, ◌^◌, ◌<◌, ◌≤◌, max, true, false, ltb, leb, arith, ap, refl, inl, inr}
 use Rattle.std.proofs.lemmas.Bool.Decides.{nat_tests}
-use Rattle.std.proofs.Math.Nat.{pow-zero, pow-suc, pow-le-pow_right, mul-le-mul_right, le_trans, div-mul-le_self}
+use Rattle.std.proofs.Math.Nat.{pow-suc, pow-le-pow_right, mul-le-mul_right, le_trans, div-mul-le_self}
 use Rattle.std.proofs.lemmas.Nat.{pow_pos, div-add-mod', mod_below}
 use Rattle.std.proofs.lemmas.Bool.{cases_lt}
 use Rattle.std.specs.Prelude.{nat_le, nat_lt}
@@ -11,8 +11,6 @@ use Rattle.verity_hash.specs.declared.algorithm.Algorithm.TheVariants.{Sha256, S
 use Rattle.verity_hash.specs.declared.salting.SaltRule.{SaltRule}
 use Rattle.verity_hash.specs.declared.salting.SaltRule.TheVariants.{Before, PaddedBefore}
 use Rattle.verity_tree.specs.Settings.{Settings, IsValid, fan, digest_len, is_block_size, least_block}
-
-use Rattle.verity_tree.specs.Least.{least_from}
 use Rattle.verity_tree.specs.Slots.{greatest_fan, least_power}
 use Rattle.verity_tree.proofs.LeastLemmas.{IsLeast, IsLeast-same, IsLeast-least_from}
 use Rattle.verity_tree.proofs.CountLemmas.{lt-pow_self}

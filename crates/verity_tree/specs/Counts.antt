@@ -1,6 +1,6 @@
 -- How many hash blocks each level has, where a hash block holds fan slots and there are n data blocks (Linux kernel,
 -- dm-verity page, "Hash Tree").
-use Rattle.std.specs.Prelude.{◌≡◌, ◌<◌, ◌≤◌, ℕ, ◌+◌, ◌^◌, nat_le}
+use Rattle.std.specs.Prelude.{◌<◌, ◌≤◌, ℕ, ◌+◌, ◌^◌, nat_le}
 use Rattle.std.specs.List.{range_with_len, sum_by}
 use Rattle.std.specs.Int.{div_ceil}
 use Rattle.verity_tree.specs.Least.{least_up_to}

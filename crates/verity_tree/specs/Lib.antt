@@ -6,3 +6,16 @@ pub mod Counts
 pub mod Places
 pub mod ClosingOrder
 pub mod Levels
+pub mod Plans
+pub mod PlanFields
+pub mod MakingPlans
+pub mod Counting
+pub mod Reading
+pub mod Writing
+pub mod Image
+pub mod OpenBlocks
+pub mod DataBlocks
+pub mod Cascade
+pub mod Building
+pub mod TakingBlocks
+pub mod Fusing

@@ -25,9 +25,19 @@ checked s = if not (is_block_size (least_block s.rule (digest_len_of s.algorithm
 -- settings of dm-verity
 abbrev pub verity_settings : Algorithm → HashType → List ℕ → ℕ → ℕ → Result Settings SettingFault
 verity_settings algorithm hash_type salt data_block hash_block = checked (record {
-  algorithm = algorithm; rule = rule_of hash_type; salt = salt; data_block = data_block; hash_block = hash_block })
+  algorithm = algorithm;
+  rule = rule_of hash_type;
+  salt = salt;
+  data_block = data_block;
+  hash_block = hash_block;
+})
 
 -- settings of fs-verity: data and tree blocks have one size
 abbrev pub fsverity_settings : Algorithm → List ℕ → ℕ → Result Settings SettingFault
 fsverity_settings algorithm salt block = checked (record {
-  algorithm = algorithm; rule = PaddedBefore; salt = salt; data_block = block; hash_block = block })
+  algorithm = algorithm;
+  rule = PaddedBefore;
+  salt = salt;
+  data_block = block;
+  hash_block = block;
+})

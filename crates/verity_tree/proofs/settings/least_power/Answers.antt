@@ -1,4 +1,4 @@
-use Rattle.std.proofs.Common.{◌≡◌, ◌<◌, ◌≤◌, ◌*◌, ◌^◌, ◌+◌, ◌/◌, max, ℕ, arith, sym, ◌∙◌, subst}
+use Rattle.std.proofs.Common.{◌<◌, ◌≤◌, ◌/◌, max, ℕ, sym, ◌∙◌, subst}
 use Rattle.verity_tree.proofs.FanLemmas.{least_power-is}
 use Rattle.verity_tree.proofs.settings.least_power.Goals as goal
 

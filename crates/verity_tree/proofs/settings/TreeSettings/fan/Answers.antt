@@ -1,6 +1,5 @@
-use Rattle.std.proofs.Common.{◌≡◌, ℕ, ◌<◌, ◌≤◌, ◌*◌, ◌^◌, ◌+◌, ◌/◌, arith, sym, ◌∙◌, ap, subst}
+use Rattle.std.proofs.Common.{ℕ, ◌<◌, ◌≤◌, ◌*◌, arith, sym, ◌∙◌, ap, subst}
 use Rattle.std.proofs.lemmas.Nat.{one_shl}
-use Rattle.verity_hash.specs.Algorithms.{digest_len_of}
 use Rattle.verity_tree.specs.Settings.{Settings, fan, slot_width}
 use Rattle.verity_tree.proofs.FitLemmas.{fan-fits}
 use Rattle.verity_tree.specs.Slots.{greatest_fan}

@@ -1,0 +1,88 @@
+-- Bytes say a superblock exactly where they pass every test, and then just one.
+use Rattle.std.proofs.Common.{◌≡◌, ℕ, ◌*◌, ◌^◌, ◌<◌, ◌≤◌, Bool, true, false, List, [], ◌∷◌, ◌++◌, length, take, drop, Option, Some, None, is_some, nat_le, nat_lt, arith, refl, ap, sym, ◌∙◌, length-drop}
+use Rattle.std.specs.Cmp.Lexicographic.{bytes_decides}
+use Rattle.std.proofs.lemmas.Bool.{eqb-true, le-leb, leb-true}
+use Rattle.std.proofs.lemmas.Bool.Decides.{nat_tests}
+use Rattle.std.proofs.lemmas.List.{length-take-le}
+use Rattle.verity_hash.specs.Algorithms.{named}
+use Rattle.verity_tree.specs.Settings.{Settings, IsValid, digest_len, is_block_size, least_block, most_salt}
+use Rattle.verity_tree.specs.MakingSettings.{rule_of}
+use Rattle.verity_tree.specs.declared.settings.HashType.{HashType}
+use Rattle.verity_tree.specs.declared.settings.HashType.TheVariants.{Current}
+use Rattle.verity_format.specs.Fields.{field, number_at, until_zero}
+use Rattle.verity_format.specs.SuperblockFields.{SuperblockFields}
+use Rattle.verity_format.specs.Superblocks.{IsSuperblock, blocks_tests, cause, first_failed, header_tests, settings_tests, signature, type_numbered}
+use Rattle.verity_format.specs.declared.super_fault.SuperFault.{SuperFault}
+use Rattle.verity_format.proofs.ReadLemmas.{IsValid-verity}
+
+-- every test is passed
+abbrev AllPass : List (Bool × SuperFault) → Type 0
+AllPass [] = Unit {0}
+AllPass (test ∷ tests) = (test.0 ≡ true) × AllPass tests
+
+passed : (tests : List (Bool × SuperFault)) → first_failed tests ≡ None → AllPass tests
+passed [] none = tt
+passed ((true, fault) ∷ tests) none = (refl, passed tests none)
+passed ((false, fault) ∷ tests) none = cc
+
+none_failed : (tests : List (Bool × SuperFault)) → AllPass tests → first_failed tests ≡ None
+none_failed [] all = refl
+none_failed ((true, fault) ∷ tests) all = none_failed tests all.1
+none_failed ((false, fault) ∷ tests) all = (let wrong : false ≡ true = all.0 in cc)
+
+value_of : {A : Type 0} (o : Option A) → is_some o ≡ true → (x : A) × (o ≡ Some x)
+value_of None h = cc
+value_of (Some x) h = (x, refl)
+
+-- bytes that pass every test say a superblock
+pub cause_none-says : (s : List ℕ) → cause s ≡ None → (v : SuperblockFields) × IsSuperblock s v
+cause_none-says s none =
+    let all = passed (header_tests s ++ settings_tests s ++ blocks_tests s) none in
+    let long : 512 ≤ length s = leb-true 512 (length s) all.0 in
+    let signed : take 8 s ≡ signature = (bytes_decides (take 8 s) signature).0 all.1.0 in
+    let version : number_at 8 4 s ≡ 1 = eqb-true (number_at 8 4 s) 1 all.1.1.0 in
+    let typed = value_of (type_numbered (number_at 12 4 s)) all.1.1.1.0 in
+    let rest = all.1.1.1.1 in
+    let known = value_of (named (until_zero (field 32 32 s))) rest.1.1.0 in
+    let short : number_at 80 2 s ≤ 256 = leb-true (number_at 80 2 s) 256 rest.1.1.1.0 in
+    let counted = rest.1.1.1.1 in
+    let some : 0 < number_at 72 8 s = grind (arith, nat_tests, counted) in
+    let within : number_at 72 8 s * number_at 64 4 s < 2 ^ 63 = grind (arith, nat_tests, counted) in
+    let salt = field 88 (number_at 80 2 s) s in
+    let held : length salt ≡ number_at 80 2 s = length-take-le (number_at 80 2 s) (drop 88 s) (omega (arith, length-drop 88 s)) in
+    let sixteen : length (field 16 16 s) ≡ 16 = length-take-le 16 (drop 16 s) (omega (arith, length-drop 16 s)) in
+    let tree : Settings = record { algorithm = known.0; rule = rule_of typed.0; salt = salt; data_block = number_at 64 4 s; hash_block = number_at 68 4 s } in
+    let valid : IsValid tree = IsValid-verity known.0 typed.0 salt (number_at 64 4 s) (number_at 68 4 s) rest.0 rest.1.0 (omega arith) in (
+      record { hash_type = typed.0; tree = tree; uuid = field 16 16 s; blocks = number_at 72 8 s },
+      record {
+        long = long;
+        signed = signed;
+        version = version;
+        hash_type = typed.1;
+        uuid = refl;
+        blocks = refl;
+        tree = record { name = known.1; data_block = refl; hash_block = refl; salt_size = sym held; salt = ap (λ n. field 88 n s) held };
+        valid = record { tree = valid; of_type = refl; uuid = sixteen; some = some; within = within };
+      },
+    )
+
+least_512 : (hash_type : HashType) (digest_len : ℕ) → least_block (rule_of hash_type) digest_len ≡ 512
+least_512 Current digest_len = refl
+
+most_256 : (hash_type : HashType) → most_salt (rule_of hash_type) ≡ 256
+most_256 Current = refl
+
+-- bytes that say a superblock pass every test
+pub says-cause_none : (s : List ℕ) (v : SuperblockFields) → IsSuperblock s v → cause s ≡ None
+says-cause_none s v a =
+    let rule = a.valid.of_type in
+    let limits = a.valid.tree in
+    let least : least_block v.tree.rule (digest_len v.tree) ≡ 512 = ap (λ r. least_block r (digest_len v.tree)) rule ∙ least_512 v.hash_type (digest_len v.tree) in
+    let most : most_salt v.tree.rule ≡ 256 = ap most_salt rule ∙ most_256 v.hash_type in
+    let sized : is_block_size 512 v.tree.data_block ≡ true = rw least at limits.data_size in
+    let hash_sized : is_block_size 512 v.tree.hash_block ≡ true = rw least at limits.hash_size in
+    let long : nat_le 512 (length s) ≡ true = le-leb 512 (length s) a.long in
+    let short : nat_le (length v.tree.salt) 256 ≡ true = le-leb (length v.tree.salt) 256 (omega (arith, most, limits.salt_most)) in
+    let some : nat_lt 0 v.blocks ≡ true = (let h = a.valid.some in grind (arith, nat_tests, h)) in
+    let within : nat_lt (v.blocks * v.tree.data_block) (2 ^ 63) ≡ true = (let h = a.valid.within in grind (arith, nat_tests, h)) in
+    rw (long, a.signed, a.version, a.hash_type, a.tree.data_block, sized, a.tree.hash_block, hash_sized, a.tree.name, a.tree.salt_size, short, a.blocks, some, within) refl

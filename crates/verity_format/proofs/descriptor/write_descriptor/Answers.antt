@@ -1,0 +1,24 @@
+-- Each field is put behind those before it.
+use Rattle.std.proofs.Common.{refl}
+use Rattle.verity_format.specs.Descriptors.{descriptor_text}
+use Rattle.verity_format.proofs.descriptor.write_descriptor.Goals as goal
+
+pub returns : goal.returns
+unfolding descriptor_text
+returns c =
+    rw (
+      ← c.descriptor.view_is,
+      c.finish.ensures,
+      c.put-2.ensures.bytes,
+      c.put_filled.ensures.bytes,
+      c.put_u64.ensures.bytes,
+      c.put_zeros.ensures.bytes,
+      c.put.ensures.bytes,
+      c.new-fields.ensures,
+      c.number_of.ensures,
+      c.algorithm.ensures,
+      c.log2_of.ensures,
+      c.data_block.ensures.value,
+      c.as_bytes.ensures.bytes,
+      c.salt-salt.ensures.value,
+    ) refl

@@ -1,0 +1,34 @@
+-- Each field is put behind those before it.
+use Rattle.std.proofs.Common.{refl}
+use Rattle.verity_format.specs.Superblocks.{superblock_text}
+use Rattle.verity_format.proofs.writing.write_superblock.Goals as goal
+
+pub returns : goal.returns
+unfolding superblock_text
+returns c =
+    rw (
+      c.finish.ensures,
+      c.put-3.ensures.bytes,
+      c.put_zeros.ensures.bytes,
+      c.put_u16.ensures.bytes,
+      c.put_u64.ensures.bytes,
+      c.put_u32-4.ensures.bytes,
+      c.put_u32-3.ensures.bytes,
+      c.put_filled.ensures.bytes,
+      c.put-2.ensures.bytes,
+      c.put_u32-2.ensures.bytes,
+      c.put_u32.ensures.bytes,
+      c.put.ensures.bytes,
+      c.new-fields.ensures,
+      c.number_of.ensures,
+      c.hash_type.ensures,
+      c.uuid.ensures,
+      c.as_bytes.ensures.value,
+      c.name.ensures,
+      c.algorithm.ensures,
+      c.data_block.ensures.value,
+      c.hash_block.ensures.value,
+      c.blocks-2.ensures,
+      c.salt-salt.ensures.value,
+      c.tree-tree.ensures.value,
+    ) refl

@@ -1,0 +1,48 @@
+-- The fs-verity descriptor and the file digest (Linux kernel, fs-verity page, "fs-verity descriptor" and "File digest
+-- computation").
+use Rattle.std.specs.Prelude.{◌≡◌, ℕ, ◌+◌, ◌^◌, ◌<◌, List, [], ◌∷◌, ◌++◌, length, replicate, nat_lt}
+use Rattle.byteorder.specs.Endian.{little_bytes}
+use Rattle.verity_hash.specs.Algorithms.{hash_of}
+use Rattle.verity_hash.specs.Bytes.{filled}
+use Rattle.verity_hash.specs.declared.algorithm.Algorithm.{Algorithm}
+use Rattle.verity_hash.specs.declared.algorithm.Algorithm.TheVariants.{Sha256, Sha512}
+use Rattle.verity_hash.specs.declared.salting.SaltRule.TheVariants.{PaddedBefore}
+use Rattle.verity_tree.specs.Least.{least_up_to}
+use Rattle.verity_tree.specs.Settings.{Settings, IsValid, digest_len}
+
+-- what the tree is made by, the file's size in bytes, and the root hash
+pub record DescriptorFields : Type 0 where
+  pub tree : Settings
+  pub size : ℕ
+  pub root : List ℕ
+
+-- settings of fs-verity, and a digest of their algorithm
+abbrev pub IsDescribed : Settings → List ℕ → Type 0
+IsDescribed tree root = (tree.rule ≡ PaddedBefore) × (length root ≡ digest_len tree)
+
+pub record IsValidDescriptor (v : DescriptorFields) : Type 0 where
+  pub tree : IsValid v.tree
+  pub described : IsDescribed v.tree v.root
+  pub size : v.size < 2 ^ 64
+
+-- the number of an algorithm in the kernel's interface
+abbrev pub algorithm_number : Algorithm → ℕ
+algorithm_number Sha256 = 1
+algorithm_number Sha512 = 2
+
+-- the binary logarithm, rounded down: the least k for which n is below 2 ^ (k + 1)
+unfoldable pub log2 : ℕ → ℕ
+log2 n = least_up_to n (λ k. nat_lt n (2 ^ (k + 1)))
+
+-- the 256 bytes of a descriptor: version, algorithm, logarithm of the block size, salt size, four zeros, the file's
+-- size, 64 bytes of root hash, the salt as it was given, and zeros
+unfoldable pub descriptor_text : DescriptorFields → List ℕ
+descriptor_text v = filled 256 (1 ∷ algorithm_number v.tree.algorithm ∷ log2 v.tree.data_block ∷ length v.tree.salt ∷ []
+    ++ replicate 4 0
+    ++ little_bytes 8 v.size
+    ++ filled 64 v.root
+    ++ v.tree.salt)
+
+-- the digest of a file
+abbrev pub digest_of_file : DescriptorFields → List ℕ
+digest_of_file v = hash_of v.tree.algorithm (descriptor_text v)

@@ -1,0 +1,7 @@
+-- Where the writing of a text stopped.
+use Rattle.std.specs.Prelude.{ℕ}
+use Rattle.verity_format.specs.declared.putting.PutFault.{PutFault}
+
+-- how many bytes of the text were taken
+abbrev pub taken : PutFault → ℕ
+taken fault = fault.0

@@ -1,0 +1,112 @@
+//! A block of bytes that is written field by field.
+ghost use Rattle.std.specs.Prelude.{◌≡◌, ◌≤◌, ◌+◌, [], ◌++◌, length, replicate};
+ghost use Rattle.byteorder.specs.Endian.{little_bytes};
+ghost use Rattle.verity_hash.specs.Bytes.{filled};
+
+use byteorder::{ByteOrder, LittleEndian};
+use std::marker::Model;
+
+/// The first fields of a block of `N` bytes, which contracts see as the bytes put so far. The rest of the block is zeros.
+#[derive(Drop)]
+pub(crate) struct FieldWriter<const N: usize> {
+    bytes: [u8; N],
+    at: usize,
+}
+
+impl<const N: usize> Model for FieldWriter<N> {
+    ghost use Rattle.std.specs.Prelude.{ℕ, List, take};
+    ghost use Rattle.verity_hash.specs.Bytes.{IsHeld};
+
+    ghost Value = { List ℕ };
+
+    ghost view = { λ fields. take fields.at fields.bytes };
+
+    ghost invariant = { λ fields. IsHeld N fields.bytes fields.at };
+}
+
+impl<const N: usize> FieldWriter<N> {
+    pub(crate) fn new() -> Self
+        ensures { result ≡ [] }
+    {
+        FieldWriter {
+            bytes: [0; N],
+            at: 0,
+        }
+    }
+
+    /// Puts bytes behind the fields.
+    pub(crate) fn put(&mut self, bytes: &[u8])
+        requires { length self.old + length bytes.now ≤ N }
+        ensures bytes { self.new ≡ self.old ++ bytes.now }
+        ensures longer { length self.new ≡ length self.old + length bytes.now }
+    {
+        let end = self.at + bytes.len();
+        let block = &mut self.bytes[..];
+        block[self.at..end].copy_from_slice(bytes);
+        self.at = end;
+    }
+
+    /// Puts so many zeros.
+    pub(crate) fn put_zeros(&mut self, count: usize)
+        requires { length self.old + count ≤ N }
+        ensures bytes { self.new ≡ self.old ++ replicate count 0 }
+        ensures longer { length self.new ≡ length self.old + count }
+    {
+        self.at += count;
+    }
+
+    /// Puts bytes, and zeros up to a field's width.
+    pub(crate) fn put_filled(&mut self, width: usize, bytes: &[u8])
+        requires fits { length bytes.now ≤ width }
+        requires room { length self.old + width ≤ N }
+        ensures bytes { self.new ≡ self.old ++ filled width bytes.now }
+        ensures longer { length self.new ≡ length self.old + width }
+    {
+        self.put(bytes);
+        self.put_zeros(width - bytes.len());
+    }
+
+    pub(crate) fn put_u16(&mut self, number: u16)
+        requires { length self.old + 2 ≤ N }
+        ensures bytes { self.new ≡ self.old ++ little_bytes 2 number }
+        ensures longer { length self.new ≡ length self.old + 2 }
+    {
+        let mut bytes = [0; 2];
+        LittleEndian::write_u16(&mut bytes, number);
+        self.put(&bytes);
+    }
+
+    pub(crate) fn put_u32(&mut self, number: u32)
+        requires { length self.old + 4 ≤ N }
+        ensures bytes { self.new ≡ self.old ++ little_bytes 4 number }
+        ensures longer { length self.new ≡ length self.old + 4 }
+    {
+        let mut bytes = [0; 4];
+        LittleEndian::write_u32(&mut bytes, number);
+        self.put(&bytes);
+    }
+
+    pub(crate) fn put_u64(&mut self, number: u64)
+        requires { length self.old + 8 ≤ N }
+        ensures bytes { self.new ≡ self.old ++ little_bytes 8 number }
+        ensures longer { length self.new ≡ length self.old + 8 }
+    {
+        let mut bytes = [0; 8];
+        LittleEndian::write_u64(&mut bytes, number);
+        self.put(&bytes);
+    }
+
+    /// The fields alone.
+    pub(crate) fn as_bytes(&self) -> &[u8]
+        ensures { result.now ≡ self.now }
+    {
+        &self.bytes[..self.at]
+    }
+
+    /// The whole block: the fields, and zeros.
+    pub(crate) fn finish(self) -> [u8; N]
+        ensures { result ≡ filled N self.entry }
+    {
+        self.bytes
+    }
+}

@@ -1,0 +1,156 @@
+//! What bytes say as a superblock.
+ghost use Rattle.std.specs.Prelude.{◌≡◌, ◌≤◌, ◌+◌, ◌==◌, length, position, IfOk, IfErr, Some, None, nat_le, true};
+ghost use Rattle.verity_tree.specs.Settings.{is_block_size, IsValid};
+ghost use Rattle.verity_tree.specs.MakingSettings.{rule_of};
+ghost use Rattle.verity_format.specs.Fields.{number_at, until_zero};
+ghost use Rattle.verity_format.specs.Superblocks.{AreSettings, IsSuperblock, cause, first_failed, settings_tests, type_numbered};
+
+use crate::writing::VERSION;
+use crate::{SuperFault, Superblock};
+use byteorder::{ByteOrder, LittleEndian};
+use verity_hash::Algorithm;
+use verity_tree::{HashType, TreeSettings};
+
+/// The superblock that the first 512 bytes say, or the first test that they fail (cryptsetup's on-disk format page,
+/// "dm-verity header"). Pads, what follows the name's first zero, what follows the salt, and bytes after the 512th are
+/// ignored.
+pub fn read_superblock(bytes: &[u8]) -> Result<Superblock, SuperFault>
+    ensures value { IfOk result (λ superblock. IsSuperblock bytes.now superblock) }
+    ensures fault { IfErr result (λ fault. cause bytes.now ≡ Some fault) }
+{
+    if bytes.len() < 512 {
+        return Err(SuperFault::Short);
+    }
+    if &bytes[..8] != b"verity\0\0".as_slice() {
+        return Err(SuperFault::Signature);
+    }
+    let version = u32_at(bytes, 8);
+    if version != VERSION {
+        return Err(SuperFault::Version(version));
+    }
+    let number = u32_at(bytes, 12);
+    let Some(hash_type) = type_of_number(number) else {
+        return Err(SuperFault::HashType(number));
+    };
+    let tree = match read_settings(bytes, hash_type) {
+        Ok(tree) => tree,
+        Err(fault) => return Err(fault),
+    };
+    let blocks = u64_at(bytes, 72);
+    if blocks == 0 {
+        return Err(SuperFault::NoData);
+    }
+    let mut uuid = [0; 16];
+    uuid.copy_from_slice(&bytes[16..32]);
+    match Superblock::new(&tree, uuid, blocks) {
+        Some(superblock) => Ok(superblock),
+        None => Err(SuperFault::TooLarge),
+    }
+}
+
+/// The settings that a superblock's bytes say.
+fn read_settings(bytes: &[u8], hash_type: HashType) -> Result<TreeSettings, SuperFault>
+    requires { 512 ≤ length bytes.now }
+    ensures value { IfOk result (λ tree. AreSettings bytes.now tree) }
+    ensures valid { IfOk result (λ tree. IsValid tree) }
+    ensures of_type { IfOk result (λ tree. tree.rule ≡ rule_of hash_type) }
+    ensures passed { IfOk result (λ _. first_failed (settings_tests bytes.now) ≡ None) }
+    ensures fault { IfErr result (λ fault. first_failed (settings_tests bytes.now) ≡ Some fault) }
+{
+    let data_block = u32_at(bytes, 64);
+    if !is_block_size(data_block) {
+        return Err(SuperFault::DataBlockSize(data_block));
+    }
+    let hash_block = u32_at(bytes, 68);
+    if !is_block_size(hash_block) {
+        return Err(SuperFault::HashBlockSize(hash_block));
+    }
+    let Some(algorithm) = Algorithm::from_name(before_zero(&bytes[32..64])) else {
+        return Err(SuperFault::Algorithm);
+    };
+    let salt_size = u16_at(bytes, 80);
+    if salt_size > MOST_SALT {
+        return Err(SuperFault::SaltSize(salt_size));
+    }
+    let salt = &bytes[88..88 + salt_size as usize];
+    Ok(settings_within_limits(algorithm, hash_type, salt, data_block, hash_block))
+}
+
+/// The settings of parts that are within dm-verity's limits.
+fn settings_within_limits(
+    algorithm: Algorithm,
+    hash_type: HashType,
+    salt: &[u8],
+    data_block: u32,
+    hash_block: u32,
+) -> TreeSettings
+    requires data_size { is_block_size 512 data_block ≡ true }
+    requires hash_size { is_block_size 512 hash_block ≡ true }
+    requires salt_size { length salt.now ≤ 256 }
+    ensures value { result ≡ record { algorithm = algorithm; rule = rule_of hash_type; salt = salt.now; data_block = data_block; hash_block = hash_block } }
+    ensures valid { IsValid result }
+{
+    TreeSettings::verity(algorithm, hash_type, salt, data_block, hash_block).unwrap()
+}
+
+/// The longest salt.
+const MOST_SALT: u16 = 256;
+
+/// The hash type of a number.
+fn type_of_number(number: u32) -> Option<HashType>
+    ensures { result ≡ type_numbered number }
+{
+    match number {
+        1 => Some(HashType::Current),
+        _ => None,
+    }
+}
+
+fn is_block_size(size: u32) -> bool
+    ensures { result ≡ is_block_size 512 size }
+{
+    size.is_power_of_two() && 512 <= size && size <= 524288
+}
+
+/// The number in two bytes.
+#[tactic(auto, unfolding(crate::specs::Fields::number_at))]
+fn u16_at(bytes: &[u8], at: usize) -> u16
+    requires { at + 2 ≤ length bytes.now }
+    ensures { result ≡ number_at at 2 bytes.now }
+{
+    LittleEndian::read_u16(&bytes[at..])
+}
+
+/// The number in four bytes.
+#[tactic(auto, unfolding(crate::specs::Fields::number_at))]
+fn u32_at(bytes: &[u8], at: usize) -> u32
+    requires { at + 4 ≤ length bytes.now }
+    ensures { result ≡ number_at at 4 bytes.now }
+{
+    LittleEndian::read_u32(&bytes[at..])
+}
+
+/// The number in eight bytes.
+#[tactic(auto, unfolding(crate::specs::Fields::number_at))]
+fn u64_at(bytes: &[u8], at: usize) -> u64
+    requires { at + 8 ≤ length bytes.now }
+    ensures { result ≡ number_at at 8 bytes.now }
+{
+    LittleEndian::read_u64(&bytes[at..])
+}
+
+fn first_zero(text: &[u8]) -> Option<usize>
+    ensures { result ≡ position (λ byte. byte == 0) text.now }
+{
+    text.iter().position(|byte| *byte == 0)
+}
+
+/// The bytes before the first zero, or all of them.
+fn before_zero(text: &[u8]) -> &[u8]
+    ensures { result.now ≡ until_zero text.now }
+{
+    match first_zero(text) {
+        Some(end) => &text[..end],
+        None => text,
+    }
+}

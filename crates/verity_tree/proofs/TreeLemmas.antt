@@ -1,0 +1,39 @@
+-- Lengths of levels.
+use Rattle.std.proofs.Common.{◌≡◌, ℕ, zero, suc, ◌^◌, ◌<◌, List, length, map, arith, sym, ◌∙◌, ap}
+use Rattle.std.proofs.lemmas.List.{length-map}
+use Rattle.std.proofs.lemmas.List.FromFn.{length-map-range_with_len}
+use Rattle.std.proofs.Math.Nat.{pow-zero, pow-suc, one-le-pow}
+use Rattle.std.specs.Int.{div_ceil}
+use Rattle.std.specs.Prelude.{nat_le}
+use Rattle.verity_tree.specs.Settings.{Settings, fan, hash}
+use Rattle.verity_tree.specs.Levels.{pack, up, risen, height}
+use Rattle.verity_tree.specs.Counts.{level_count}
+use Rattle.verity_tree.proofs.LeastLemmas.{least_from-same}
+use Rattle.verity_tree.proofs.CountLemmas.{div_ceil-div_ceil, leb-div_ceil_one}
+
+pub length-pack : (s : Settings) (digests : List (List ℕ)) → length (pack s digests) ≡ div_ceil (length digests) (fan s)
+unfolding pack
+length-pack s digests = length-map-range_with_len _ 0 (div_ceil (length digests) (fan s))
+
+pub length-up : (s : Settings) (blocks : List (List ℕ)) → length (up s blocks) ≡ div_ceil (length blocks) (fan s)
+length-up s blocks = length-pack s (map (hash s) blocks) ∙ ap (λ (n : ℕ). div_ceil n (fan s)) (length-map blocks (hash s))
+
+-- l levels up there are ceil(n / fan ^ l) blocks
+pub length-risen : (s : Settings) (blocks : List (List ℕ)) (l : ℕ) → 0 < fan s
+    → length (risen s blocks l) ≡ div_ceil (length blocks) (fan s ^ l)
+unfolding risen
+length-risen s blocks zero some =
+    let one : length blocks ≡ div_ceil (length blocks) 1 = omega arith in
+    one ∙ ap (λ (a : ℕ). div_ceil (length blocks) a) (sym (pow-zero (fan s)))
+length-risen s blocks (suc l) some =
+    length-up s (risen s blocks l)
+    ∙ ap (λ (n : ℕ). div_ceil n (fan s)) (length-risen s blocks l some)
+    ∙ div_ceil-div_ceil (length blocks) (fan s ^ l) (fan s) (one-le-pow l (fan s) some) some
+    ∙ ap (div_ceil (length blocks)) (sym (pow-suc (fan s) l))
+
+-- the height by lists is the number of levels by arithmetic
+pub height-level_count : (s : Settings) (blocks : List (List ℕ)) → 0 < fan s
+    → height s blocks ≡ level_count (fan s) (length blocks)
+unfolding height level_count
+height-level_count s blocks some = least_from-same _ _ 0 (length blocks) (λ l.
+    ap (λ (n : ℕ). nat_le n 1) (length-risen s blocks l some) ∙ leb-div_ceil_one (length blocks) (fan s ^ l) (one-le-pow l (fan s) some))

@@ -1,0 +1,66 @@
+use Rattle.std.proofs.Common.{◌≡◌, ℕ, ◌/◌, List, length, ap, ◌∙◌, arith, subst, inl, inr, replicate}
+use Rattle.verity_tree.specs.Settings.{hash, fan}
+use Rattle.verity_tree.specs.Writing.{put, Spoiled}
+use Rattle.verity_tree.proofs.StreamLists.{length-hash}
+use Rattle.verity_tree.proofs.StreamStep.{slot-room, filling-put, slots-all, slots-left}
+use Rattle.verity_tree.specs.Plans.{byte_of}
+use Rattle.verity_tree.proofs.cascade.step_level.Goals.{else-slot-fan-via-then-slot-fan+else-not-last, else-slot-fan-via-else-slot-fan}
+use Rattle.verity_tree.proofs.cascade.step_level.Goals as goal
+
+pub put_slot-requires : goal.put_slot-requires
+put_slot-requires g c =
+    slot-room c.args.plan.now.settings c.args.at c.fan-fan.result c.slot_width.result (length c.args.digest.now) (length c.args.block.now)
+    c.fan-fan.ensures.value c.slot_width.ensures c.requires.digest c.requires.size c.fan-fan.ensures.two c.fan-fan.ensures.fits
+
+pub returns-then-not-last-clause-level : goal.returns-then-not-last-clause-level
+returns-then-not-last-clause-level g c = record {
+  room = slots-left c.args.plan.now.settings c.args.at c.fan-fan.result c.fan-fan.ensures.value c.if-slot-fan.true;
+  more = c.if-not-last.true;
+  filled = λ below next.
+      filling-put c.args.plan.now.settings below c.args.at c.fan-fan.result c.slot_width.result c.args.block.now c.put_slot.new.block c.args.digest.now
+      c.fan-fan.ensures.value c.slot_width.ensures c.fan-fan.ensures.two c.fan-fan.ensures.fits c.put_slot.ensures next;
+}
+
+pub returns-in-Ok-clause-level : goal.returns-in-Ok-clause-level
+returns-in-Ok-clause-level g c = record {
+  ends = elim c.else-slot-fan.branch [
+    | else-slot-fan-via-then-slot-fan+else-not-last w ↦ inr w.if-not-last.false
+    | else-slot-fan-via-else-slot-fan w ↦ inl (slots-all c.args.plan.now.settings c.args.at c.fan-fan.result c.fan-fan.ensures.value c.fan-fan.ensures.two w.if-slot-fan.false)
+  ];
+  zeros = c.fill.ensures.after (λ y e. e) ∙ ap (λ (n : ℕ). replicate n 0) (c.put_slot.auto.block ∙ c.requires.size);
+  len = ap length c.hash-above.ensures ∙ length-hash c.args.plan.now.settings c.put_slot.new.block;
+  hashed = λ below next. c.hash-above.ensures ∙ ap (hash c.args.plan.now.settings)
+      (filling-put c.args.plan.now.settings below c.args.at c.fan-fan.result c.slot_width.result c.args.block.now c.put_slot.new.block c.args.digest.now
+      c.fan-fan.ensures.value c.slot_width.ensures c.fan-fan.ensures.two c.fan-fan.ensures.fits c.put_slot.ensures next);
+}
+
+pub returns-in-Err-clause-level : goal.returns-in-Err-clause-level
+returns-in-Err-clause-level g c = elim c.else-slot-fan.branch [
+  | else-slot-fan-via-then-slot-fan+else-not-last w ↦ inr w.if-not-last.false
+  | else-slot-fan-via-else-slot-fan w ↦ inl (slots-all c.args.plan.now.settings c.args.at c.fan-fan.result c.fan-fan.ensures.value c.fan-fan.ensures.two w.if-slot-fan.false)
+]
+
+pub write_at-requires : goal.write_at-requires
+write_at-requires g c = omega (arith, c.byte.ensures.room, c.requires.size, c.put_slot.auto.block)
+
+pub returns-in-Ok-clause-device : goal.returns-in-Ok-clause-device
+returns-in-Ok-clause-device g c = λ tells below next.
+    let s = c.args.plan.now.settings in
+    let before = g.D.Device.content c.args.device.now in
+    let to : c.byte.result ≡ byte_of c.args.plan.now c.args.level (c.args.at / fan s) =
+    c.byte.ensures.value ∙ ap (λ (n : ℕ). byte_of c.args.plan.now c.args.level (c.args.at / n)) c.fan-fan.ensures.value in
+    c.in-Ok.ensures.ok tells
+    ∙ ap (λ (n : ℕ). put before n c.put_slot.new.block) to
+    ∙ ap (λ (xs : List ℕ). put before (byte_of c.args.plan.now c.args.level (c.args.at / fan s)) xs)
+    (filling-put s below c.args.at c.fan-fan.result c.slot_width.result c.args.block.now c.put_slot.new.block c.args.digest.now
+    c.fan-fan.ensures.value c.slot_width.ensures c.fan-fan.ensures.two c.fan-fan.ensures.fits c.put_slot.ensures next)
+
+pub returns-in-Err-clause-device : goal.returns-in-Err-clause-device
+returns-in-Err-clause-device g c = λ tells.
+    let p = c.args.plan.now in
+    let to : c.byte.result ≡ byte_of p c.args.level (c.args.at / fan p.settings) =
+    c.byte.ensures.value ∙ ap (λ (n : ℕ). byte_of p c.args.level (c.args.at / n)) c.fan-fan.ensures.value in
+    let size : length c.put_slot.new.block ≡ p.settings.hash_block = c.put_slot.auto.block ∙ c.requires.size in
+    subst (λ (n : ℕ). Spoiled (g.D.Device.content c.args.device.now) n p.settings.hash_block (g.D.Device.content c.write_at.new.self)) to
+    (subst (λ (n : ℕ). Spoiled (g.D.Device.content c.args.device.now) c.byte.result n (g.D.Device.content c.write_at.new.self)) size
+    (c.in-Err.ensures.failed tells))

@@ -1,0 +1,13 @@
+-- What a write leaves on a device: pwrite(2) of POSIX over a list of bytes, where a gap past the old end reads as zeros.
+use Rattle.std.specs.Prelude.{◌≡◌, ◌⊎◌, ℕ, ◌+◌, ◌-◌, ◌<◌, ◌≤◌, max, List, ◌++◌, length, take, drop, replicate, slice_index}
+
+-- the bytes with others put at a place, and zeros in a gap
+abbrev pub put : List ℕ → ℕ → List ℕ → List ℕ
+put bytes at others = take at bytes ++ replicate (at - length bytes) 0 ++ others ++ drop (at + length others) bytes
+
+-- after a failed write of c bytes at a place
+pub record Spoiled (before : List ℕ) (at c : ℕ) (after : List ℕ) : Type 0 where
+  pub no_shorter : length before ≤ length after
+  pub no_longer : length after ≤ max (length before) (at + c)
+  -- past the old end such a byte is zero
+  pub outside : (i : ℕ) → (i < at) ⊎ (at + c ≤ i) → slice_index after i ≡ slice_index before i

@@ -1,0 +1,71 @@
+//! A source over an opened file.
+ghost use Rattle.std.specs.Prelude.{◌≡◌, ◌≤◌, [], take, length, IfOk, IsSome, unwrap_or};
+ghost use Rattle.std.specs.Io.KnownBytes.{ReadConsumes};
+ghost use Rattle.std.specs.Io.Take.{take_remaining};
+
+use crate::failed::{Failed, counted};
+use crate::source::Source;
+use std::fs::File;
+use std::io::{ErrorKind, Read, Take};
+
+/// The bytes of an opened file from its place on, up to a length. The length is the one found at opening: a file that
+/// grows while it is read, since the hash blocks are written into it, gives no more. Over a file of the system it doesn't
+/// tell its bytes; over a reader whose bytes are known it does.
+#[derive(Drop)]
+pub struct FileSource<F = File> {
+    file: Take<F>,
+    failures: u64,
+}
+
+impl<F: Read> FileSource<F> {
+    /// A source of the next bytes of the file, `length` of them or as many as there are.
+    pub fn new(file: F, length: u64) -> Self
+        ensures told { IsSome (F.remaining file) → ⟦<FileSource<F> as Source>⟧.tells result }
+        ensures bytes { ⟦<FileSource<F> as Source>⟧.to_come result ≡ take length (unwrap_or (F.remaining file) []) }
+        ensures failures { ⟦<FileSource<F> as Source>⟧.failures result ≡ 0 }
+    {
+        FileSource {
+            file: file.take(length),
+            failures: 0,
+        }
+    }
+
+    /// How many reads failed, at most 2^64 - 1.
+    pub fn failures(&self) -> u64
+        ensures { result ≡ ⟦<FileSource<F> as Source>⟧.failures self.now }
+    {
+        self.failures
+    }
+}
+
+impl<F: Read> Source for FileSource<F> {
+    // As far as the reader says: one over memory does, and a file of the system doesn't.
+    ghost tells = { λ s. IsSome (take_remaining F.remaining s.file) };
+
+    ghost to_come = { λ s. unwrap_or (take_remaining F.remaining s.file) [] };
+
+    ghost failures = { λ s. s.failures };
+
+    fn read(&mut self, buf: &mut [u8]) -> Result<usize, Failed> {
+        let outcome = read_retrying(&mut self.file, buf);
+        counted(&mut self.failures, outcome)
+    }
+}
+
+// One read, tried again where a signal interrupts it.
+fn read_retrying<R: Read>(reader: &mut R, buf: &mut [u8]) -> Result<usize, Failed>
+    ensures bound { IfOk result (λ k. k ≤ length buf.new) }
+    ensures bytes { ReadConsumes (R.remaining reader.old) (R.remaining reader.new) result buf.new }
+{
+    for _ in 0..u64::MAX {
+        match reader.read(buf) {
+            Ok(count) => return Ok(count),
+            Err(error) => {
+                if error.kind() != ErrorKind::Interrupted {
+                    return Err(Failed);
+                }
+            }
+        }
+    }
+    Err(Failed)
+}

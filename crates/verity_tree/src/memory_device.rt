@@ -1,0 +1,88 @@
+//! A device in memory.
+ghost use Rattle.std.specs.Prelude.{◌≡◌, ◌≤◌, ◌+◌, ◌-◌, ◌^◌, ◌++◌, length, take, drop, replicate, OnOk, OnErr};
+ghost use Rattle.verity_tree.specs.Writing.{put};
+
+use crate::device::Device;
+use crate::failed::{Failed, counted};
+use std::alloc::AllocError;
+
+/// Bytes in memory, which grow by their vector's allocator. Where a write finds no memory to grow, it fails and leaves
+/// them.
+#[derive(Drop)]
+pub struct MemoryDevice {
+    bytes: Vec<u8>,
+    failures: u64,
+}
+
+impl MemoryDevice {
+    /// A device that holds these bytes.
+    pub fn new(bytes: Vec<u8>) -> Self
+        ensures told { ⟦<MemoryDevice as Device>⟧.tells result }
+        ensures content { ⟦<MemoryDevice as Device>⟧.content result ≡ bytes.items }
+        ensures failures { ⟦<MemoryDevice as Device>⟧.failures result ≡ 0 }
+    {
+        MemoryDevice { bytes, failures: 0 }
+    }
+
+    /// All its bytes.
+    pub fn bytes(&self) -> &[u8]
+        ensures { result.now ≡ ⟦<MemoryDevice as Device>⟧.content self.now }
+    {
+        &self.bytes
+    }
+}
+
+impl Device for MemoryDevice {
+    ghost tells = { λ _. Unit {0} };
+
+    ghost content = { λ d. d.bytes.items };
+
+    ghost failures = { λ d. d.failures };
+
+    fn read_at(&mut self, at: u64, buf: &mut [u8]) -> Result<usize, Failed> {
+        let at = at as usize;
+        if at >= self.bytes.len() {
+            return Ok(0);
+        }
+        let count = buf.len().min(self.bytes.len() - at);
+        buf[..count].copy_from_slice(&self.bytes[at..at + count]);
+        Ok(count)
+    }
+
+    fn write_at(&mut self, at: u64, bytes: &[u8]) -> Result<(), Failed> {
+        let outcome = put_at(&mut self.bytes, at as usize, bytes);
+        counted(&mut self.failures, outcome)
+    }
+}
+
+fn put_at(bytes: &mut Vec<u8>, at: usize, others: &[u8]) -> Result<(), Failed>
+    requires { at + length others.now ≤ 2 ^ 63 - 1 }
+    ensures ok { OnOk result (bytes.new.items ≡ put bytes.old.items at others.now) }
+    ensures err { OnErr result (bytes.new.items ≡ bytes.old.items) }
+{
+    match fill_up(bytes, at + others.len()) {
+        Ok(()) => {
+            overwrite(bytes, at, others);
+            Ok(())
+        }
+        Err(_) => Err(Failed),
+    }
+}
+
+// Fills up with zeros to at least a length.
+fn fill_up(bytes: &mut Vec<u8>, len: usize) -> Result<(), AllocError>
+    ensures ok { OnOk result (bytes.new.items ≡ bytes.old.items ++ replicate (len - length bytes.old.items) 0) }
+    ensures err { OnErr result (bytes.new.items ≡ bytes.old.items) }
+{
+    if bytes.len() < len {
+        bytes.resize(len, 0)?;
+    }
+    Ok(())
+}
+
+fn overwrite(bytes: &mut Vec<u8>, at: usize, others: &[u8])
+    requires { at + length others.now ≤ length bytes.old.items }
+    ensures { bytes.new.items ≡ take at bytes.old.items ++ others.now ++ drop (at + length others.now) bytes.old.items }
+{
+    bytes[at..at + others.len()].copy_from_slice(others);
+}
