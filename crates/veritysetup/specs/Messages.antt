@@ -5,10 +5,10 @@ use Rattle.std.specs.List.{concat}
 use Rattle.hex.specs.Hex.{encode_lower}
 use Rattle.verity_tree.specs.declared.building.BuildFault.{BuildFault}
 use Rattle.verity_tree.specs.declared.building.BuildFault.TheVariants as build
-use Rattle.verity_tree.specs.declared.compare.CompareFault.{CompareFault}
-use Rattle.verity_tree.specs.declared.compare.CompareFault.TheVariants as compare
-use Rattle.verity_tree.specs.declared.compare.Part.{Part}
-use Rattle.verity_tree.specs.declared.compare.Part.TheVariants.{Missing, Child, Spare}
+use Rattle.verity_tree.specs.declared.comparing.CompareFault.{CompareFault}
+use Rattle.verity_tree.specs.declared.comparing.CompareFault.TheVariants as compare
+use Rattle.verity_tree.specs.declared.comparing.Part.{Part}
+use Rattle.verity_tree.specs.declared.comparing.Part.TheVariants.{Missing, Child, Spare}
 use Rattle.verity_format.specs.declared.super_fault.SuperFault.{SuperFault}
 use Rattle.verity_format.specs.declared.super_fault.SuperFault.TheVariants as super
 use Rattle.veritysetup.specs.declared.options.OptionName.{OptionName}

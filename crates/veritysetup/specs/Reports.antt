@@ -47,6 +47,6 @@ root_line None = []
 root_line (Some root) = report_line (codes "Root hash:") (encode_lower root)
 
 -- the whole report
-abbrev pub report_text : List ℕ → SuperblockFields → Option (List ℕ) → List ℕ
+unfoldable pub report_text : List ℕ → SuperblockFields → Option (List ℕ) → List ℕ
 report_text path v root =
     with_hash (with_sizes (with_header (title path) v) v.tree) (name_of v.tree.algorithm) (salt_text v.tree.salt) ++ root_line root

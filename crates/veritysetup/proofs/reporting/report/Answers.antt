@@ -10,6 +10,7 @@ by_parts : (path name salt : List ℕ) (v : SuperblockFields) (tree : Settings) 
     → tree ≡ v.tree → name ≡ name_of tree.algorithm → salt ≡ salt_text tree.salt
     → first ≡ title path → second ≡ with_header first v → third ≡ with_sizes second tree → fourth ≡ with_hash third name salt
     → last ≡ fourth ++ root_line root → last ≡ report_text path v root
+unfolding report_text
 by_parts path name salt v tree root first second third fourth last a b c d e f g h =
     let named = b ∙ ap (λ (t : Settings). name_of t.algorithm) a in
     let salted = c ∙ ap (λ (t : Settings). salt_text t.salt) a in
