@@ -7,8 +7,8 @@ use Rattle.verity_tree.specs.declared.building.BuildFault.{BuildFault}
 use Rattle.verity_tree.specs.declared.building.BuildFault.TheVariants as build
 use Rattle.verity_tree.specs.declared.comparing.CompareFault.{CompareFault}
 use Rattle.verity_tree.specs.declared.comparing.CompareFault.TheVariants as compare
-use Rattle.verity_tree.specs.declared.comparing.Part.{Part}
-use Rattle.verity_tree.specs.declared.comparing.Part.TheVariants.{Missing, Child, Spare}
+use Rattle.verity_tree.specs.declared.part.Part.{Part}
+use Rattle.verity_tree.specs.declared.part.Part.TheVariants.{Missing, Child, Spare}
 use Rattle.verity_format.specs.declared.super_fault.SuperFault.{SuperFault}
 use Rattle.verity_format.specs.declared.super_fault.SuperFault.TheVariants as super
 use Rattle.veritysetup.specs.declared.options.OptionName.{OptionName}
