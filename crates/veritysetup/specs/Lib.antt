@@ -13,3 +13,4 @@ pub mod Stored
 pub mod Dumping
 pub mod Images
 pub mod Formatting
+pub mod Verifying

@@ -15,6 +15,7 @@ mod salts;
 mod settings;
 mod stored;
 mod uuids;
+mod verifying;
 
 pub use drawing::draw;
 pub use dumping::run_dump;
@@ -23,3 +24,4 @@ pub use messages::{build_message, compare_message, option_message, super_message
 pub use options::{OptionFault, OptionName, RawOptions};
 pub use reporting::report;
 pub use settings::{Settings, settings_of};
+pub use verifying::{VerifyInput, run_verify};

@@ -11,7 +11,7 @@ use verity_tree::{BuildFault, CompareFault, Part};
 const NO_DATA: &str = "No data blocks.\n";
 
 /// The data area or the hash area is past its limit.
-const TOO_LARGE: &str = "Data or hash area is too large.\n";
+pub const TOO_LARGE: &str = "Data or hash area is too large.\n";
 
 /// There is no memory. The text is fixed, so that it takes none.
 pub const OUT_OF_MEMORY: &str = "Out of memory.\n";

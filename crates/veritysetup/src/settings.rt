@@ -1,6 +1,6 @@
 //! What format makes: hash type, UUID and the plan of the tree.
-ghost use Rattle.std.specs.Prelude.{◌≡◌, option_map};
-ghost use Rattle.veritysetup.specs.Chosen.{IsChosen};
+ghost use Rattle.std.specs.Prelude.{◌≡◌, ◌<◌, option_map};
+ghost use Rattle.veritysetup.specs.Chosen.{IsChosen, base_behind};
 ghost use Rattle.veritysetup.specs.Choosing.{settings};
 ghost use Rattle.veritysetup.specs.Images.{superblock_for};
 ghost use Rattle.veritysetup.specs.Options.{texts_of};
@@ -65,6 +65,14 @@ impl Settings {
     }
 }
 
+/// The first whole hash block behind the superblock, which stands at the start of the hash device.
+pub fn base_behind(hash_block: u32) -> u64
+    requires { 0 < hash_block }
+    ensures { result ≡ base_behind hash_block }
+{
+    512_u64.div_ceil(u64::from(hash_block))
+}
+
 /// The settings that options choose for data of this length in bytes. Random bytes are for a salt or a UUID that is not
 /// given; without them a missing salt is refused and a missing UUID is zeros. The first fault, in the order of
 /// `OptionFault`, is answered.
@@ -77,7 +85,7 @@ pub fn settings_of(
 {
     let chosen = Parameters::chosen(raw, random)?;
     let blocks = length / u64::from(chosen.tree.data_block());
-    let base = 512_u64.div_ceil(u64::from(chosen.tree.hash_block()));
+    let base = base_behind(chosen.tree.hash_block());
     match Plan::for_blocks(&chosen.tree, blocks, base) {
         Ok(_) if raw.same_file => Err(OptionFault::Overlap),
         Ok(plan) => Ok(Settings {

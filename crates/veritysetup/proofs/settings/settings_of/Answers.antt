@@ -24,8 +24,8 @@ plan_is s count base q e = planned_is _ q e
 pub invariant_of-result : goal.invariant_of-result
 invariant_of-result c =
     let tree = c.in_ok-chosen.chosen.tree in
-    let made = plan_is tree (c.args.length / c.from.result) c.div_ceil-base.result c.in-Ok.field-0 (sym c.in-Ok.is ∙ c.for_blocks.ensures) in
-    let base : c.div_ceil-base.result ≡ base_behind tree.hash_block = c.div_ceil-base.ensures ∙ ap base_behind (c.from-2.ensures ∙ c.hash_block.ensures.value) in
+    let made = plan_is tree (c.args.length / c.from.result) c.base_behind-base.result c.in-Ok.field-0 (sym c.in-Ok.is ∙ c.for_blocks.ensures) in
+    let base : c.base_behind-base.result ≡ base_behind tree.hash_block = c.base_behind-base.ensures ∙ ap base_behind c.hash_block.ensures.value in
     record {
       of_type = ap (λ (p : Planned). p.settings.rule) made ∙ c.in_ok-chosen.ensures.of_type;
       whole = rw made refl;
