@@ -7,6 +7,8 @@ pub const DATA: &str = "DATA";
 
 pub const HASH: &str = "HASH";
 
+pub const ROOT: &str = "ROOT";
+
 /// An option that takes a text.
 fn option<'a>(alloc: Global, name: &'a str) -> Arg<'a> {
     Arg::new(alloc, name).long(name).action(ArgAction::Set)
@@ -35,6 +37,14 @@ fn dump_command<'a>(alloc: Global) -> Result<Command<'a>, AllocError> {
     Command::new(alloc, "dump").arg(word(alloc, HASH))
 }
 
+/// `verify DATA HASH ROOT`.
+fn verify_command<'a>(alloc: Global) -> Result<Command<'a>, AllocError> {
+    Command::new(alloc, "verify")
+        .arg(word(alloc, DATA))?
+        .arg(word(alloc, HASH))?
+        .arg(word(alloc, ROOT))
+}
+
 /// All commands. Help flags and the command `help` are off.
 fn all_commands<'a>(alloc: Global) -> Result<Command<'a>, AllocError> {
     Command::new(alloc, "veritysetup")
@@ -42,7 +52,8 @@ fn all_commands<'a>(alloc: Global) -> Result<Command<'a>, AllocError> {
         .disable_help_subcommand(true)
         .subcommand_required(true)
         .subcommand(format_command(alloc)?)?
-        .subcommand(dump_command(alloc)?)
+        .subcommand(dump_command(alloc)?)?
+        .subcommand(verify_command(alloc)?)
 }
 
 /// What the words are to the commands, or why they are refused.

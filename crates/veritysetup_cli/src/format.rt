@@ -4,7 +4,6 @@ use crate::files::{open_measured, open_writable};
 use crate::messages;
 use clap::ArgMatches;
 use rand::rngs::StdRng;
-use std::fs::File;
 use std::io;
 use verity_tree::{FileDevice, FileSource};
 use veritysetup::{RawOptions, Settings, draw, option_message, run_format, settings_of};

@@ -6,9 +6,9 @@ mod dump;
 mod files;
 mod format;
 mod messages;
+mod verify;
 mod words;
 
-use crate::messages::tell;
 use clap::ArgMatches;
 use std::fs::File;
 use std::io;
@@ -54,6 +54,7 @@ fn run_command(rt: &HostRuntime, matches: &ArgMatches<'_>) -> u8 {
     match matches.subcommand() {
         Some(("format", matches)) => format::run(rt, matches),
         Some(("dump", matches)) => dump::run(rt, matches),
+        Some(("verify", matches)) => verify::run(rt, matches),
         _ => 1,
     }
 }
