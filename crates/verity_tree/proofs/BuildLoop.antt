@@ -1,24 +1,28 @@
 -- The loop over the data blocks.
-use Rattle.std.proofs.Common.{◌≡◌, ℕ, ◌+◌, ◌-◌, ◌*◌, ◌/◌, ◌%◌, ◌^◌, ◌<◌, ◌≤◌, List, [], ◌∷◌, ◌++◌, take, drop, length, replicate, arith, sym, ◌∙◌, ap, subst, refl}
+use Rattle.std.proofs.Common.{List, [], ap, append_assoc, arith, drop, length, refl, replicate, subst, sym, take, ℕ, ◌%◌, ◌*◌, ◌++◌, ◌+◌, ◌-◌, ◌/◌, ◌<◌, ◌^◌, ◌∙◌, ◌∷◌, ◌≡◌, ◌≤◌}
 use Rattle.std.proofs.lemmas.List.{drop-replicate, take-replicate}
 use Rattle.std.proofs.lemmas.Slice.{between_is, take-put_mid_below}
 use Rattle.std.proofs.lemmas.Nat.{div-mul-add, mod-mul-add}
 use borrow.Rule.Slice.PartMut.{put_mid}
 use Rattle.std.proofs.Math.Nat.{one-le-pow, mul-le-mul_right}
-use Rattle.std.proofs.lemmas.List.Elements.{Contains-append_left, Contains-append_right}
+use Rattle.std.proofs.lemmas.List.Elements.{All-append, Contains-append_left, Contains-append_right}
 use Rattle.std.specs.Prelude.{Contains}
 use Rattle.verity_tree.specs.Settings.{Settings, fan}
 use Rattle.verity_tree.specs.Levels.{hash_block_of}
-use Rattle.verity_tree.specs.ClosingOrder.{order, closing}
+use Rattle.verity_tree.specs.ClosingOrder.{closed_to, closing, order}
 use Rattle.verity_tree.specs.Writing.{Spoiled}
-use Rattle.verity_tree.specs.Image.{written}
+use Rattle.verity_tree.specs.Image.{tree_block, written}
 use Rattle.verity_tree.specs.ClosingOrder.{closed_to}
-use Rattle.verity_tree.proofs.OrderSplit.{closing-front, order-front, written-append, written-order}
+use Rattle.verity_tree.proofs.OrderSplit.{closing-front, order-front, order-more, written-append, written-order}
 use Rattle.verity_tree.specs.Building.{GivesUpTo, HasGiven, StopsAt, begun_after, bytes_of}
 use Rattle.verity_tree.specs.Cascade.{ClosesWith}
-use Rattle.verity_tree.specs.Plans.{Planned, byte_of}
+use Rattle.verity_tree.specs.Plans.{Planned, byte_of, data_blocks}
 use Rattle.verity_tree.specs.OpenBlocks.{digests_under, open_block, AreOpen}
 use Rattle.verity_tree.proofs.StreamStep.{hash_block_of-none}
+use Rattle.verity_tree.specs.Closings.{IsCause}
+use Rattle.verity_tree.specs.Passing.{StopsFor}
+use Rattle.verity_tree.specs.Verdicts.{NoneDiffers, StandsThere}
+use Rattle.verity_tree.specs.declared.cascade.Stop.{Stop}
 
 mul_le : (a b w : ℕ) → a ≤ b → a * w ≤ b * w
 mul_le a b w h = mul-le-mul_right w h
@@ -105,3 +109,35 @@ pub image-next : (s : Settings) (blocks : List (List ℕ)) (base n i : ℕ) (sta
     → new ≡ written s blocks base (order (fan s) n (i + 1)) start
 image-next s blocks base n i start device new so_far is =
     is ∙ ap (written s blocks base (closing (fan s) n (i + 1))) so_far ∙ sym (written-order s blocks base n i start)
+
+-- one data block more is compared
+pub none-differs-order : (p : Planned) (blocks : List (List ℕ)) (i : ℕ) (device : List ℕ) → NoneDiffers p blocks device (order (fan p.settings) p.blocks i)
+    → NoneDiffers p blocks device (closing (fan p.settings) p.blocks (i + 1)) → NoneDiffers p blocks device (order (fan p.settings) p.blocks (i + 1))
+none-differs-order p blocks i device before h =
+    subst (NoneDiffers p blocks device) (sym (order-more (fan p.settings) p.blocks i))
+    (All-append (StandsThere p blocks device) (order (fan p.settings) p.blocks i) (closing (fan p.settings) p.blocks (i + 1)) before h)
+
+-- a comparison that stops at a level of a data block
+pub stops-for : (p : Planned) (bytes : List ℕ) (i : ℕ) (device : List ℕ) (stop : Stop) → 0 < fan p.settings → i < p.blocks
+    → ClosesWith p i stop.level stop.block → bytes_of p (i + 1) ≤ length bytes
+    → NoneDiffers p (data_blocks p bytes) device (order (fan p.settings) p.blocks i)
+    → NoneDiffers p (data_blocks p bytes) device (closed_to (fan p.settings) i stop.level)
+    → IsCause p stop.level stop.block (tree_block p.settings (data_blocks p bytes) stop.level stop.block) device stop.cause
+    → StopsFor p bytes device stop
+stops-for p bytes i device stop some below with_it enough before h cause =
+    let f = fan p.settings in
+    let l = stop.level in
+    let blocks = data_blocks p bytes in
+    let front = closing-front f p.blocks i l some with_it.level_below with_it.all in
+    record {
+      i = i;
+      below = below;
+      enough = enough;
+      front = order f p.blocks i ++ closed_to f i l;
+      rest = front.0;
+      next = order-more f p.blocks i ∙ ap (λ (ps : List (ℕ × ℕ)). order f p.blocks i ++ ps) front.1
+          ∙ ap (λ (k : ℕ). order f p.blocks i ++ (closed_to f i l ++ (l, k) ∷ [] ++ front.0)) (sym with_it.block_is)
+          ∙ simp append_assoc;
+      same = All-append (StandsThere p blocks device) (order f p.blocks i) (closed_to f i l) before h;
+      cause_is = cause;
+    }

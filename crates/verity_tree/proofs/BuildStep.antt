@@ -1,5 +1,5 @@
 -- One level of the cascade, with the device.
-use Rattle.std.proofs.Common.{◌≡◌, ℕ, zero, suc, ◌+◌, ◌-◌, ◌*◌, ◌/◌, ◌%◌, ◌^◌, ◌<◌, ◌≤◌, ◌⊎◌, Bool, true, false, eqb, List, [], get_or, take, drop, length, arith, sym, ◌∙◌, ap, subst, refl, inl, inr}
+use Rattle.std.proofs.Common.{Bool, List, [], ap, arith, drop, eqb, false, get_or, inl, inr, length, refl, subst, suc, sym, take, true, zero, ℕ, ◌%◌, ◌*◌, ◌+◌, ◌-◌, ◌/◌, ◌<◌, ◌^◌, ◌∙◌, ◌∷◌, ◌≡◌, ◌≤◌, ◌⊎◌}
 use Rattle.std.proofs.lemmas.Bool.{cases_lt}
 use Rattle.std.proofs.lemmas.Bool.Decides.{eqb_tells}
 use Rattle.std.proofs.lemmas.Nat.{div-add-mod', div-mul-add}
@@ -11,13 +11,16 @@ use Rattle.verity_tree.specs.Counts.{level_count, level_size}
 use Rattle.verity_tree.specs.ClosingOrder.{closing, closes}
 use Rattle.verity_tree.specs.Places.{place}
 use Rattle.verity_tree.specs.OpenBlocks.{digests_under, open_block, filling, IsReached, IsCarrying, IsNext, IsClosed, IsKept}
-use Rattle.verity_tree.specs.Writing.{put, Spoiled}
-use Rattle.verity_tree.specs.Image.{written, byte_at}
+use Rattle.verity_tree.specs.Writing.{put}
+use Rattle.verity_tree.specs.Plans.{Planned}
+use Rattle.verity_tree.specs.Verdicts.{NoneDiffers, StandsThere, stored}
+use Rattle.verity_tree.specs.Image.{byte_at, tree_block, written}
 use Rattle.verity_tree.specs.ClosingOrder.{closed_to}
 use Rattle.verity_tree.proofs.CountLemmas.{le-div_ceil}
 use Rattle.verity_tree.proofs.StreamNumbers.{quotient-next, IsReached-full}
 use Rattle.verity_tree.proofs.StreamStep.{carried-below, carried-next, carried-root}
-use Rattle.verity_tree.proofs.OrderSplit.{closing-prefix, closing-all, closes-reached, closes-last, closes-none, written-more}
+use Rattle.verity_tree.proofs.OrderSplit.{closing-prefix, closing-all, closes-reached, closes-last, closed_to-more, closes-none, written-more}
+use Rattle.std.proofs.lemmas.List.Elements.{All-append, All-cons, All-nil}
 
 mul_le : (a b w : ℕ) → a ≤ b → a * w ≤ b * w
 mul_le a b w h = mul-le-mul_right w h
@@ -71,39 +74,41 @@ carried-is_next s blocks i m levels count at a k store block digest two below in
       digest_is = h.digest_is ∙ ap (λ (n : ℕ). hash s (get_or (risen s blocks m) n [])) (sym place);
     }
 
--- a block that closed is written
-pub device-closed : (s : Settings) (blocks : List (List ℕ)) (base i m count at target : ℕ) (last : Bool) (block after digest above start device new : List ℕ) → 2 ≤ fan s
-    → i < count → last ≡ eqb (i + 1) count → at ≡ i / fan s ^ m → count ≡ length blocks
-    → IsClosed s at last block after digest above → target ≡ byte_at s count base m (i / fan s ^ (m + 1))
-    → device ≡ written s blocks base (closed_to (fan s) i m) start
-    → new ≡ put device target (filling s (digests_under s blocks m) at)
-    → new ≡ written s blocks base (closed_to (fan s) i (m + 1)) start
-device-closed s blocks base i m count at target last block after digest above start device new two below l place many closed to so_far put_is =
-    let some : 0 < fan s = omega arith in
+-- the block that closes is the tree's
+pub closed-block : (s : Settings) (blocks : List (List ℕ)) (i m count at : ℕ) (last : Bool) → 0 < fan s
+    → i < count → last ≡ eqb (i + 1) count → at ≡ i / fan s ^ m → count ≡ length blocks → (at % fan s + 1 ≡ fan s) ⊎ (last ≡ true)
+    → filling s (digests_under s blocks m) at ≡ tree_block s blocks m (i / fan s ^ (m + 1))
+closed-block s blocks i m count at last some below l place many ends =
     let less : i < length blocks = omega (arith, below, many) in
-    let ends : (i / fan s ^ m % fan s + 1 ≡ fan s) ⊎ (i + 1 ≡ length blocks) = elim closed.ends [
+    let either : (i / fan s ^ m % fan s + 1 ≡ fan s) ⊎ (i + 1 ≡ length blocks) = elim ends [
       | inl full ↦ inl (ap (λ (n : ℕ). n % fan s + 1) (sym place) ∙ full)
       | inr final ↦ inr (elim (eqb_tells (i + 1) count) [
         | inl same ↦ same.1 ∙ many
         | inr other ↦ let bad : true ≡ false = sym final ∙ l ∙ other.0 in cc
       ])
     ] in
-    let written_block : filling s (digests_under s blocks m) at ≡ get_or (risen s blocks (m + 1)) (i / fan s ^ (m + 1)) [] =
-    ap (filling s (digests_under s blocks m)) place ∙ sym (carried-next s blocks i m some less ends) in
+    ap (filling s (digests_under s blocks m)) place ∙ sym (carried-next s blocks i m some less either)
+
+-- a block that closed is put at its place
+pub device-closed : (s : Settings) (blocks : List (List ℕ)) (base i m at target : ℕ) (start device new : List ℕ)
+    → filling s (digests_under s blocks m) at ≡ tree_block s blocks m (i / fan s ^ (m + 1))
+    → target ≡ byte_at s (length blocks) base m (i / fan s ^ (m + 1))
+    → device ≡ written s blocks base (closed_to (fan s) i m) start
+    → new ≡ put device target (filling s (digests_under s blocks m) at)
+    → new ≡ written s blocks base (closed_to (fan s) i (m + 1)) start
+device-closed s blocks base i m at target start device new block to so_far put_is =
     put_is
     ∙ ap (λ (xs : List ℕ). put xs target (filling s (digests_under s blocks m) at)) so_far
-    ∙ ap (λ (n : ℕ). put (written s blocks base (closed_to (fan s) i m) start) n (filling s (digests_under s blocks m) at))
-    (to ∙ ap (λ (n : ℕ). byte_at s n base m (i / fan s ^ (m + 1))) many)
-    ∙ ap (put (written s blocks base (closed_to (fan s) i m) start) (byte_at s (length blocks) base m (i / fan s ^ (m + 1)))) written_block
+    ∙ ap (λ (n : ℕ). put (written s blocks base (closed_to (fan s) i m) start) n (filling s (digests_under s blocks m) at)) to
+    ∙ ap (put (written s blocks base (closed_to (fan s) i m) start) (byte_at s (length blocks) base m (i / fan s ^ (m + 1)))) block
     ∙ sym (written-more s blocks base i m start)
 
--- a level that stays open closes the data block's list
-pub device-kept : (s : Settings) (blocks : List (List ℕ)) (base i m levels count at : ℕ) (last : Bool) (block after store digest start device : List ℕ) → 2 ≤ fan s
+-- a level that stays open ends the data block's list
+pub closing-kept : (s : Settings) (blocks : List (List ℕ)) (i m levels count at : ℕ) (last : Bool) (block after store digest : List ℕ) → 2 ≤ fan s
     → i < count → m < levels → levels ≡ level_count (fan s) count → last ≡ eqb (i + 1) count → at ≡ i / fan s ^ m → count ≡ length blocks
     → IsKept s at last block after digest → IsCarrying s blocks i m levels store digest
-    → device ≡ written s blocks base (closed_to (fan s) i m) start
-    → device ≡ written s blocks base (closing (fan s) (length blocks) (i + 1)) start
-device-kept s blocks base i m levels count at last block after store digest start device two below inside all l place many kept h so_far =
+    → closing (fan s) count (i + 1) ≡ closed_to (fan s) i m
+closing-kept s blocks i m levels count at last block after store digest two below inside all l place many kept h =
     let f = fan s in
     let n = length blocks in
     let some : 0 < f = omega arith in
@@ -117,35 +122,24 @@ device-kept s blocks base i m levels count at last block after store digest star
     let room : i / f ^ m % f + 1 < f = subst (λ (q : ℕ). q % f + 1 < f) place kept.room in
     let reached = h.reached more in
     let top : m ≤ level_count f n = omega (arith, inside, all, ap (level_count f) many) in
-    so_far
-    ∙ ap (λ (ps : List (ℕ × ℕ)). written s blocks base ps start)
-    (sym (closing-prefix f n i m some top
+    ap (λ (k : ℕ). closing f k (i + 1)) many
+    ∙ closing-prefix f n i m some top
     (λ j low. closes-reached f n i j some (reached-down f i m (j + 1) some reached (omega (arith, low))))
-    (λ j high. closes-none f n i m j some reached room more high)))
+    (λ j high. closes-none f n i m j some reached room more high)
 
--- all levels closed
-pub device-all : (s : Settings) (blocks : List (List ℕ)) (base i levels count : ℕ) (store digest start device : List ℕ) → 2 ≤ fan s
+-- all levels close
+pub closing-done : (s : Settings) (blocks : List (List ℕ)) (i levels count : ℕ) (store digest : List ℕ) → 2 ≤ fan s
     → i < count → levels ≡ level_count (fan s) count → count ≡ length blocks → IsCarrying s blocks i levels levels store digest
-    → device ≡ written s blocks base (closed_to (fan s) i levels) start
-    → device ≡ written s blocks base (closing (fan s) (length blocks) (i + 1)) start
-device-all s blocks base i levels count store digest start device two below all many h so_far =
+    → closing (fan s) count (i + 1) ≡ closed_to (fan s) i levels
+closing-done s blocks i levels count store digest two below all many h =
     let f = fan s in
     let n = length blocks in
     let some : 0 < f = omega arith in
     let top : levels ≡ level_count f n = all ∙ ap (level_count f) many in
     let done = carried-root s blocks i levels store digest two (omega (arith, below, many)) top h in
-    so_far
-    ∙ ap (λ (m : ℕ). written s blocks base (closed_to f i m) start) top
-    ∙ ap (λ (ps : List (ℕ × ℕ)). written s blocks base ps start) (sym (closing-all f n i some (λ j low. closes-last f n i j done.0)))
-
--- a block that could not be written
-pub device-spoiled : (s : Settings) (blocks : List (List ℕ)) (base i m count target : ℕ) (start device new : List ℕ) → count ≡ length blocks
-    → target ≡ byte_at s count base m (i / fan s ^ (m + 1)) → device ≡ written s blocks base (closed_to (fan s) i m) start
-    → Spoiled device target s.hash_block new
-    → Spoiled (written s blocks base (closed_to (fan s) i m) start) (byte_at s (length blocks) base m (i / fan s ^ (m + 1))) s.hash_block new
-device-spoiled s blocks base i m count target start device new many to so_far h =
-    subst (λ (xs : List ℕ). Spoiled xs (byte_at s (length blocks) base m (i / fan s ^ (m + 1))) s.hash_block new) so_far
-    (subst (λ (n : ℕ). Spoiled device n s.hash_block new) (to ∙ ap (λ (n : ℕ). byte_at s n base m (i / fan s ^ (m + 1))) many) h)
+    ap (λ (k : ℕ). closing f k (i + 1)) many
+    ∙ closing-all f n i some (λ j low. closes-last f n i j done.0)
+    ∙ ap (closed_to f i) (sym top)
 
 -- the block that closes with data block i is one of its level
 pub closing-below : (f count m i : ℕ) → 0 < f → i < count → i / f ^ (m + 1) < level_size f count m
@@ -196,3 +190,12 @@ closes-stopped_all s blocks i m levels count at last store digest some below l p
           let same : m ≡ k = omega (arith, high, le) in
           subst (λ (j : ℕ). closes (fan s) n (i + 1) j ≡ true) same (closes-stopped s blocks i m levels count at last store digest some below l place many ends h)
     ]
+
+-- one block more that stands there
+pub none-differs-more : (p : Planned) (blocks : List (List ℕ)) (i m : ℕ) (device : List ℕ) → NoneDiffers p blocks device (closed_to (fan p.settings) i m)
+    → stored p device m (i / fan p.settings ^ (m + 1)) ≡ tree_block p.settings blocks m (i / fan p.settings ^ (m + 1))
+    → NoneDiffers p blocks device (closed_to (fan p.settings) i (m + 1))
+none-differs-more p blocks i m device h here =
+    let pair : ℕ × ℕ = (m, i / fan p.settings ^ (m + 1)) in
+    subst (NoneDiffers p blocks device) (sym (closed_to-more (fan p.settings) i m))
+    (All-append (StandsThere p blocks device) (closed_to (fan p.settings) i m) (pair ∷ []) h (All-cons (StandsThere p blocks device) pair [] here (All-nil (StandsThere p blocks device))))

@@ -1,7 +1,7 @@
 -- A hash block has room for its slots.
 use Rattle.std.proofs.Common.{◌≡◌, ℕ, zero, suc, ◌+◌, ◌*◌, ◌^◌, ◌<◌, ◌≤◌, true, false, ltb, arith, ap, refl}
 use Rattle.std.proofs.lemmas.Bool.Decides.{nat_tests}
-use Rattle.std.proofs.Math.Nat.{pow-zero}
+use Rattle.std.proofs.Math.Nat.{mul-le-mul_left, pow-zero}
 use Rattle.std.specs.Prelude.{nat_lt}
 use Rattle.verity_hash.specs.Algorithms.{digest_len_of}
 use Rattle.verity_hash.specs.declared.algorithm.Algorithm.{Algorithm}
@@ -58,3 +58,9 @@ fan-fits s valid =
 
 pub fan-pos : (s : Settings) → IsValid s → 0 < fan s
 fan-pos s valid = omega (arith, fan-two s valid)
+
+-- a hash block with slots has a byte
+pub hash_block-some : (s : Settings) → 2 ≤ fan s → fan s * slot_width s ≤ s.hash_block → 0 < s.hash_block
+hash_block-some s two fits =
+    let wide : 1 ≤ slot_width s = omega (arith, slot_width-digest s, digest_len_of-pos s.algorithm) in
+    omega (arith, mul-le-mul_left (fan s) wide, two, fits)

@@ -20,3 +20,5 @@ pub mod TakeLemmas
 pub mod Rows
 pub mod Blocks
 pub mod Padded
+pub mod VerdictLemmas
+pub mod ClosingLemmas

@@ -175,3 +175,10 @@ order-front f n i m some below inside pass =
           (ap (order f n) one ∙ ap (λ (k : ℕ). order f n i ++ closing f n k) (sym one) ∙ ap (λ (ps : List (ℕ × ℕ)). order f n i ++ ps) front.1)
           ∙ simp append_assoc,
     )
+
+-- one data block more in the closing order
+pub order-more : (f n i : ℕ) → order f n (i + 1) ≡ order f n i ++ closing f n (i + 1)
+unfolding order
+order-more f n i =
+    let one : i + 1 ≡ suc i = omega arith in
+    ap (order f n) one ∙ ap (λ (k : ℕ). order f n i ++ closing f n k) (sym one)

@@ -1,5 +1,5 @@
 -- One data block taken from the source.
-use Rattle.std.proofs.Common.{◌≡◌, ℕ, ◌+◌, ◌-◌, ◌*◌, ◌<◌, ◌≤◌, min, List, [], ◌++◌, get_or, take, drop, length, map, replicate, arith, sym, ◌∙◌, ap, subst, inl, inr, length-drop, length-append}
+use Rattle.std.proofs.Common.{List, [], ap, arith, drop, false, get_or, inl, inr, length, length-append, length-drop, map, min, refl, replicate, subst, sym, take, true, ℕ, ◌*◌, ◌++◌, ◌+◌, ◌-◌, ◌/◌, ◌<◌, ◌∙◌, ◌≡◌, ◌≤◌}
 use Rattle.std.proofs.lemmas.Bool.{cases_lt}
 use Rattle.std.proofs.lemmas.List.{take_all, take_at, take-take, drop-take, drop-drop, length-take, length-take-le}
 use Rattle.std.proofs.lemmas.List.FromFn.{get_or-map-range_with_len}
@@ -11,11 +11,15 @@ use Rattle.verity_tree.specs.Building.{HasGiven, EndsWithin, FailsWithin, bytes_
 use Rattle.verity_tree.specs.DataBlocks.{HoldsBlock, HoldsFront, StopsWithin}
 use Rattle.verity_tree.specs.Levels.{block_at, digest_of_block, cut, risen}
 use Rattle.verity_tree.specs.OpenBlocks.{carried}
-use Rattle.verity_tree.specs.Plans.{Planned, IsPlanned, data_blocks}
+use Rattle.verity_tree.specs.Plans.{IsPlanned, Planned, data_blocks, whole}
 use Rattle.verity_tree.specs.Settings.{Settings, hash, fan}
 use Rattle.verity_tree.proofs.CountLemmas.{mul-lt_div_ceil, le-div_ceil, div_ceil-pos}
 use Rattle.verity_tree.proofs.FanLemmas.{some_data}
 use Rattle.verity_tree.proofs.StreamStep.{place-first}
+use Rattle.std.specs.Prelude.{nat_le}
+use Rattle.std.proofs.lemmas.Bool.Decides.{nat_tests}
+use Rattle.std.proofs.Math.Nat.{div-eq_of_lt-le, mul-le-mul_right}
+use Rattle.std.proofs.lemmas.Nat.{div-add-mod', mod_below}
 
 take-take_min : (n m : ℕ) (xs : List ℕ) → take n (take m xs) ≡ take (min n m) xs
 take-take_min n m xs =
@@ -104,9 +108,41 @@ HasGiven-all p planned bytes after h =
     let whole : min (p.blocks * p.settings.data_block) p.wanted ≡ p.wanted = omega (arith, cover) in
     subst (λ (k : ℕ). HasGiven k bytes after) whole h
 
+-- so many runs are within a quotient
+le-div : (i n a : ℕ) → 0 < a → i * a ≤ n → i ≤ n / a
+le-div i n a some h = elim (cases_lt (n / a) i) [
+  | inl less ↦
+      let next : n / a + 1 ≤ i = omega arith in
+      absurd (omega (arith, mul-le-mul_right a next, h, div-add-mod' n a, mod_below n a some))
+  | inr within ↦ within
+]
+
 -- a plan has a data block
 pub blocks-some : (p : Planned) → IsPlanned p → 0 < p.blocks
 blocks-some p planned = omega (arith, planned.blocks_are, div_ceil-pos p.wanted p.settings.data_block (some_data p.settings planned.valid) planned.some)
+
+-- bytes that hold all that is wanted hold all blocks
+pub whole-all : (p : Planned) (bytes : List ℕ) → p.wanted ≤ length bytes → whole p bytes ≡ p.blocks
+whole-all p bytes enough = let tested : nat_le p.wanted (length bytes) ≡ true = grind (arith, nat_tests, enough) in rw tested refl
+
+-- bytes that end within block i hold i blocks
+pub whole-short : (p : Planned) (i : ℕ) (bytes : List ℕ) → bytes_of p i ≤ length bytes → length bytes < bytes_of p (i + 1) → whole p bytes ≡ i
+whole-short p i bytes enough short =
+    let less : length bytes < p.wanted = omega (arith, short) in
+    let tested : nat_le p.wanted (length bytes) ≡ false = grind (arith, nat_tests, less) in
+    let from : i * p.settings.data_block ≤ length bytes = omega (arith, enough, less) in
+    let to : length bytes < (i + 1) * p.settings.data_block = omega (arith, short) in
+    rw tested (div-eq_of_lt-le p.settings.data_block from to)
+
+-- bytes from which i blocks have gone hold as many
+pub whole-above : (p : Planned) → IsPlanned p → (i : ℕ) (bytes : List ℕ) → i ≤ p.blocks → bytes_of p i ≤ length bytes → i ≤ whole p bytes
+whole-above p planned i bytes within enough = elim (cases_lt (length bytes) p.wanted) [
+  | inl less ↦
+      let tested : nat_le p.wanted (length bytes) ≡ false = grind (arith, nat_tests, less) in
+      let from : i * p.settings.data_block ≤ length bytes = omega (arith, enough, less) in
+      rw tested (le-div i (length bytes) p.settings.data_block (some_data p.settings planned.valid) from)
+  | inr all ↦ omega (arith, whole-all p bytes all, within)
+]
 
 -- the source ends within block i
 pub short-within : (p : Planned) → IsPlanned p → (i want b : ℕ) (bytes rest after : List ℕ) → b ≡ p.settings.data_block → i < p.blocks
@@ -119,7 +155,8 @@ short-within p planned i want b bytes rest after e below w given short none =
     let here : i * s.data_block < wanted = mul-lt_div_ceil wanted s.data_block i some (omega (arith, below, many)) in
     let left : length rest ≡ length bytes - min (i * s.data_block) wanted = ap length given.rest ∙ length-drop (bytes_of p i) bytes in
     let wide : i * b ≡ i * s.data_block = ap (λ (k : ℕ). i * k) e in
-    record { below = below; enough = given.enough; short = omega (arith, left, given.enough, here, wide, w, e, short); rest = none }
+    let within : length bytes < bytes_of p (i + 1) = omega (arith, left, given.enough, here, wide, w, e, short) in
+    record { below = below; whole_is = sym (whole-short p i bytes given.enough within); enough = given.enough; short = within; rest = none }
 
 -- a write to a part leaves the length
 pub length-put : (xs ys : List ℕ) (a b : ℕ) → a + b ≤ length xs → length ys ≡ length (take (a + b - a) (drop a xs))

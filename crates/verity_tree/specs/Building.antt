@@ -5,7 +5,7 @@ use Rattle.verity_tree.specs.ClosingOrder.{closing, order}
 use Rattle.verity_tree.specs.Counting.{last_count}
 use Rattle.verity_tree.specs.Image.{written}
 use Rattle.verity_tree.specs.Levels.{root}
-use Rattle.verity_tree.specs.Plans.{Planned, byte_of, data_blocks}
+use Rattle.verity_tree.specs.Plans.{Planned, byte_of, data_blocks, whole}
 use Rattle.verity_tree.specs.Settings.{fan}
 use Rattle.verity_tree.specs.Writing.{Spoiled}
 use Rattle.verity_tree.specs.declared.building.BuildFault.{BuildFault}
@@ -20,9 +20,10 @@ pub record HasGiven (n : ℕ) (before after : List ℕ) : Type 0 where
   pub enough : n ≤ length before
   pub rest : after ≡ drop n before
 
--- a source that ended within data block i
+-- a source that ended within data block i: it held i whole blocks, and all its bytes have gone
 pub record EndsWithin (p : Planned) (i : ℕ) (before after : List ℕ) : Type 0 where
   pub below : i < p.blocks
+  pub whole_is : i ≡ whole p before
   pub enough : bytes_of p i ≤ length before
   pub short : length before < bytes_of p (i + 1)
   pub rest : after ≡ []

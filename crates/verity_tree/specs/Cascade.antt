@@ -4,9 +4,12 @@ use Rattle.verity_hash.specs.declared.digest.Digest.{Digest}
 use Rattle.verity_tree.specs.Settings.{Settings, hash, fan}
 use Rattle.verity_tree.specs.ClosingOrder.{closing, closes, closed_to}
 use Rattle.verity_tree.specs.Counting.{last_count}
-use Rattle.verity_tree.specs.Image.{written}
+use Rattle.verity_tree.specs.Image.{tree_block, written}
 use Rattle.verity_tree.specs.Plans.{Planned, byte_of, levels_of}
-use Rattle.verity_tree.specs.declared.cascade.Unwritten.{Unwritten}
+use Rattle.verity_tree.specs.declared.cascade.Stop.{Stop}
+use Rattle.verity_tree.specs.declared.closing.Task.{Task}
+use Rattle.verity_tree.specs.Closings.{CountsCause, IsCause}
+use Rattle.verity_tree.specs.Verdicts.{NoneDiffers, stored}
 use Rattle.verity_tree.specs.OpenBlocks.{IsNext, filling, IsCarriedOn, IsKept, IsClosed}
 use Rattle.verity_tree.specs.Writing.{put, Spoiled}
 use Rattle.verity_tree.specs.declared.cascade.Step.{Step}
@@ -16,26 +19,36 @@ use Rattle.verity_tree.specs.declared.cascade.Step.TheVariants.{Open, Closed, St
 abbrev pub StepsLevel : Settings → ℕ → Bool → List ℕ → List ℕ → List ℕ → Step → Type 0
 StepsLevel s at last before after digest Open = IsKept s at last before after digest
 StepsLevel s at last before after digest (Closed above) = IsClosed s at last before after digest above
-StepsLevel s at last before after digest Stopped = (at % fan s + 1 ≡ fan s) ⊎ (last ≡ true)
+StepsLevel s at last before after digest (Stopped cause) = (at % fan s + 1 ≡ fan s) ⊎ (last ≡ true)
 
--- what a level does to the device: its closed block is put at its place
+-- what a level does to the device: its closed block is put at its place, or stands there
 abbrev pub StepsDevice : Planned → ℕ → ℕ → List ℕ → List ℕ → Step → List ℕ → List ℕ → Type 0
 StepsDevice p level at block digest Open before after = after ≡ before
 StepsDevice p level at block digest (Closed above) before after =
     (below : List (List ℕ)) → IsNext p.settings below at block digest
     → after ≡ put before (byte_of p level (at / fan p.settings)) (filling p.settings (map (hash p.settings) below) at)
-StepsDevice p level at block digest Stopped before after =
+StepsDevice p level at block digest (Stopped cause) before after =
     Spoiled before (byte_of p level (at / fan p.settings)) p.settings.hash_block after
 
--- the device's count of failures rises exactly where a call failed
-abbrev pub StepsCount : Step → ℕ → ℕ → Type 0
-StepsCount Open before after = after ≡ before
-StepsCount (Closed above) before after = after ≡ before
-StepsCount Stopped before after = after ≡ min (before + 1) last_count
+-- what a level's closed block says beside what stands at its place; the device stays
+abbrev pub StepsCompared : Planned → ℕ → ℕ → List ℕ → List ℕ → Step → List ℕ → List ℕ → Type 0
+StepsCompared p level at block digest Open before after = after ≡ before
+StepsCompared p level at block digest (Closed above) before after = (after ≡ before)
+    × ((below : List (List ℕ)) → IsNext p.settings below at block digest
+    → stored p before level (at / fan p.settings) ≡ filling p.settings (map (hash p.settings) below) at)
+StepsCompared p level at block digest (Stopped cause) before after = (after ≡ before)
+    × ((below : List (List ℕ)) → IsNext p.settings below at block digest
+    → IsCause p level (at / fan p.settings) (filling p.settings (map (hash p.settings) below) at) before cause)
 
-abbrev pub CarriesCount : Result Digest Unwritten → ℕ → ℕ → Type 0
-CarriesCount (Ok digest) before after = after ≡ before
-CarriesCount (Err at) before after = after ≡ min (before + 1) last_count
+-- the device's count of failures rises exactly where a call failed
+abbrev pub StepsCount : Task → Step → ℕ → ℕ → Type 0
+StepsCount task Open before after = after ≡ before
+StepsCount task (Closed above) before after = after ≡ before
+StepsCount task (Stopped cause) before after = CountsCause task cause before after
+
+abbrev pub CarriesCount : Task → Result Digest Stop → ℕ → ℕ → Type 0
+CarriesCount task (Ok digest) before after = after ≡ before
+CarriesCount task (Err stop) before after = CountsCause task stop.cause before after
 
 -- the block that closes with data block i, counted from 0, after those of the levels below it
 pub record ClosesWith (p : Planned) (i level block : ℕ) : Type 0 where
@@ -44,13 +57,21 @@ pub record ClosesWith (p : Planned) (i level block : ℕ) : Type 0 where
   pub all : (k : ℕ) → k ≤ level → closes (fan p.settings) p.blocks (i + 1) k ≡ true
 
 -- data block i has come to all levels that close, or stopped at one whose block could not be written
-abbrev pub Carries : Planned → List (List ℕ) → ℕ → Result Digest Unwritten → List ℕ → Type 0
+abbrev pub Carries : Planned → List (List ℕ) → ℕ → Result Digest Stop → List ℕ → Type 0
 Carries p blocks i (Ok digest) store = IsCarriedOn p.settings blocks i (levels_of p) store digest
-Carries p blocks i (Err at) store = ClosesWith p i at.level at.block
+Carries p blocks i (Err stop) store = ClosesWith p i stop.level stop.block
 
--- the blocks that close with a data block are put at their places, up to the one that could not be written
-abbrev pub CarriesDevice : Planned → List (List ℕ) → ℕ → Result Digest Unwritten → List ℕ → List ℕ → Type 0
+-- the blocks that close with a data block are put at their places, up to the one that stops the pass
+abbrev pub CarriesDevice : Planned → List (List ℕ) → ℕ → Result Digest Stop → List ℕ → List ℕ → Type 0
 CarriesDevice p blocks i (Ok digest) before after =
     after ≡ written p.settings blocks p.base (closing (fan p.settings) p.blocks (i + 1)) before
-CarriesDevice p blocks i (Err at) before after =
-    Spoiled (written p.settings blocks p.base (closed_to (fan p.settings) i at.level) before) (byte_of p at.level at.block) p.settings.hash_block after
+CarriesDevice p blocks i (Err stop) before after =
+    Spoiled (written p.settings blocks p.base (closed_to (fan p.settings) i stop.level) before) (byte_of p stop.level stop.block) p.settings.hash_block after
+
+-- the blocks that close with a data block do not differ from what the device holds, up to the one that stops the pass
+abbrev pub CarriesCompared : Planned → List (List ℕ) → ℕ → Result Digest Stop → List ℕ → List ℕ → Type 0
+CarriesCompared p blocks i (Ok digest) before after =
+    (after ≡ before) × NoneDiffers p blocks before (closing (fan p.settings) p.blocks (i + 1))
+CarriesCompared p blocks i (Err stop) before after = (after ≡ before)
+    × NoneDiffers p blocks before (closed_to (fan p.settings) i stop.level)
+    × IsCause p stop.level stop.block (tree_block p.settings blocks stop.level stop.block) before stop.cause

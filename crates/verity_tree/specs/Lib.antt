@@ -17,5 +17,7 @@ pub mod OpenBlocks
 pub mod DataBlocks
 pub mod Cascade
 pub mod Building
-pub mod TakingBlocks
+pub mod Passing
 pub mod Fusing
+pub mod Verdicts
+pub mod Closings

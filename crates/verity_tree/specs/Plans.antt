@@ -1,5 +1,5 @@
 -- A plan: what is read, and where each hash block goes.
-use Rattle.std.specs.Prelude.{◌≡◌, ◌<◌, ◌≤◌, ℕ, ◌+◌, ◌-◌, ◌*◌, ◌^◌, ◌&&◌, Bool, List, nat_le}
+use Rattle.std.specs.Prelude.{◌≡◌, ◌<◌, ◌≤◌, ℕ, ◌+◌, ◌-◌, ◌*◌, ◌/◌, ◌^◌, ◌&&◌, Bool, List, length, nat_le, if◌then◌else◌}
 use Rattle.std.specs.Int.{div_ceil}
 use Rattle.verity_tree.specs.Counts.{level_count, level_size, IsTreeBlock}
 use Rattle.verity_tree.specs.Levels.{cut}
@@ -29,6 +29,10 @@ levels_of p = level_count (fan p.settings) p.blocks
 abbrev pub size_of_level : Planned → ℕ → ℕ
 size_of_level p level = level_size (fan p.settings) p.blocks level
 
+-- the number of blocks one level below a level: the data blocks below level 0
+abbrev pub size_under : Planned → ℕ → ℕ
+size_under p level = div_ceil p.blocks (fan p.settings ^ level)
+
 -- the place of a block of a level, and the place behind all
 abbrev pub place_of : Planned → ℕ → ℕ → ℕ
 place_of p level block = place (fan p.settings) p.blocks p.base level block
@@ -47,6 +51,10 @@ HasBlock p level block = IsTreeBlock (fan p.settings) p.blocks level block
 -- the data blocks of some bytes
 abbrev pub data_blocks : Planned → List ℕ → List (List ℕ)
 data_blocks p bytes = cut p.settings p.blocks p.wanted bytes
+
+-- the number of the plan's data blocks that some bytes hold
+abbrev pub whole : Planned → List ℕ → ℕ
+whole p bytes = if nat_le p.wanted (length bytes) then p.blocks else (length bytes / p.settings.data_block)
 
 -- room for one open block a level, a data block and a stored block to compare with, in bytes
 abbrev pub store_length_of : Planned → ℕ

@@ -1,16 +1,13 @@
 //! A tree that is built in one pass, as its data blocks come.
-ghost use Rattle.std.specs.Prelude.{◌≡◌, ℕ, ◌*◌, ◌<◌, ◌≤◌, List, length, IfErr, IfOk};
-ghost use Rattle.verity_tree.specs.Building.{Builds, BuildsImage, CountsDevice, CountsSource, HasGiven, IsOfSource, bytes_of};
-ghost use Rattle.verity_tree.specs.DataBlocks.{CountsBlock};
-ghost use Rattle.verity_tree.specs.OpenBlocks.{AreOpen};
-ghost use Rattle.verity_tree.specs.Plans.{Planned, data_blocks, levels_of, store_length_of};
+ghost use Rattle.std.specs.Prelude.{◌≡◌, length, IfErr, IfOk};
+ghost use Rattle.verity_tree.specs.Building.{Builds, BuildsImage, CountsDevice, CountsSource, IsOfSource};
+ghost use Rattle.verity_tree.specs.Plans.{data_blocks, store_length_of};
 ghost use Rattle.verity_tree.specs.Settings.{digest_len};
-ghost use Rattle.verity_tree.specs.TakingBlocks.{TakesDataBlock};
 
-use crate::cascade::carry;
-use crate::data_block::{BlockFault, read_data_block};
+use crate::closing::Task;
 use crate::device::Device;
 use crate::nowhere::Nowhere;
+use crate::passing::{PassFault, pass};
 use crate::plan::Plan;
 use crate::source::Source;
 use crate::store::Store;
@@ -32,69 +29,6 @@ pub enum BuildFault {
     },
 }
 
-/// Reads data block `i` into the store, behind the open blocks, and hashes it there.
-fn take_data_block<S: Source>(
-    plan: &Plan,
-    store: &mut [u8],
-    i: u64,
-    source: &mut S,
-) -> Result<Digest, BlockFault>
-    requires room { store_length_of plan.now ≤ length store.old }
-    requires below { i < plan.now.blocks }
-    ensures size { IfOk result (λ digest. length digest ≡ digest_len plan.now.settings) }
-    ensures told { S.tells source.old → S.tells source.new }
-    ensures count { CountsBlock result (S.failures source.old) (S.failures source.new) }
-    ensures opened { (blocks : List (List ℕ)) → AreOpen plan.now.settings blocks 0 (levels_of plan.now) i store.old
-        → AreOpen plan.now.settings blocks 0 (levels_of plan.now) i store.new }
-    ensures taken { S.tells source.old → (bytes : List ℕ) → HasGiven (bytes_of plan.now i) bytes (S.to_come source.old)
-        → TakesDataBlock plan.now i bytes result (S.to_come source.new) }
-{
-    let size = plan.data_block();
-    let from = plan.levels() * plan.hash_block();
-    let want = (size as u64).min(plan.wanted() - i * size as u64) as usize;
-    match read_data_block(source, &mut store[from..from + size], want) {
-        Ok(()) => Ok(plan.hash(&store[from..from + size])),
-        Err(fault) => Err(fault),
-    }
-}
-
-/// Passes over the data once, and writes each hash block as it closes.
-fn pass<S: Source, D: Device>(
-    plan: &Plan,
-    store: &mut [u8],
-    source: &mut S,
-    device: &mut D,
-) -> Result<Digest, BuildFault>
-    requires { store_length_of plan.now ≤ length store.old }
-    ensures source_told { S.tells source.old → S.tells source.new }
-    ensures device_told { D.tells device.old → D.tells device.new }
-    ensures source_count { CountsSource result (S.failures source.old) (S.failures source.new) }
-    ensures device_count { CountsDevice result (D.failures device.old) (D.failures device.new) }
-    ensures root { S.tells source.old → Builds plan.now result (S.to_come source.old) (S.to_come source.new) }
-    ensures image { S.tells source.old → D.tells device.old
-        → BuildsImage plan.now (data_blocks plan.now (S.to_come source.old)) result (D.content device.old) (D.content device.new) }
-{
-    store.fill(0);
-    let mut root = Digest::zeros(plan.settings().algorithm());
-    for i in 0..plan.blocks() {
-        let digest = match take_data_block(plan, store, i, source) {
-            Ok(digest) => digest,
-            Err(BlockFault::Short) => return Err(BuildFault::SourceShort(i)),
-            Err(BlockFault::Failed) => return Err(BuildFault::SourceFailed(i)),
-        };
-        root = match carry(plan, store, i, digest, device) {
-            Ok(above) => above,
-            Err(at) => {
-                return Err(BuildFault::DeviceFailed {
-                    level: at.level,
-                    block: at.block,
-                });
-            }
-        };
-    }
-    Ok(root)
-}
-
 /// Builds the tree above the data of a source: reads the data once, writes each hash block once, in closing order and at
 /// its place, and answers the root hash (Linux kernel, dm-verity page, "Hash Tree"). It takes no memory.
 ///
@@ -107,6 +41,7 @@ pub fn build<S: Source, D: Device>(
 ) -> Result<Digest, BuildFault>
     requires { store.old ≡ store_length_of plan.now }
     ensures kept { store.new ≡ store.old }
+    ensures size { IfOk result (λ root. length root ≡ digest_len plan.now.settings) }
     ensures source_told { S.tells source.old → S.tells source.new }
     ensures device_told { D.tells device.old → D.tells device.new }
 
@@ -119,7 +54,15 @@ pub fn build<S: Source, D: Device>(
     ensures image { S.tells source.old → D.tells device.old
         → BuildsImage plan.now (data_blocks plan.now (S.to_come source.old)) result (D.content device.old) (D.content device.new) }
 {
-    pass(plan, &mut store.bytes, source, device)
+    match pass(plan, Task::Write, &mut store.bytes, source, device) {
+        Ok(root) => Ok(root),
+        Err(PassFault::SourceShort(i)) => Err(BuildFault::SourceShort(i)),
+        Err(PassFault::SourceFailed(i)) => Err(BuildFault::SourceFailed(i)),
+        Err(PassFault::Stopped(stop)) => Err(BuildFault::DeviceFailed {
+            level: stop.level,
+            block: stop.block,
+        }),
+    }
 }
 
 /// The root hash of the tree above the data of a source, which is read once; nothing is written. It takes no memory, and
@@ -131,10 +74,19 @@ pub fn root_only<S: Source>(
 ) -> Result<Digest, BuildFault>
     requires { store.old ≡ store_length_of plan.now }
     ensures kept { store.new ≡ store.old }
+    ensures size { IfOk result (λ root. length root ≡ digest_len plan.now.settings) }
     ensures told { S.tells source.old → S.tells source.new }
     ensures count { CountsSource result (S.failures source.old) (S.failures source.new) }
     ensures fault { IfErr result IsOfSource }
     ensures root { S.tells source.old → Builds plan.now result (S.to_come source.old) (S.to_come source.new) }
 {
-    pass(plan, &mut store.bytes, source, &mut Nowhere)
+    match pass(plan, Task::Write, &mut store.bytes, source, &mut Nowhere) {
+        Ok(root) => Ok(root),
+        Err(PassFault::SourceShort(i)) => Err(BuildFault::SourceShort(i)),
+        Err(PassFault::SourceFailed(i)) => Err(BuildFault::SourceFailed(i)),
+        Err(PassFault::Stopped(stop)) => Err(BuildFault::DeviceFailed {
+            level: stop.level,
+            block: stop.block,
+        }),
+    }
 }

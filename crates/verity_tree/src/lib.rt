@@ -4,6 +4,8 @@
 
 mod building;
 mod cascade;
+mod closing;
+mod comparing;
 mod data_block;
 mod device;
 mod failed;
@@ -15,12 +17,15 @@ mod level_lists;
 mod memory_device;
 mod memory_source;
 mod nowhere;
+mod part;
+mod passing;
 mod plan;
 mod settings;
 mod source;
 mod store;
 
 pub use building::{BuildFault, build, root_only};
+pub use comparing::CompareFault;
 pub use device::Device;
 pub use failed::Failed;
 pub use file_device::FileDevice;
@@ -29,6 +34,7 @@ pub use fused::Fused;
 pub use level_lists::root_by_levels;
 pub use memory_device::MemoryDevice;
 pub use memory_source::MemorySource;
+pub use part::Part;
 pub use plan::{Plan, PlanFault};
 pub use settings::{HashType, SettingFault, TreeSettings};
 pub use source::Source;

@@ -1,7 +1,7 @@
 //! What is read, and where each hash block goes.
 ghost use Rattle.std.specs.Prelude.{◌≡◌, ◌+◌, ◌-◌, ◌*◌, ◌^◌, ◌≤◌, ◌<◌};
-ghost use Rattle.verity_tree.specs.Plans.{Planned, IsPlanned, byte_of, most_bytes, levels_of, size_of_level, place_of, end_of, store_length_of, HasBlock};
-ghost use Rattle.verity_tree.specs.Settings.{fan, hash, slot_width};
+ghost use Rattle.verity_tree.specs.Plans.{Planned, IsPlanned, byte_of, most_bytes, levels_of, size_of_level, place_of, end_of, store_length_of, size_under, HasBlock};
+ghost use Rattle.verity_tree.specs.Settings.{digest_len, fan, hash, slot_width};
 
 use crate::TreeSettings;
 use std::marker::Model;
@@ -166,6 +166,12 @@ impl Plan {
         self.settings.slot_width()
     }
 
+    pub(crate) fn digest_len(&self) -> usize
+        ensures { result ≡ digest_len self.now.settings }
+    {
+        self.settings.algorithm().digest_len()
+    }
+
     pub(crate) fn data_block(&self) -> usize
         ensures { result ≡ self.now.settings.data_block }
     {
@@ -205,9 +211,17 @@ impl Plan {
         requires { level < levels_of self.now }
         ensures { result ≡ size_of_level self.now level }
     {
+        self.size_under(level).div_ceil(self.fan() as u64)
+    }
+
+    /// The number of blocks one level below a level: the data blocks below level 0.
+    pub(crate) fn size_under(&self, level: usize) -> u64
+        requires { level ≤ levels_of self.now }
+        ensures { result ≡ size_under self.now level }
+    {
         let fan = self.settings.fan() as u64;
         let mut size = self.blocks;
-        for below in 0..level + 1 {
+        for below in 0..level {
             size = size.div_ceil(fan);
         }
         size

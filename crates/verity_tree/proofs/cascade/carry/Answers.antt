@@ -1,13 +1,16 @@
-use Rattle.std.proofs.Common.{◌≡◌, ℕ, ◌+◌, ◌-◌, ◌*◌, ◌/◌, ◌<◌, ◌≤◌, ◌^◌, List, true, arith, sym, ap, subst, ◌∙◌, refl}
+use Rattle.std.proofs.Common.{List, ap, arith, length, refl, subst, sym, true, ℕ, ◌*◌, ◌+◌, ◌-◌, ◌/◌, ◌<◌, ◌^◌, ◌∙◌, ◌≡◌, ◌≤◌}
 use Rattle.verity_tree.specs.ClosingOrder.{closed_to, closing, closes}
 use Rattle.verity_tree.specs.Counts.{level_count}
-use Rattle.verity_tree.specs.Image.{written, byte_at}
-use Rattle.verity_tree.specs.OpenBlocks.{IsCarrying}
+use Rattle.verity_tree.specs.Image.{byte_at, tree_block, written}
+use Rattle.verity_tree.specs.OpenBlocks.{IsCarrying, digests_under, filling}
 use Rattle.verity_tree.specs.Plans.{byte_of, levels_of}
 use Rattle.verity_tree.specs.Settings.{fan}
 use Rattle.verity_tree.specs.Writing.{Spoiled}
+use Rattle.std.proofs.lemmas.List.Elements.{All-nil}
+use Rattle.verity_tree.specs.Closings.{IsCause}
+use Rattle.verity_tree.specs.Verdicts.{NoneDiffers, stored}
 use Rattle.verity_tree.proofs.StreamStep.{carry-closed, carry-kept, carry-all, IsCarrying-first, place-first}
-use Rattle.verity_tree.proofs.BuildStep.{carried-is_next, device-closed, device-kept, device-all, closing-below, closing-place, closes-stopped_all}
+use Rattle.verity_tree.proofs.BuildStep.{carried-is_next, closed-block, closes-stopped_all, closing-below, closing-done, closing-kept, closing-place, device-closed, none-differs-more}
 use Rattle.verity_tree.proofs.cascade.carry.Goals as goal
 
 pub overflow_add-last : goal.overflow_add-last
@@ -20,8 +23,10 @@ loop-level-init g c = record {
   place = place-first c.args.i (fan c.args.plan.now.settings);
   told = λ t. t;
   failures = refl;
-  carries = λ blocks many first stands. IsCarrying-first c.args.plan.now.settings blocks c.args.i (levels_of c.args.plan.now) c.args.store.now c.args.digest first stands;
+  carries = λ blocks many first stands. IsCarrying-first c.args.plan.now.settings blocks c.args.i (levels_of c.args.plan.now) c.args.opened.now c.args.digest first stands;
   image = λ _ blocks many first stands. refl;
+  stays = λ _ _. refl;
+  compared = λ _ _ blocks many first stands. (refl, All-nil _);
 }
 
 pub step_level-requires-clause-here : goal.step_level-requires-clause-here
@@ -54,19 +59,35 @@ loop-level-preserved g c =
       told = λ t. c.in-Closed.ensures.told (inv.told t);
       failures = c.in-Closed.ensures.count ∙ inv.failures;
       carries = λ blocks many first stands.
-          carry-closed s blocks c.args.i m levels c.blocks-blocks.result c.loop-level.at _ _ _ c.loop-level.store _ _ c.loop-level.carried _
+          carry-closed s blocks c.args.i m levels c.blocks-blocks.result c.loop-level.at _ _ _ c.loop-level.opened _ _ c.loop-level.carried _
           two (omega (arith, last, c.requires.below)) within refl inv.place
-          (omega (arith, c.requires.room, c.loop-level.auto.store)) from wide refl c.in-Closed.ensures.level (last ∙ many)
+          (omega (arith, c.requires.room, c.loop-level.auto.opened)) from wide refl c.in-Closed.ensures.level (last ∙ many)
           (inv.carries blocks many first stands);
       image = λ tells blocks many first stands.
-          let next = carried-is_next s blocks c.args.i m levels c.blocks-blocks.result c.loop-level.at _ _ c.loop-level.store _ c.loop-level.carried
+          let next = carried-is_next s blocks c.args.i m levels c.blocks-blocks.result c.loop-level.at _ _ c.loop-level.opened _ c.loop-level.carried
           two (omega (arith, last, c.requires.below)) within inv.place from wide refl (last ∙ many) (inv.carries blocks many first stands) in
           let here = closing-place (fan s) c.args.i m c.loop-level.at (fan s) inv.place refl in
-          let to : byte_of p m (c.loop-level.at / fan s) ≡ byte_at s c.blocks-blocks.result p.base m (c.args.i / fan s ^ (m + 1)) =
-          ap (byte_of p m) here ∙ ap (λ (n : ℕ). byte_at s n p.base m (c.args.i / fan s ^ (m + 1))) (sym last) in
-          device-closed s blocks p.base c.args.i m c.blocks-blocks.result c.loop-level.at _ _ _ _ c.loop-level.carried _ _ _ _
-          two (omega (arith, last, c.requires.below)) refl inv.place (last ∙ many) c.in-Closed.ensures.level to (inv.image tells blocks many first stands)
-          (c.in-Closed.ensures.device (inv.told tells) _ next);
+          let to : byte_of p m (c.loop-level.at / fan s) ≡ byte_at s (length blocks) p.base m (c.args.i / fan s ^ (m + 1)) =
+          ap (byte_of p m) here ∙ ap (λ (n : ℕ). byte_at s n p.base m (c.args.i / fan s ^ (m + 1))) many in
+          device-closed s blocks p.base c.args.i m c.loop-level.at _ _ _ _
+          (closed-block s blocks c.args.i m c.blocks-blocks.result c.loop-level.at _ (omega (arith, two)) (omega (arith, last, c.requires.below)) refl inv.place (last ∙ many)
+          c.in-Closed.ensures.level.ends)
+          to (inv.image tells blocks many first stands) (c.in-Closed.ensures.device (inv.told tells) _ next);
+      stays = λ compare tells. (c.in-Closed.ensures.compared compare (inv.told tells)).0 ∙ inv.stays compare tells;
+      compared = λ compare tells blocks many first stands.
+          let next = carried-is_next s blocks c.args.i m levels c.blocks-blocks.result c.loop-level.at _ _ c.loop-level.opened _ c.loop-level.carried
+          two (omega (arith, last, c.requires.below)) within inv.place from wide refl (last ∙ many) (inv.carries blocks many first stands) in
+          let before = inv.compared compare tells blocks many first stands in
+          let step = c.in-Closed.ensures.compared compare (inv.told tells) in
+          let here = closing-place (fan s) c.args.i m c.loop-level.at (fan s) inv.place refl in (
+            step.0 ∙ before.0,
+            none-differs-more p blocks c.args.i m (g.D.Device.content c.args.device.now) before.1
+                (ap (λ (xs : List ℕ). stored p xs m (c.args.i / fan s ^ (m + 1))) (sym before.0)
+                ∙ ap (stored p (g.D.Device.content c.loop-level.device) m) (sym here)
+                ∙ step.1 _ next
+                ∙ closed-block s blocks c.args.i m c.blocks-blocks.result c.loop-level.at _ (omega (arith, two)) (omega (arith, last, c.requires.below)) refl inv.place (last ∙ many)
+                c.in-Closed.ensures.level.ends),
+          );
     }
 
 pub returns-in-Open-clause-carries : goal.returns-in-Open-clause-carries
@@ -77,10 +98,10 @@ returns-in-Open-clause-carries g c = λ blocks many first stands.
     let size : c.hash_block-size.result ≡ s.hash_block = c.hash_block-size.ensures in
     let inv = c.loop-level.invariant in
     let last = c.blocks-blocks.ensures.value in
-    carry-kept s blocks c.args.i m (levels_of p) c.blocks-blocks.result c.loop-level.at _ _ _ c.loop-level.store _ _ c.loop-level.carried
+    carry-kept s blocks c.args.i m (levels_of p) c.blocks-blocks.result c.loop-level.at _ _ _ c.loop-level.opened _ _ c.loop-level.carried
     (omega (arith, c.fan-fan.ensures.two, c.fan-fan.ensures.value)) (omega (arith, last, c.requires.below))
     (omega (arith, c.loop-level-test.true, c.levels-level-end.ensures)) refl inv.place
-    (omega (arith, c.requires.room, c.loop-level.auto.store)) (ap (λ (n : ℕ). m * n) size) (omega (arith, size)) refl c.step_level.auto.block
+    (omega (arith, c.requires.room, c.loop-level.auto.opened)) (ap (λ (n : ℕ). m * n) size) (omega (arith, size)) refl c.step_level.auto.block
     c.in-Open.ensures.level (last ∙ many) (inv.carries blocks many first stands)
 
 pub returns-in-Open-clause-device : goal.returns-in-Open-clause-device
@@ -89,12 +110,54 @@ returns-in-Open-clause-device g c = λ tells blocks many first stands.
     let s = p.settings in
     let inv = c.loop-level.invariant in
     let last = c.blocks-blocks.ensures.value in
-    device-kept s blocks p.base c.args.i c.loop-level.level (levels_of p) c.blocks-blocks.result c.loop-level.at _ _ _ c.loop-level.store c.loop-level.carried _ _
+    let kept = closing-kept s blocks c.args.i c.loop-level.level (levels_of p) c.blocks-blocks.result c.loop-level.at _ _ _ c.loop-level.opened c.loop-level.carried
     (omega (arith, c.fan-fan.ensures.two, c.fan-fan.ensures.value)) (omega (arith, last, c.requires.below))
     (omega (arith, c.loop-level-test.true, c.levels-level-end.ensures)) (ap (λ (n : ℕ). level_count (fan s) n) (sym last)) refl inv.place (last ∙ many)
-    c.in-Open.ensures.level (inv.carries blocks many first stands)
-    (c.in-Open.ensures.device (inv.told tells) ∙ inv.image tells blocks many first stands)
-    ∙ ap (λ (n : ℕ). written s blocks p.base (closing (fan s) n (c.args.i + 1)) (g.D.Device.content c.args.device.now)) (sym many)
+    c.in-Open.ensures.level (inv.carries blocks many first stands) in
+    c.in-Open.ensures.device (inv.told tells) ∙ inv.image tells blocks many first stands
+    ∙ ap (λ (ps : List (ℕ × ℕ)). written s blocks p.base ps (g.D.Device.content c.args.device.now))
+    (sym kept ∙ ap (λ (n : ℕ). closing (fan s) n (c.args.i + 1)) last)
+
+pub returns-in-Open-clause-compared : goal.returns-in-Open-clause-compared
+returns-in-Open-clause-compared g c = λ compare tells blocks many first stands.
+    let p = c.args.plan.now in
+    let s = p.settings in
+    let inv = c.loop-level.invariant in
+    let last = c.blocks-blocks.ensures.value in
+    let before = inv.compared compare tells blocks many first stands in
+    let kept = closing-kept s blocks c.args.i c.loop-level.level (levels_of p) c.blocks-blocks.result c.loop-level.at _ _ _ c.loop-level.opened c.loop-level.carried
+    (omega (arith, c.fan-fan.ensures.two, c.fan-fan.ensures.value)) (omega (arith, last, c.requires.below))
+    (omega (arith, c.loop-level-test.true, c.levels-level-end.ensures)) (ap (λ (n : ℕ). level_count (fan s) n) (sym last)) refl inv.place (last ∙ many)
+    c.in-Open.ensures.level (inv.carries blocks many first stands) in (
+      c.in-Open.ensures.compared compare (inv.told tells) ∙ before.0,
+      subst (NoneDiffers p blocks (g.D.Device.content c.args.device.now)) (sym kept ∙ ap (λ (n : ℕ). closing (fan s) n (c.args.i + 1)) last) before.1,
+    )
+
+pub returns-in-Stopped-clause-compared : goal.returns-in-Stopped-clause-compared
+returns-in-Stopped-clause-compared g c = λ compare tells blocks many first stands.
+    let p = c.args.plan.now in
+    let s = p.settings in
+    let m = c.loop-level.level in
+    let inv = c.loop-level.invariant in
+    let last = c.blocks-blocks.ensures.value in
+    let two : 2 ≤ fan s = omega (arith, c.fan-fan.ensures.two, c.fan-fan.ensures.value) in
+    let size : c.hash_block-size.result ≡ s.hash_block = c.hash_block-size.ensures in
+    let from : m * c.hash_block-size.result ≡ m * s.hash_block = ap (λ (n : ℕ). m * n) size in
+    let wide : m * c.hash_block-size.result + c.hash_block-size.result - m * c.hash_block-size.result ≡ s.hash_block = omega (arith, size) in
+    let next = carried-is_next s blocks c.args.i m (levels_of p) c.blocks-blocks.result c.loop-level.at _ _ c.loop-level.opened _ c.loop-level.carried
+    two (omega (arith, last, c.requires.below)) (omega (arith, c.loop-level-test.true, c.levels-level-end.ensures)) inv.place from wide refl (last ∙ many) (inv.carries blocks many first stands) in
+    let before = inv.compared compare tells blocks many first stands in
+    let step = c.in-Stopped.ensures.compared compare (inv.told tells) in
+    let place = closing-place (fan s) c.args.i m c.loop-level.at c.fan-fan.result inv.place c.fan-fan.ensures.value in
+    let block = closed-block s blocks c.args.i m c.blocks-blocks.result c.loop-level.at _ (omega (arith, two)) (omega (arith, last, c.requires.below)) refl inv.place (last ∙ many)
+    c.in-Stopped.ensures.level ∙ ap (tree_block s blocks m) (sym place) in (
+      step.0 ∙ before.0,
+      before.1,
+      subst (λ (xs : List ℕ). IsCause p m (c.loop-level.at / c.fan-fan.result) (tree_block s blocks m (c.loop-level.at / c.fan-fan.result)) xs c.in-Stopped.cause) before.0
+          (subst (λ (xs : List ℕ). IsCause p m (c.loop-level.at / c.fan-fan.result) xs (g.D.Device.content c.loop-level.device) c.in-Stopped.cause) block
+          (subst (λ (f : ℕ). IsCause p m (c.loop-level.at / f) (filling s (digests_under s blocks m) c.loop-level.at) (g.D.Device.content c.loop-level.device) c.in-Stopped.cause) (sym c.fan-fan.ensures.value)
+          (step.1 _ next))),
+    )
 
 pub returns-in-Stopped-clause-carries : goal.returns-in-Stopped-clause-carries
 returns-in-Stopped-clause-carries g c = λ blocks many first stands.
@@ -130,9 +193,9 @@ returns-clause-carries g c = λ blocks many first stands.
     let s = p.settings in
     let inv = c.loop-level.invariant in
     let all : c.loop-level.level ≡ levels_of p = omega (arith, c.loop-level.auto.level-end, c.loop-level-test.false, c.levels-level-end.ensures) in
-    carry-all s blocks c.args.i (levels_of p) c.loop-level.store c.loop-level.carried (omega (arith, c.fan-fan.ensures.two, c.fan-fan.ensures.value))
+    carry-all s blocks c.args.i (levels_of p) c.loop-level.opened c.loop-level.carried (omega (arith, c.fan-fan.ensures.two, c.fan-fan.ensures.value))
     (omega (arith, c.requires.below, many)) (ap (λ (n : ℕ). level_count (fan s) n) many)
-    (subst (λ (m : ℕ). IsCarrying s blocks c.args.i m (levels_of p) c.loop-level.store c.loop-level.carried) all (inv.carries blocks many first stands))
+    (subst (λ (m : ℕ). IsCarrying s blocks c.args.i m (levels_of p) c.loop-level.opened c.loop-level.carried) all (inv.carries blocks many first stands))
 
 pub returns-clause-device : goal.returns-clause-device
 returns-clause-device g c = λ tells blocks many first stands.
@@ -140,9 +203,30 @@ returns-clause-device g c = λ tells blocks many first stands.
     let s = p.settings in
     let inv = c.loop-level.invariant in
     let all : c.loop-level.level ≡ levels_of p = omega (arith, c.loop-level.auto.level-end, c.loop-level-test.false, c.levels-level-end.ensures) in
-    device-all s blocks p.base c.args.i (levels_of p) p.blocks c.loop-level.store c.loop-level.carried (g.D.Device.content c.args.device.now)
-    (g.D.Device.content c.loop-level.device) (omega (arith, c.fan-fan.ensures.two, c.fan-fan.ensures.value)) c.requires.below refl many
-    (subst (λ (m : ℕ). IsCarrying s blocks c.args.i m (levels_of p) c.loop-level.store c.loop-level.carried) all (inv.carries blocks many first stands))
-    (inv.image tells blocks many first stands
-    ∙ ap (λ (m : ℕ). written s blocks p.base (closed_to (fan s) c.args.i m) (g.D.Device.content c.args.device.now)) all)
-    ∙ ap (λ (n : ℕ). written s blocks p.base (closing (fan s) n (c.args.i + 1)) (g.D.Device.content c.args.device.now)) (sym many)
+    let done = closing-done s blocks c.args.i (levels_of p) p.blocks c.loop-level.opened c.loop-level.carried (omega (arith, c.fan-fan.ensures.two, c.fan-fan.ensures.value))
+    c.requires.below refl many
+    (subst (λ (m : ℕ). IsCarrying s blocks c.args.i m (levels_of p) c.loop-level.opened c.loop-level.carried) all (inv.carries blocks many first stands)) in
+    inv.image tells blocks many first stands
+    ∙ ap (λ (ps : List (ℕ × ℕ)). written s blocks p.base ps (g.D.Device.content c.args.device.now)) (ap (closed_to (fan s) c.args.i) all ∙ sym done)
+
+pub returns-clause-compared : goal.returns-clause-compared
+returns-clause-compared g c = λ compare tells blocks many first stands.
+    let p = c.args.plan.now in
+    let s = p.settings in
+    let inv = c.loop-level.invariant in
+    let all : c.loop-level.level ≡ levels_of p = omega (arith, c.loop-level.auto.level-end, c.loop-level-test.false, c.levels-level-end.ensures) in
+    let done = closing-done s blocks c.args.i (levels_of p) p.blocks c.loop-level.opened c.loop-level.carried (omega (arith, c.fan-fan.ensures.two, c.fan-fan.ensures.value))
+    c.requires.below refl many
+    (subst (λ (m : ℕ). IsCarrying s blocks c.args.i m (levels_of p) c.loop-level.opened c.loop-level.carried) all (inv.carries blocks many first stands)) in
+    let before = inv.compared compare tells blocks many first stands in (
+      before.0,
+      subst (NoneDiffers p blocks (g.D.Device.content c.args.device.now)) (ap (closed_to (fan s) c.args.i) all ∙ sym done) before.1,
+    )
+
+pub returns-in-Open-clause-stays : goal.returns-in-Open-clause-stays
+returns-in-Open-clause-stays g c = λ compare tells.
+    c.in-Open.ensures.compared compare (c.loop-level.invariant.told tells) ∙ c.loop-level.invariant.stays compare tells
+
+pub returns-in-Stopped-clause-stays : goal.returns-in-Stopped-clause-stays
+returns-in-Stopped-clause-stays g c = λ compare tells.
+    (c.in-Stopped.ensures.compared compare (c.loop-level.invariant.told tells)).0 ∙ c.loop-level.invariant.stays compare tells

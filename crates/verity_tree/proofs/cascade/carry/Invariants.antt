@@ -4,6 +4,8 @@ use Rattle.verity_tree.specs.OpenBlocks.{AreOpen, carried, IsCarrying}
 use Rattle.verity_tree.specs.ClosingOrder.{closed_to}
 use Rattle.verity_tree.specs.Image.{written}
 use Rattle.verity_tree.specs.Plans.{levels_of}
+use Rattle.verity_tree.specs.Verdicts.{NoneDiffers}
+use Rattle.verity_tree.specs.declared.closing.Task.TheVariants.{Compare}
 use Rattle.verity_tree.proofs.cascade.carry.Given as goal
 
 -- the levels below this one have closed, and their blocks are written
@@ -14,9 +16,14 @@ invariant-loop-level g l = record {
   told : g.D.Device.tells l.fn.device → g.D.Device.tells l.device;
   failures : g.D.Device.failures l.device ≡ g.D.Device.failures l.fn.device;
   carries : (blocks : List (List ℕ)) → l.plan.blocks ≡ length blocks
-      → l.fn.digest ≡ carried l.plan.settings blocks l.i 0 → AreOpen l.plan.settings blocks 0 (levels_of l.plan) l.i l.fn.store
-      → IsCarrying l.plan.settings blocks l.i l.level (levels_of l.plan) l.store l.carried;
+      → l.fn.digest ≡ carried l.plan.settings blocks l.i 0 → AreOpen l.plan.settings blocks 0 (levels_of l.plan) l.i l.fn.opened
+      → IsCarrying l.plan.settings blocks l.i l.level (levels_of l.plan) l.opened l.carried;
   image : g.D.Device.tells l.fn.device → (blocks : List (List ℕ)) → l.plan.blocks ≡ length blocks
-      → l.fn.digest ≡ carried l.plan.settings blocks l.i 0 → AreOpen l.plan.settings blocks 0 (levels_of l.plan) l.i l.fn.store
+      → l.fn.digest ≡ carried l.plan.settings blocks l.i 0 → AreOpen l.plan.settings blocks 0 (levels_of l.plan) l.i l.fn.opened
       → g.D.Device.content l.device ≡ written l.plan.settings blocks l.plan.base (closed_to (fan l.plan.settings) l.i l.level) (g.D.Device.content l.fn.device);
+  stays : l.task ≡ Compare → g.D.Device.tells l.fn.device → g.D.Device.content l.device ≡ g.D.Device.content l.fn.device;
+  compared : l.task ≡ Compare → g.D.Device.tells l.fn.device → (blocks : List (List ℕ)) → l.plan.blocks ≡ length blocks
+      → l.fn.digest ≡ carried l.plan.settings blocks l.i 0 → AreOpen l.plan.settings blocks 0 (levels_of l.plan) l.i l.fn.opened
+      → (g.D.Device.content l.device ≡ g.D.Device.content l.fn.device)
+      × NoneDiffers l.plan blocks (g.D.Device.content l.fn.device) (closed_to (fan l.plan.settings) l.i l.level);
 }

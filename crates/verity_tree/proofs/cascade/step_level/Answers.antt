@@ -1,9 +1,13 @@
-use Rattle.std.proofs.Common.{◌≡◌, ℕ, ◌/◌, List, length, ap, ◌∙◌, arith, subst, inl, inr, replicate}
+use Rattle.std.proofs.Common.{◌≡◌, ℕ, ◌/◌, List, length, ap, ◌∙◌, arith, sym, subst, inl, inr, replicate}
 use Rattle.verity_tree.specs.Settings.{hash, fan}
 use Rattle.verity_tree.specs.Writing.{put, Spoiled}
+use Rattle.verity_tree.proofs.FitLemmas.{hash_block-some}
 use Rattle.verity_tree.proofs.StreamLists.{length-hash}
 use Rattle.verity_tree.proofs.StreamStep.{slot-room, filling-put, slots-all, slots-left}
+use Rattle.verity_tree.specs.Closings.{IsCause}
 use Rattle.verity_tree.specs.Plans.{byte_of}
+use Rattle.verity_tree.specs.Verdicts.{stored}
+use Rattle.verity_tree.proofs.ClosingLemmas.{Closes-cause, Closes-put, Closes-same, Closes-spoiled}
 use Rattle.verity_tree.proofs.cascade.step_level.Goals.{else-slot-fan-via-then-slot-fan+else-not-last, else-slot-fan-via-else-slot-fan}
 use Rattle.verity_tree.proofs.cascade.step_level.Goals as goal
 
@@ -40,27 +44,50 @@ returns-in-Err-clause-level g c = elim c.else-slot-fan.branch [
   | else-slot-fan-via-else-slot-fan w ↦ inl (slots-all c.args.plan.now.settings c.args.at c.fan-fan.result c.fan-fan.ensures.value c.fan-fan.ensures.two w.if-slot-fan.false)
 ]
 
-pub write_at-requires : goal.write_at-requires
-write_at-requires g c = omega (arith, c.byte.ensures.room, c.requires.size, c.put_slot.auto.block)
-
 pub returns-in-Ok-clause-device : goal.returns-in-Ok-clause-device
 returns-in-Ok-clause-device g c = λ tells below next.
-    let s = c.args.plan.now.settings in
+    let p = c.args.plan.now in
+    let s = p.settings in
     let before = g.D.Device.content c.args.device.now in
-    let to : c.byte.result ≡ byte_of c.args.plan.now c.args.level (c.args.at / fan s) =
-    c.byte.ensures.value ∙ ap (λ (n : ℕ). byte_of c.args.plan.now c.args.level (c.args.at / n)) c.fan-fan.ensures.value in
-    c.in-Ok.ensures.ok tells
-    ∙ ap (λ (n : ℕ). put before n c.put_slot.new.block) to
-    ∙ ap (λ (xs : List ℕ). put before (byte_of c.args.plan.now c.args.level (c.args.at / fan s)) xs)
+    let size : length c.put_slot.new.block ≡ s.hash_block = c.put_slot.auto.block ∙ c.requires.size in
+    Closes-put p c.args.task c.args.level (c.args.at / c.fan-fan.result) c.put_slot.new.block before (g.D.Device.content c.close.new.device) c.in-Ok.field-0
+    (hash_block-some s (omega (arith, c.fan-fan.ensures.two, c.fan-fan.ensures.value)) c.fan-fan.ensures.fits) size (c.in-Ok.ensures.device tells)
+    ∙ ap (λ (n : ℕ). put before (byte_of p c.args.level (c.args.at / n)) c.put_slot.new.block) c.fan-fan.ensures.value
+    ∙ ap (λ (xs : List ℕ). put before (byte_of p c.args.level (c.args.at / fan s)) xs)
     (filling-put s below c.args.at c.fan-fan.result c.slot_width.result c.args.block.now c.put_slot.new.block c.args.digest.now
     c.fan-fan.ensures.value c.slot_width.ensures c.fan-fan.ensures.two c.fan-fan.ensures.fits c.put_slot.ensures next)
 
 pub returns-in-Err-clause-device : goal.returns-in-Err-clause-device
 returns-in-Err-clause-device g c = λ tells.
     let p = c.args.plan.now in
-    let to : c.byte.result ≡ byte_of p c.args.level (c.args.at / fan p.settings) =
-    c.byte.ensures.value ∙ ap (λ (n : ℕ). byte_of p c.args.level (c.args.at / n)) c.fan-fan.ensures.value in
-    let size : length c.put_slot.new.block ≡ p.settings.hash_block = c.put_slot.auto.block ∙ c.requires.size in
-    subst (λ (n : ℕ). Spoiled (g.D.Device.content c.args.device.now) n p.settings.hash_block (g.D.Device.content c.write_at.new.self)) to
-    (subst (λ (n : ℕ). Spoiled (g.D.Device.content c.args.device.now) c.byte.result n (g.D.Device.content c.write_at.new.self)) size
-    (c.in-Err.ensures.failed tells))
+    subst (λ (n : ℕ). Spoiled (g.D.Device.content c.args.device.now) (byte_of p c.args.level (c.args.at / n)) p.settings.hash_block (g.D.Device.content c.close.new.device)) c.fan-fan.ensures.value
+    (Closes-spoiled p c.args.task c.args.level (c.args.at / c.fan-fan.result) c.put_slot.new.block _ _ c.in-Err.cause (c.in-Err.ensures.device tells))
+
+pub returns-in-Ok-clause-compared : goal.returns-in-Ok-clause-compared
+returns-in-Ok-clause-compared g c = λ compare tells.
+    let p = c.args.plan.now in
+    let s = p.settings in
+    let before = g.D.Device.content c.args.device.now in
+    let same = Closes-same p c.args.task c.args.level (c.args.at / c.fan-fan.result) c.put_slot.new.block before (g.D.Device.content c.close.new.device) c.in-Ok.field-0
+    compare (c.in-Ok.ensures.device tells) in (
+      same.0,
+      λ below next.
+          ap (λ (n : ℕ). stored p before c.args.level (c.args.at / n)) (sym c.fan-fan.ensures.value) ∙ same.1
+          ∙ filling-put s below c.args.at c.fan-fan.result c.slot_width.result c.args.block.now c.put_slot.new.block c.args.digest.now
+          c.fan-fan.ensures.value c.slot_width.ensures c.fan-fan.ensures.two c.fan-fan.ensures.fits c.put_slot.ensures next,
+    )
+
+pub returns-in-Err-clause-compared : goal.returns-in-Err-clause-compared
+returns-in-Err-clause-compared g c = λ compare tells.
+    let p = c.args.plan.now in
+    let s = p.settings in
+    let before = g.D.Device.content c.args.device.now in
+    let stop = Closes-cause p c.args.task c.args.level (c.args.at / c.fan-fan.result) c.put_slot.new.block before (g.D.Device.content c.close.new.device) c.in-Err.cause
+    compare (c.in-Err.ensures.device tells) in (
+      stop.0,
+      λ below next.
+          subst (λ (xs : List ℕ). IsCause p c.args.level (c.args.at / fan s) xs before c.in-Err.cause)
+          (filling-put s below c.args.at c.fan-fan.result c.slot_width.result c.args.block.now c.put_slot.new.block c.args.digest.now
+          c.fan-fan.ensures.value c.slot_width.ensures c.fan-fan.ensures.two c.fan-fan.ensures.fits c.put_slot.ensures next)
+          (subst (λ (n : ℕ). IsCause p c.args.level (c.args.at / n) c.put_slot.new.block before c.in-Err.cause) c.fan-fan.ensures.value stop.1),
+    )

@@ -1,17 +1,15 @@
-use Rattle.std.proofs.Common.{◌≡◌, ℕ, ◌<◌, arith, ◌∙◌, ap, subst}
+use Rattle.std.proofs.Common.{◌≡◌, ℕ, ◌<◌, ◌≤◌, arith, ap, ◌∙◌, refl}
 use Rattle.std.specs.Int.{div_ceil}
-use Rattle.verity_tree.specs.Plans.{IsPlanned}
+use Rattle.verity_tree.specs.Plans.{size_under}
 use Rattle.verity_tree.specs.Settings.{fan}
-use Rattle.verity_tree.proofs.PlanLemmas.{size-more, levels_few}
+use Rattle.verity_tree.proofs.PlanLemmas.{size-more}
 use Rattle.verity_tree.proofs.plan.Plan.level_size.Goals as goal
 
-pub overflow_add-below-end : goal.overflow_add-below-end
-overflow_add-below-end c = omega (arith, c.requires, levels_few c.args.self.now (subst IsPlanned c.self.view_is c.self.invariant.planned))
-
-pub loop-below-preserved : goal.loop-below-preserved
-loop-below-preserved c =
+pub returns : goal.returns
+returns c =
     let p = c.args.self.now in
-    let fan_is : c.fan-fan.result ≡ fan p.settings = c.fan-fan.ensures.value ∙ ap (λ v. fan v.settings) c.self.view_is in
-    let some : 0 < fan p.settings = omega (arith, fan_is, c.fan-fan.ensures.two) in
-    c.div_ceil-size.ensures ∙ ap (λ (f : ℕ). div_ceil c.loop-below.size f) fan_is
-    ∙ size-more (fan p.settings) p.blocks c.loop-below.below c.loop-below.size some c.loop-below.invariant
+    let some : 0 < fan p.settings = omega (arith, c.fan.ensures.two, c.fan.ensures.value) in
+    c.div_ceil.ensures
+    ∙ ap (λ (n : ℕ). div_ceil n c.fan.result) c.size_under.ensures
+    ∙ ap (λ (n : ℕ). div_ceil (size_under p c.args.level) n) c.fan.ensures.value
+    ∙ size-more (fan p.settings) p.blocks c.args.level (size_under p c.args.level) some refl

@@ -1,12 +1,17 @@
-use Rattle.std.proofs.Common.{◌≡◌, ◌<◌, length, arith, sym, ◌∙◌, refl}
-use Rattle.verity_tree.specs.ClosingOrder.{order}
-use Rattle.verity_tree.specs.Image.{written}
+use Rattle.std.proofs.Common.{List, arith, length, refl, rules, subst, sym, ℕ, ◌+◌, ◌<◌, ◌∙◌, ◌≡◌}
+use Rattle.verity_tree.specs.ClosingOrder.{closed_to, closing, order}
+use Rattle.verity_tree.specs.Image.{tree_block, written}
 use Rattle.verity_tree.specs.Plans.{data_blocks, levels_of}
-use Rattle.verity_tree.proofs.BuildLoop.{AreOpen-zeros, gives-up-to, image-next, image-stopped}
+use Rattle.verity_tree.proofs.BuildLoop.{AreOpen-zeros, gives-up-to, image-next, image-stopped, none-differs-order, stops-for}
 use Rattle.verity_tree.proofs.FitLemmas.{fan-pos}
 use Rattle.verity_tree.proofs.LevelLemmas.{length-cut}
 use Rattle.verity_tree.proofs.TakeLemmas.{HasGiven-none, blocks-some}
-use Rattle.verity_tree.proofs.building.pass.Goals as goal
+use Rattle.verity_tree.specs.Closings.{IsCause}
+use Rattle.verity_tree.specs.Verdicts.{NoneDiffers}
+use Rattle.verity_tree.specs.Settings.{fan}
+use Rattle.std.proofs.lemmas.List.Elements.{All-nil}
+use Rattle.std.proofs.lemmas.List.{length-replicate}
+use Rattle.verity_tree.proofs.passing.pass_over.Goals as goal
 
 pub loop-i-init : goal.loop-i-init
 unfolding written order
@@ -20,10 +25,13 @@ loop-i-init g c =
       source_failures = refl;
       device_failures = refl;
       given = λ _. HasGiven-none p (g.S.Source.to_come c.args.source.now);
-      stands = λ _ _. AreOpen-zeros p.settings _ (levels_of p) (length c.args.store.now) c.fill.new.self (fan-pos p.settings planned.valid)
-          (c.fill.ensures.after (λ y e. e)) (omega (arith, c.requires));
+      stands = λ _ _. AreOpen-zeros p.settings _ (levels_of p) (length c.args.work.now) c.fill.new.self (fan-pos p.settings planned.valid)
+          (c.fill.ensures.after (λ y e. e)) (omega (arith, c.requires.room));
       answer = λ _ none. absurd (omega (arith, none, blocks-some p planned));
       image = λ _ _. refl;
+      root_size = search (rules, length-replicate);
+      stays = λ _ _. refl;
+      compared = λ _ _ _. (refl, All-nil _);
     }
 
 pub loop-i-preserved : goal.loop-i-preserved
@@ -36,7 +44,7 @@ loop-i-preserved g c =
     let many : p.blocks ≡ length blocks = sym (length-cut s p.blocks p.wanted bytes) in
     let below : c.loop-i.i < p.blocks = omega (arith, c.loop-i-test.true, c.blocks-i-end.ensures.value) in
     record {
-      size = c.carry.auto.store ∙ c.take_data_block.auto.store ∙ inv.size;
+      size = c.carry.auto.opened ∙ c.take_data_block.auto.work ∙ inv.size;
       source_told = λ t. c.in-Ok.ensures.told (inv.source_told t);
       device_told = λ t. c.in-Ok-carry.ensures.told (inv.device_told t);
       source_failures = c.in-Ok.ensures.count ∙ inv.source_failures;
@@ -52,6 +60,16 @@ loop-i-preserved g c =
           image-next s blocks p.base p.blocks c.loop-i.i _ _ _ (inv.image tells told)
           (c.in-Ok-carry.ensures.device (inv.device_told told) blocks many (c.in-Ok.ensures.taken (inv.source_told tells) bytes (inv.given tells)).1
           (c.in-Ok.ensures.opened blocks (inv.stands tells below)));
+      root_size = c.in-Ok-carry.ensures.size;
+      stays = λ compare told. c.in-Ok-carry.ensures.stays compare (inv.device_told told) ∙ inv.stays compare told;
+      compared = λ compare tells told.
+          let before = inv.compared compare tells told in
+          let step = c.in-Ok-carry.ensures.compared compare (inv.device_told told) blocks many (c.in-Ok.ensures.taken (inv.source_told tells) bytes (inv.given tells)).1
+          (c.in-Ok.ensures.opened blocks (inv.stands tells below)) in (
+            step.0 ∙ before.0,
+            none-differs-order p blocks c.loop-i.i (g.D.Device.content c.args.device.now) before.1
+                (subst (λ (xs : List ℕ). NoneDiffers p blocks xs (closing (fan s) p.blocks (c.loop-i.i + 1))) before.0 step.1),
+          );
     }
 
 pub returns-in-Err-clause-root : goal.returns-in-Err-clause-root
@@ -62,7 +80,7 @@ returns-in-Err-clause-root g c = λ tells.
     let inv = c.loop-i.invariant in
     let below : c.loop-i.i < p.blocks = omega (arith, c.loop-i-test.true, c.blocks-i-end.ensures.value) in
     let taken = c.in-Ok.ensures.taken (inv.source_told tells) bytes (inv.given tells) in
-    gives-up-to p c.loop-i.i c.in-Err.at.level c.in-Err.at.block bytes _ (fan-pos p.settings c.blocks-i-end.ensures.planned.valid) below
+    gives-up-to p c.loop-i.i c.in-Err.stop.level c.in-Err.stop.block bytes _ (fan-pos p.settings c.blocks-i-end.ensures.planned.valid) below
     (c.in-Err.ensures.carries blocks (sym (length-cut p.settings p.blocks p.wanted bytes)) taken.1 (c.in-Ok.ensures.opened blocks (inv.stands tells below)))
     taken.0
 
@@ -76,6 +94,29 @@ returns-in-Err-clause-image g c = λ tells told.
     let below : c.loop-i.i < p.blocks = omega (arith, c.loop-i-test.true, c.blocks-i-end.ensures.value) in
     let taken = c.in-Ok.ensures.taken (inv.source_told tells) bytes (inv.given tells) in
     let opened = c.in-Ok.ensures.opened blocks (inv.stands tells below) in
-    image-stopped p blocks c.loop-i.i c.in-Err.at.level c.in-Err.at.block _ _ _ (fan-pos p.settings c.blocks-i-end.ensures.planned.valid) below
+    image-stopped p blocks c.loop-i.i c.in-Err.stop.level c.in-Err.stop.block _ _ _ (fan-pos p.settings c.blocks-i-end.ensures.planned.valid) below
     (c.in-Err.ensures.carries blocks many taken.1 opened) (inv.image tells told)
     (c.in-Err.ensures.device (inv.device_told told) blocks many taken.1 opened)
+
+pub returns-in-Err-clause-compared : goal.returns-in-Err-clause-compared
+returns-in-Err-clause-compared g c = λ compare tells told.
+    let p = c.args.plan.now in
+    let bytes = g.S.Source.to_come c.args.source.now in
+    let blocks = data_blocks p bytes in
+    let inv = c.loop-i.invariant in
+    let many : p.blocks ≡ length blocks = sym (length-cut p.settings p.blocks p.wanted bytes) in
+    let below : c.loop-i.i < p.blocks = omega (arith, c.loop-i-test.true, c.blocks-i-end.ensures.value) in
+    let taken = c.in-Ok.ensures.taken (inv.source_told tells) bytes (inv.given tells) in
+    let opened = c.in-Ok.ensures.opened blocks (inv.stands tells below) in
+    let before = inv.compared compare tells told in
+    let step = c.in-Err.ensures.compared compare (inv.device_told told) blocks many taken.1 opened in (
+      step.0 ∙ before.0,
+      stops-for p bytes c.loop-i.i (g.D.Device.content c.args.device.now) c.in-Err.stop (fan-pos p.settings c.blocks-i-end.ensures.planned.valid) below
+          (c.in-Err.ensures.carries blocks many taken.1 opened) taken.0.enough before.1
+          (subst (λ (xs : List ℕ). NoneDiffers p blocks xs (closed_to (fan p.settings) c.loop-i.i c.in-Err.stop.level)) before.0 step.1)
+          (subst (λ (xs : List ℕ). IsCause p c.in-Err.stop.level c.in-Err.stop.block (tree_block p.settings blocks c.in-Err.stop.level c.in-Err.stop.block) xs c.in-Err.stop.cause) before.0 step.2),
+    )
+
+pub returns-in-Err-clause-stays : goal.returns-in-Err-clause-stays
+returns-in-Err-clause-stays g c = λ compare told.
+    c.in-Err.ensures.stays compare (c.loop-i.invariant.device_told told) ∙ c.loop-i.invariant.stays compare told

@@ -2,13 +2,13 @@ use Rattle.std.proofs.Common.{◌≡◌, ℕ, ◌-◌, ◌*◌, ◌<◌, min, Li
 use Rattle.verity_tree.specs.Building.{HasGiven, bytes_of}
 use Rattle.verity_tree.specs.DataBlocks.{StopsBy}
 use Rattle.verity_tree.specs.Plans.{Planned, IsPlanned, levels_of}
-use Rattle.verity_tree.specs.TakingBlocks.{TakesDataBlock}
+use Rattle.verity_tree.specs.Passing.{TakesDataBlock}
 use Rattle.verity_tree.specs.declared.data_block.BlockFault.{BlockFault}
 use Rattle.verity_tree.specs.declared.data_block.BlockFault.TheVariants.{Short, Failed}
 use Rattle.verity_tree.proofs.BuildLoop.{AreOpen-behind}
 use Rattle.verity_tree.proofs.StreamLists.{length-hash}
 use Rattle.verity_tree.proofs.TakeLemmas.{data-next, failed-within, short-within}
-use Rattle.verity_tree.proofs.building.take_data_block.Goals as goal
+use Rattle.verity_tree.proofs.passing.take_data_block.Goals as goal
 
 -- a source that stopped within the block
 stops : (p : Planned) → IsPlanned p → (i want b : ℕ) (bytes rest after : List ℕ) (fault : BlockFault) → b ≡ p.settings.data_block → i < p.blocks
@@ -25,7 +25,7 @@ returns-in-Ok-clause-opened g c = λ blocks stands.
     let levels = levels_of c.args.plan.now in
     let a : c.levels.result * c.hash_block.result ≡ levels * s.hash_block =
     ap (λ (n : ℕ). n * c.hash_block.result) c.levels.ensures ∙ ap (λ (n : ℕ). levels * n) c.hash_block.ensures in
-    AreOpen-behind s blocks levels c.args.i (c.levels.result * c.hash_block.result) _ c.args.store.now c.read_data_block.new.block a
+    AreOpen-behind s blocks levels c.args.i (c.levels.result * c.hash_block.result) _ c.args.work.now c.read_data_block.new.block a
     (omega (arith, a, c.requires.room)) stands
 
 pub returns-in-Err-clause-opened : goal.returns-in-Err-clause-opened
@@ -34,7 +34,7 @@ returns-in-Err-clause-opened g c = λ blocks stands.
     let levels = levels_of c.args.plan.now in
     let a : c.levels.result * c.hash_block.result ≡ levels * s.hash_block =
     ap (λ (n : ℕ). n * c.hash_block.result) c.levels.ensures ∙ ap (λ (n : ℕ). levels * n) c.hash_block.ensures in
-    AreOpen-behind s blocks levels c.args.i (c.levels.result * c.hash_block.result) _ c.args.store.now c.read_data_block.new.block a
+    AreOpen-behind s blocks levels c.args.i (c.levels.result * c.hash_block.result) _ c.args.work.now c.read_data_block.new.block a
     (omega (arith, a, c.requires.room)) stands
 
 pub returns-in-Ok-clause-taken : goal.returns-in-Ok-clause-taken
@@ -45,7 +45,7 @@ returns-in-Ok-clause-taken g c = λ tells bytes given.
     ap (λ (n : ℕ). n * c.hash_block.result) c.levels.ensures ∙ ap (λ (n : ℕ). levels_of p * n) c.hash_block.ensures in
     let w : c.min-want.result ≡ min b (p.wanted - c.args.i * b) = c.min-want.ensures ∙ ap (λ (n : ℕ). min b (n - c.args.i * b)) c.wanted.ensures.value in
     data-next p c.wanted.ensures.planned c.args.i c.min-want.result b (c.levels.result * c.hash_block.result) bytes
-    (g.S.Source.to_come c.args.source.now) (g.S.Source.to_come c.read_data_block.new.source) c.args.store.now c.read_data_block.new.block c.hash.result
+    (g.S.Source.to_come c.args.source.now) (g.S.Source.to_come c.read_data_block.new.source) c.args.work.now c.read_data_block.new.block c.hash.result
     c.data_block-size.ensures c.requires.below w (omega (arith, a, c.data_block-size.ensures, c.requires.room)) c.read_data_block.auto.block given
     (c.in-Ok.ensures.bytes tells) c.hash.ensures
 

@@ -1,0 +1,47 @@
+-- Stored blocks beside the tree's.
+use Rattle.std.proofs.Common.{◌≡◌, ◌≢◌, ℕ, zero, suc, ◌+◌, ◌-◌, ◌*◌, ◌/◌, ◌^◌, ◌<◌, ◌≤◌, min, Bool, true, false, List, [], ◌∷◌, ◌++◌, length, take, drop, arith, sym, ◌∙◌, ap, subst, refl, inl, inr, length-drop}
+use Rattle.std.proofs.lemmas.Bool.{cases_lt}
+use Rattle.std.proofs.Math.Nat.{mul-le-mul_right}
+use Rattle.std.specs.Prelude.{find, not, Option, Some, None}
+use Rattle.std.specs.Int.{div_ceil}
+use Rattle.std.specs.List.{range_with_len}
+use Rattle.verity_tree.specs.Counts.{level_size}
+use Rattle.verity_tree.specs.Plans.{Planned, HasBlock, size_under}
+use Rattle.verity_tree.specs.Settings.{Settings, digest_len, fan, slot_width}
+use Rattle.verity_tree.proofs.CountLemmas.{mul-lt_div_ceil}
+use Rattle.verity_tree.proofs.FitLemmas.{slot_width-digest}
+use Rattle.verity_tree.proofs.PlanLemmas.{size-more}
+
+-- the first number of a range that passes a test
+pub find-range : (p : ℕ → Bool) (from n k : ℕ) → from ≤ k → k < from + n → ((j : ℕ) → from ≤ j → j < k → p j ≡ false) → p k ≡ true
+    → find p (range_with_len from n) ≡ Some k
+find-range p from zero k low high before here = absurd (omega arith)
+find-range p from (suc n) k low high before here =
+    elim (cases_lt from k) [
+      | inl less ↦
+          let no : p from ≡ false = before from (omega arith) less in
+          rw no (find-range p (from + 1) n k (omega (arith, less)) (omega (arith, high)) (λ j a b. before j (omega (arith, a)) b) here)
+      | inr past ↦
+          let same : from ≡ k = omega (arith, low, past) in
+          let yes : p from ≡ true = ap p same ∙ here in
+          rw yes (ap (λ (m : ℕ). Some m) same)
+    ]
+
+-- a range of which none passes
+pub find-range_none : (p : ℕ → Bool) (from n : ℕ) → ((j : ℕ) → from ≤ j → j < from + n → p j ≡ false) → find p (range_with_len from n) ≡ None
+find-range_none p from zero none = refl
+find-range_none p from (suc n) none =
+    let no : p from ≡ false = none from (omega arith) (omega arith) in
+    rw no (find-range_none p (from + 1) n (λ j a b. none j (omega (arith, a)) (omega (arith, b))))
+
+-- the first child of a block is one of the blocks below it
+pub first-child : (p : Planned) → 0 < fan p.settings → (l j : ℕ) → HasBlock p l j → j * fan p.settings < size_under p l
+first-child p some l j here =
+    mul-lt_div_ceil (size_under p l) (fan p.settings) j some
+    (omega (arith, here.block_below, size-more (fan p.settings) p.blocks l (size_under p l) some refl))
+
+-- a digest is within its block
+pub digest-room : (s : Settings) (slot : ℕ) → slot < fan s → fan s * slot_width s ≤ s.hash_block → slot * slot_width s + digest_len s ≤ s.hash_block
+digest-room s slot below fits =
+    let next : slot + 1 ≤ fan s = omega arith in
+    omega (arith, slot_width-digest s, mul-le-mul_right (slot_width s) next, fits)

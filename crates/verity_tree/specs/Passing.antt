@@ -1,0 +1,72 @@
+-- One pass over the data: what has left the source, what stands on the device, and what was compared.
+use Rattle.std.specs.Prelude.{◌≡◌, ℕ, ◌+◌, ◌-◌, ◌<◌, ◌≤◌, ◌^◌, min, List, [], ◌∷◌, ◌++◌, length, Result, Ok, Err}
+use Rattle.verity_hash.specs.declared.digest.Digest.{Digest}
+use Rattle.verity_tree.specs.Building.{HasGiven, EndsWithin, FailsWithin, GivesUpTo, StopsAt, begun, begun_after, bytes_of}
+use Rattle.verity_tree.specs.ClosingOrder.{order}
+use Rattle.verity_tree.specs.Closings.{CountsCause, IsCause}
+use Rattle.verity_tree.specs.Counting.{last_count}
+use Rattle.verity_tree.specs.Image.{tree_block}
+use Rattle.verity_tree.specs.Levels.{root}
+use Rattle.verity_tree.specs.OpenBlocks.{carried}
+use Rattle.verity_tree.specs.Plans.{Planned, data_blocks}
+use Rattle.verity_tree.specs.Settings.{Settings, fan}
+use Rattle.verity_tree.specs.Verdicts.{NoneDiffers}
+use Rattle.verity_tree.specs.declared.cascade.Stop.{Stop}
+use Rattle.verity_tree.specs.declared.closing.Task.{Task}
+use Rattle.verity_tree.specs.declared.data_block.BlockFault.{BlockFault}
+use Rattle.verity_tree.specs.declared.data_block.BlockFault.TheVariants.{Short, Failed}
+use Rattle.verity_tree.specs.declared.passing.PassFault.{PassFault}
+use Rattle.verity_tree.specs.declared.passing.PassFault.TheVariants.{SourceShort, SourceFailed, Stopped}
+
+-- data block i of these bytes is taken, or the source ended or failed within it
+abbrev pub TakesDataBlock : Planned → ℕ → List ℕ → Result Digest BlockFault → List ℕ → Type 0
+TakesDataBlock p i bytes (Ok digest) after =
+    HasGiven (bytes_of p (i + 1)) bytes after × (digest ≡ carried p.settings (data_blocks p bytes) i 0)
+TakesDataBlock p i bytes (Err Short) after = EndsWithin p i bytes after
+TakesDataBlock p i bytes (Err Failed) after = FailsWithin p i bytes after
+
+-- the answer, and what has left the source
+abbrev pub Passes : Planned → Result Digest PassFault → List ℕ → List ℕ → Type 0
+Passes p (Ok digest) before after = (digest ≡ root p.settings (data_blocks p before)) × HasGiven p.wanted before after
+Passes p (Err (SourceShort i)) before after = EndsWithin p i before after
+Passes p (Err (SourceFailed i)) before after = FailsWithin p i before after
+Passes p (Err (Stopped stop)) before after = GivesUpTo p stop.level stop.block before after
+
+-- the device: the blocks that closed are put at their places, or stand there
+abbrev pub PassesImage : Planned → List (List ℕ) → Result Digest PassFault → List ℕ → List ℕ → Type 0
+PassesImage p blocks (Ok digest) before after = after ≡ begun p blocks before
+PassesImage p blocks (Err (SourceShort i)) before after = after ≡ begun_after p blocks i before
+PassesImage p blocks (Err (SourceFailed i)) before after = after ≡ begun_after p blocks i before
+PassesImage p blocks (Err (Stopped stop)) before after = StopsAt p blocks stop.level stop.block before after
+
+-- the block that stops a comparison: those before it in closing order do not differ from what the device holds
+pub record StopsFor (p : Planned) (bytes device : List ℕ) (stop : Stop) : Type 0 where
+  pub i : ℕ
+  pub below : i < p.blocks
+  pub enough : bytes_of p (i + 1) ≤ length bytes
+  pub front : List (ℕ × ℕ)
+  pub rest : List (ℕ × ℕ)
+  pub next : order (fan p.settings) p.blocks (i + 1) ≡ (front ++ (stop.level, stop.block) ∷ []) ++ rest
+  pub same : NoneDiffers p (data_blocks p bytes) device front
+  pub cause_is : IsCause p stop.level stop.block (tree_block p.settings (data_blocks p bytes) stop.level stop.block) device stop.cause
+
+-- a comparison leaves the device, and comes as far as nothing differs
+abbrev pub PassesCompared : Planned → List ℕ → Result Digest PassFault → List ℕ → List ℕ → Type 0
+PassesCompared p bytes (Ok digest) before after = (after ≡ before) × NoneDiffers p (data_blocks p bytes) before (order (fan p.settings) p.blocks p.blocks)
+PassesCompared p bytes (Err (SourceShort i)) before after = (after ≡ before) × NoneDiffers p (data_blocks p bytes) before (order (fan p.settings) p.blocks i)
+PassesCompared p bytes (Err (SourceFailed i)) before after = (after ≡ before) × NoneDiffers p (data_blocks p bytes) before (order (fan p.settings) p.blocks i)
+PassesCompared p bytes (Err (Stopped stop)) before after = (after ≡ before) × StopsFor p bytes before stop
+
+-- the source's count of failures rises exactly where it failed
+abbrev pub CountsSource : Result Digest PassFault → ℕ → ℕ → Type 0
+CountsSource (Ok digest) before after = after ≡ before
+CountsSource (Err (SourceShort i)) before after = after ≡ before
+CountsSource (Err (SourceFailed i)) before after = after ≡ min (before + 1) last_count
+CountsSource (Err (Stopped stop)) before after = after ≡ before
+
+-- and so does the device's
+abbrev pub CountsDevice : Task → Result Digest PassFault → ℕ → ℕ → Type 0
+CountsDevice task (Ok digest) before after = after ≡ before
+CountsDevice task (Err (SourceShort i)) before after = after ≡ before
+CountsDevice task (Err (SourceFailed i)) before after = after ≡ before
+CountsDevice task (Err (Stopped stop)) before after = CountsCause task stop.cause before after

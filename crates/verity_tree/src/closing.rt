@@ -1,0 +1,80 @@
+//! What is done with a hash block when it has closed.
+ghost use Rattle.std.specs.Prelude.{◌≡◌, ◌+◌, ◌*◌, ◌≤◌, length, take};
+ghost use Rattle.verity_tree.specs.Closings.{Closes, Compares, CountsClose};
+ghost use Rattle.verity_tree.specs.Plans.{HasBlock};
+
+use crate::device::Device;
+use crate::part::{Part, part_between};
+use crate::plan::Plan;
+
+/// What is done with a hash block when it has closed.
+#[derive(Clone, Copy, Debug, PartialEq, Eq)]
+pub(crate) enum Task {
+    /// It is written at its place.
+    Write,
+    /// It is compared with what stands at its place.
+    Compare,
+}
+
+/// Why a pass stops at a hash block.
+#[derive(Clone, Copy, Debug, PartialEq, Eq)]
+pub(crate) enum Cause {
+    /// The device failed.
+    Failed,
+    /// What stands at the block's place differs.
+    Differs(Part),
+}
+
+/// Writes a closed hash block, or compares it, by way of the spare block, with what stands at its place.
+pub(crate) fn close<D: Device>(
+    plan: &Plan,
+    task: Task,
+    level: usize,
+    block: u64,
+    bytes: &[u8],
+    spare: &mut [u8],
+    device: &mut D,
+) -> Result<(), Cause>
+    requires here { HasBlock plan.now level block }
+    requires size { length bytes.now ≡ plan.now.settings.hash_block }
+    requires spare { length spare.old ≡ plan.now.settings.hash_block }
+    ensures told { D.tells device.old → D.tells device.new }
+    ensures count { CountsClose task result (D.failures device.old) (D.failures device.new) }
+    ensures device { D.tells device.old → Closes plan.now task level block bytes.now result (D.content device.old) (D.content device.new) }
+{
+    let at = plan.byte(level, block);
+    match task {
+        Task::Write => match device.write_at(at, bytes) {
+            Ok(()) => Ok(()),
+            Err(_) => Err(Cause::Failed),
+        },
+        Task::Compare => match device.read_at(at, spare) {
+            Ok(count) => compared(plan, level, block, bytes, spare, count),
+            Err(_) => Err(Cause::Failed),
+        },
+    }
+}
+
+/// What a block that was read, the first `count` bytes of it, says beside the computed one.
+fn compared(
+    plan: &Plan,
+    level: usize,
+    block: u64,
+    bytes: &[u8],
+    held: &[u8],
+    count: usize,
+) -> Result<(), Cause>
+    requires here { HasBlock plan.now level block }
+    requires size { length bytes.now ≡ plan.now.settings.hash_block }
+    requires held { length held.now ≡ plan.now.settings.hash_block }
+    requires count { count ≤ plan.now.settings.hash_block }
+    ensures { Compares plan.now level block bytes.now (take count held.now) result }
+{
+    if count < held.len() {
+        return Err(Cause::Differs(Part::Missing));
+    }
+    if held == bytes {
+        return Ok(());
+    }
+    Err(Cause::Differs(part_between(plan, level, block, held, bytes)))
+}

@@ -1,0 +1,57 @@
+//! Where a stored hash block differs from the tree's.
+ghost use Rattle.std.specs.Prelude.{◌≡◌, ◌+◌, ◌-◌, ◌*◌, ◌<◌, ◌≤◌, ◌^◌, not, length, min};
+ghost use Rattle.std.specs.Str.{bytes_eq};
+ghost use Rattle.verity_tree.specs.Plans.{HasBlock};
+ghost use Rattle.verity_tree.specs.Settings.{digest_len, fan, slot_width};
+
+use crate::plan::Plan;
+
+/// Where a stored hash block differs.
+#[derive(Clone, Copy, Debug, PartialEq, Eq)]
+pub enum Part {
+    /// The device ends before the block's end.
+    Missing,
+    /// The digest of this block one level below, or of this data block, is the first that differs; counted from 0.
+    Child(u64),
+    /// Only bytes outside the used digests differ.
+    Spare,
+}
+
+ghost use Rattle.verity_tree.specs.Verdicts.{digest_in, first_slot, part_at};
+
+/// Where two whole blocks of a place differ.
+pub(crate) fn part_between(
+    plan: &Plan,
+    level: usize,
+    block: u64,
+    held: &[u8],
+    computed: &[u8],
+) -> Part
+    requires here { HasBlock plan.now level block }
+    requires held { length held.now ≡ plan.now.settings.hash_block }
+    requires computed { length computed.now ≡ plan.now.settings.hash_block }
+    ensures { result ≡ part_at (block * fan plan.now.settings) (first_slot plan.now level block held.now computed.now) }
+{
+    let fan = plan.fan();
+    let below = plan.size_under(level);
+    let first = block * fan as u64;
+    let used = (below - first).min(fan as u64) as usize;
+    for slot in 0..used {
+        if slot_differs(plan, slot, held, computed) {
+            return Part::Child(first + slot as u64);
+        }
+    }
+    Part::Spare
+}
+
+/// Whether the digests in a slot differ.
+fn slot_differs(plan: &Plan, slot: usize, held: &[u8], computed: &[u8]) -> bool
+    requires room { slot * slot_width plan.now.settings + digest_len plan.now.settings ≤ plan.now.settings.hash_block }
+    requires held { length held.now ≡ plan.now.settings.hash_block }
+    requires computed { length computed.now ≡ plan.now.settings.hash_block }
+    ensures { result ≡ not (bytes_eq (digest_in plan.now.settings held.now slot) (digest_in plan.now.settings computed.now slot)) }
+{
+    let len = plan.digest_len();
+    let from = slot * plan.slot_width();
+    held[from..from + len] != computed[from..from + len]
+}
