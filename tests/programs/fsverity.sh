@@ -50,6 +50,18 @@ files() {
         "$fsverity" digest "$scratch/odd name %s"
 }
 
+# A run over several files ends at the first that fails, and the lines before it stand.
+several_files() {
+    local none
+    none=$(digest "$(printf '%064d' 0)" 0)
+    : >"$scratch/first"
+    : >"$scratch/second"
+    runs 'two files' 0 "sha256:$none $scratch/first
+sha256:$none $scratch/second" '' "$fsverity" digest "$scratch/first" "$scratch/second"
+    runs 'three files, the second missing' 1 "sha256:$none $scratch/first" "fsverity: cannot open $scratch/missing." \
+        "$fsverity" digest "$scratch/first" "$scratch/missing" "$scratch/second"
+}
+
 files_that_fail() {
     local folder=$scratch/folder
     mkdir "$folder"
@@ -163,6 +175,7 @@ command_lines() {
 }
 
 files
+several_files
 files_that_fail
 outputs
 options
