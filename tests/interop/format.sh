@@ -1,7 +1,7 @@
 #!/bin/bash
 # Compares bin/veritysetup format with the veritysetup of Debian's package cryptsetup-bin: both make the same image, the
 # other program's verify accepts ours, and the report's values are those of its dump. Over algorithms, block sizes,
-# salts and numbers of blocks; about four minutes.
+# salts and numbers of blocks; one or two minutes.
 set -u
 cd "$(dirname "$0")/../.."
 . tests/checks.sh

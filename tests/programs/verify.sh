@@ -98,10 +98,18 @@ lengths() {
     names 'a difference before the end of cut data' 'Verification failed: level 0 block 0, child 0.' 2 "$scratch/cut" "$hash"
     { cat "$data" && echo more; } >"$scratch/longer"
     names 'data past the covered blocks' '' 0 "$scratch/longer" "$image"
+
+    # The most data blocks that there can be: their tree lies past what a file system can hold.
+    superblock 512 512 18014398509481983 '' >"$hash"
+    names 'a tree that no file can hold' 'Verification failed: level 0 block 0 is missing.' 2 "$data" "$hash"
+    head -c 7680 "$data" >"$scratch/15"
+    names 'a tree that no file can hold, little data' 'Data ends before the end of block 15.' 4 "$scratch/15" "$hash"
 }
 
 files() {
     runs 'dump: a missing file' 4 '' "Cannot open $scratch/missing." "$veritysetup" dump "$scratch/missing"
+    runs 'dump: the null device' 1 '' 'Superblock is too short.' "$veritysetup" dump /dev/null
+    runs 'dump: a folder' 4 '' "any-of Cannot read superblock.|Cannot open $scratch." "$veritysetup" dump "$scratch"
     names 'missing data' "Cannot open $scratch/missing." 4 "$scratch/missing" "$image"
     names 'a missing hash file' "Cannot open $scratch/missing." 4 "$data" "$scratch/missing"
     names 'missing data and a missing hash file' "Cannot open $scratch/none." 4 "$scratch/none" "$scratch/missing"
