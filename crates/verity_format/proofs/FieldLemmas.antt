@@ -1,39 +1,77 @@
 -- A block that is written field by field.
 use Rattle.std.proofs.Common.{◌≡◌, ℕ, ◌+◌, ◌-◌, ◌≤◌, List, ◌++◌, length, take, drop, replicate, arith, sym, ap, ◌∙◌, append_assoc, length-append}
-use Rattle.std.proofs.lemmas.List.{drop-replicate, drop_at, length-replicate, length-take-le, take_at}
+use Rattle.std.proofs.Math.Seq.{take-add}
+use Rattle.std.proofs.lemmas.List.{drop-replicate, drop_at, length-replicate, length-take-le, replicate-append-replicate, take-replicate, take_at}
 use borrow.Rule.Slice.PartMut.{put_mid}
 use Rattle.verity_hash.specs.Bytes.{filled, IsHeld}
+
+-- as many fields as were put
+front_long : (n at : ℕ) (block : List ℕ) → IsHeld n block at → length (take at block) ≡ at
+front_long n at block held = length-take-le at block (omega (arith, held.whole, held.most))
+
+-- what has room behind the fields has room behind their place
+pub room_behind : (n at count : ℕ) (block fields : List ℕ) → IsHeld n block at → take at block ≡ fields → length fields + count ≤ n
+    → at + count ≤ n
+room_behind n at count block fields held same room = omega (arith, front_long n at block held, ap length same, room)
+
+-- zeros stand behind the fields
+zeros_behind : (n at : ℕ) (block : List ℕ) → IsHeld n block at → drop at block ≡ replicate (n - at) 0
+zeros_behind n at block held =
+    let long = front_long n at block held in
+    ap (drop at) held.zeros ∙ drop_at (take at block) (replicate (n - length (take at block)) 0) at long ∙ ap (λ m. replicate (n - m) 0) long
 
 -- the block, with bytes put behind its fields
 put_mid-filled : (n at k : ℕ) (block xs : List ℕ) → IsHeld n block at → k ≡ length xs
     → put_mid at k block xs ≡ filled n (take at block ++ xs)
 put_mid-filled n at k block xs held same =
     let front = take at block in
-    let long : length front ≡ at = length-take-le at block (omega (arith, held.whole, held.most)) in
-    let zs : List ℕ = replicate (n - length front) 0 in
-    let rest : drop at block ≡ zs = ap (drop at) held.zeros ∙ drop_at front zs at long in
-    let less : n - length front - k ≡ n - length (front ++ xs) = omega (arith, length-append front xs) in
-    let left : drop k zs ≡ replicate (n - length (front ++ xs)) 0 = drop-replicate k (n - length front) 0 ∙ ap (λ m. replicate m 0) less in
-    let zeros : drop k (drop at block) ≡ replicate (n - length (front ++ xs)) 0 = ap (drop k) rest ∙ left in
+    let long = front_long n at block held in
+    let less : n - at - k ≡ n - length (front ++ xs) = omega (arith, length-append front xs, long) in
+    let zeros : drop k (drop at block) ≡ replicate (n - length (front ++ xs)) 0 =
+    ap (drop k) (zeros_behind n at block held) ∙ drop-replicate k (n - at) 0 ∙ ap (λ m. replicate m 0) less in
     ap (λ (r : List ℕ). front ++ (xs ++ r)) zeros ∙ sym (append_assoc front xs (replicate (n - length (front ++ xs)) 0))
 
 -- the fields are what stood there and the bytes
 pub take-put_mid : (n at k end : ℕ) (block xs : List ℕ) → IsHeld n block at → end ≡ at + length xs → k ≡ length xs
     → take end (put_mid at k block xs) ≡ take at block ++ xs
 take-put_mid n at k end block xs held ends same =
-    let long : length (take at block) ≡ at = length-take-le at block (omega (arith, held.whole, held.most)) in
+    let long = front_long n at block held in
     ap (take end) (put_mid-filled n at k block xs held same)
-    ∙ take_at (take at block ++ xs) (replicate (n - length (take at block ++ xs)) 0) end (omega (arith, length-append (take at block) xs))
+    ∙ take_at (take at block ++ xs) (replicate (n - length (take at block ++ xs)) 0) end (omega (arith, length-append (take at block) xs, long))
 
--- and the rest of the block is still zeros
+-- a block that is its first bytes and zeros is held
+held_from : (n end : ℕ) (block front : List ℕ) → block ≡ filled n front → take end block ≡ front → length front ≤ n → end ≤ n → IsHeld n block end
+held_from n end block front whole taken short most = record {
+  whole = ap length whole ∙ omega (arith, length-append front (replicate (n - length front) 0), length-replicate {A = ℕ} (n - length front) 0);
+  most = most;
+  zeros = whole ∙ ap (filled n) (sym taken);
+}
+
+-- the rest of the block is still zeros
 pub IsHeld-put_mid : (n at k end : ℕ) (block xs : List ℕ) → IsHeld n block at → end ≡ at + length xs → k ≡ length xs → end ≤ n
     → IsHeld n (put_mid at k block xs) end
 IsHeld-put_mid n at k end block xs held ends same room =
-    let front = take at block ++ xs in
-    let long : length (take at block) ≡ at = length-take-le at block (omega (arith, held.whole, held.most)) in
-    let whole = put_mid-filled n at k block xs held same in
-    record {
-      whole = ap length whole ∙ omega (arith, length-append front (replicate (n - length front) 0), length-replicate {A = ℕ} (n - length front) 0, length-append (take at block) xs);
-      most = room;
-      zeros = whole ∙ ap (filled n) (sym (take-put_mid n at k end block xs held ends same));
-    }
+    let long = front_long n at block held in
+    held_from n end (put_mid at k block xs) (take at block ++ xs) (put_mid-filled n at k block xs held same)
+    (take-put_mid n at k end block xs held ends same) (omega (arith, length-append (take at block) xs, long)) room
+
+-- zeros that are put stand there already
+pub take-zeros : (n at count : ℕ) (block : List ℕ) → IsHeld n block at → at + count ≤ n
+    → take (at + count) block ≡ take at block ++ replicate count 0
+take-zeros n at count block held room =
+    let less : count ≤ n - at = omega arith in
+    let zeros : take count (drop at block) ≡ replicate count 0 = ap (take count) (zeros_behind n at block held) ∙ take-replicate count (n - at) 0 less in
+    take-add at count block ∙ ap (λ (r : List ℕ). take at block ++ r) zeros
+
+pub IsHeld-zeros : (n at count : ℕ) (block : List ℕ) → IsHeld n block at → at + count ≤ n → IsHeld n block (at + count)
+IsHeld-zeros n at count block held room =
+    let front = take at block in
+    let put = replicate count 0 in
+    let rest = n - length (front ++ put) in
+    let long = front_long n at block held in
+    let size : length (front ++ put) ≡ at + count = omega (arith, length-append front put, length-replicate {A = ℕ} count 0, long) in
+    let all : count + rest ≡ n - length front = omega (arith, size, long) in
+    let same : put ++ replicate rest 0 ≡ replicate (n - length front) 0 = replicate-append-replicate count rest 0 ∙ ap (λ m. replicate m 0) all in
+    held_from n (at + count) block (front ++ put)
+    (held.zeros ∙ ap (λ (r : List ℕ). front ++ r) (sym same) ∙ sym (append_assoc front put (replicate rest 0)))
+    (take-zeros n at count block held room) (omega (arith, size)) room

@@ -25,11 +25,6 @@ passed [] none = tt
 passed ((true, fault) ∷ tests) none = (refl, passed tests none)
 passed ((false, fault) ∷ tests) none = cc
 
-none_failed : (tests : List (Bool × SuperFault)) → AllPass tests → first_failed tests ≡ None
-none_failed [] all = refl
-none_failed ((true, fault) ∷ tests) all = none_failed tests all.1
-none_failed ((false, fault) ∷ tests) all = (let wrong : false ≡ true = all.0 in cc)
-
 value_of : {A : Type 0} (o : Option A) → is_some o ≡ true → (x : A) × (o ≡ Some x)
 value_of None h = cc
 value_of (Some x) h = (x, refl)

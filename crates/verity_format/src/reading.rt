@@ -32,10 +32,7 @@ pub fn read_superblock(bytes: &[u8]) -> Result<Superblock, SuperFault>
     let Some(hash_type) = type_of_number(number) else {
         return Err(SuperFault::HashType(number));
     };
-    let tree = match read_settings(bytes, hash_type) {
-        Ok(tree) => tree,
-        Err(fault) => return Err(fault),
-    };
+    let tree = read_settings(bytes, hash_type)?;
     let blocks = u64_at(bytes, 72);
     if blocks == 0 {
         return Err(SuperFault::NoData);

@@ -22,3 +22,4 @@ pub mod Blocks
 pub mod Padded
 pub mod VerdictLemmas
 pub mod ClosingLemmas
+pub mod JudgeLemmas

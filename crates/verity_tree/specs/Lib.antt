@@ -21,3 +21,5 @@ pub mod Passing
 pub mod Fusing
 pub mod Verdicts
 pub mod Closings
+pub mod Comparing
+pub mod FaultsOf

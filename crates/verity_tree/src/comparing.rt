@@ -1,5 +1,15 @@
 //! A stored tree that is compared in one pass with the data.
+ghost use Rattle.std.specs.Prelude.{◌≡◌, length};
+ghost use Rattle.verity_tree.specs.Plans.{store_length_of};
+
+use crate::cascade::Stop;
+use crate::closing::{Cause, Task};
+use crate::device::Device;
 use crate::part::Part;
+use crate::passing::{PassFault, pass};
+use crate::plan::Plan;
+use crate::source::Source;
+use crate::store::Store;
 use verity_hash::Digest;
 
 /// Why a stored tree isn't the one above the data; counted from 0, level 0 next to the data.
@@ -27,4 +37,84 @@ pub enum CompareFault {
     },
     /// All hash blocks are the tree's, and the root hash is another: this one.
     RootDiffers(Digest),
+}
+
+ghost use Rattle.verity_tree.specs.Comparing.{CountsDevice, CountsSource, Gives, Judges};
+ghost use Rattle.verity_tree.specs.FaultsOf.{fault_of};
+
+/// Compares a stored tree with the one above the data of a source, which is read once: every byte of every hash block, in
+/// closing order, and then the root hash (veritysetup(8), `verify`). It writes nothing and takes no memory. The store is
+/// one that fits the plan.
+///
+/// The first block that differs is the fault, and short data or a failure only where no block that closed before it
+/// differs; another root only where all blocks are equal.
+pub fn compare<S: Source, D: Device>(
+    plan: &Plan,
+    store: &mut Store,
+    source: &mut S,
+    device: &mut D,
+    root: &Digest,
+) -> Result<(), CompareFault>
+    requires { store.old ≡ store_length_of plan.now }
+    ensures kept { store.new ≡ store.old }
+    ensures stays { D.tells device.old → D.content device.new ≡ D.content device.old }
+    ensures source_told { S.tells source.old → S.tells source.new }
+    ensures device_told { D.tells device.old → D.tells device.new }
+
+    // A failure is answered only where its count rose.
+    ensures source_count { CountsSource result (S.failures source.old) (S.failures source.new) }
+    ensures device_count { CountsDevice result (D.failures device.old) (D.failures device.new) }
+
+    ensures given { S.tells source.old → Gives plan.now result (S.to_come source.old) (S.to_come source.new) }
+    ensures judged { S.tells source.old → D.tells device.old
+        → Judges plan.now (D.content device.old) (S.to_come source.old) root.now result }
+{
+    judge(plan, &mut store.bytes, source, device, root)
+}
+
+/// The comparison, in the bytes of a store.
+fn judge<S: Source, D: Device>(
+    plan: &Plan,
+    store: &mut [u8],
+    source: &mut S,
+    device: &mut D,
+    root: &Digest,
+) -> Result<(), CompareFault>
+    requires { length store.old ≡ store_length_of plan.now }
+    ensures stays { D.tells device.old → D.content device.new ≡ D.content device.old }
+    ensures source_told { S.tells source.old → S.tells source.new }
+    ensures device_told { D.tells device.old → D.tells device.new }
+    ensures source_count { CountsSource result (S.failures source.old) (S.failures source.new) }
+    ensures device_count { CountsDevice result (D.failures device.old) (D.failures device.new) }
+    ensures given { S.tells source.old → Gives plan.now result (S.to_come source.old) (S.to_come source.new) }
+    ensures judged { S.tells source.old → D.tells device.old
+        → Judges plan.now (D.content device.old) (S.to_come source.old) root.now result }
+{
+    match pass(plan, Task::Compare, store, source, device) {
+        Ok(computed) => {
+            if computed.as_bytes() == root.as_bytes() {
+                Ok(())
+            } else {
+                Err(CompareFault::RootDiffers(computed))
+            }
+        }
+        Err(PassFault::SourceShort(i)) => Err(CompareFault::SourceShort(i)),
+        Err(PassFault::SourceFailed(i)) => Err(CompareFault::SourceFailed(i)),
+        Err(PassFault::Stopped(stop)) => Err(fault_of(stop)),
+    }
+}
+
+/// The fault where a hash block stops the pass.
+fn fault_of(stop: Stop) -> CompareFault
+    ensures { result ≡ fault_of stop }
+{
+    let Stop {
+        level,
+        block,
+        cause,
+    } = stop;
+    match cause {
+        Cause::Failed => CompareFault::DeviceFailed { level, block },
+        Cause::Differs(part) => CompareFault::Differs { level, block, part },
+    }
 }

@@ -25,7 +25,7 @@ mod source;
 mod store;
 
 pub use building::{BuildFault, build, root_only};
-pub use comparing::CompareFault;
+pub use comparing::{CompareFault, compare};
 pub use device::Device;
 pub use failed::Failed;
 pub use file_device::FileDevice;

@@ -4,7 +4,7 @@ ghost use Rattle.verity_tree.specs.Building.{HasGiven, bytes_of};
 ghost use Rattle.verity_tree.specs.DataBlocks.{CountsBlock};
 ghost use Rattle.verity_tree.specs.OpenBlocks.{AreOpen};
 ghost use Rattle.verity_tree.specs.Passing.{CountsDevice, CountsSource, Passes, PassesCompared, PassesImage, TakesDataBlock};
-ghost use Rattle.verity_tree.specs.Plans.{Planned, data_blocks, levels_of, store_length_of};
+ghost use Rattle.verity_tree.specs.Plans.{IsPlanned, Planned, data_blocks, levels_of, store_length_of};
 ghost use Rattle.verity_tree.specs.Settings.{digest_len};
 ghost use Rattle.verity_tree.specs.declared.closing.Task.TheVariants.{Compare};
 
@@ -36,6 +36,7 @@ pub(crate) fn pass<S: Source, D: Device>(
     device: &mut D,
 ) -> Result<Digest, PassFault>
     requires { length store.old ≡ store_length_of plan.now }
+    ensures planned { IsPlanned plan.now }
     ensures size { IfOk result (λ root. length root ≡ digest_len plan.now.settings) }
     ensures source_told { S.tells source.old → S.tells source.new }
     ensures device_told { D.tells device.old → D.tells device.new }
@@ -63,6 +64,7 @@ fn pass_over<S: Source, D: Device>(
 ) -> Result<Digest, PassFault>
     requires room { levels_of plan.now * plan.now.settings.hash_block + plan.now.settings.data_block ≤ length work.old }
     requires spare { length spare.old ≡ plan.now.settings.hash_block }
+    ensures planned { IsPlanned plan.now }
     ensures size { IfOk result (λ root. length root ≡ digest_len plan.now.settings) }
     ensures source_told { S.tells source.old → S.tells source.new }
     ensures device_told { D.tells device.old → D.tells device.new }

@@ -1,0 +1,8 @@
+//! Tests that cross crates. Expected bytes come from the formats' public pages, expected digests from the crate `sha2`
+//! over stated bytes.
+#![tactic(auto)]
+
+#[cfg(test)]
+mod formats;
+#[cfg(test)]
+mod laying;
