@@ -1,0 +1,144 @@
+# What the scripts under tests/ share. Sourced at the repository's root, by bash.
+# Expected digests come from sha256sum over stated bytes, never from the programs.
+
+BIN=${BIN:-bin}
+checked=0
+failed=0
+scratch=$(mktemp -d)
+trap 'rm -rf "$scratch"' EXIT
+
+# needs PROGRAM PACKAGE: stops where a tool is missing that this script compares with. Nothing is installed.
+needs() {
+    PATH=$PATH:/usr/sbin
+    if ! command -v "$1" >/dev/null; then
+        echo "$0: $1 is not installed (Debian: $2), so nothing was compared" >&2
+        exit 1
+    fi
+}
+
+# has_program NAME: stops where a program was not built.
+has_program() {
+    if [ ! -x "$BIN/$1" ]; then
+        echo "$0: $BIN/$1 is not there: run 'make programs' first" >&2
+        exit 1
+    fi
+}
+
+pass() {
+    checked=$((checked + 1))
+}
+
+# fail NAME TEXT..: counts a failed check and says what was expected.
+fail() {
+    checked=$((checked + 1))
+    failed=$((failed + 1))
+    printf 'FAILED %s\n' "$1"
+    shift
+    printf '    %s\n' "$@"
+}
+
+# same NAME EXPECTED ACTUAL: two texts are equal.
+same() {
+    if [ "$2" = "$3" ]; then pass; else fail "$1" "expected: $2" "found:    $3"; fi
+}
+
+# same_bytes NAME EXPECTED-FILE ACTUAL-FILE: two files have the same bytes.
+same_bytes() {
+    local found
+    if found=$(cmp "$2" "$3" 2>&1); then pass; else fail "$1" "expected the bytes of $2" "found: $found"; fi
+}
+
+# absent NAME FILE: a file was not made.
+absent() {
+    if [ -e "$2" ]; then fail "$1" "expected: $2 is not there" "found:    it was made"; else pass; fi
+}
+
+# runs NAME STATUS OUT ERR COMMAND..: a command ends with this status, standard output and standard error. OUT and ERR
+# are whole texts without the last newline, or `any` for some text, or for ERR `any-of A|B|..` with the messages allowed.
+runs() {
+    local name=$1 status=$2 out=$3 err=$4 found_status=0
+    shift 4
+    "$@" >"$scratch/.out" 2>"$scratch/.err" </dev/null || found_status=$?
+    same "$name: status" "$status" "$found_status"
+    is_text "$name: standard output" "$out" "$scratch/.out"
+    is_text "$name: standard error" "$err" "$scratch/.err"
+}
+
+# is_text NAME EXPECTED FILE: a file holds a text and one newline, or nothing where the text is empty.
+is_text() {
+    local expected=$scratch/.expected message
+    case $2 in
+    any)
+        if [ -s "$3" ]; then pass; else fail "$1" 'expected: some text' 'found:    none'; fi
+        return
+        ;;
+    'any-of '*)
+        while IFS= read -r -d '|' message; do
+            if [ "$message" = "$(cat "$3")" ]; then
+                pass
+                return
+            fi
+        done <<<"${2#any-of }|"
+        fail "$1" "expected: one of ${2#any-of }" "found:    $(cat "$3")"
+        return
+        ;;
+    '') : >"$expected" ;;
+    *) printf '%s\n' "$2" >"$expected" ;;
+    esac
+    if cmp -s "$expected" "$3"; then pass; else fail "$1" "expected: $2" "found:    $(cat -A "$3" | head -c 600)"; fi
+}
+
+# bytes HEX: writes the bytes that hexadecimal digits name.
+bytes() {
+    printf '%b' "$(sed 's/../\\x&/g' <<<"$1")"
+}
+
+# zeros COUNT: writes zeros.
+zeros() {
+    head -c "$1" /dev/zero
+}
+
+# little_endian WIDTH NUMBER: writes a number in so many bytes, low byte first.
+little_endian() {
+    local width=$1 number=$2 digits=
+    while [ "$width" -gt 0 ]; do
+        digits+=$(printf '%02x' $((number & 255)))
+        number=$((number >> 8))
+        width=$((width - 1))
+    done
+    bytes "$digits"
+}
+
+# sample COUNT: writes so many bytes that follow no short pattern, always the same.
+sample() {
+    seq 1 $(($1 / 2 + 8)) | head -c "$1"
+}
+
+# sha256 FILE: the digest in hexadecimal.
+sha256() {
+    sha256sum <"$1" | cut -c1-64
+}
+
+# digests FILE SIZE: writes the SHA-256 digests of a file's blocks of SIZE bytes, one after another.
+digests() {
+    local digest
+    split -b "$2" --filter=sha256sum "$1" | while read -r digest _; do bytes "$digest"; done
+}
+
+# set_byte FILE OFFSET HEX: overwrites one byte.
+set_byte() {
+    bytes "$3" | dd of="$1" bs=1 seek="$2" conv=notrunc status=none
+}
+
+# flip FILE OFFSET MASK: turns the bits of a mask, in decimal, in one byte.
+flip() {
+    local old
+    old=$(od -An -tu1 -j "$2" -N 1 "$1")
+    set_byte "$1" "$2" "$(printf '%02x' $((old ^ $3)))"
+}
+
+# finish: says how many checks there were, and ends with 1 where one failed.
+finish() {
+    echo "$0: $checked checks, $failed failed"
+    [ "$failed" -eq 0 ]
+}

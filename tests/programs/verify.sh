@@ -1,0 +1,159 @@
+#!/bin/bash
+# Runs bin/veritysetup dump and verify as a user would.
+set -u
+cd "$(dirname "$0")/../.."
+. tests/checks.sh
+. tests/programs/images.sh
+has_program veritysetup
+veritysetup=$BIN/veritysetup
+
+data=$scratch/data.img
+image=$scratch/image.img
+image_17 "$data" "$image"
+hash=$scratch/hash.img
+
+# refuses_superblock NAME TEXT FILE: dump and verify refuse a superblock alike.
+refuses_superblock() {
+    runs "dump: $1" 1 '' "$2" "$veritysetup" dump "$3"
+    runs "verify: $1" 1 '' "$2" "$veritysetup" verify "$data" "$3" "$root"
+}
+
+# spoilt NAME TEXT OFFSET HEX: image 17 with one byte changed is refused as a superblock.
+spoilt() {
+    cp "$image" "$hash"
+    set_byte "$hash" "$3" "$4"
+    refuses_superblock "$1" "$2" "$hash"
+}
+
+superblocks() {
+    runs 'dump' 0 "$(report "$image" 512 512 17 -)" '' "$veritysetup" dump "$image"
+    cp "$image" "$hash"
+    for offset in 39 63 82 87 88 343 344 511; do set_byte "$hash" "$offset" ff; done
+    runs 'dump: pads are ignored' 0 "$(report "$hash" 512 512 17 -)" '' "$veritysetup" dump "$hash"
+    runs 'verify: pads are ignored' 0 '' '' "$veritysetup" verify "$data" "$hash" "$root"
+
+    head -c 511 "$image" >"$scratch/short"
+    refuses_superblock '511 bytes' 'Superblock is too short.' "$scratch/short"
+    : >"$scratch/empty"
+    refuses_superblock 'an empty file' 'Superblock is too short.' "$scratch/empty"
+    spoilt 'another signature' 'No verity superblock.' 7 01
+    spoilt 'another version' 'Superblock version 2 is not supported.' 8 02
+    spoilt 'another hash type' 'Superblock hash type 2 is not supported.' 12 02
+    spoilt 'another data block size' 'Superblock data block size 768 is not valid.' 65 03
+    spoilt 'another hash block size' 'Superblock hash block size 256 is not valid.' 69 01
+    spoilt 'another algorithm' 'Superblock hash algorithm is not supported.' 32 41
+    spoilt 'a long salt' 'Superblock salt size 512 is not valid.' 81 02
+    spoilt 'no data blocks' 'No data blocks.' 72 00
+    spoilt 'too many data blocks' 'Data or hash area is too large.' 79 80
+}
+
+# names NAME TEXT STATUS DATA HASH [ROOT]: verify ends with a message.
+names() {
+    runs "verify: $1" "$3" '' "$2" "$veritysetup" verify "$4" "$5" "${6:-$root}"
+}
+
+trees() {
+    local other
+    names 'the right image' '' 0 "$data" "$image"
+    names 'a root hash in capitals' '' 0 "$data" "$image" "${root^^}"
+    other=$(printf '%064d' 0)
+    names 'another root hash' "Verification failed: root hash is $root." 2 "$data" "$image" "$other"
+    names 'a root hash of 63 digits' 'Root hash is not valid.' 1 "$data" "$image" "${root:1}"
+    names 'a root hash of 66 digits' 'Root hash is not valid.' 1 "$data" "$image" "00$root"
+    names 'a root hash that is not hexadecimal' 'Root hash is not valid.' 1 "$data" "$image" "${other//0/g}"
+
+    cp "$data" "$scratch/changed"
+    flip "$scratch/changed" 8192 255
+    names 'a byte of data block 16' 'Verification failed: level 0 block 1, child 16.' 2 "$scratch/changed" "$image"
+
+    changed_hash 1023 'Verification failed: level 1 block 0, spare bytes.'
+    changed_hash 1024 'Verification failed: level 0 block 0, child 0.'
+    changed_hash 1055 'Verification failed: level 0 block 0, child 0.'
+    changed_hash 1056 'Verification failed: level 0 block 0, child 1.'
+    changed_hash 1536 'Verification failed: level 0 block 1, child 16.'
+    changed_hash 1568 'Verification failed: level 0 block 1, spare bytes.'
+    changed_hash 512 'Verification failed: level 1 block 0, child 0.'
+    changed_hash 544 'Verification failed: level 1 block 0, child 1.'
+    # Level 0 closes before level 1.
+    flip "$hash" 1536 1
+    names 'bytes of two levels' 'Verification failed: level 0 block 1, child 16.' 2 "$data" "$hash"
+}
+
+# changed_hash OFFSET TEXT: the lowest bit of one byte of image 17 is turned.
+changed_hash() {
+    cp "$image" "$hash"
+    flip "$hash" "$1" 1
+    names "byte $1 of the hash file" "$2" 2 "$data" "$hash"
+}
+
+lengths() {
+    head -c 2047 "$image" >"$hash"
+    names 'a hash file cut by a byte' 'Verification failed: level 0 block 1 is missing.' 2 "$data" "$hash"
+    head -c 512 "$image" >"$hash"
+    names 'a hash file of a superblock alone' 'Verification failed: level 0 block 0 is missing.' 2 "$data" "$hash"
+    head -c 8703 "$data" >"$scratch/cut"
+    names 'data cut by a byte' 'Data ends before the end of block 16.' 4 "$scratch/cut" "$image"
+    cp "$image" "$hash"
+    flip "$hash" 1024 1
+    names 'a difference before the end of cut data' 'Verification failed: level 0 block 0, child 0.' 2 "$scratch/cut" "$hash"
+    { cat "$data" && echo more; } >"$scratch/longer"
+    names 'data past the covered blocks' '' 0 "$scratch/longer" "$image"
+
+    # The most data blocks that there can be: their tree lies past what a file system can hold.
+    superblock 512 512 18014398509481983 '' >"$hash"
+    names 'a tree that no file can hold' 'Verification failed: level 0 block 0 is missing.' 2 "$data" "$hash"
+    head -c 7680 "$data" >"$scratch/15"
+    names 'a tree that no file can hold, little data' 'Data ends before the end of block 15.' 4 "$scratch/15" "$hash"
+}
+
+files() {
+    runs 'dump: a missing file' 4 '' "Cannot open $scratch/missing." "$veritysetup" dump "$scratch/missing"
+    runs 'dump: the null device' 1 '' 'Superblock is too short.' "$veritysetup" dump /dev/null
+    runs 'dump: a folder' 4 '' "any-of Cannot read superblock.|Cannot open $scratch." "$veritysetup" dump "$scratch"
+    names 'missing data' "Cannot open $scratch/missing." 4 "$scratch/missing" "$image"
+    names 'a missing hash file' "Cannot open $scratch/missing." 4 "$data" "$scratch/missing"
+    names 'missing data and a missing hash file' "Cannot open $scratch/none." 4 "$scratch/none" "$scratch/missing"
+    names 'a bad root hash and a missing hash file' "Cannot open $scratch/missing." 4 "$data" "$scratch/missing" abc
+    absent 'verify makes no file' "$scratch/missing"
+    cp "$image" "$hash"
+    chmod 444 "$hash"
+    names 'a hash file that is read-only' '' 0 "$data" "$hash"
+    chmod 644 "$hash"
+    same_bytes 'verify writes nothing' "$image" "$hash"
+}
+
+outputs() {
+    local unwritten='Cannot write output.'
+    runs 'dump: output on a full device' 4 '' "$unwritten" bash -c '"$@" >/dev/full' - "$veritysetup" dump "$image"
+    runs 'dump: a closed standard output' 4 '' "$unwritten" bash -c '"$@" >&-' - "$veritysetup" dump "$image"
+    runs 'verify: a closed standard error' 2 '' '' \
+        bash -c '"$@" 2>&-' - "$veritysetup" verify "$data" "$image" "$(printf '%064d' 0)"
+    runs 'verify: standard error on a full device' 2 '' '' \
+        bash -c '"$@" 2>/dev/full' - "$veritysetup" verify "$data" "$image" "$(printf '%064d' 0)"
+    runs 'verify: all streams closed' 0 '' '' bash -c '"$@" <&- >&- 2>&-' - "$veritysetup" verify "$data" "$image" "$root"
+}
+
+# command_line NAME WORD..: the words are refused, with some text on standard error alone.
+command_line() {
+    local name=$1
+    shift
+    runs "$name" 1 '' any "$veritysetup" "$@"
+}
+
+command_lines() {
+    command_line 'dump: no file' dump
+    command_line 'dump: two files' dump "$image" "$image"
+    command_line 'verify: no root hash' verify "$data" "$image"
+    command_line 'verify: four words' verify "$data" "$image" "$root" "$root"
+    command_line 'dump: help' dump --help
+    command_line 'verify: help' verify -h
+    command_line 'verify: a root hash that is no text' verify "$data" "$image" $'\xff'
+}
+
+superblocks
+trees
+lengths
+files
+outputs
+command_lines
+finish
