@@ -1,5 +1,5 @@
 -- What a writer holds after nothing, or a part of a text, was written.
-use Rattle.std.proofs.Common.{◌≡◌, ◌≤◌, sym, refl, List, ℕ, [], ◌++◌, length, take, take_all, append-nil, arith, Option, Some, None, Result, Ok, Err, OnOk, IfErr}
+use Rattle.std.proofs.Common.{◌≡◌, sym, refl, List, ℕ, length, take, take_all, append-nil, arith, Option, Some, None, Result, Ok, Err, OnOk, IfErr}
 use Rattle.std.specs.Io.KnownBytes.{Appends, Keeps}
 use Rattle.verity_format.specs.Putting.{taken}
 use Rattle.verity_format.specs.declared.putting.PutFault.{PutFault}

@@ -1,6 +1,5 @@
 -- The superblock that a hash device holds: at its start (cryptsetup's on-disk format page, "dm-verity header").
 use Rattle.std.specs.Prelude.{◌≡◌, ℕ, ◌+◌, min, List, take, Some, Result, Ok, Err}
-use Rattle.verity_format.specs.SuperblockFields.{SuperblockFields}
 use Rattle.verity_format.specs.Superblocks.{IsSuperblock, cause}
 use Rattle.verity_format.specs.declared.superblock.Superblock.{Superblock}
 use Rattle.verity_tree.specs.Counting.{last_count}

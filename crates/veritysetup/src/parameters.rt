@@ -1,5 +1,5 @@
 //! What the texts of options choose, before the data is looked at.
-ghost use Rattle.std.specs.Prelude.{◌≡◌, IfOk, Some, option_map, replicate, take, drop};
+ghost use Rattle.std.specs.Prelude.{◌≡◌, IfOk, option_map};
 ghost use Rattle.veritysetup.specs.Options.{texts_of, number_or, algorithm_of, hash_type_of, block_size_of, salt_or_random, uuid_or_random};
 ghost use Rattle.verity_tree.specs.MakingSettings.{rule_of};
 ghost use Rattle.veritysetup.specs.Choosing.{parameters};

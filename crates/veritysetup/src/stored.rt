@@ -1,5 +1,5 @@
 //! The superblock that a hash device holds.
-ghost use Rattle.std.specs.Prelude.{◌≡◌, ℕ, List, take};
+ghost use Rattle.std.specs.Prelude.{◌≡◌};
 ghost use Rattle.veritysetup.specs.Stored.{ReadsSuperblock, CountsStored};
 
 use verity_format::{SuperFault, Superblock, read_superblock};

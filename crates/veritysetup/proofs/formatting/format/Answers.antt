@@ -1,4 +1,4 @@
-use Rattle.std.proofs.Common.{◌≡◌, ◌∙◌, ap, refl, sym}
+use Rattle.std.proofs.Common.{◌∙◌, ap, refl}
 use Rattle.verity_tree.specs.Levels.{root}
 use Rattle.verity_tree.specs.Plans.{Planned, data_blocks}
 use Rattle.veritysetup.specs.Formatting.{root_above}

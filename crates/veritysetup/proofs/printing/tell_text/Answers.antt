@@ -1,4 +1,3 @@
-use Rattle.std.proofs.Common.{◌≡◌, ap}
 use Rattle.veritysetup.proofs.PrintingLemmas.{part_gained}
 use Rattle.veritysetup.proofs.printing.tell_text.Goals as goal
 

@@ -1,7 +1,6 @@
-use Rattle.std.proofs.Common.{◌≡◌, ◌∙◌, ap, List, ℕ, ◌++◌}
+use Rattle.std.proofs.Common.{◌∙◌, ap}
 use Rattle.std.proofs.lemmas.Result.{on_ok_weaker}
 use Rattle.hex.specs.Hex.{encode_lower}
-use Rattle.veritysetup.specs.Reports.{report_line}
 use Rattle.veritysetup.proofs.reporting.push_root.Goals as goal
 
 pub returns-in_ok-digits-in-Some : goal.returns-in_ok-digits-in-Some

@@ -1,4 +1,4 @@
-use Rattle.std.proofs.Common.{◌≡◌, ◌∙◌, sym, ap, refl, List, ℕ, ◌++◌, Option}
+use Rattle.std.proofs.Common.{◌≡◌, ◌∙◌, ap, refl, List, ℕ, ◌++◌, Option}
 use Rattle.verity_format.specs.SuperblockFields.{SuperblockFields}
 use Rattle.verity_hash.specs.Algorithms.{name_of}
 use Rattle.verity_tree.specs.Settings.{Settings}
