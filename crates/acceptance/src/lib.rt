@@ -3,6 +3,10 @@
 #![tactic(auto)]
 
 #[cfg(test)]
+mod digest;
+#[cfg(test)]
 mod formats;
 #[cfg(test)]
 mod laying;
+#[cfg(test)]
+mod stating_opener;

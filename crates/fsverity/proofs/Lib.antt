@@ -1,0 +1,4 @@
+pub mod Fronts
+pub mod RunLemmas
+pub mod DigestLemmas
+pub mod Getters

@@ -1,0 +1,18 @@
+use Rattle.std.proofs.Common.{◌≡◌, ◌≤◌, ◌↔◌, take, map}
+use Rattle.std.specs.Io.KnownBytes.{Appends}
+use Rattle.std.specs.List.{zip}
+use Rattle.fsverity.specs.Runs.{stop, lines}
+use Rattle.fsverity.proofs.running.run_digest.Given as goal
+
+abbrev pub invariant-loop-name : goal.invariant-loop-name
+invariant-loop-name g l = record {
+  next : g.O.Opener.next l.opener ≡ l.name-index;
+  count : g.O.Opener.count l.opener ≡ g.O.Opener.count l.fn.opener;
+  told : g.O.Opener.tells l.fn.opener ↔ g.O.Opener.tells l.opener;
+  files : g.O.Opener.files l.opener ≡ g.O.Opener.files l.fn.opener;
+  failures : g.O.Opener.failures l.fn.opener ≤ g.O.Opener.failures l.opener;
+  quiet : l.msgs ≡ l.fn.msgs;
+  within : g.O.Opener.tells l.fn.opener → l.name-index ≤ stop l.settings (g.O.Opener.files l.fn.opener);
+  out : g.O.Opener.tells l.fn.opener → Appends (g.W.Write.contents l.fn.out) (g.W.Write.contents l.out)
+      (lines l.settings l.form (take l.name-index (zip (map (λ n. n.now) l.names) (g.O.Opener.files l.fn.opener))));
+}

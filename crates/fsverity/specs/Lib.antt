@@ -1,0 +1,11 @@
+pub mod Numbers
+pub mod Salts
+pub mod Options
+pub mod Lines
+pub mod Messages
+pub mod Opening
+pub mod Digests
+pub mod Runs
+pub mod CommandLines
+pub mod LineFaults
+pub mod FusedOpeners

@@ -1,0 +1,22 @@
+-- The messages of `fsverity digest`, one line each. This project's own; numbers are decimal, and names stand as they are given.
+use Rattle.std.specs.Prelude.{ℕ, List, [], ◌∷◌, codes}
+use Rattle.std.specs.List.{concat}
+use Rattle.std.specs.Fmt.{decimal}
+use Rattle.fsverity.specs.declared.fault.DigestFault.{DigestFault}
+use Rattle.fsverity.specs.declared.fault.DigestFault.TheVariants.{TooLarge, SourceShort, SourceFailed, Memory}
+use Rattle.fsverity.specs.declared.option_fault.FsOptionFault.{FsOptionFault}
+use Rattle.fsverity.specs.declared.option_fault.FsOptionFault.TheVariants.{UnknownHash, BadBlockSize, BadSalt}
+
+-- why a file of this name has no digest
+abbrev pub fault_text : DigestFault → List ℕ → List ℕ
+fault_text TooLarge name = concat (codes "fsverity: file is too large: " ∷ name ∷ codes ".\n" ∷ [])
+fault_text (SourceShort i) name =
+    concat (codes "fsverity: file ends before the end of block " ∷ decimal i ∷ codes ": " ∷ name ∷ codes ".\n" ∷ [])
+fault_text (SourceFailed i) name = concat (codes "fsverity: cannot read block " ∷ decimal i ∷ codes ": " ∷ name ∷ codes ".\n" ∷ [])
+fault_text Memory name = codes "fsverity: out of memory.\n"
+
+-- why the options are refused
+abbrev pub option_text : FsOptionFault → List ℕ
+option_text UnknownHash = codes "fsverity: unknown hash algorithm.\n"
+option_text BadBlockSize = codes "fsverity: block size is not valid.\n"
+option_text BadSalt = codes "fsverity: salt is not valid.\n"

@@ -1,0 +1,75 @@
+//! An opener over files of the system.
+ghost use Rattle.std.specs.Prelude.{◌≡◌, ◌≤◌, ◌+◌, ℕ, List, [], length};
+
+use crate::opener::Opener;
+use std::fs::File;
+use std::io;
+use std::io::{Seek, SeekFrom};
+use std::rt::Files;
+use verity_tree::{Failed, FileSource};
+
+/// Opens files of the system by their names. It does not tell them.
+#[derive(Drop)]
+pub struct FileOpener<'a, R> {
+    rt: &'a R,
+    names: &'a [&'a str],
+    next: usize,
+    failures: u64,
+}
+
+impl<'a, R: Files> FileOpener<'a, R> {
+    /// An opener of the files of these names, none of which is opened yet.
+    pub fn new(rt: &'a R, names: &'a [&'a str]) -> Self
+        ensures count { ⟦<FileOpener<'a, R> as Opener>⟧.count result ≡ length names.now }
+        ensures next { ⟦<FileOpener<'a, R> as Opener>⟧.next result ≡ 0 }
+        ensures failures { ⟦<FileOpener<'a, R> as Opener>⟧.failures result ≡ 0 }
+    {
+        FileOpener {
+            rt,
+            names,
+            next: 0,
+            failures: 0,
+        }
+    }
+}
+
+impl<'a, R: Files> Opener for FileOpener<'a, R> {
+    type Stream = FileSource<R::File>;
+
+    ghost count = { λ o. length o.names.now };
+
+    ghost tells = { λ _. ⊥ };
+
+    ghost files = { λ _. [] };
+
+    ghost next = { λ o. o.next };
+
+    ghost failures = { λ o. o.failures };
+
+    ghost counted = { λ _ untold. absurd untold };
+
+    fn start(&mut self) -> Result<(u64, FileSource<R::File>), Failed> {
+        let name = self.names[self.next];
+        self.next += 1;
+        match open_measured(self.rt, name) {
+            Ok((length, file)) => Ok((length, FileSource::new(file, length))),
+            Err(_) => {
+                self.failures = self.failures.saturating_add(1);
+                Err(Failed)
+            }
+        }
+    }
+
+    fn end(&mut self, stream: FileSource<R::File>) {
+        self.failures = self.failures.saturating_add(stream.failures());
+    }
+}
+
+/// Opens a file for reading, and finds its length by seeking to its end. A file whose end can't be sought, as a pipe, is
+/// refused.
+fn open_measured<R: Files>(rt: &R, name: &str) -> io::Result<(u64, R::File)> {
+    let mut file = File::open(rt, name)?;
+    let length = file.seek(SeekFrom::End(0))?;
+    file.rewind()?;
+    Ok((length, file))
+}

@@ -1,0 +1,89 @@
+//! An opener each of whose sources fails one call.
+ghost use Rattle.std.specs.Prelude.{◌≡◌, ◌≤◌, ◌+◌, ◌-◌, ◌^◌, ◌<◌, ◌↔◌, ℕ, List, Option, length, min, IfOk, OnErr};
+ghost use Rattle.verity_tree.specs.Counting.{last_count};
+ghost use Rattle.verity_tree.specs.Fusing.{fused_at, fused_calls, fused_failures, fused_inner};
+ghost use Rattle.fsverity.specs.FusedOpeners.{fused_call, opener_within, opener_failures, StartsFused};
+ghost use Rattle.fsverity.specs.Opening.{IsSuch, CountsOpening, FailsFor};
+
+use crate::opener::Opener;
+use verity_tree::{Failed, Fused};
+
+/// Opens the files of another opener, and fails one call of each of their sources. It tries what a run does at a fault.
+#[derive(Drop)]
+pub struct FusedOpener<O> {
+    inner: O,
+    at: u64,
+    failures: u64,
+}
+
+impl<O: Opener> FusedOpener<O> {
+    /// Fails the call of this number of each source, counted from 1, and none for 0.
+    pub fn new(inner: O, at: u64) -> Self
+        ensures within { opener_within result ≡ inner }
+        ensures at { fused_call result ≡ at }
+        ensures failures { opener_failures result ≡ 0 }
+    {
+        FusedOpener {
+            inner,
+            at,
+            failures: 0,
+        }
+    }
+}
+
+impl<O: Opener> Opener for FusedOpener<O> {
+    type Stream = Fused<O::Stream>;
+
+    ghost count = { λ o. O.count o.inner };
+
+    ghost tells = { λ o. O.tells o.inner };
+
+    ghost files = { λ o. O.files o.inner };
+
+    ghost next = { λ o. O.next o.inner };
+
+    ghost failures = { λ o. o.failures };
+
+    ghost counted = { λ o told. O.counted o.inner told };
+
+    fn start(&mut self) -> Result<(u64, Fused<O::Stream>), Failed>
+        requires { O.next (opener_within self.old) < O.count (opener_within self.old) }
+        ensures next { O.next (opener_within self.new) ≡ O.next (opener_within self.old) + 1 }
+        ensures count { O.count (opener_within self.new) ≡ O.count (opener_within self.old) }
+        ensures told { O.tells (opener_within self.old) ↔ O.tells (opener_within self.new) }
+        ensures files { O.files (opener_within self.new) ≡ O.files (opener_within self.old) }
+        ensures fresh { IfOk result (λ opened. fused_failures opened.1 ≡ 0) }
+        ensures ok { O.tells (opener_within self.old) → IfOk result (λ opened.
+            O.Stream.tells (fused_inner opened.1) × IsSuch (O.files (opener_within self.old)) (O.next (opener_within self.old)) opened.0
+            (O.Stream.to_come (fused_inner opened.1))) }
+        ensures failures { CountsOpening (opener_failures self.old) (opener_failures self.new) result }
+        ensures failed { OnErr result (FailsFor (O.tells (opener_within self.old)) (O.files (opener_within self.old)) (O.next (opener_within self.old))
+            (opener_failures self.old) (opener_failures self.new)) }
+
+        // Each source has its fuse, and no call behind it.
+        ensures fused { IfOk result (λ opened. StartsFused (fused_call self.old) opened.1) }
+        ensures same { fused_call self.new ≡ fused_call self.old }
+    {
+        match self.inner.start() {
+            Ok((length, stream)) => Ok((length, Fused::new(stream, self.at))),
+            Err(Failed) => {
+                self.failures = self.failures.saturating_add(1);
+                Err(Failed)
+            }
+        }
+    }
+
+    fn end(&mut self, stream: Fused<O::Stream>)
+        ensures next { O.next (opener_within self.new) ≡ O.next (opener_within self.old) }
+        ensures count { O.count (opener_within self.new) ≡ O.count (opener_within self.old) }
+        ensures told { O.tells (opener_within self.old) ↔ O.tells (opener_within self.new) }
+        ensures files { O.files (opener_within self.new) ≡ O.files (opener_within self.old) }
+        ensures failures { opener_failures self.new ≡ min (opener_failures self.old + fused_failures stream) last_count }
+        ensures kept { opener_failures self.old ≤ opener_failures self.new }
+        ensures same { fused_call self.new ≡ fused_call self.old }
+    {
+        let failures = stream.failures();
+        self.inner.end(stream.into_inner());
+        self.failures = self.failures.saturating_add(failures);
+    }
+}

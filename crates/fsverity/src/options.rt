@@ -1,0 +1,66 @@
+//! The options of `fsverity digest`.
+ghost use Rattle.std.specs.Prelude.{◌≡◌, IfOk, option_copied};
+ghost use Rattle.verity_hash.specs.declared.salting.SaltRule.TheVariants.{PaddedBefore};
+ghost use Rattle.fsverity.specs.Options.{algorithm_of, block_size_of, salt_bytes_of, fs_settings};
+
+use crate::FsOptionFault;
+use crate::numbers::read_number;
+use crate::salts::read_salt;
+use verity_hash::{Algorithm, ShortBytes};
+use verity_tree::TreeSettings;
+
+/// The texts of the options, as they are given (fsverity(1), "fsverity digest").
+#[derive(Clone, Copy, Debug)]
+pub struct DigestOptions<'a> {
+    /// The hash algorithm's name, sha256 where there is none.
+    pub hash_alg: Option<&'a str>,
+    /// The block size in bytes, in decimal, 4096 where there is none.
+    pub block_size: Option<&'a str>,
+    /// The salt in hexadecimal, empty where there is none.
+    pub salt: Option<&'a str>,
+}
+
+/// The settings that the options stand for, or the first option that is refused: the algorithm, then the block size, then
+/// the salt (Linux kernel, fs-verity page, "FS_IOC_ENABLE_VERITY").
+pub fn digest_settings(options: &DigestOptions<'_>) -> Result<TreeSettings, FsOptionFault>
+    ensures value { result ≡ fs_settings (option_copied options.now.hash_alg)
+        (option_copied options.now.block_size) (option_copied options.now.salt) }
+    ensures rule { IfOk result (λ settings. settings.rule ≡ PaddedBefore) }
+{
+    let algorithm = algorithm(options.hash_alg).ok_or(FsOptionFault::UnknownHash)?;
+    let block = block_size(algorithm, options.block_size).ok_or(FsOptionFault::BadBlockSize)?;
+    let salt = salt(options.salt).ok_or(FsOptionFault::BadSalt)?;
+    match TreeSettings::fsverity(algorithm, salt.as_bytes(), block) {
+        Ok(settings) => Ok(settings),
+        Err(_) => unreachable!(),
+    }
+}
+
+fn algorithm(text: Option<&str>) -> Option<Algorithm>
+    ensures { result ≡ algorithm_of (option_copied text.entry) }
+{
+    match text {
+        None => Some(Algorithm::Sha256),
+        Some(name) => Algorithm::from_name(name.as_bytes()),
+    }
+}
+
+/// A block size that a tree can be made with.
+fn block_size(algorithm: Algorithm, text: Option<&str>) -> Option<u32>
+    ensures { result ≡ block_size_of algorithm (option_copied text.entry) }
+{
+    let size = match text {
+        None => 4096,
+        Some(digits) => u32::try_from(read_number(digits)?).ok()?,
+    };
+    match TreeSettings::fsverity(algorithm, &[], size) {
+        Ok(_) => Some(size),
+        Err(_) => None,
+    }
+}
+
+fn salt(text: Option<&str>) -> Option<ShortBytes<32>>
+    ensures { result ≡ salt_bytes_of (option_copied text.entry) }
+{
+    read_salt(text.unwrap_or(""))
+}

@@ -1,0 +1,14 @@
+//! Why a run over files ended at one of them.
+
+use crate::DigestFault;
+
+/// Why a run over files ended at one of them.
+#[derive(Clone, Copy, Debug, PartialEq, Eq)]
+pub enum RunFault {
+    /// The file could not be opened, or its length not be found.
+    NotOpened,
+    /// The file has no digest, or there was not enough memory for its line.
+    Digest(DigestFault),
+    /// The line could not be written.
+    NotWritten,
+}

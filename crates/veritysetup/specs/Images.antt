@@ -1,0 +1,16 @@
+-- What format leaves on the hash device: every hash block at its place, and then the superblock at the start
+-- (cryptsetup's on-disk format page; Linux kernel, dm-verity page, "On-disk format").
+use Rattle.std.specs.Prelude.{ℕ, List}
+use Rattle.verity_format.specs.SuperblockFields.{SuperblockFields}
+use Rattle.verity_format.specs.Superblocks.{superblock_text}
+use Rattle.verity_tree.specs.Building.{begun}
+use Rattle.verity_tree.specs.Writing.{put}
+use Rattle.veritysetup.specs.Chosen.{Chosen}
+
+-- the superblock of some settings
+abbrev pub superblock_for : Chosen → SuperblockFields
+superblock_for c = record { hash_type = c.hash_type; tree = c.plan.settings; uuid = c.uuid; blocks = c.plan.blocks }
+
+-- the device with the whole tree above these data blocks, and the superblock
+abbrev pub image : Chosen → List (List ℕ) → List ℕ → List ℕ
+image c blocks before = put (begun c.plan blocks before) 0 (superblock_text (superblock_for c))

@@ -1,0 +1,16 @@
+pub mod Drawn
+pub mod Numbers
+pub mod Salts
+pub mod Roots
+pub mod Uuids
+pub mod Options
+pub mod Chosen
+pub mod Choosing
+pub mod Messages
+pub mod Reports
+pub mod Printing
+pub mod Stored
+pub mod Dumping
+pub mod Images
+pub mod Formatting
+pub mod Verifying

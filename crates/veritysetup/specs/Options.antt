@@ -1,0 +1,65 @@
+-- What the texts of options stand for, one by one, with the defaults of veritysetup(8).
+use Rattle.std.specs.Prelude.{ℕ, ◌==◌, Bool, List, [], replicate, take, drop, codes, Option, Some, None, option_map, if◌then◌else◌}
+use Rattle.std.specs.Str.{bytes_eq}
+use Rattle.uuid.specs.Text.{parsed}
+use Rattle.verity_hash.specs.Algorithms.{named}
+use Rattle.verity_hash.specs.declared.algorithm.Algorithm.{Algorithm}
+use Rattle.verity_hash.specs.declared.algorithm.Algorithm.TheVariants.{Sha256}
+use Rattle.verity_tree.specs.Settings.{is_block_size}
+use Rattle.verity_tree.specs.declared.settings.HashType.{HashType}
+use Rattle.verity_tree.specs.declared.settings.HashType.TheVariants.{Current}
+use Rattle.veritysetup.specs.Numbers.{number_of}
+use Rattle.veritysetup.specs.Salts.{salt_of}
+use Rattle.veritysetup.specs.Uuids.{random_uuid}
+use Rattle.veritysetup.specs.declared.options.RawOptions.{RawOptions}
+
+-- the texts of the options, each None where it is not given
+pub record Texts : Type 0 where
+  pub hash : Option (List ℕ)
+  pub format : Option (List ℕ)
+  pub data_block_size : Option (List ℕ)
+  pub hash_block_size : Option (List ℕ)
+  pub salt : Option (List ℕ)
+  pub uuid : Option (List ℕ)
+  pub same_file : Bool
+
+abbrev pub texts_of : RawOptions → Texts
+texts_of raw = record {
+  hash = option_map (λ t. t.now) raw.hash;
+  format = option_map (λ t. t.now) raw.format;
+  data_block_size = option_map (λ t. t.now) raw.data_block_size;
+  hash_block_size = option_map (λ t. t.now) raw.hash_block_size;
+  salt = option_map (λ t. t.now) raw.salt;
+  uuid = option_map (λ t. t.now) raw.uuid;
+  same_file = raw.same_file;
+}
+
+-- a number, or its default
+abbrev pub number_or : ℕ → Option (List ℕ) → Option ℕ
+number_or default None = Some default
+number_or default (Some text) = number_of text
+
+-- an algorithm's name; by default sha256
+abbrev pub algorithm_of : Option (List ℕ) → Option Algorithm
+algorithm_of None = Some Sha256
+algorithm_of (Some name) = named name
+
+-- the hash type of a number
+abbrev pub hash_type_of : ℕ → Option HashType
+hash_type_of number = if number == 1 then Some Current else None
+
+-- a block size of dm-verity
+abbrev pub block_size_of : ℕ → Option ℕ
+block_size_of number = if is_block_size 512 number then Some number else None
+
+-- a salt, where `-` is the empty one; by default the first 32 random bytes
+abbrev pub salt_or_random : Option (List ℕ) → Option (List ℕ) → Option (List ℕ)
+salt_or_random (Some text) random = if bytes_eq text (codes "-") then Some [] else salt_of 256 text
+salt_or_random None (Some random) = Some (take 32 random)
+salt_or_random None None = None
+
+-- a UUID; by default that of the 16 random bytes behind those, and zeros where there are none
+abbrev pub uuid_or_random : Option (List ℕ) → Option (List ℕ) → Option (List ℕ)
+uuid_or_random (Some text) random = parsed text
+uuid_or_random None (Some random) = Some (random_uuid (take 16 (drop 32 random)))
+uuid_or_random None None = Some (replicate 16 0)

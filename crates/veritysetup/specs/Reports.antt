@@ -1,0 +1,52 @@
+-- The report of format and dump, modelled on what veritysetup(8) prints.
+use Rattle.std.specs.Prelude.{ℕ, ◌-◌, List, [], ◌∷◌, ◌++◌, length, replicate, codes, Option, Some, None}
+use Rattle.std.specs.Fmt.{decimal}
+use Rattle.std.specs.List.{concat}
+use Rattle.hex.specs.Hex.{encode_lower}
+use Rattle.uuid.specs.Text.{hyphenated_text, lower}
+use Rattle.verity_format.specs.SuperblockFields.{SuperblockFields}
+use Rattle.verity_format.specs.Superblocks.{type_number}
+use Rattle.verity_hash.specs.Algorithms.{name_of}
+use Rattle.verity_tree.specs.Settings.{Settings}
+
+-- a line: the label filled with spaces to 17 bytes, a tab, the value
+abbrev pub report_line : List ℕ → List ℕ → List ℕ
+report_line label value = concat (label ∷ replicate (17 - length label) 32 ∷ codes "\t" ∷ value ∷ codes "\n" ∷ [])
+
+-- the line above all
+abbrev pub title : List ℕ → List ℕ
+title path = concat (codes "VERITY header information for " ∷ path ∷ codes "\n" ∷ [])
+
+-- a salt's digits; no salt is `-`
+abbrev pub salt_text : List ℕ → List ℕ
+salt_text [] = codes "-"
+salt_text (b ∷ rest) = encode_lower (b ∷ rest)
+
+-- a text, and the lines on the device
+abbrev pub with_header : List ℕ → SuperblockFields → List ℕ
+with_header text v = text
+    ++ report_line (codes "UUID:") (hyphenated_text lower v.uuid)
+    ++ report_line (codes "Hash type:") (decimal (type_number v.hash_type))
+    ++ report_line (codes "Data blocks:") (decimal v.blocks)
+
+-- a text, and the lines on the block sizes
+abbrev pub with_sizes : List ℕ → Settings → List ℕ
+with_sizes text tree = text
+    ++ report_line (codes "Data block size:") (decimal tree.data_block)
+    ++ report_line (codes "Hash block size:") (decimal tree.hash_block)
+
+-- a text, and the lines on the salted hash
+abbrev pub with_hash : List ℕ → List ℕ → List ℕ → List ℕ
+with_hash text algorithm salt = text
+    ++ report_line (codes "Hash algorithm:") algorithm
+    ++ report_line (codes "Salt:") salt
+
+-- the line of the root hash, where there is one
+abbrev pub root_line : Option (List ℕ) → List ℕ
+root_line None = []
+root_line (Some root) = report_line (codes "Root hash:") (encode_lower root)
+
+-- the whole report
+unfoldable pub report_text : List ℕ → SuperblockFields → Option (List ℕ) → List ℕ
+report_text path v root =
+    with_hash (with_sizes (with_header (title path) v) v.tree) (name_of v.tree.algorithm) (salt_text v.tree.salt) ++ root_line root

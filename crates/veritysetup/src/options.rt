@@ -1,0 +1,69 @@
+//! Options as the command line gives them, and why they are refused.
+ghost use Rattle.std.specs.Prelude.{◌≡◌};
+ghost use Rattle.veritysetup.specs.Messages.{option_name};
+
+/// The texts of the options of format and verify, each `None` where it is not given (veritysetup(8)).
+#[derive(Clone, Copy)]
+pub struct RawOptions<'a> {
+    /// `--hash`: the name of the hash algorithm. By default sha256.
+    pub hash: Option<&'a str>,
+    /// `--format`: the hash type. By default 1.
+    pub format: Option<&'a str>,
+    /// `--data-block-size`: in bytes, by default 4096.
+    pub data_block_size: Option<&'a str>,
+    /// `--hash-block-size`: in bytes, by default 4096.
+    pub hash_block_size: Option<&'a str>,
+    /// `--salt`: hexadecimal digits, or `-` for no salt. By default random.
+    pub salt: Option<&'a str>,
+    /// `--uuid`: by default random.
+    pub uuid: Option<&'a str>,
+    /// Whether data and hash area are in one file.
+    pub same_file: bool,
+}
+
+/// An option that takes a number.
+#[derive(Clone, Copy, Debug, PartialEq, Eq)]
+pub enum OptionName {
+    /// `--format`.
+    Format,
+    /// `--data-block-size`.
+    DataBlockSize,
+    /// `--hash-block-size`.
+    HashBlockSize,
+}
+
+impl OptionName {
+    /// The long name without its dashes.
+    pub fn name(self) -> &'static str
+        ensures { result.now ≡ option_name self }
+    {
+        match self {
+            OptionName::Format => "format",
+            OptionName::DataBlockSize => "data-block-size",
+            OptionName::HashBlockSize => "hash-block-size",
+        }
+    }
+}
+
+/// The first thing for which options are refused.
+#[derive(Clone, Copy, Debug, PartialEq, Eq)]
+pub enum OptionFault {
+    /// The option is no number.
+    BadNumber(OptionName),
+    /// No known hash algorithm has this name.
+    UnknownHash,
+    /// The hash type is not 1.
+    BadHashType,
+    /// The block size is no power of two from 512 to 524288.
+    BadBlockSize(OptionName),
+    /// The salt is no text of a salt, or it is missing and there are no random bytes.
+    BadSalt,
+    /// The UUID is no text of a UUID.
+    BadUuid,
+    /// The data holds no whole block.
+    NoData,
+    /// The data area or the hash area is larger than 2^63 - 1 bytes.
+    TooLarge,
+    /// The hash area overlaps the data.
+    Overlap,
+}

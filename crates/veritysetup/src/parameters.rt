@@ -1,0 +1,126 @@
+//! What the texts of options choose, before the data is looked at.
+ghost use Rattle.std.specs.Prelude.{◌≡◌, IfOk, Some, option_map, replicate, take, drop};
+ghost use Rattle.veritysetup.specs.Options.{texts_of, number_or, algorithm_of, hash_type_of, block_size_of, salt_or_random, uuid_or_random};
+ghost use Rattle.verity_tree.specs.MakingSettings.{rule_of};
+ghost use Rattle.veritysetup.specs.Choosing.{parameters};
+
+use crate::numbers::read_number;
+use crate::options::{OptionFault, OptionName, RawOptions};
+use crate::salts::read_salt;
+use crate::uuids::{random_uuid, read_uuid};
+use uuid::Uuid;
+use verity_hash::{Algorithm, ShortBytes};
+use verity_tree::{HashType, TreeSettings};
+
+/// What a tree is made by, and what the superblock tells of it.
+#[derive(Clone, Copy)]
+pub struct Parameters {
+    /// Where the salt goes.
+    pub hash_type: HashType,
+    /// The UUID of the hash device.
+    pub uuid: Uuid,
+    /// Algorithm, salt and block sizes.
+    pub tree: TreeSettings,
+}
+
+impl Parameters {
+    /// What the texts choose, or the first that chooses nothing.
+    pub fn chosen(raw: &RawOptions, random: Option<&[u8; 48]>) -> Result<Parameters, OptionFault>
+        ensures value { result ≡ parameters (texts_of raw.now) (option_map (λ b. b.now) random.entry) }
+        ensures of_type { IfOk result (λ chosen. chosen.tree.rule ≡ rule_of chosen.hash_type) }
+    {
+        let format = number_or(1, raw.format).ok_or(OptionFault::BadNumber(OptionName::Format))?;
+        let data_size = number_or(4096, raw.data_block_size).ok_or(OptionFault::BadNumber(
+            OptionName::DataBlockSize,
+        ))?;
+        let hash_size = number_or(4096, raw.hash_block_size).ok_or(OptionFault::BadNumber(
+            OptionName::HashBlockSize,
+        ))?;
+        let algorithm = algorithm_of(raw.hash).ok_or(OptionFault::UnknownHash)?;
+        let hash_type = hash_type_of(format).ok_or(OptionFault::BadHashType)?;
+        let data_block = block_size_of(data_size).ok_or(OptionFault::BadBlockSize(
+            OptionName::DataBlockSize,
+        ))?;
+        let hash_block = block_size_of(hash_size).ok_or(OptionFault::BadBlockSize(
+            OptionName::HashBlockSize,
+        ))?;
+        let salt = salt_or_random(raw.salt, random).ok_or(OptionFault::BadSalt)?;
+        let uuid = uuid_or_random(raw.uuid, random).ok_or(OptionFault::BadUuid)?;
+        let tree = TreeSettings::verity(
+            algorithm,
+            hash_type,
+            salt.as_bytes(),
+            data_block,
+            hash_block,
+        )
+        .unwrap();
+        Ok(Parameters {
+            hash_type,
+            uuid,
+            tree,
+        })
+    }
+}
+
+/// The number of an option, its default where it is not given, or `None` where it is no number.
+fn number_or(default: u64, text: Option<&str>) -> Option<u64>
+    ensures { result ≡ number_or default (option_map (λ t. t.now) text.entry) }
+{
+    match text {
+        Some(text) => read_number(text),
+        None => Some(default),
+    }
+}
+
+/// The algorithm of a name, by default SHA-256.
+fn algorithm_of(name: Option<&str>) -> Option<Algorithm>
+    ensures { result ≡ algorithm_of (option_map (λ t. t.now) name.entry) }
+{
+    match name {
+        Some(name) => Algorithm::from_name(name.as_bytes()),
+        None => Some(Algorithm::Sha256),
+    }
+}
+
+/// The hash type of a number.
+fn hash_type_of(number: u64) -> Option<HashType>
+    ensures { result ≡ hash_type_of number }
+{
+    match number {
+        1 => Some(HashType::Current),
+        _ => None,
+    }
+}
+
+/// The block size of a number: a power of two from 512 to 524288.
+fn block_size_of(number: u64) -> Option<u32>
+    ensures { result ≡ block_size_of number }
+{
+    if number.is_power_of_two() && 512 <= number && number <= 524288 {
+        Some(number as u32)
+    } else {
+        None
+    }
+}
+
+/// The salt of a text, where `-` is no salt; without one the first 32 random bytes, where there are any.
+fn salt_or_random(text: Option<&str>, random: Option<&[u8; 48]>) -> Option<ShortBytes<256>>
+    ensures { result ≡ salt_or_random (option_map (λ t. t.now) text.entry) (option_map (λ b. b.now) random.entry) }
+{
+    match text {
+        Some("-") => Some(ShortBytes::zeros(0)),
+        Some(text) => read_salt(text),
+        None => ShortBytes::from_bytes(&random?[..32]),
+    }
+}
+
+/// The UUID of a text; without one that of the last 16 random bytes, or all zeros where there are none.
+fn uuid_or_random(text: Option<&str>, random: Option<&[u8; 48]>) -> Option<Uuid>
+    ensures { result ≡ uuid_or_random (option_map (λ t. t.now) text.entry) (option_map (λ b. b.now) random.entry) }
+{
+    match (text, random) {
+        (Some(text), _) => read_uuid(text),
+        (None, Some(random)) => Some(random_uuid(&random[32..])),
+        (None, None) => Some(Uuid::nil()),
+    }
+}

@@ -1,0 +1,74 @@
+//! `veritysetup format`.
+use crate::commands::{DATA, HASH};
+use crate::files::{open_measured, open_writable};
+use crate::messages;
+use clap::ArgMatches;
+use rand::rngs::StdRng;
+use std::io;
+use verity_tree::{FileDevice, FileSource};
+use veritysetup::{RawOptions, Settings, draw, option_message, run_format, settings_of};
+
+/// Makes the hash device of a data file. HASH is opened only once the options are read, so a refused option leaves no
+/// new file.
+pub fn run(rt: &HostRuntime, matches: &ArgMatches<'_>) -> u8 {
+    let (Some(data), Some(hash)) = (matches.get_str(DATA), matches.get_str(HASH)) else {
+        return 1;
+    };
+    let (file, length) = match open_measured(rt, data) {
+        Ok(opened) => opened,
+        Err(_) => return messages::cannot_open(rt, data),
+    };
+    let raw = raw_options(matches, data == hash);
+    let random = match random_bytes(rt, &raw) {
+        Ok(random) => random,
+        Err(_) => return messages::no_random_bytes(rt),
+    };
+    match settings_of(&raw, length, random.as_ref()) {
+        Ok(settings) => make(rt, &settings, FileSource::new(file, length), hash),
+        Err(fault) => {
+            messages::tell(rt, option_message(rt.alloc(), &fault));
+            1
+        }
+    }
+}
+
+/// The texts of the options.
+fn raw_options<'a>(matches: &ArgMatches<'a>, same_file: bool) -> RawOptions<'a> {
+    RawOptions {
+        hash: matches.get_str("hash"),
+        format: matches.get_str("format"),
+        data_block_size: matches.get_str("data-block-size"),
+        hash_block_size: matches.get_str("hash-block-size"),
+        salt: matches.get_str("salt"),
+        uuid: matches.get_str("uuid"),
+        same_file,
+    }
+}
+
+/// Random bytes of a generator that the runtime seeds, where salt or UUID is missing.
+fn random_bytes(rt: &HostRuntime, raw: &RawOptions) -> io::Result<Option<[u8; 48]>> {
+    if raw.salt.is_some() && raw.uuid.is_some() {
+        return Ok(None);
+    }
+    let mut rng: StdRng = rand::make_rng(rt)?;
+    Ok(Some(draw(&mut rng)))
+}
+
+/// Opens HASH and makes it.
+fn make(rt: &HostRuntime, settings: &Settings, mut source: FileSource, hash: &str) -> u8 {
+    match open_writable(rt, hash) {
+        Ok(file) => {
+            let mut device = FileDevice::new(file);
+            run_format(
+                rt.alloc(),
+                settings,
+                hash,
+                &mut source,
+                &mut device,
+                &mut rt.stdout(),
+                &mut rt.stderr(),
+            )
+        }
+        Err(_) => messages::cannot_open(rt, hash),
+    }
+}

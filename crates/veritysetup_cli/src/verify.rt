@@ -1,0 +1,38 @@
+//! `veritysetup verify`.
+use crate::commands::{DATA, HASH, ROOT};
+use crate::files::open_measured;
+use crate::messages;
+use clap::ArgMatches;
+use std::fs::File;
+use verity_tree::{FileDevice, FileSource};
+use veritysetup::{VerifyInput, run_verify};
+
+/// Verifies a hash device against a data file and a root hash.
+pub fn run(rt: &HostRuntime, matches: &ArgMatches<'_>) -> u8 {
+    let given = (
+        matches.get_str(DATA),
+        matches.get_str(HASH),
+        matches.get_str(ROOT),
+    );
+    let (Some(data), Some(hash), Some(root)) = given else {
+        return 1;
+    };
+    let (file, length) = match open_measured(rt, data) {
+        Ok(opened) => opened,
+        Err(_) => return messages::cannot_open(rt, data),
+    };
+    match File::open(rt, hash) {
+        Ok(opened) => {
+            let mut source = FileSource::new(file, length);
+            let mut device = FileDevice::new(opened);
+            run_verify(
+                rt.alloc(),
+                &VerifyInput::Stored { root },
+                &mut source,
+                &mut device,
+                &mut rt.stderr(),
+            )
+        }
+        Err(_) => messages::cannot_open(rt, hash),
+    }
+}
