@@ -1,8 +1,10 @@
 #!/usr/bin/env python3
 """What veritysetup verify has to say of an image: a plain computation of its own, over whole levels.
 
-expected.py DATA HASH ROOT prints `right`, or the message of the first block in closing order that differs. It reads
-the superblock of HASH, as the on-disk format page of cryptsetup has it, hash type 1.
+expected.py DATA HASH ROOT CHANGE.. prints a line for each change, `data OFFSET MASK` or `hash OFFSET MASK`: what is to
+be said where the bits of the mask are turned in that byte of DATA or HASH. This is `right`, or the message of the first
+block in closing order that differs. The superblock of HASH is read as the on-disk format page of cryptsetup has it, hash
+type 1.
 """
 
 import hashlib
@@ -81,8 +83,14 @@ def verdict(device, data, root):
 
 
 def main():
-    data, device = (open(name, "rb").read() for name in sys.argv[1:3])
-    print(verdict(device, data, bytes.fromhex(sys.argv[3])))
+    data, device = (bytearray(open(name, "rb").read()) for name in sys.argv[1:3])
+    root = bytes.fromhex(sys.argv[3])
+    for change in sys.argv[4:]:
+        name, offset, mask = change.split()
+        changed = data if name == "data" else device
+        changed[int(offset)] ^= int(mask)
+        print(verdict(bytes(device), bytes(data), root))
+        changed[int(offset)] ^= int(mask)
 
 
 main()

@@ -20,54 +20,60 @@ below() {
     below=$((((RANDOM << 30) + (RANDOM << 15) + RANDOM) % $1))
 }
 
-# refused NAME FILE OFFSET: one bit of a byte is turned, verify names the block that is expected, and the bit is turned back.
+# refused NAME CHANGE..: for each change, `data OFFSET MASK` or `hash OFFSET MASK`, the bits of the mask are turned in that
+# byte, verify names the block that is expected, and the bits are turned back.
 refused() {
-    local mask=$((1 << RANDOM % 8)) expected
-    flip "$2" "$3" "$mask"
-    expected=$(tests/interop/expected.py "$data" "$image" "$root")
-    if [ "$expected" = right ]; then
-        fail "$1, byte $3" 'the computation of its own finds no difference'
-    else
-        runs "$1, byte $3, mask $mask" 2 '' "$expected" "$BIN/veritysetup" verify "$data" "$image" "$root"
-    fi
-    flip "$2" "$3" "$mask"
+    local name=$1 expected change file offset mask
+    shift
+    mapfile -t expected < <(tests/interop/expected.py "$data" "$image" "$root" "$@")
+    for change in "$@"; do
+        read -r file offset mask <<<"$change"
+        if [ "$file" = data ]; then file=$data; else file=$image; fi
+        if [ "${expected[0]}" = right ]; then fail "$name: $change" 'the computation of its own finds no difference'; fi
+        flip "$file" "$offset" "$mask"
+        runs "$name: $change" 2 '' "${expected[0]}" "$BIN/veritysetup" verify "$data" "$image" "$root"
+        flip "$file" "$offset" "$mask"
+        expected=("${expected[@]:1}")
+    done
+}
+
+# made_by_peer OPTION..: the other program's image of the data, and its root hash; in `root`.
+made_by_peer() {
+    rm -f "$image"
+    veritysetup format --format 1 --uuid "$UUID" "$@" "$data" "$image" >"$scratch/peer.txt"
+    root=$(sed -n 's/^Root hash:[[:space:]]*//p' "$scratch/peer.txt")
 }
 
 compare() {
     local name="$*" size=$(($2 * $5)) base=$((($3 > 512 ? $3 : 512)))
-    local options=(--hash "$1" --format 1 --data-block-size "$2" --hash-block-size "$3" --salt="$4" --uuid "$UUID")
+    local changes=() hashes
     head -c "$size" "$scratch/all" >"$data"
-    rm -f "$image"
-    veritysetup format "${options[@]}" "$data" "$image" >"$scratch/peer.txt"
-    root=$(sed -n 's/^Root hash:[[:space:]]*//p' "$scratch/peer.txt")
+    made_by_peer --hash "$1" --data-block-size "$2" --hash-block-size "$3" --salt="$4"
     runs "$name: accepted" 0 '' '' "$BIN/veritysetup" verify "$data" "$image" "$root"
 
     below "$size"
-    refused "$name: data" "$data" "$below"
-    local hashes=$(($(stat -c %s "$image") - base))
+    changes+=("data $below $((1 << RANDOM % 8))")
     if [ "$5" -gt 1 ]; then
+        hashes=$(($(stat -c %s "$image") - base))
         below "$hashes"
-        refused "$name: hash" "$image" $((base + below))
+        changes+=("hash $((base + below)) $((1 << RANDOM % 8))")
     fi
+    refused "$name" "${changes[@]}"
 }
 
-# Each bit of the last data block's first byte, and of the first and last byte of each hash block, for 17 blocks of 512.
+# Each bit of the first and the last byte of each hash block, for 17 blocks of 512.
 each_bit() {
+    local changes=() offset mask
     head -c 8704 "$scratch/all" >"$data"
-    rm -f "$image"
-    veritysetup format --data-block-size 512 --hash-block-size 512 --salt=- --uuid "$UUID" "$data" "$image" >"$scratch/peer.txt"
-    root=$(sed -n 's/^Root hash:[[:space:]]*//p' "$scratch/peer.txt")
-    local offset mask
+    made_by_peer --data-block-size 512 --hash-block-size 512 --salt=-
     for offset in 512 1023 1024 1535 1536 2047; do
         for mask in 1 2 4 8 16 32 64 128; do
-            flip "$image" "$offset" "$mask"
-            runs "17 blocks, byte $offset, mask $mask" 2 '' "$(tests/interop/expected.py "$data" "$image" "$root")" \
-                "$BIN/veritysetup" verify "$data" "$image" "$root"
-            flip "$image" "$offset" "$mask"
+            changes+=("hash $offset $mask")
         done
     done
+    refused '17 blocks' "${changes[@]}"
 }
 
-each_setting compare
 each_bit
+each_setting compare
 finish
