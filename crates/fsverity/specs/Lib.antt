@@ -1,5 +1,3 @@
-pub mod Numbers
-pub mod Salts
 pub mod Options
 pub mod Lines
 pub mod Messages

@@ -6,8 +6,8 @@ use Rattle.verity_hash.specs.declared.algorithm.Algorithm.{Algorithm}
 use Rattle.verity_hash.specs.declared.algorithm.Algorithm.TheVariants.{Sha256}
 use Rattle.verity_hash.specs.declared.salting.SaltRule.TheVariants.{PaddedBefore}
 use Rattle.verity_tree.specs.Settings.{Settings, is_block_size, least_block, most_salt}
-use Rattle.fsverity.specs.Numbers.{number_of}
-use Rattle.fsverity.specs.Salts.{salt_of}
+use Rattle.option_texts.specs.Numbers.{number_of}
+use Rattle.option_texts.specs.Salts.{salt_of}
 use Rattle.fsverity.specs.declared.option_fault.FsOptionFault.{FsOptionFault}
 use Rattle.fsverity.specs.declared.option_fault.FsOptionFault.TheVariants.{UnknownHash, BadBlockSize, BadSalt}
 

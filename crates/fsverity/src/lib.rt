@@ -9,13 +9,11 @@ mod file_opener;
 mod fused_opener;
 mod line_fault;
 mod memory_opener;
-mod numbers;
 mod opener;
 mod option_fault;
 mod options;
 mod run_fault;
 mod running;
-mod salts;
 mod telling;
 mod words;
 

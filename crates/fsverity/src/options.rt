@@ -4,8 +4,7 @@ ghost use Rattle.verity_hash.specs.declared.salting.SaltRule.TheVariants.{Padded
 ghost use Rattle.fsverity.specs.Options.{algorithm_of, block_size_of, salt_bytes_of, fs_settings};
 
 use crate::FsOptionFault;
-use crate::numbers::read_number;
-use crate::salts::read_salt;
+use option_texts::{read_number, read_salt};
 use verity_hash::{Algorithm, ShortBytes};
 use verity_tree::TreeSettings;
 

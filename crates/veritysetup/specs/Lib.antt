@@ -1,6 +1,4 @@
 pub mod Drawn
-pub mod Numbers
-pub mod Salts
 pub mod Roots
 pub mod Uuids
 pub mod Options

@@ -8,8 +8,8 @@ use Rattle.verity_hash.specs.declared.algorithm.Algorithm.TheVariants.{Sha256}
 use Rattle.verity_tree.specs.Settings.{is_block_size}
 use Rattle.verity_tree.specs.declared.settings.HashType.{HashType}
 use Rattle.verity_tree.specs.declared.settings.HashType.TheVariants.{Current}
-use Rattle.veritysetup.specs.Numbers.{number_of}
-use Rattle.veritysetup.specs.Salts.{salt_of}
+use Rattle.option_texts.specs.Numbers.{number_of}
+use Rattle.option_texts.specs.Salts.{salt_of}
 use Rattle.veritysetup.specs.Uuids.{random_uuid}
 use Rattle.veritysetup.specs.declared.options.RawOptions.{RawOptions}
 

@@ -4,10 +4,9 @@ ghost use Rattle.veritysetup.specs.Options.{texts_of, number_or, algorithm_of, h
 ghost use Rattle.verity_tree.specs.MakingSettings.{rule_of};
 ghost use Rattle.veritysetup.specs.Choosing.{parameters};
 
-use crate::numbers::read_number;
 use crate::options::{OptionFault, OptionName, RawOptions};
-use crate::salts::read_salt;
 use crate::uuids::{random_uuid, read_uuid};
+use option_texts::{read_number, read_salt};
 use uuid::Uuid;
 use verity_hash::{Algorithm, ShortBytes};
 use verity_tree::{HashType, TreeSettings};

@@ -1,5 +1,5 @@
--- Numbers as options give them: ASCII digits with a value below 2 ^ 64, and leading zeros. This project's own; fsverity(1)
--- leaves the texts open.
+-- Numbers as options give them: ASCII digits with a value below 2 ^ 64, and leading zeros. This project's own;
+-- veritysetup(8) and fsverity(1) leave the texts open.
 use Rattle.std.specs.Prelude.{ℕ, ◌+◌, ◌-◌, ◌*◌, ◌^◌, ◌&&◌, List, [], ◌∷◌, length, Option, Some, None, if◌then◌else◌, nat_lt}
 use Rattle.std.specs.Str.{all_ascii_digits}
 

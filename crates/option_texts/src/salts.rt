@@ -1,11 +1,12 @@
 //! Salts as the options give them.
 ghost use Rattle.std.specs.Prelude.{◌≡◌};
-ghost use Rattle.veritysetup.specs.Salts.{salt_of};
+ghost use Rattle.option_texts.specs.Salts.{salt_of};
 
 use verity_hash::ShortBytes;
 
-/// The bytes that an even number of hexadecimal digits of either case stands for, none for the empty text. `None` where
-/// the text is anything else, or there are more than `N` bytes.
+/// The bytes that an even number of hexadecimal digits of either case stands for, none for the empty text
+/// (veritysetup(8), `--salt`; fsverity(1), `--salt`). `None` where the text is anything else, or there are more than `N`
+/// bytes.
 pub fn read_salt<const N: usize>(text: &str) -> Option<ShortBytes<N>>
     ensures { result ≡ salt_of N text.now }
 {

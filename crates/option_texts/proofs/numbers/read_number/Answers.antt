@@ -2,8 +2,8 @@ use Rattle.std.proofs.Common.{rules, arith, refl, ◌≡◌, ◌∙◌, ◌<◌,
 use Rattle.std.specs.Result.{OkIff, result_ok}
 use Rattle.std.specs.Str.{all_ascii_digits}
 use Rattle.std.proofs.lemmas.Str.Parse.{IsNumeralModel, numerals_by_weight, parse_plain, tells_all_ascii_digits}
-use Rattle.veritysetup.specs.Numbers.{number}
-use Rattle.veritysetup.proofs.numbers.read_number.Goals as goal
+use Rattle.option_texts.specs.Numbers.{number}
+use Rattle.option_texts.proofs.numbers.read_number.Goals as goal
 
 own : IsNumeralModel (λ ds. all_ascii_digits ds ≡ true) number
 own = numerals_by_weight _ tells_all_ascii_digits number (search rules)
