@@ -1,4 +1,5 @@
 //! Digests of files: descriptors, lines and messages. Expected digests are those of sha2 over stated bytes.
+use crate::laying::{data, filled};
 use crate::stating_opener::StatingOpener;
 use fsverity::{
     DigestFault, DigestOptions, Form, FsOptionFault, FusedOpener, MemoryOpener, digest_file,
@@ -14,27 +15,6 @@ const DEFAULTS: DigestOptions<'static> = DigestOptions {
     block_size: None,
     salt: None,
 };
-
-/// Some bytes, of which neighbours differ.
-fn data(alloc: Global, len: usize) -> Result<Vec<u8>, AllocError> {
-    let mut bytes = vec![in alloc; 0u8; len]?;
-    for (i, byte) in bytes.iter_mut().enumerate() {
-        *byte = (i % 251) as u8;
-    }
-    Ok(bytes)
-}
-
-/// The parts one after another, and zeros up to a length.
-fn filled(alloc: Global, parts: &[&[u8]], len: usize) -> Result<Vec<u8>, AllocError> {
-    let mut bytes = Vec::new(alloc);
-    for part in parts {
-        bytes.extend_from_slice(part)?;
-    }
-    for _ in bytes.len()..len {
-        bytes.push(0)?;
-    }
-    Ok(bytes)
-}
 
 /// The SHA-256 digest of each block of 4096 bytes, the last filled with zeros.
 fn digests(alloc: Global, blocks: &[u8]) -> Result<Vec<u8>, AllocError> {

@@ -12,12 +12,12 @@ use verity_hash::{Algorithm, Digest};
 use verity_tree::{HashType, TreeSettings};
 
 /// 00112233-4455-4677-8899-aabbccddeeff.
-const UUID: [u8; 16] = [
+pub const UUID: [u8; 16] = [
     0x00, 0x11, 0x22, 0x33, 0x44, 0x55, 0x46, 0x77, 0x88, 0x99, 0xaa, 0xbb, 0xcc, 0xdd, 0xee, 0xff,
 ];
 
 /// SHA-256, blocks of 4096 bytes, no salt, one data block.
-fn one_block() -> [u8; 512] {
+pub fn one_block() -> [u8; 512] {
     block(&[
         (0, b"verity"),
         (8, &[1]),

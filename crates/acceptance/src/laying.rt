@@ -1,4 +1,5 @@
-//! Blocks of bytes, laid out field by field.
+//! Bytes to test by: blocks laid out field by field, parts filled with zeros, and data.
+use std::alloc::{AllocError, Global};
 
 /// Bytes and the offset where they stand.
 pub type Field<'a> = (usize, &'a [u8]);
@@ -23,4 +24,25 @@ fn lay_one(block: &mut [u8], at: usize, bytes: &[u8]) {
             *place = *byte;
         }
     }
+}
+
+/// Some bytes, of which neighbours differ.
+pub fn data(alloc: Global, len: usize) -> Result<Vec<u8>, AllocError> {
+    let mut bytes = vec![in alloc; 0u8; len]?;
+    for (i, byte) in bytes.iter_mut().enumerate() {
+        *byte = (i % 251) as u8;
+    }
+    Ok(bytes)
+}
+
+/// The parts one after another, and zeros up to a length.
+pub fn filled(alloc: Global, parts: &[&[u8]], len: usize) -> Result<Vec<u8>, AllocError> {
+    let mut bytes = Vec::new(alloc);
+    for part in parts {
+        bytes.extend_from_slice(part)?;
+    }
+    for _ in bytes.len()..len {
+        bytes.push(0)?;
+    }
+    Ok(bytes)
 }

@@ -5,8 +5,20 @@
 #[cfg(test)]
 mod digest;
 #[cfg(test)]
+mod dumping;
+#[cfg(test)]
+mod format_faults;
+#[cfg(test)]
 mod formats;
+#[cfg(test)]
+mod formatting;
+#[cfg(test)]
+mod images;
 #[cfg(test)]
 mod laying;
 #[cfg(test)]
+mod setup_options;
+#[cfg(test)]
 mod stating_opener;
+#[cfg(test)]
+mod verifying;
