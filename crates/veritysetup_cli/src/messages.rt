@@ -28,9 +28,9 @@ pub fn refused_words(rt: &HostRuntime, error: &io::Error) -> u8 {
     1
 }
 
-/// The command line is refused.
+/// The command line is refused, with `clap`'s text.
 pub fn refused_line(rt: &HostRuntime, error: &clap::Error) -> u8 {
-    tell(rt, format!(in rt.alloc(); "{error}\n"));
+    let _ = error.print(rt);
     1
 }
 
