@@ -109,6 +109,11 @@ little_endian() {
     bytes "$digits"
 }
 
+# scarce COMMAND..: runs a command in an address space of 3500 KiB, which has no room for blocks of 524288 bytes.
+scarce() {
+    (ulimit -v 3500 && exec "$@")
+}
+
 # sample COUNT: writes so many bytes that follow no short pattern, always the same.
 sample() {
     seq 1 $(($1 / 2 + 8)) | head -c "$1"

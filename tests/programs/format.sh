@@ -167,6 +167,12 @@ outputs() {
     same_bytes 'a pipe that nobody reads: the hash file' "$image" "$hash"
 }
 
+memory() {
+    zeros 1048576 >"$scratch/large"
+    runs 'no memory for the store' 3 '' 'Out of memory.' scarce "$veritysetup" format --salt=- \
+        --data-block-size 524288 --hash-block-size 524288 "$scratch/large" "$hash"
+}
+
 # command_line NAME WORD..: the words are refused, with some text on standard error alone, and no HASH file is made.
 command_line() {
     local name=$1
@@ -196,5 +202,6 @@ drawn
 options
 files
 outputs
+memory
 command_lines
 finish

@@ -76,6 +76,12 @@ files_that_fail() {
         bash -c 'exec 9<>"$1"; exec "$2" digest "$1"' - "$scratch/pipe" "$fsverity"
 }
 
+memory() {
+    zeros 1048576 >"$scratch/large"
+    runs 'no memory for the store' 1 '' 'fsverity: out of memory.' \
+        scarce "$fsverity" digest --block-size 524288 "$scratch/large"
+}
+
 outputs() {
     sample 4097 >"$scratch/file"
     runs 'output on a full device' 1 '' 'fsverity: cannot write output.' \
@@ -178,6 +184,7 @@ files
 several_files
 files_that_fail
 outputs
+memory
 options
 command_lines
 finish

@@ -133,6 +133,15 @@ outputs() {
     runs 'verify: all streams closed' 0 '' '' bash -c '"$@" <&- >&- 2>&-' - "$veritysetup" verify "$data" "$image" "$root"
 }
 
+memory() {
+    local large=$scratch/large root
+    zeros 1048576 >"$large"
+    root=$("$veritysetup" format --salt=- --data-block-size 524288 --hash-block-size 524288 "$large" "$large.hash" |
+        sed -n 's/^Root hash: *\t//p')
+    runs 'memory for the store' 0 '' '' "$veritysetup" verify "$large" "$large.hash" "$root"
+    runs 'no memory for the store' 3 '' 'Out of memory.' scarce "$veritysetup" verify "$large" "$large.hash" "$root"
+}
+
 # command_line NAME WORD..: the words are refused, with some text on standard error alone.
 command_line() {
     local name=$1
@@ -155,5 +164,6 @@ trees
 lengths
 files
 outputs
+memory
 command_lines
 finish

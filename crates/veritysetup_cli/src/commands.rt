@@ -2,11 +2,13 @@
 use clap::{Arg, ArgAction, ArgMatches, Command, Error};
 use std::alloc::{AllocError, Global};
 
-/// The ids of the files and the root hash.
+/// The id of the data file.
 pub const DATA: &str = "DATA";
 
+/// The id of the hash device.
 pub const HASH: &str = "HASH";
 
+/// The id of the root hash.
 pub const ROOT: &str = "ROOT";
 
 /// An option that takes a text.

@@ -9,7 +9,7 @@ use veritysetup::run_dump;
 /// Prints what the superblock of a hash device tells.
 pub fn run(rt: &HostRuntime, matches: &ArgMatches<'_>) -> u8 {
     let Some(hash) = matches.get_str(HASH) else {
-        return 1;
+        return messages::incomplete_line(rt);
     };
     match File::open(rt, hash) {
         Ok(file) => {

@@ -12,7 +12,7 @@ use veritysetup::{RawOptions, Settings, draw, option_message, run_format, settin
 /// new file.
 pub fn run(rt: &HostRuntime, matches: &ArgMatches<'_>) -> u8 {
     let (Some(data), Some(hash)) = (matches.get_str(DATA), matches.get_str(HASH)) else {
-        return 1;
+        return messages::incomplete_line(rt);
     };
     let (file, length) = match open_measured(rt, data) {
         Ok(opened) => opened,

@@ -15,11 +15,7 @@ use std::io;
 use std::process::ExitCode;
 
 fn main(rt: HostRuntime) -> ExitCode {
-    let status = match spare_files(&rt) {
-        Ok(_spare) => run(&rt),
-        Err(_) => messages::cannot_open(&rt, "/dev/null"),
-    };
-    ExitCode::from(status)
+    ExitCode::from(run(&rt))
 }
 
 /// Opens the null device three times. A standard stream that is closed takes one of these, so no file that is opened
@@ -44,7 +40,10 @@ fn run(rt: &HostRuntime) -> u8 {
         }
     }
     match commands::matches(rt.alloc(), texts.as_slice()) {
-        Ok(matches) => run_command(rt, &matches),
+        Ok(matches) => match spare_files(rt) {
+            Ok(_spare) => run_command(rt, &matches),
+            Err(_) => messages::cannot_open(rt, "/dev/null"),
+        },
         Err(error) => messages::refused_line(rt, &error),
     }
 }
@@ -55,6 +54,6 @@ fn run_command(rt: &HostRuntime, matches: &ArgMatches<'_>) -> u8 {
         Some(("format", matches)) => format::run(rt, matches),
         Some(("dump", matches)) => dump::run(rt, matches),
         Some(("verify", matches)) => verify::run(rt, matches),
-        _ => 1,
+        _ => messages::incomplete_line(rt),
     }
 }

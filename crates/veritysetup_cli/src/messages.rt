@@ -1,7 +1,7 @@
 //! Messages of the program's own, on standard error. The answer is the status that goes with each.
 use std::alloc::AllocError;
 use std::io;
-use std::io::Write;
+use std::io::{ErrorKind, Write};
 use verity_format::put_all;
 
 /// The file could not be opened, or its length not be found.
@@ -22,9 +22,21 @@ pub fn out_of_memory(rt: &HostRuntime) -> u8 {
     3
 }
 
-/// The words of the command line can't be had.
+/// The words of the command line can't be had: there is no memory for them, or one is no text.
 pub fn refused_words(rt: &HostRuntime, error: &io::Error) -> u8 {
-    tell(rt, format!(in rt.alloc(); "{error}\n"));
+    if error.kind() == ErrorKind::OutOfMemory {
+        return out_of_memory(rt);
+    }
+    tell_pieces(
+        rt,
+        &["error: invalid UTF-8 was detected in one or more arguments\n"],
+    );
+    1
+}
+
+/// The command line is accepted, but without a command or a word that it must have. `clap` lets no such line pass.
+pub fn incomplete_line(rt: &HostRuntime) -> u8 {
+    tell_pieces(rt, &["error: the command line is not complete\n"]);
     1
 }
 

@@ -15,7 +15,7 @@ pub fn run(rt: &HostRuntime, matches: &ArgMatches<'_>) -> u8 {
         matches.get_str(ROOT),
     );
     let (Some(data), Some(hash), Some(root)) = given else {
-        return 1;
+        return messages::incomplete_line(rt);
     };
     let (file, length) = match open_measured(rt, data) {
         Ok(opened) => opened,
