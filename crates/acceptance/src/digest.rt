@@ -1,4 +1,5 @@
 //! Digests of files: descriptors, lines and messages. Expected digests are those of sha2 over stated bytes.
+use crate::sample::data;
 use crate::stating_opener::StatingOpener;
 use fsverity::{
     DigestFault, DigestOptions, Form, FsOptionFault, FusedOpener, MemoryOpener, digest_file,
@@ -14,15 +15,6 @@ const DEFAULTS: DigestOptions<'static> = DigestOptions {
     block_size: None,
     salt: None,
 };
-
-/// Some bytes, of which neighbours differ.
-fn data(alloc: Global, len: usize) -> Result<Vec<u8>, AllocError> {
-    let mut bytes = vec![in alloc; 0u8; len]?;
-    for (i, byte) in bytes.iter_mut().enumerate() {
-        *byte = (i % 251) as u8;
-    }
-    Ok(bytes)
-}
 
 /// The parts one after another, and zeros up to a length.
 fn filled(alloc: Global, parts: &[&[u8]], len: usize) -> Result<Vec<u8>, AllocError> {

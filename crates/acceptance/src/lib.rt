@@ -3,10 +3,18 @@
 #![tactic(auto)]
 
 #[cfg(test)]
+mod comparing;
+#[cfg(test)]
+mod devices;
+#[cfg(test)]
 mod digest;
 #[cfg(test)]
 mod formats;
 #[cfg(test)]
 mod laying;
 #[cfg(test)]
+mod sample;
+#[cfg(test)]
 mod stating_opener;
+#[cfg(test)]
+mod trees;
