@@ -3,6 +3,10 @@
 #![tactic(auto)]
 
 #[cfg(test)]
+mod comparing;
+#[cfg(test)]
+mod devices;
+#[cfg(test)]
 mod digest;
 #[cfg(test)]
 mod dumping;
@@ -20,5 +24,7 @@ mod laying;
 mod setup_options;
 #[cfg(test)]
 mod stating_opener;
+#[cfg(test)]
+mod trees;
 #[cfg(test)]
 mod verifying;

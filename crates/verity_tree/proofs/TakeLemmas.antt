@@ -9,7 +9,8 @@ use Rattle.std.specs.List.{range_with_len}
 use Rattle.verity_hash.specs.Bytes.{filled}
 use Rattle.verity_tree.specs.Building.{HasGiven, EndsWithin, FailsWithin, bytes_of}
 use Rattle.verity_tree.specs.DataBlocks.{HoldsBlock, HoldsFront, StopsWithin}
-use Rattle.verity_tree.specs.Levels.{block_at, digest_of_block, cut, risen}
+use Rattle.verity_tree.specs.Levels.{block_at, cut, risen}
+use Rattle.verity_tree.specs.LevelDigests.{digest_of_block}
 use Rattle.verity_tree.specs.OpenBlocks.{carried}
 use Rattle.verity_tree.specs.Plans.{IsPlanned, Planned, data_blocks, whole}
 use Rattle.verity_tree.specs.Settings.{Settings, hash, fan}

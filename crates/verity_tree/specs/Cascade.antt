@@ -1,4 +1,5 @@
 -- One data block's digest on its way up through the levels whose blocks close.
+-- For the private steps; not needed to read a public contract.
 use Rattle.std.specs.Prelude.{◌≡◌, ◌⊎◌, ℕ, ◌+◌, ◌/◌, ◌%◌, ◌<◌, ◌≤◌, ◌^◌, min, Bool, true, List, map, Result, Ok, Err}
 use Rattle.verity_hash.specs.declared.digest.Digest.{Digest}
 use Rattle.verity_tree.specs.Settings.{Settings, hash, fan}

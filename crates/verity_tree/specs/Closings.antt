@@ -1,4 +1,5 @@
 -- What becomes of a device when a hash block has closed: the block is written, or compared with what stands at its place.
+-- For the private steps; not needed to read a public contract.
 use Rattle.std.specs.Prelude.{◌≡◌, ◌≢◌, ℕ, ◌+◌, ◌-◌, ◌^◌, min, List, length, Result, Ok, Err}
 use Rattle.verity_tree.specs.Counting.{last_count}
 use Rattle.verity_tree.specs.Plans.{Planned, byte_of}

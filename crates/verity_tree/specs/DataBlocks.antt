@@ -1,4 +1,5 @@
 -- How one data block is read from a source.
+-- For the private steps; not needed to read a public contract.
 use Rattle.std.specs.Prelude.{◌≡◌, ℕ, ◌+◌, ◌<◌, ◌≤◌, min, List, [], ◌++◌, length, take, drop, Result, Ok, Err}
 use Rattle.verity_hash.specs.Bytes.{filled}
 use Rattle.verity_tree.specs.Counting.{last_count}

@@ -1,4 +1,5 @@
 -- What a comparison answers where a hash block stops its pass.
+-- For the private steps; not needed to read a public contract.
 use Rattle.std.specs.Prelude.{ℕ}
 use Rattle.verity_tree.specs.declared.cascade.Stop.{Stop}
 use Rattle.verity_tree.specs.declared.closing.Cause.{Cause}

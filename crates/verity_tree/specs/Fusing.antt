@@ -33,7 +33,7 @@ CountsCall before after =
 abbrev pub IsBlown : {T X : Type 0} → Fused T → Fused T → Result X Failed → Type 0
 IsBlown before after result = BlowsNext before → IsErr result × (fused_inner after ≡ fused_inner before)
 
--- each other call is a call of the value within, which counts its own failures
+-- each other call answers Failed exactly where the value within counts a failure
 abbrev pub IsPassed : {T X : Type 0} → (T → ℕ) → Fused T → Fused T → Result X Failed → Type 0
 IsPassed failures before after result = ¬ BlowsNext before →
     CountsFailure (failures (fused_inner before)) (failures (fused_inner after)) result

@@ -6,6 +6,7 @@ pub mod Counts
 pub mod Places
 pub mod ClosingOrder
 pub mod Levels
+pub mod LevelDigests
 pub mod Plans
 pub mod PlanFields
 pub mod MakingPlans

@@ -1,6 +1,7 @@
 -- Which parameters make settings, and the first that does not: the limits of dm-verity (block sizes 512 to 524288,
--- salts of up to 256 bytes; cryptsetup's on-disk format page) and of fs-verity (a block holds at least two digests,
--- salts of up to 32 bytes; Linux kernel, fs-verity page, "FS_IOC_ENABLE_VERITY").
+-- salts of up to 256 bytes; cryptsetup's on-disk format page) and of fs-verity (block sizes are powers of two that hold
+-- at least two digests, fsverity(1), `--block-size`, and Linux kernel, fs-verity page, "FS_IOC_ENABLE_VERITY"; salts of
+-- up to 32 bytes, the same page). That fs-verity's blocks have at most 524288 bytes is this project's own limit.
 use Rattle.std.specs.Prelude.{ℕ, not, List, length, Result, Ok, Err, if◌then◌else◌, nat_lt}
 use Rattle.verity_hash.specs.Algorithms.{digest_len_of}
 use Rattle.verity_hash.specs.declared.algorithm.Algorithm.{Algorithm}

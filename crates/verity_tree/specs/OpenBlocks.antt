@@ -1,4 +1,5 @@
 -- The open blocks of a tree that is built as its data blocks come.
+-- For the private steps; not needed to read a public contract.
 use Rattle.std.specs.Prelude.{◌≡◌, ℕ, ◌+◌, ◌*◌, ◌/◌, ◌%◌, ◌^◌, ◌<◌, ◌≤◌, List, [], take, drop, length, map, replicate, slice_index_or, Bool, true, false, ◌⊎◌}
 use Rattle.std.specs.Fork.{slice_chunk}
 use Rattle.verity_tree.specs.Settings.{Settings, hash, fan, digest_len}

@@ -1,4 +1,5 @@
 -- One pass over the data: what has left the source, what stands on the device, and what was compared.
+-- For the private steps; not needed to read a public contract.
 use Rattle.std.specs.Prelude.{◌≡◌, ℕ, ◌+◌, ◌-◌, ◌<◌, ◌≤◌, ◌^◌, min, List, [], ◌∷◌, ◌++◌, length, Result, Ok, Err}
 use Rattle.verity_hash.specs.declared.digest.Digest.{Digest}
 use Rattle.verity_tree.specs.Building.{HasGiven, EndsWithin, FailsWithin, GivesUpTo, StopsAt, begun, begun_after, bytes_of}

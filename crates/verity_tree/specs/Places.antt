@@ -1,5 +1,6 @@
 -- Where the hash blocks stand in the hash area, counted in hash blocks: the top level first and level 0 last, without
--- gaps (cryptsetup's on-disk format page; Linux kernel, fs-verity page, "FS_IOC_READ_VERITY_METADATA").
+-- gaps (Linux kernel, dm-verity page, "On-disk format": a depth at a time, from the root; cryptsetup's on-disk format
+-- page; Linux kernel, fs-verity page, "FS_IOC_READ_VERITY_METADATA").
 use Rattle.std.specs.Prelude.{◌≡◌, ◌<◌, ◌≤◌, ℕ, ◌+◌, ◌-◌}
 use Rattle.verity_tree.specs.Counts.{level_count, blocks_from, IsTreeBlock}
 

@@ -2,6 +2,7 @@
 use Rattle.std.specs.Prelude.{◌≡◌, ◌<◌, ◌≤◌, ℕ, ◌+◌, ◌-◌, ◌*◌, ◌/◌, ◌^◌, ◌&&◌, Bool, List, length, nat_le, if◌then◌else◌}
 use Rattle.std.specs.Int.{div_ceil}
 use Rattle.verity_tree.specs.Counts.{level_count, level_size, IsTreeBlock}
+use Rattle.verity_tree.specs.Image.{byte_at}
 use Rattle.verity_tree.specs.Levels.{cut}
 use Rattle.verity_tree.specs.Places.{place, end_place}
 use Rattle.verity_tree.specs.Settings.{Settings, IsValid, fan}
@@ -42,7 +43,7 @@ end_of p = end_place (fan p.settings) p.blocks p.base
 
 -- the byte at which a block of a level stands
 abbrev pub byte_of : Planned → ℕ → ℕ → ℕ
-byte_of p level block = place_of p level block * p.settings.hash_block
+byte_of p level block = byte_at p.settings p.blocks p.base level block
 
 -- the tree has this block of this level
 abbrev pub HasBlock : Planned → ℕ → ℕ → Type 0

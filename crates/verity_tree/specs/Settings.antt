@@ -42,7 +42,7 @@ slot s digest = filled (slot_width s) digest
 unfoldable pub fan : Settings → ℕ
 fan s = greatest_fan (digest_len s) s.hash_block
 
--- the largest block size and salt, and the smallest block size
+-- the largest block size (of dm-verity, and for fs-verity this project's own), the longest salt, the smallest block size
 abbrev pub most_block : ℕ
 most_block = 524288
 

@@ -30,9 +30,13 @@ pub enum BuildFault {
 }
 
 /// Builds the tree above the data of a source: reads the data once, writes each hash block once, in closing order and at
-/// its place, and answers the root hash (Linux kernel, dm-verity page, "Hash Tree"). It takes no memory.
+/// its place, and answers the root hash (Linux kernel, dm-verity page, "Hash Tree"). It takes no memory. The store is one
+/// that `fits` the plan.
 ///
-/// A fault leaves the hash blocks that closed before it.
+/// A fault leaves the hash blocks that closed before it; after `DeviceFailed` the failed block's own range is unknown. What
+/// has left the source: all that the plan wants where a root is answered, all its bytes after `SourceShort`, the data up to
+/// the block with which the hash block closed after `DeviceFailed`, and less than a block more than those before it after
+/// `SourceFailed`.
 pub fn build<S: Source, D: Device>(
     plan: &Plan,
     store: &mut Store,
@@ -65,8 +69,8 @@ pub fn build<S: Source, D: Device>(
     }
 }
 
-/// The root hash of the tree above the data of a source, which is read once; nothing is written. It takes no memory, and
-/// its only faults are those of the source.
+/// The root hash of the tree above the data of a source, which is read once, as `build` reads it; nothing is written. It
+/// takes no memory, and its only faults are those of the source. The store is one that `fits` the plan.
 pub fn root_only<S: Source>(
     plan: &Plan,
     store: &mut Store,

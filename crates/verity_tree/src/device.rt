@@ -27,8 +27,10 @@ pub trait Device {
         ensures bytes { tells self.old → ReadsAt result at (content self.old) buf.new }
         ensures count { CountsFailure (failures self.old) (failures self.new) result };
 
-    /// Writes at a place, counted in bytes, with zeros in a gap past the old end. `Failed` where it can't be written: what
-    /// stands between that place and the end of the bytes is unknown then.
+    /// Writes at a place, counted in bytes, with zeros in a gap past the old end. The place plus the number of bytes is at
+    /// most 2^63 - 1. `Failed` where it can't be written: then what stands there, from the place on for as many bytes as were
+    /// to be written, is unknown, every other byte stays, and the device is no shorter than before and no longer than the
+    /// write would have made it; a gap that has come is zeros.
     fn write_at(&mut self, at: u64, bytes: &[u8]) -> Result<(), Failed>
         requires { at + length bytes.now ≤ 2 ^ 63 - 1 }
         ensures told { tells self.old → tells self.new }

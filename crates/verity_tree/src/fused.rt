@@ -9,8 +9,8 @@ use crate::device::Device;
 use crate::failed::{Failed, counted};
 use crate::source::Source;
 
-/// A source or device that fails one call without calling the value within, and passes each other call on. It tries what
-/// a caller does at a fault.
+/// A source or device that fails one call, at which the value within stays, and passes each other call on: such a call
+/// answers `Failed` exactly where the value within counts a failure. It tries what a caller does at a fault.
 #[derive(Drop)]
 pub struct Fused<T> {
     inner: T,

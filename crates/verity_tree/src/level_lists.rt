@@ -2,7 +2,8 @@
 ghost use Rattle.std.specs.Prelude.{◌≡◌, ◌+◌, ◌*◌, ◌<◌, ◌≤◌, ◌++◌, length, map, vec_len, IfOk, OnOk};
 ghost use Rattle.std.specs.Int.{div_ceil};
 ghost use Rattle.verity_hash.specs.Bytes.{filled};
-ghost use Rattle.verity_tree.specs.Levels.{cut, hash_block_of, pack, root, root_of_digests};
+ghost use Rattle.verity_tree.specs.Levels.{cut, hash_block_of, pack, root};
+ghost use Rattle.verity_tree.specs.LevelDigests.{root_of_digests};
 ghost use Rattle.verity_tree.specs.Plans.{data_blocks};
 ghost use Rattle.verity_tree.specs.Settings.{hash};
 

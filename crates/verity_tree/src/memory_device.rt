@@ -1,6 +1,8 @@
 //! A device in memory.
-ghost use Rattle.std.specs.Prelude.{◌≡◌, ◌≤◌, ◌+◌, ◌-◌, ◌^◌, ◌++◌, length, take, drop, replicate, OnOk, OnErr};
-ghost use Rattle.verity_tree.specs.Writing.{put};
+ghost use Rattle.std.specs.Prelude.{◌≡◌, ◌≤◌, ◌<◌, ◌+◌, ◌-◌, ◌^◌, ◌++◌, length, take, drop, replicate, IfOk, IsErr, IsOk, OnOk, OnErr};
+ghost use Rattle.verity_tree.specs.Counting.{CountsFailure};
+ghost use Rattle.verity_tree.specs.Reading.{ReadsAt};
+ghost use Rattle.verity_tree.specs.Writing.{put, Spoiled};
 
 use crate::device::Device;
 use crate::failed::{Failed, counted};
@@ -32,6 +34,7 @@ impl MemoryDevice {
     }
 }
 
+/// A read never fails. A write fails only where the bytes have to grow, and leaves them then.
 impl Device for MemoryDevice {
     ghost tells = { λ _. Unit {0} };
 
@@ -39,7 +42,16 @@ impl Device for MemoryDevice {
 
     ghost failures = { λ d. d.failures };
 
-    fn read_at(&mut self, at: u64, buf: &mut [u8]) -> Result<usize, Failed> {
+    fn read_at(&mut self, at: u64, buf: &mut [u8]) -> Result<usize, Failed>
+        ensures all { IsOk result }
+        ensures bound { IfOk result (λ k. k ≤ length buf.new) }
+        ensures told { ⟦<MemoryDevice as Device>⟧.tells self.old → ⟦<MemoryDevice as Device>⟧.tells self.new }
+        ensures same { ⟦<MemoryDevice as Device>⟧.tells self.old →
+            ⟦<MemoryDevice as Device>⟧.content self.new ≡ ⟦<MemoryDevice as Device>⟧.content self.old }
+        ensures bytes { ⟦<MemoryDevice as Device>⟧.tells self.old →
+            ReadsAt result at (⟦<MemoryDevice as Device>⟧.content self.old) buf.new }
+        ensures count { CountsFailure (⟦<MemoryDevice as Device>⟧.failures self.old) (⟦<MemoryDevice as Device>⟧.failures self.new) result }
+    {
         let at = at as usize;
         if at >= self.bytes.len() {
             return Ok(0);
@@ -49,7 +61,17 @@ impl Device for MemoryDevice {
         Ok(count)
     }
 
-    fn write_at(&mut self, at: u64, bytes: &[u8]) -> Result<(), Failed> {
+    fn write_at(&mut self, at: u64, bytes: &[u8]) -> Result<(), Failed>
+        requires { at + length bytes.now ≤ 2 ^ 63 - 1 }
+        ensures grows { IsErr result → length (⟦<MemoryDevice as Device>⟧.content self.old) < at + length bytes.now }
+        ensures left { OnErr result (⟦<MemoryDevice as Device>⟧.content self.new ≡ ⟦<MemoryDevice as Device>⟧.content self.old) }
+        ensures told { ⟦<MemoryDevice as Device>⟧.tells self.old → ⟦<MemoryDevice as Device>⟧.tells self.new }
+        ensures ok { ⟦<MemoryDevice as Device>⟧.tells self.old →
+            OnOk result (⟦<MemoryDevice as Device>⟧.content self.new ≡ put (⟦<MemoryDevice as Device>⟧.content self.old) at bytes.now) }
+        ensures failed { ⟦<MemoryDevice as Device>⟧.tells self.old → OnErr result
+            (Spoiled (⟦<MemoryDevice as Device>⟧.content self.old) at (length bytes.now) (⟦<MemoryDevice as Device>⟧.content self.new)) }
+        ensures count { CountsFailure (⟦<MemoryDevice as Device>⟧.failures self.old) (⟦<MemoryDevice as Device>⟧.failures self.new) result }
+    {
         let outcome = put_at(&mut self.bytes, at as usize, bytes);
         counted(&mut self.failures, outcome)
     }
@@ -59,6 +81,7 @@ fn put_at(bytes: &mut Vec<u8>, at: usize, others: &[u8]) -> Result<(), Failed>
     requires { at + length others.now ≤ 2 ^ 63 - 1 }
     ensures ok { OnOk result (bytes.new.items ≡ put bytes.old.items at others.now) }
     ensures err { OnErr result (bytes.new.items ≡ bytes.old.items) }
+    ensures grows { IsErr result → length bytes.old.items < at + length others.now }
 {
     match fill_up(bytes, at + others.len()) {
         Ok(()) => {
@@ -73,6 +96,7 @@ fn put_at(bytes: &mut Vec<u8>, at: usize, others: &[u8]) -> Result<(), Failed>
 fn fill_up(bytes: &mut Vec<u8>, len: usize) -> Result<(), AllocError>
     ensures ok { OnOk result (bytes.new.items ≡ bytes.old.items ++ replicate (len - length bytes.old.items) 0) }
     ensures err { OnErr result (bytes.new.items ≡ bytes.old.items) }
+    ensures grows { IsErr result → length bytes.old.items < len }
 {
     if bytes.len() < len {
         bytes.resize(len, 0)?;

@@ -1,5 +1,7 @@
 //! A source over bytes in memory.
-ghost use Rattle.std.specs.Prelude.{◌≡◌, List, ℕ};
+ghost use Rattle.std.specs.Prelude.{◌≡◌, ◌≤◌, min, List, ℕ, length, IfOk, IsOk};
+ghost use Rattle.verity_tree.specs.Counting.{CountsFailure};
+ghost use Rattle.verity_tree.specs.Reading.{TakesNext};
 
 use crate::failed::Failed;
 use crate::source::Source;
@@ -33,15 +35,22 @@ impl<'a> MemorySource<'a> {
     }
 }
 
-/// A read gives all that fits.
-impl Source for MemorySource<'_> {
+/// A read gives all that fits, and never fails.
+impl<'a> Source for MemorySource<'a> {
     ghost tells = { λ _. Unit {0} };
 
     ghost to_come = { λ s. s };
 
     ghost failures = { λ _. 0 };
 
-    fn read(&mut self, buf: &mut [u8]) -> Result<usize, Failed> {
+    fn read(&mut self, buf: &mut [u8]) -> Result<usize, Failed>
+        ensures never { IsOk result }
+        ensures all { IfOk result (λ k. k ≡ min (length self.old) (length buf.new)) }
+        ensures bound { IfOk result (λ k. k ≤ length buf.new) }
+        ensures told { ⟦<MemorySource<'a> as Source>⟧.tells self.old → ⟦<MemorySource<'a> as Source>⟧.tells self.new }
+        ensures bytes { ⟦<MemorySource<'a> as Source>⟧.tells self.old → TakesNext result buf.new self.old self.new }
+        ensures count { CountsFailure 0 0 result }
+    {
         let count = self.rest.len().min(buf.len());
         let (next, rest) = self.rest.split_at(count);
         buf[..count].copy_from_slice(next);

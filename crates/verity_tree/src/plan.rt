@@ -53,7 +53,11 @@ ghost use Rattle.verity_tree.specs.MakingPlans.{planned, plan_for_blocks, plan_f
 const MOST_BYTES: u64 = (1 << 63) - 1;
 
 impl Plan {
-    /// A plan for so many whole data blocks, with the hash area from block `base` on, counted in hash blocks.
+    /// A plan for so many whole data blocks, with the hash area from block `base` on, counted in hash blocks (Linux kernel,
+    /// dm-verity page, "Construction Parameters").
+    ///
+    /// `NoData` for no blocks; else `TooLarge` where the data area or the hash area, which ends behind the last hash block,
+    /// would go past 2^63 - 1 bytes.
     pub fn for_blocks(settings: &TreeSettings, blocks: u64, base: u64) -> Result<Plan, PlanFault>
         ensures { result ≡ plan_for_blocks settings.now blocks base }
     {
@@ -64,7 +68,10 @@ impl Plan {
     }
 
     /// A plan for so many bytes, the last data block perhaps not whole, with the hash area from block `base` on,
-    /// counted in hash blocks.
+    /// counted in hash blocks (Linux kernel, fs-verity page, "Merkle tree").
+    ///
+    /// `NoData` for no bytes; else `TooLarge` where the data area, in whole blocks, or the hash area would go past
+    /// 2^63 - 1 bytes.
     pub fn for_bytes(settings: &TreeSettings, size: u64, base: u64) -> Result<Plan, PlanFault>
         ensures { result ≡ plan_for_bytes settings.now size base }
     {
@@ -206,7 +213,7 @@ impl Plan {
         self.levels * hash_block + self.settings.data_block() as usize + hash_block
     }
 
-    /// The number of blocks of a level, level 0 next to the data.
+    /// The number of blocks of a level of the tree, level 0 next to the data. The level is below the number of levels.
     pub fn level_size(&self, level: usize) -> u64
         requires { level < levels_of self.now }
         ensures { result ≡ size_of_level self.now level }
@@ -227,8 +234,8 @@ impl Plan {
         size
     }
 
-    /// The place of a block of a level, counted in hash blocks: the top level stands first (cryptsetup's on-disk format
-    /// page).
+    /// The place of a block of a level, counted in hash blocks: the top level stands first (Linux kernel, dm-verity page,
+    /// "On-disk format"). The level is below the number of levels, and the block below the level's size.
     pub fn place(&self, level: usize, block: u64) -> u64
         requires { HasBlock self.now level block }
         ensures { result ≡ place_of self.now level block }

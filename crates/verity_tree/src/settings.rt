@@ -76,9 +76,10 @@ impl TreeSettings {
         TreeSettings::checked(algorithm, hash_type.rule(), salt, data_block, hash_block)
     }
 
-    /// Settings of fs-verity: data and tree blocks have one size, a power of two from twice the digest's length to
-    /// 524288, and the salt has up to 32 bytes (Linux kernel, fs-verity page). The first parameter past its limits is
-    /// the fault.
+    /// Settings of fs-verity: data and tree blocks have one size, a power of two of at least twice the digest's length
+    /// (fsverity(1), `--block-size`; Linux kernel, fs-verity page, "FS_IOC_ENABLE_VERITY"), and at most 524288, a limit of
+    /// this project's own; the salt has up to 32 bytes (the kernel's page again). The first parameter past its limits is
+    /// the fault: a bad block size is always `DataBlockSize`, never `HashBlockSize`.
     pub fn fsverity(
         algorithm: Algorithm,
         salt: &[u8],

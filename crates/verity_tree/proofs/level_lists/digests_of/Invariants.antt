@@ -1,6 +1,6 @@
 use Rattle.std.proofs.Common.{◌≡◌, map, length}
 use Rattle.std.specs.List.{range_with_len}
-use Rattle.verity_tree.specs.Levels.{digest_of_block}
+use Rattle.verity_tree.specs.LevelDigests.{digest_of_block}
 use Rattle.verity_tree.proofs.level_lists.digests_of.Given as goal
 
 -- the digests of the blocks so far

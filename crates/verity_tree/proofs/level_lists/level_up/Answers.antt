@@ -3,7 +3,8 @@ use Rattle.std.proofs.Common.{◌≡◌, ℕ, map, arith, sym, ◌∙◌, ap, le
 use Rattle.std.specs.List.{range_with_len}
 use Rattle.std.specs.Int.{div_ceil}
 use Rattle.verity_tree.specs.Settings.{hash, fan}
-use Rattle.verity_tree.specs.Levels.{digest_of_run, hash_block_of}
+use Rattle.verity_tree.specs.Levels.{hash_block_of}
+use Rattle.verity_tree.specs.LevelDigests.{digest_of_run}
 use Rattle.verity_tree.proofs.LevelLemmas.{map-hash-pack, take-run, digests_more}
 use Rattle.verity_tree.proofs.level_lists.level_up.Goals as goal
 

@@ -1,6 +1,6 @@
 use Rattle.std.proofs.Common.{◌≡◌, map}
 use Rattle.std.specs.List.{range_with_len}
-use Rattle.verity_tree.specs.Levels.{digest_of_run}
+use Rattle.verity_tree.specs.LevelDigests.{digest_of_run}
 use Rattle.verity_tree.proofs.level_lists.level_up.Given as goal
 
 -- the digests of the runs so far

@@ -1,5 +1,5 @@
 use Rattle.std.proofs.Common.{◌≡◌, ◌<◌, vec_len}
-use Rattle.verity_tree.specs.Levels.{root_of_digests}
+use Rattle.verity_tree.specs.LevelDigests.{root_of_digests}
 use Rattle.verity_tree.proofs.level_lists.root_above.Given as goal
 
 -- some digests are left, with the same root above them

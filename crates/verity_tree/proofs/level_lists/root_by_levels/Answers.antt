@@ -3,7 +3,8 @@ use Rattle.std.proofs.Common.{◌≡◌, ◌<◌, ℕ, List, map, length, IfOk, 
 use Rattle.std.proofs.lemmas.List.{length-map}
 use Rattle.std.specs.Int.{div_ceil}
 use Rattle.verity_tree.specs.Settings.{Settings, hash}
-use Rattle.verity_tree.specs.Levels.{cut, root_of_digests}
+use Rattle.verity_tree.specs.Levels.{cut}
+use Rattle.verity_tree.specs.LevelDigests.{root_of_digests}
 use Rattle.verity_tree.specs.Plans.{Planned, IsPlanned, data_blocks}
 use Rattle.verity_tree.proofs.FanLemmas.{fan-two}
 use Rattle.verity_tree.proofs.LevelLemmas.{length-cut}

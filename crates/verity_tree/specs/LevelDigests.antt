@@ -1,0 +1,24 @@
+-- The levels of digests rather than of blocks, for proofs and for the plain body of the root by whole lists; not needed to
+-- read a public contract.
+use Rattle.std.specs.Prelude.{ℕ, zero, suc, List, [], length, map, take, slice_index_or}
+use Rattle.std.specs.Fork.{slice_chunk}
+use Rattle.verity_tree.specs.Counts.{level_count}
+use Rattle.verity_tree.specs.Levels.{block_at, hash_block_of, pack}
+use Rattle.verity_tree.specs.Settings.{Settings, hash, fan}
+
+-- the digest of the i-th data block
+abbrev pub digest_of_block : Settings → ℕ → List ℕ → ℕ → List ℕ
+digest_of_block s wanted bytes i = hash s (block_at s.data_block (take wanted bytes) i)
+
+-- the digest of the hash block of the j-th run of digests
+abbrev pub digest_of_run : Settings → List (List ℕ) → ℕ → List ℕ
+digest_of_run s digests j = hash s (hash_block_of s (slice_chunk digests (fan s) j))
+
+-- the digests above these, so many levels up
+unfoldable pub digests_risen : Settings → List (List ℕ) → ℕ → List (List ℕ)
+digests_risen s digests zero = digests
+digests_risen s digests (suc l) = map (hash s) (pack s (digests_risen s digests l))
+
+-- the one digest that is left above these
+unfoldable pub root_of_digests : Settings → List (List ℕ) → List ℕ
+root_of_digests s digests = slice_index_or (digests_risen s digests (level_count (fan s) (length digests))) 0 []
