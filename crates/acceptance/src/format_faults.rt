@@ -1,6 +1,6 @@
 //! What format leaves where a read or a write fails, or the data ends too soon.
 use crate::images::{SMALL, formatted, image_17, image_of};
-use crate::laying::data;
+use crate::laying::{data, lay};
 use std::test::Fail;
 use verity_tree::{Fused, MemoryDevice, MemorySource, Store, build};
 use veritysetup::settings_of;
@@ -40,12 +40,12 @@ fn a_failed_write_ends_the_tree(rt: HostRuntime) -> Result<(), Fail> {
     assert!(rt; said.out.is_empty());
     assert_eq!(rt; device.calls(), 3);
     let left = device.inner().bytes();
-    let whole = image.device.as_slice();
-    assert!(rt; left.len() >= 3072);
+    let mut front = image.device;
+    front.truncate(3072);
+    lay(&mut front[..], &[(0, &[0; 2048])]);
+    let first = left.chunks(3072).next().ok_or("3072 bytes")?;
+    assert_eq!(rt; first, front.as_slice());
     assert!(rt; left.len() <= 3584);
-    assert!(rt; whole.len() >= 3072);
-    assert_eq!(rt; &left[..2048], [0; 2048].as_slice());
-    assert_eq!(rt; &left[2048..3072], &whole[2048..3072]);
     Ok(())
 }
 
@@ -116,10 +116,9 @@ fn each_failed_write_is_named(rt: HostRuntime) -> Result<(), Fail> {
 #[test]
 fn short_data_is_named(rt: HostRuntime) -> Result<(), Fail> {
     let alloc = rt.alloc();
-    let image = image_17(alloc)?;
     let settings = settings_of(&SMALL, 8704, None)?;
-    assert_eq!(rt; image.data.len(), 8704);
-    let mut source = MemorySource::new(&image.data[..8703]);
+    let data = data(alloc, 8703)?;
+    let mut source = MemorySource::new(data.as_slice());
     let mut device = MemoryDevice::new(Vec::new(alloc));
     let said = formatted(alloc, &settings, &mut source, &mut device);
     assert_eq!(rt; said.status, 4);

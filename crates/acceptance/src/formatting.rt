@@ -19,7 +19,7 @@ const SHAPES: [((usize, usize), usize, usize, usize, usize); 9] = [
     ((512, 512), 4097, 4, 142_336, 3072),
 ];
 
-/// The report of an image that has no salt, or the one that is told.
+/// The report that format prints of `hash.img`.
 fn report_of(
     alloc: Global,
     (data_block, hash_block): (usize, usize),

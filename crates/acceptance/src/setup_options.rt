@@ -39,7 +39,8 @@ fn random_bytes_stand_for_what_is_missing(rt: HostRuntime) -> Result<(), Fail> {
     assert_eq!(rt; tree.hash_block(), 4096);
     assert_eq!(rt; settings.plan().blocks(), 1);
     assert_eq!(rt; settings.plan().base(), 1);
-    assert_eq!(rt; tree.salt(), &random[..32]);
+    let salt = random.chunks(32).next().ok_or("32 bytes")?;
+    assert_eq!(rt; tree.salt(), salt);
     let uuid = [
         0x20, 0x21, 0x22, 0x23, 0x24, 0x25, 0x46, 0x27, 0xa8, 0x29, 0x2a, 0x2b, 0x2c, 0x2d, 0x2e,
         0x2f,
