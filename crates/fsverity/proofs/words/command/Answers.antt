@@ -1,8 +1,8 @@
-use Rattle.std.proofs.Common.{rules, refl, ap, ap₂, codes, ◌≡◌, ◌∙◌, sym}
+use Rattle.std.proofs.Common.{rules, ap, ap₂, ◌≡◌, ◌∙◌}
 use Rattle.std.proofs.lemmas.Result.{IfOk-weaker}
-use Rattle.clap.specs.Words.{App, app_of, new_app, with_subcommand}
+use Rattle.clap.specs.Words.{App, app_of, with_subcommand}
 use Rattle.clap.specs.Simple.{on_top}
-use Rattle.fsverity.specs.CommandLines.{digest_app, fsverity_app, without_help}
+use Rattle.fsverity.specs.CommandLines.{fsverity_app, without_help}
 use Rattle.fsverity.proofs.words.command.Goals as goal
 
 pub returns-clause-app : goal.returns-clause-app

@@ -1,4 +1,4 @@
-use Rattle.std.proofs.Common.{ap, codes, ◌≡◌, ◌∙◌, map, List, ℕ, string_bytes, Vec, String, Global}
+use Rattle.std.proofs.Common.{ap, codes, ◌∙◌, map, string_bytes, Vec, String, Global}
 use Rattle.clap.specs.Words.{found_of}
 use Rattle.clap.proofs.WalkLemmas.{first_value-rows, raw_values-rows}
 use Rattle.fsverity.proofs.Getters.{list_read, some_same}

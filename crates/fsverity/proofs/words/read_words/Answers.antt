@@ -1,4 +1,4 @@
-use Rattle.std.proofs.Common.{rules, ap₂, refl, ap, subst, ◌≡◌, ◌∙◌, true, map, sym, List}
+use Rattle.std.proofs.Common.{refl, ap, subst, ◌≡◌, ◌∙◌, true, map, sym, List}
 use Rattle.clap.specs.Words.{App, Row, is_simple, subcommand_of}
 use Rattle.clap.proofs.OnLiterals.{clap_on_literals}
 use Rattle.fsverity.specs.CommandLines.{HoldsRows, fsverity_app, digest_app}
