@@ -201,6 +201,11 @@ fn trees_are_built(rt: HostRuntime) -> Result<(), Fail> {
     Ok(())
 }
 
+/// The bytes from one place to another, or none where there are fewer.
+fn part(bytes: &[u8], from: usize, to: usize) -> &[u8] {
+    bytes.get(from..to).unwrap_or(&[])
+}
+
 /// A byte, so many times.
 fn repeated(alloc: Global, byte: u8, len: usize) -> Result<Vec<u8>, AllocError> {
     vec![in alloc; byte; len]
@@ -216,11 +221,15 @@ fn other_bytes_of_a_device_stay(rt: HostRuntime) -> Result<(), Fail> {
     for _ in 0..2 {
         let mut source = MemorySource::new(bytes.as_slice());
         let mut device = MemoryDevice::new(repeated(alloc, 0x77, 4096)?);
+        assert!(rt; store.fits(&plan));
         let root = build(&plan, &mut store, &mut source, &mut device)?;
         assert_eq!(rt; root.as_bytes(), expected.root.as_slice());
-        assert_eq!(rt; device.bytes()[..512], repeated(alloc, 0x77, 512)?[..]);
-        assert_eq!(rt; device.bytes()[512..2048], expected.image[512..]);
-        assert_eq!(rt; device.bytes()[2048..], repeated(alloc, 0x77, 2048)?[..]);
+        let image = device.bytes();
+        let tree = part(expected.image.as_slice(), 512, 2048);
+        let other = repeated(alloc, 0x77, 2048)?;
+        assert_eq!(rt; part(image, 0, 512), part(other.as_slice(), 0, 512));
+        assert_eq!(rt; part(image, 512, 2048), tree);
+        assert_eq!(rt; part(image, 2048, 4096), other.as_slice());
     }
     Ok(())
 }
@@ -241,9 +250,11 @@ fn a_fault_leaves_what_closed_before(rt: HostRuntime) -> Result<(), Fail> {
     );
     assert_eq!(rt; device.failures(), 1);
     assert_eq!(rt; source.rest().len(), (257 - 48) * 512);
+    let closed = part(expected.image.as_slice(), 2048, 3072);
     let left = device.into_inner();
-    assert_eq!(rt; left.bytes()[..2048], repeated(alloc, 0, 2048)?[..]);
-    assert_eq!(rt; left.bytes()[2048..3072], expected.image[2048..3072]);
+    let zeros = repeated(alloc, 0, 2048)?;
+    assert_eq!(rt; part(left.bytes(), 0, 2048), zeros.as_slice());
+    assert_eq!(rt; part(left.bytes(), 2048, 3072), closed);
 
     let mut source = Fused::new(MemorySource::new(bytes.as_slice()), 41);
     let mut device = MemoryDevice::new(Vec::new(alloc));
@@ -253,9 +264,9 @@ fn a_fault_leaves_what_closed_before(rt: HostRuntime) -> Result<(), Fail> {
         Err(fault)
     );
     assert_eq!(rt; device.bytes().len(), 3072);
-    assert_eq!(rt; device.bytes()[2048..], expected.image[2048..3072]);
+    assert_eq!(rt; part(device.bytes(), 2048, 3072), closed);
 
-    let mut source = MemorySource::new(&bytes[..257 * 512 - 1]);
+    let mut source = MemorySource::new(part(bytes.as_slice(), 0, 257 * 512 - 1));
     let fault = BuildFault::SourceShort(256);
     assert_eq!(rt; root_only(&plan, &mut store, &mut source), Err(fault));
     Ok(())

@@ -34,9 +34,9 @@ pub enum BuildFault {
 /// that `fits` the plan.
 ///
 /// A fault leaves the hash blocks that closed before it; after `DeviceFailed` the failed block's own range is unknown. What
-/// has left the source: all that the plan wants where a root is answered, all its bytes after `SourceShort`, the data up to
-/// the block with which the hash block closed after `DeviceFailed`, and less than a block more than those before it after
-/// `SourceFailed`.
+/// has left the source: all that the plan wants where a root is answered; all its bytes after `SourceShort`; the data up to
+/// the block with which the hash block closed after `DeviceFailed`; the blocks before the failed one, and less than one block
+/// more, after `SourceFailed`.
 pub fn build<S: Source, D: Device>(
     plan: &Plan,
     store: &mut Store,
