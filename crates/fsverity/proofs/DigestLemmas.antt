@@ -2,9 +2,8 @@
 use Rattle.std.proofs.Common.{◌≡◌, ℕ, ◌+◌, ◌*◌, ◌/◌, ◌<◌, ◌≤◌, ◌==◌, Bool, true, false, cond, List, [], length, Ok, Err, sym, arith}
 use Rattle.std.proofs.Math.Nat.{div-eq_of_lt-le}
 use Rattle.verity_tree.specs.Building.{EndsWithin}
-use Rattle.verity_tree.specs.MakingPlans.{planned}
-use Rattle.verity_tree.specs.Plans.{Planned, has_room}
-use Rattle.verity_tree.specs.declared.plan.PlanFault.TheVariants.{NoData, TooLarge}
+use Rattle.verity_plan.specs.Plans.{planned, Planned, has_room}
+use Rattle.verity_plan.specs.declared.plan_fault.PlanFault.TheVariants.{NoData, TooLarge}
 
 -- a plan is what it was asked for
 pub planned_is : (asked plan : Planned) → Ok plan ≡ planned asked → plan ≡ asked

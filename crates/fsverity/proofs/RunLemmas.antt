@@ -4,7 +4,7 @@ use Rattle.std.specs.Prelude.{slice_get, slice_index_or}
 use Rattle.std.specs.List.{zip, flat_map, prefix_len}
 use Rattle.std.specs.Io.KnownBytes.{Appends}
 use Rattle.verity_format.proofs.KnownLemmas.{appends_twice}
-use Rattle.verity_tree.specs.Settings.{Settings}
+use Rattle.verity_plan.specs.Settings.{Settings}
 use Rattle.fsverity.specs.Runs.{StandsOf, HasReason, WritesLine, WritesPart, WritesUpTo, lines, file_line}
 use Rattle.fsverity.specs.declared.digest_lines.Form.{Form}
 use Rattle.fsverity.specs.declared.fault.DigestFault.TheVariants.{TooLarge, SourceShort, SourceFailed, Memory}

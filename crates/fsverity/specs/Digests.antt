@@ -5,10 +5,10 @@ use Rattle.std.specs.Int.{div_ceil}
 use Rattle.verity_format.specs.Descriptors.{DescriptorFields, descriptor_text, digest_of_file}
 use Rattle.verity_hash.specs.declared.digest.Digest.{Digest}
 use Rattle.verity_tree.specs.Building.{HasGiven}
-use Rattle.verity_tree.specs.Counting.{last_count}
+use Rattle.verity_io.specs.Counting.{last_count}
 use Rattle.verity_tree.specs.Levels.{cut, root}
-use Rattle.verity_tree.specs.MakingPlans.{plan_for_bytes}
-use Rattle.verity_tree.specs.Settings.{Settings, digest_len}
+use Rattle.verity_plan.specs.Plans.{plan_for_bytes}
+use Rattle.verity_plan.specs.Settings.{Settings, digest_len}
 use Rattle.fsverity.specs.declared.fault.DigestFault.{DigestFault}
 use Rattle.fsverity.specs.declared.fault.DigestFault.TheVariants.{TooLarge, SourceShort, SourceFailed, Memory}
 use Rattle.fsverity.specs.declared.digesting.FileDigest.{FileDigest}

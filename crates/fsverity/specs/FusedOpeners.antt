@@ -1,7 +1,7 @@
 -- What contracts see of an opener each of whose sources fails one call, this project's own.
 use Rattle.std.specs.Prelude.{◌≡◌, ℕ}
-use Rattle.verity_tree.specs.Fusing.{fused_at, fused_calls}
-use Rattle.verity_tree.specs.declared.fused.Fused.{Fused}
+use Rattle.verity_io.specs.Fusing.{fused_at, fused_calls}
+use Rattle.verity_io.specs.declared.fused.Fused.{Fused}
 use Rattle.fsverity.specs.declared.fused_opener.FusedOpener.{FusedOpener}
 
 -- the opener within

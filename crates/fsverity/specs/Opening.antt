@@ -1,7 +1,7 @@
 -- What an opener does with the files that it tells, this project's own: open(2) of POSIX over a list of files.
 use Rattle.std.specs.Prelude.{◌≡◌, ◌⊎◌, ℕ, ◌+◌, ◌≤◌, List, Option, Some, None, length, slice_get, Result, MatchResult}
-use Rattle.verity_tree.specs.declared.failed.Failed.{Failed}
-use Rattle.verity_tree.specs.Counting.{Rose}
+use Rattle.verity_io.specs.declared.failed.Failed.{Failed}
+use Rattle.verity_io.specs.Counting.{Rose}
 
 -- the file at a place is there, with this length and these bytes
 abbrev pub IsSuch : List (Option (List ℕ)) → ℕ → ℕ → List ℕ → Type 0

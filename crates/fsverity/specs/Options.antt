@@ -5,7 +5,7 @@ use Rattle.verity_hash.specs.Algorithms.{digest_len_of, named}
 use Rattle.verity_hash.specs.declared.algorithm.Algorithm.{Algorithm}
 use Rattle.verity_hash.specs.declared.algorithm.Algorithm.TheVariants.{Sha256}
 use Rattle.verity_hash.specs.declared.salting.SaltRule.TheVariants.{PaddedBefore}
-use Rattle.verity_tree.specs.Settings.{Settings, is_block_size, least_block, most_salt}
+use Rattle.verity_plan.specs.Settings.{Settings, is_block_size, least_block, most_salt}
 use Rattle.option_texts.specs.Numbers.{number_of}
 use Rattle.option_texts.specs.Salts.{salt_of}
 use Rattle.fsverity.specs.declared.option_fault.FsOptionFault.{FsOptionFault}

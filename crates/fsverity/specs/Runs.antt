@@ -3,8 +3,8 @@
 use Rattle.std.specs.Prelude.{◌≡◌, ◌⊎◌, ℕ, ◌+◌, ◌<◌, ◌≤◌, Bool, false, true, not, List, [], ◌∷◌, ◌++◌, length, take, codes, Option, Some, None, slice_get, slice_index_or}
 use Rattle.std.specs.List.{concat, zip, flat_map, prefix_len}
 use Rattle.std.specs.Io.KnownBytes.{Appends}
-use Rattle.verity_tree.specs.Counting.{Rose}
-use Rattle.verity_tree.specs.Settings.{Settings}
+use Rattle.verity_io.specs.Counting.{Rose}
+use Rattle.verity_plan.specs.Settings.{Settings}
 use Rattle.fsverity.specs.Digests.{IsFileDigest, file_digest_of, is_too_large}
 use Rattle.fsverity.specs.Lines.{line}
 use Rattle.fsverity.specs.Messages.{fault_text}

@@ -18,7 +18,7 @@ pub struct FileDigest {
     pub descriptor: [u8; 256],
 }
 
-ghost use Rattle.verity_tree.specs.Settings.{digest_len};
+ghost use Rattle.verity_plan.specs.Settings.{digest_len};
 ghost use Rattle.fsverity.specs.Digests.{Digests, CountsReads, ComesFirst, IsDescribedBy, Roots, is_too_large};
 
 /// The digest of the first `size` bytes of a source, which are read once: the hash of the file's descriptor (Linux kernel,

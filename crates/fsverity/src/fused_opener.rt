@@ -1,7 +1,7 @@
 //! An opener each of whose sources fails one call.
 ghost use Rattle.std.specs.Prelude.{◌≡◌, ◌≤◌, ◌+◌, ◌-◌, ◌^◌, ◌<◌, ◌↔◌, ℕ, List, Option, length, min, IfOk, OnErr};
-ghost use Rattle.verity_tree.specs.Counting.{last_count};
-ghost use Rattle.verity_tree.specs.Fusing.{fused_at, fused_calls, fused_failures, fused_inner};
+ghost use Rattle.verity_io.specs.Counting.{last_count};
+ghost use Rattle.verity_io.specs.Fusing.{fused_at, fused_calls, fused_failures, fused_inner};
 ghost use Rattle.fsverity.specs.FusedOpeners.{fused_call, opener_within, opener_failures, StartsFused};
 ghost use Rattle.fsverity.specs.Opening.{IsSuch, CountsOpening, FailsFor};
 

@@ -1,6 +1,6 @@
 //! Openers, which start the sources of files one after another.
 ghost use Rattle.std.specs.Prelude.{◌≡◌, ◌≤◌, ◌+◌, ◌-◌, ◌^◌, ◌<◌, ◌↔◌, ℕ, List, Option, length, min, IfOk, OnErr};
-ghost use Rattle.verity_tree.specs.Counting.{last_count};
+ghost use Rattle.verity_io.specs.Counting.{last_count};
 ghost use Rattle.fsverity.specs.Opening.{IsSuch, CountsOpening, FailsFor};
 
 use verity_tree::{Failed, Source};

@@ -5,13 +5,12 @@ use Rattle.std.proofs.lemmas.Bool.{eqb-true, le-leb, leb-true}
 use Rattle.std.proofs.lemmas.Bool.Decides.{nat_tests}
 use Rattle.std.proofs.lemmas.List.{length-take-le}
 use Rattle.verity_hash.specs.Algorithms.{named}
-use Rattle.verity_tree.specs.Settings.{Settings, IsValid, digest_len, is_block_size, least_block, most_salt}
-use Rattle.verity_tree.specs.MakingSettings.{rule_of}
-use Rattle.verity_tree.specs.declared.settings.HashType.{HashType}
-use Rattle.verity_tree.specs.declared.settings.HashType.TheVariants.{Current}
+use Rattle.verity_plan.specs.Settings.{Settings, IsValid, digest_len, is_block_size, least_block, most_salt, rule_of, type_of_number}
+use Rattle.verity_plan.specs.declared.hash_type.HashType.{HashType}
+use Rattle.verity_plan.specs.declared.hash_type.HashType.TheVariants.{Current}
 use Rattle.verity_format.specs.Fields.{field, number_at, until_zero}
 use Rattle.verity_format.specs.SuperblockFields.{SuperblockFields}
-use Rattle.verity_format.specs.Superblocks.{IsSuperblock, blocks_tests, cause, first_failed, header_tests, settings_tests, signature, type_numbered}
+use Rattle.verity_format.specs.Superblocks.{IsSuperblock, blocks_tests, cause, first_failed, header_tests, settings_tests, signature}
 use Rattle.verity_format.specs.declared.super_fault.SuperFault.{SuperFault}
 use Rattle.verity_format.proofs.ReadLemmas.{IsValid-verity}
 
@@ -36,7 +35,7 @@ cause_none-says s none =
     let long : 512 ≤ length s = leb-true 512 (length s) all.0 in
     let signed : take 8 s ≡ signature = (bytes_decides (take 8 s) signature).0 all.1.0 in
     let version : number_at 8 4 s ≡ 1 = eqb-true (number_at 8 4 s) 1 all.1.1.0 in
-    let typed = value_of (type_numbered (number_at 12 4 s)) all.1.1.1.0 in
+    let typed = value_of (type_of_number (number_at 12 4 s)) all.1.1.1.0 in
     let rest = all.1.1.1.1 in
     let known = value_of (named (until_zero (field 32 32 s))) rest.1.1.0 in
     let short : number_at 80 2 s ≤ 256 = leb-true (number_at 80 2 s) 256 rest.1.1.1.0 in

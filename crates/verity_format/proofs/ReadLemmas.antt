@@ -2,13 +2,12 @@
 use Rattle.std.proofs.Common.{◌≡◌, ℕ, ◌*◌, ◌^◌, ◌<◌, ◌≤◌, ◌&&◌, Bool, true, false, List, [], ◌∷◌, ◌++◌, length, Option, Some, None, Ok, if◌then◌else◌, nat_lt, take, arith, sym, ap, ◌∙◌, refl, subst}
 use Rattle.std.proofs.lemmas.Bool.Decides.{nat_tests}
 use Rattle.verity_hash.specs.declared.algorithm.Algorithm.{Algorithm}
-use Rattle.verity_tree.specs.Settings.{Settings, IsValid, is_block_size}
-use Rattle.verity_tree.specs.MakingSettings.{rule_of, verity_settings}
-use Rattle.verity_tree.specs.declared.settings.HashType.{HashType}
-use Rattle.verity_tree.specs.declared.settings.HashType.TheVariants.{Current}
+use Rattle.verity_plan.specs.Settings.{Settings, IsValid, is_block_size, rule_of, verity_settings, type_of_number}
+use Rattle.verity_plan.specs.declared.hash_type.HashType.{HashType}
+use Rattle.verity_plan.specs.declared.hash_type.HashType.TheVariants.{Current}
 use Rattle.verity_format.specs.SuperblockFields.{SuperblockFields, superblock_of, superblock_of_type, type_of}
 use Rattle.verity_format.specs.Fields.{field, number_at}
-use Rattle.verity_format.specs.Superblocks.{AreSettings, IsSuperblock, blocks_tests, cause, first_failed, header_tests, settings_tests, signature, type_numbered}
+use Rattle.verity_format.specs.Superblocks.{AreSettings, IsSuperblock, blocks_tests, cause, first_failed, header_tests, settings_tests, signature}
 use Rattle.verity_format.specs.declared.super_fault.SuperFault.{SuperFault}
 
 -- tests that pass leave it to those behind them
@@ -82,7 +81,7 @@ superblock_of-some hash_type tree uuid blocks v rule made =
 -- bytes whose parts make a superblock say it
 pub IsSuperblock-made : (s : List ℕ) (hash_type : HashType) (tree : Settings) (uuid : List ℕ) (blocks : ℕ) (v : SuperblockFields)
     → IsValid tree → tree.rule ≡ rule_of hash_type → length uuid ≡ 16 → superblock_of tree uuid blocks ≡ Some v
-    → 512 ≤ length s → take 8 s ≡ signature → number_at 8 4 s ≡ 1 → type_numbered (number_at 12 4 s) ≡ Some hash_type
+    → 512 ≤ length s → take 8 s ≡ signature → number_at 8 4 s ≡ 1 → type_of_number (number_at 12 4 s) ≡ Some hash_type
     → field 16 16 s ≡ uuid → AreSettings s tree → number_at 72 8 s ≡ blocks → IsSuperblock s v
 IsSuperblock-made s hash_type tree uuid blocks v valid rule sixteen made long signed version typed_as identity settings counted =
     let all = superblock_of-some hash_type tree uuid blocks v rule made in

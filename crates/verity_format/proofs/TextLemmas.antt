@@ -11,13 +11,13 @@ use Rattle.verity_hash.specs.declared.algorithm.Algorithm.{Algorithm}
 use Rattle.verity_hash.specs.declared.algorithm.Algorithm.TheVariants.{Sha256, Sha512}
 use Rattle.verity_hash.specs.declared.salting.SaltRule.{SaltRule}
 use Rattle.verity_hash.specs.declared.salting.SaltRule.TheVariants.{Before, PaddedBefore}
-use Rattle.verity_tree.specs.Settings.{most_salt}
-use Rattle.verity_tree.specs.declared.settings.HashType.{HashType}
-use Rattle.verity_tree.specs.declared.settings.HashType.TheVariants.{Current}
-use Rattle.verity_tree.proofs.FanLemmas.{data_most, hash_most, some_data}
+use Rattle.verity_plan.specs.Settings.{most_salt, type_number, type_of_number}
+use Rattle.verity_plan.specs.declared.hash_type.HashType.{HashType}
+use Rattle.verity_plan.specs.declared.hash_type.HashType.TheVariants.{Current}
+use Rattle.verity_plan.proofs.FanLemmas.{data_most, hash_most, some_data}
 use Rattle.verity_format.specs.Fields.{number_at, until_zero}
 use Rattle.verity_format.specs.SuperblockFields.{SuperblockFields, IsValidSuperblock}
-use Rattle.verity_format.specs.Superblocks.{IsSuperblock, signature, superblock_text, type_number, type_numbered}
+use Rattle.verity_format.specs.Superblocks.{IsSuperblock, signature, superblock_text}
 
 -- what follows the name
 tail : SuperblockFields → List ℕ → List ℕ
@@ -62,7 +62,7 @@ name_long : (algorithm : Algorithm) → length (filled 32 (name_of algorithm)) �
 name_long Sha256 = refl
 name_long Sha512 = refl
 
-type_read : (hash_type : HashType) → type_numbered (type_number hash_type) ≡ Some hash_type
+type_read : (hash_type : HashType) → type_of_number (type_number hash_type) ≡ Some hash_type
 type_read Current = refl
 
 type_small : (hash_type : HashType) → type_number hash_type < 256
@@ -89,7 +89,7 @@ fields_say v z valid long =
       long = long;
       signed = refl;
       version = refl;
-      hash_type = ap type_numbered (little_number-reads_back 4 (type_number v.hash_type) (v.uuid ++ (name ++ tail v z)) (omega (arith, small))) ∙ type_read v.hash_type;
+      hash_type = ap type_of_number (little_number-reads_back 4 (type_number v.hash_type) (v.uuid ++ (name ++ tail v z)) (omega (arith, small))) ∙ type_read v.hash_type;
       uuid = take_at v.uuid (name ++ tail v z) 16 valid.uuid;
       tree = record {
         name = ap (λ (t : List ℕ). named (until_zero (take 32 t))) (drop_at v.uuid (name ++ tail v z) 16 valid.uuid) ∙ name_read v.tree.algorithm (tail v z);

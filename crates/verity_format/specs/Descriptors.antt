@@ -7,8 +7,7 @@ use Rattle.verity_hash.specs.Bytes.{filled}
 use Rattle.verity_hash.specs.declared.algorithm.Algorithm.{Algorithm}
 use Rattle.verity_hash.specs.declared.algorithm.Algorithm.TheVariants.{Sha256, Sha512}
 use Rattle.verity_hash.specs.declared.salting.SaltRule.TheVariants.{PaddedBefore}
-use Rattle.verity_tree.specs.Least.{least_up_to}
-use Rattle.verity_tree.specs.Settings.{Settings, IsValid, digest_len}
+use Rattle.verity_plan.specs.Settings.{least_up_to, Settings, IsValid, digest_len}
 
 -- what the tree is made by, the file's size in bytes, and the root hash
 pub record DescriptorFields : Type 0 where

@@ -2,10 +2,9 @@
 use Rattle.std.specs.Prelude.{◌≡◌, ℕ, ◌*◌, ◌^◌, ◌<◌, ◌&&◌, List, length, nat_lt, Option, Some, None, if◌then◌else◌}
 use Rattle.verity_hash.specs.declared.salting.SaltRule.{SaltRule}
 use Rattle.verity_hash.specs.declared.salting.SaltRule.TheVariants.{Before, PaddedBefore}
-use Rattle.verity_tree.specs.Settings.{Settings, IsValid}
-use Rattle.verity_tree.specs.MakingSettings.{rule_of}
-use Rattle.verity_tree.specs.declared.settings.HashType.{HashType}
-use Rattle.verity_tree.specs.declared.settings.HashType.TheVariants.{Current}
+use Rattle.verity_plan.specs.Settings.{Settings, IsValid, rule_of}
+use Rattle.verity_plan.specs.declared.hash_type.HashType.{HashType}
+use Rattle.verity_plan.specs.declared.hash_type.HashType.TheVariants.{Current}
 
 -- the hash type, what the tree is made by, the UUID's 16 bytes, and the number of data blocks
 pub record SuperblockFields : Type 0 where

@@ -18,9 +18,9 @@ use Rattle.std.specs.Str.{bytes_eq}
 use Rattle.byteorder.specs.Endian.{little_bytes}
 use Rattle.verity_hash.specs.Algorithms.{name_of, named}
 use Rattle.verity_hash.specs.Bytes.{filled}
-use Rattle.verity_tree.specs.Settings.{Settings, is_block_size}
-use Rattle.verity_tree.specs.declared.settings.HashType.{HashType}
-use Rattle.verity_tree.specs.declared.settings.HashType.TheVariants.{Current}
+use Rattle.verity_plan.specs.Settings.{Settings, is_block_size}
+use Rattle.verity_plan.specs.declared.hash_type.HashType.{HashType}
+use Rattle.verity_plan.specs.declared.hash_type.HashType.TheVariants.{Current}
 use Rattle.verity_format.specs.Fields.{field, number_at, until_zero}
 use Rattle.verity_format.specs.SuperblockFields.{SuperblockFields, IsValidSuperblock}
 use Rattle.verity_format.specs.declared.super_fault.SuperFault.{SuperFault}
@@ -33,8 +33,8 @@ signature = codes "verity" ++ 0 ∷ 0 ∷ []
 abbrev pub type_number : HashType → ℕ
 type_number Current = 1
 
-abbrev pub type_numbered : ℕ → Option HashType
-type_numbered number = if number == 1 then Some Current else None
+abbrev pub type_of_number : ℕ → Option HashType
+type_of_number number = if number == 1 then Some Current else None
 
 -- the 512 bytes of a superblock
 unfoldable pub superblock_text : SuperblockFields → List ℕ
@@ -63,7 +63,7 @@ pub record IsSuperblock (s : List ℕ) (v : SuperblockFields) : Type 0 where
   pub long : 512 ≤ length s
   pub signed : take 8 s ≡ signature
   pub version : number_at 8 4 s ≡ 1
-  pub hash_type : type_numbered (number_at 12 4 s) ≡ Some v.hash_type
+  pub hash_type : type_of_number (number_at 12 4 s) ≡ Some v.hash_type
   pub uuid : field 16 16 s ≡ v.uuid
   pub tree : AreSettings s v.tree
   pub blocks : number_at 72 8 s ≡ v.blocks
@@ -74,7 +74,7 @@ abbrev pub header_tests : List ℕ → List (Bool × SuperFault)
 header_tests s = (nat_le 512 (length s), fault.Short)
     ∷ (bytes_eq (take 8 s) signature, fault.Signature)
     ∷ (number_at 8 4 s == 1, fault.Version (number_at 8 4 s))
-    ∷ (is_some (type_numbered (number_at 12 4 s)), fault.HashType (number_at 12 4 s)) ∷ []
+    ∷ (is_some (type_of_number (number_at 12 4 s)), fault.HashType (number_at 12 4 s)) ∷ []
 
 abbrev pub settings_tests : List ℕ → List (Bool × SuperFault)
 settings_tests s = (is_block_size 512 (number_at 64 4 s), fault.DataBlockSize (number_at 64 4 s))

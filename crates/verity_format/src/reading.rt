@@ -1,9 +1,8 @@
 //! What bytes say as a superblock.
 ghost use Rattle.std.specs.Prelude.{◌≡◌, ◌≤◌, ◌+◌, ◌==◌, length, position, IfOk, IfErr, Some, None, nat_le, true};
-ghost use Rattle.verity_tree.specs.Settings.{is_block_size, IsValid};
-ghost use Rattle.verity_tree.specs.MakingSettings.{rule_of};
+ghost use Rattle.verity_plan.specs.Settings.{is_block_size, IsValid, rule_of, type_of_number};
 ghost use Rattle.verity_format.specs.Fields.{number_at, until_zero};
-ghost use Rattle.verity_format.specs.Superblocks.{AreSettings, IsSuperblock, cause, first_failed, settings_tests, type_numbered};
+ghost use Rattle.verity_format.specs.Superblocks.{AreSettings, IsSuperblock, cause, first_failed, settings_tests};
 
 use crate::writing::VERSION;
 use crate::{SuperFault, Superblock};
@@ -95,7 +94,7 @@ const MOST_SALT: u16 = 256;
 
 /// The hash type of a number.
 fn type_of_number(number: u32) -> Option<HashType>
-    ensures { result ≡ type_numbered number }
+    ensures { result ≡ type_of_number number }
 {
     match number {
         1 => Some(HashType::Current),

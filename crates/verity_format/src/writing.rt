@@ -1,6 +1,7 @@
 //! A superblock's bytes.
 ghost use Rattle.std.specs.Prelude.{◌≡◌};
-ghost use Rattle.verity_format.specs.Superblocks.{superblock_text, type_number};
+ghost use Rattle.verity_format.specs.Superblocks.{superblock_text};
+ghost use Rattle.verity_plan.specs.Settings.{type_number};
 
 use crate::Superblock;
 use crate::field_writer::FieldWriter;

@@ -7,16 +7,15 @@ use borrow.Rule.Slice.PartMut.{put_mid}
 use Rattle.std.proofs.Math.Nat.{one-le-pow, mul-le-mul_right}
 use Rattle.std.proofs.lemmas.List.Elements.{All-append, Contains-append_left, Contains-append_right}
 use Rattle.std.specs.Prelude.{Contains}
-use Rattle.verity_tree.specs.Settings.{Settings, fan}
-use Rattle.verity_tree.specs.Levels.{hash_block_of}
+use Rattle.verity_plan.specs.Settings.{Settings, fan}
+use Rattle.verity_tree.specs.Levels.{hash_block_of, data_blocks}
 use Rattle.verity_tree.specs.ClosingOrder.{closed_to, closing, order}
-use Rattle.verity_tree.specs.Writing.{Spoiled}
+use Rattle.verity_io.specs.Writing.{Spoiled}
 use Rattle.verity_tree.specs.Image.{tree_block, written}
-use Rattle.verity_tree.specs.ClosingOrder.{closed_to}
 use Rattle.verity_tree.proofs.OrderSplit.{closing-front, order-front, order-more, written-append, written-order}
 use Rattle.verity_tree.specs.Building.{GivesUpTo, HasGiven, StopsAt, begun_after, bytes_of}
 use Rattle.verity_tree.specs.Cascade.{ClosesWith}
-use Rattle.verity_tree.specs.Plans.{Planned, byte_of, data_blocks}
+use Rattle.verity_plan.specs.Plans.{Planned, byte_of}
 use Rattle.verity_tree.specs.OpenBlocks.{digests_under, open_block, AreOpen}
 use Rattle.verity_tree.proofs.StreamStep.{hash_block_of-none}
 use Rattle.verity_tree.specs.Closings.{IsCause}

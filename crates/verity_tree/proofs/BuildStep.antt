@@ -5,18 +5,17 @@ use Rattle.std.proofs.lemmas.Bool.Decides.{eqb_tells}
 use Rattle.std.proofs.lemmas.Nat.{div-add-mod', div-mul-add}
 use Rattle.std.proofs.Math.Nat.{one-le-pow, mul-le-mul_right, pow-suc}
 use Rattle.std.specs.Int.{div_ceil}
-use Rattle.verity_tree.specs.Settings.{Settings, hash, fan}
+use Rattle.verity_plan.specs.Settings.{Settings, hash, fan}
 use Rattle.verity_tree.specs.Levels.{risen}
-use Rattle.verity_tree.specs.Counts.{level_count, level_size}
-use Rattle.verity_tree.specs.ClosingOrder.{closing, closes}
-use Rattle.verity_tree.specs.Places.{place}
+use Rattle.verity_plan.specs.Counts.{level_count, level_size}
+use Rattle.verity_tree.specs.ClosingOrder.{closing, closes, closed_to}
+use Rattle.verity_plan.specs.Places.{place, byte_at}
 use Rattle.verity_tree.specs.OpenBlocks.{digests_under, open_block, filling, IsReached, IsCarrying, IsNext, IsClosed, IsKept}
-use Rattle.verity_tree.specs.Writing.{put}
-use Rattle.verity_tree.specs.Plans.{Planned}
+use Rattle.verity_io.specs.Writing.{put}
+use Rattle.verity_plan.specs.Plans.{Planned}
 use Rattle.verity_tree.specs.Verdicts.{NoneDiffers, StandsThere, stored}
-use Rattle.verity_tree.specs.Image.{byte_at, tree_block, written}
-use Rattle.verity_tree.specs.ClosingOrder.{closed_to}
-use Rattle.verity_tree.proofs.CountLemmas.{le-div_ceil}
+use Rattle.verity_tree.specs.Image.{tree_block, written}
+use Rattle.verity_plan.proofs.CountLemmas.{le-div_ceil}
 use Rattle.verity_tree.proofs.StreamNumbers.{quotient-next, IsReached-full}
 use Rattle.verity_tree.proofs.StreamStep.{carried-below, carried-next, carried-root}
 use Rattle.verity_tree.proofs.OrderSplit.{closing-prefix, closing-all, closes-reached, closes-last, closed_to-more, closes-none, written-more}

@@ -3,9 +3,9 @@ use Rattle.std.proofs.Common.{◌≡◌, ℕ, ◌+◌, ◌-◌, ◌*◌, ◌<◌
 use Rattle.std.proofs.lemmas.List.{append-nil, length-take, take-append-drop, drop-drop}
 use Rattle.std.specs.Prelude.{slice_index, Result}
 use Rattle.verity_tree.specs.Closings.{Closes, IsCause}
-use Rattle.verity_tree.specs.Plans.{Planned, byte_of}
+use Rattle.verity_plan.specs.Plans.{Planned, byte_of}
 use Rattle.verity_tree.specs.Verdicts.{stored}
-use Rattle.verity_tree.specs.Writing.{put, Spoiled}
+use Rattle.verity_io.specs.Writing.{put, Spoiled}
 use Rattle.verity_tree.specs.declared.closing.Cause.{Cause}
 use Rattle.verity_tree.specs.declared.closing.Cause.TheVariants.{Failed, Differs}
 use Rattle.verity_tree.specs.declared.closing.Task.{Task}

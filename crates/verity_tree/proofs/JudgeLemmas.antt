@@ -9,11 +9,12 @@ use Rattle.std.specs.Str.{bytes_eq}
 use Rattle.verity_tree.specs.Building.{EndsWithin}
 use Rattle.verity_tree.specs.ClosingOrder.{order}
 use Rattle.verity_tree.specs.Comparing.{ComesTo, Judges}
+use Rattle.verity_tree.specs.Passing.{fault_by, fault_of}
 use Rattle.verity_tree.specs.Image.{tree_block}
-use Rattle.verity_tree.specs.Levels.{root}
+use Rattle.verity_tree.specs.Levels.{root, data_blocks, whole}
 use Rattle.verity_tree.specs.Passing.{StopsFor}
-use Rattle.verity_tree.specs.Plans.{Planned, IsPlanned, data_blocks, whole}
-use Rattle.verity_tree.specs.Settings.{fan}
+use Rattle.verity_plan.specs.Plans.{Planned, IsPlanned}
+use Rattle.verity_plan.specs.Settings.{fan}
 use Rattle.verity_tree.specs.Verdicts.{NoneDiffers, StandsThere, differs, difference, judged, part_of, stored, verdict}
 use Rattle.verity_tree.specs.declared.cascade.Stop.{Stop}
 use Rattle.verity_tree.specs.declared.comparing.CompareFault.{CompareFault}
@@ -22,7 +23,6 @@ use Rattle.verity_tree.specs.declared.comparing.CompareFault.TheVariants as F
 use Rattle.verity_tree.specs.declared.closing.Cause.{Cause}
 use Rattle.verity_tree.specs.declared.closing.Cause.TheVariants.{Failed, Differs}
 use Rattle.verity_tree.specs.Closings.{IsCause}
-use Rattle.verity_tree.specs.FaultsOf.{fault_by, fault_of}
 use Rattle.verity_tree.specs.declared.part.Part.{Part}
 use Rattle.verity_tree.proofs.OrderSplit.{order-prefix}
 use Rattle.verity_tree.proofs.TakeLemmas.{whole-above, whole-all}

@@ -1,16 +1,10 @@
-pub mod LeastLemmas
-pub mod CountLemmas
-pub mod FanLemmas
-pub mod FitLemmas
 pub mod TreeLemmas
-pub mod PlaceLemmas
 pub mod SlotLemmas
 pub mod LevelLemmas
 pub mod RootLemmas
 pub mod OrderLemmas
 pub mod OrderSplit
 pub mod PrefixLemmas
-pub mod PlanLemmas
 pub mod StreamNumbers
 pub mod StreamLists
 pub mod StreamStep
@@ -18,8 +12,6 @@ pub mod BuildStep
 pub mod BuildLoop
 pub mod TakeLemmas
 pub mod Rows
-pub mod Blocks
-pub mod Padded
 pub mod VerdictLemmas
 pub mod ClosingLemmas
 pub mod JudgeLemmas

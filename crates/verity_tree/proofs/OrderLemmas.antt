@@ -8,9 +8,9 @@ use Rattle.std.proofs.Math.Nat.{one-le-pow, mul-le-mul_right}
 use Rattle.std.specs.Int.{div_ceil}
 use Rattle.std.specs.List.{filter, range_with_len}
 use Rattle.std.specs.Prelude.{◌==◌, ◌&&◌, ◌⊎◌}
-use Rattle.verity_tree.specs.Counts.{level_count, level_size, IsTreeBlock}
+use Rattle.verity_plan.specs.Counts.{level_count, level_size, IsTreeBlock}
 use Rattle.verity_tree.specs.ClosingOrder.{closes, closing, order, times, ClosesOnce}
-use Rattle.verity_tree.proofs.CountLemmas.{le-div_ceil, div_ceil-le, div_ceil-pos}
+use Rattle.verity_plan.proofs.CountLemmas.{le-div_ceil, div_ceil-le, div_ceil-pos}
 
 -- the levels that pass a test, each with a block
 abbrev pairs : (ℕ → ℕ) → (ℕ → Bool) → List ℕ → List (ℕ × ℕ)

@@ -8,14 +8,14 @@ use Rattle.std.proofs.Math.Nat.{one-le-pow}
 use Rattle.std.specs.Int.{div_ceil}
 use Rattle.std.specs.List.{filter, range_with_len}
 use Rattle.std.specs.Prelude.{◌==◌, ◌||◌, slice_index_or}
-use Rattle.verity_tree.specs.Counts.{level_count}
-use Rattle.verity_tree.specs.ClosingOrder.{closes, closing, order}
-use Rattle.verity_tree.specs.Settings.{Settings, fan}
+use Rattle.verity_plan.specs.Counts.{level_count}
+use Rattle.verity_tree.specs.ClosingOrder.{closes, closing, order, closed_to}
+use Rattle.verity_plan.specs.Settings.{Settings, fan}
 use Rattle.verity_tree.specs.OpenBlocks.{IsReached}
 use Rattle.verity_tree.specs.Levels.{risen}
-use Rattle.verity_tree.specs.Writing.{put}
-use Rattle.verity_tree.specs.Image.{written, byte_at}
-use Rattle.verity_tree.specs.ClosingOrder.{closed_to}
+use Rattle.verity_io.specs.Writing.{put}
+use Rattle.verity_tree.specs.Image.{written}
+use Rattle.verity_plan.specs.Places.{byte_at}
 use Rattle.verity_tree.proofs.StreamNumbers.{div_ceil-last, quotient-stays}
 
 -- a test that the first numbers pass and the others don't

@@ -7,10 +7,10 @@ use Rattle.std.specs.Fork.{slice_chunk}
 use Rattle.std.specs.Int.{div_ceil}
 use Rattle.verity_tree.specs.ClosingOrder.{order, times}
 use Rattle.verity_tree.proofs.OrderLemmas.{closed_time}
-use Rattle.verity_tree.specs.Settings.{Settings, hash, fan}
+use Rattle.verity_plan.specs.Settings.{Settings, hash, fan}
 use Rattle.verity_tree.specs.Levels.{pack, hash_block_of, risen}
 use Rattle.verity_tree.specs.Image.{tree_block}
-use Rattle.verity_tree.proofs.CountLemmas.{div_ceil-div_ceil}
+use Rattle.verity_plan.proofs.CountLemmas.{div_ceil-div_ceil}
 use Rattle.verity_tree.proofs.TreeLemmas.{length-risen}
 
 -- the j-th block of digests that are packed

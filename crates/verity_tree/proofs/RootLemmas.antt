@@ -4,11 +4,11 @@ use Rattle.std.proofs.lemmas.Bool.{cases_lt}
 use Rattle.std.proofs.lemmas.List.{length-map, get_or-map}
 use Rattle.std.proofs.Math.Nat.{pow-zero, pow-suc, one-le-pow}
 use Rattle.std.specs.Int.{div_ceil}
-use Rattle.verity_tree.specs.Counts.{level_count, IsLevelCount}
-use Rattle.verity_tree.specs.Settings.{Settings, hash, fan}
+use Rattle.verity_plan.specs.Counts.{level_count, IsLevelCount}
+use Rattle.verity_plan.specs.Settings.{Settings, hash, fan}
 use Rattle.verity_tree.specs.Levels.{pack, risen, root}
 use Rattle.verity_tree.specs.LevelDigests.{digests_risen, root_of_digests}
-use Rattle.verity_tree.proofs.CountLemmas.{IsLevelCount-level_count, le-div_ceil, mul-lt_div_ceil, div_ceil-pos}
+use Rattle.verity_plan.proofs.CountLemmas.{IsLevelCount-level_count, le-div_ceil, mul-lt_div_ceil, div_ceil-pos}
 use Rattle.verity_tree.proofs.TreeLemmas.{length-pack, length-risen, height-level_count}
 
 -- two numbers of levels are one

@@ -1,46 +1,8 @@
--- Worked rows.
+-- Worked rows: closing orders.
 use Rattle.std.proofs.Common.{◌≡◌, [], ◌∷◌, refl}
-use Rattle.verity_tree.specs.Least.{least_from}
-use Rattle.verity_tree.specs.Slots.{greatest_fan, least_power}
-use Rattle.verity_tree.specs.Counts.{level_count}
-use Rattle.verity_tree.specs.Places.{place, end_place}
+use Rattle.verity_plan.specs.Settings.{least_from}
+use Rattle.verity_plan.specs.Counts.{level_count}
 use Rattle.verity_tree.specs.ClosingOrder.{order}
-
-fan_512 : greatest_fan 32 512 ≡ 16
-unfolding least_from greatest_fan
-fan_512 = refl
-
-fan_4096 : greatest_fan 32 4096 ≡ 128
-unfolding least_from greatest_fan
-fan_4096 = refl
-
-fan_20 : greatest_fan 20 512 ≡ 16
-unfolding least_from greatest_fan
-fan_20 = refl
-
-width_48 : least_power 48 ≡ 64
-unfolding least_from least_power
-width_48 = refl
-
-levels_1 : level_count 16 1 ≡ 0
-unfolding least_from level_count
-levels_1 = refl
-
-levels_16 : level_count 16 16 ≡ 1
-unfolding least_from level_count
-levels_16 = refl
-
-levels_most : level_count 16 18014398509481983 ≡ 14
-unfolding least_from level_count
-levels_most = refl
-
-end_4097 : end_place 16 4097 1 ≡ 278
-unfolding least_from level_count
-end_4097 = refl
-
-place_17 : place 16 17 1 0 1 ≡ 3
-unfolding least_from level_count
-place_17 = refl
 
 order_17 : order 16 17 17 ≡ (0, 0) ∷ (0, 1) ∷ (1, 0) ∷ []
 unfolding least_from level_count order

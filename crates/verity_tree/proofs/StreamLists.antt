@@ -11,7 +11,7 @@ use Rattle.std.specs.Fork.{slice_chunk}
 use Rattle.std.specs.Int.{div_ceil}
 use Rattle.verity_hash.specs.Bytes.{filled}
 use Rattle.verity_hash.proofs.HashLemmas.{length-salted_hash}
-use Rattle.verity_tree.specs.Settings.{Settings, hash, fan, slot, slot_width, digest_len}
+use Rattle.verity_plan.specs.Settings.{Settings, hash, fan, slot, slot_width, digest_len}
 use Rattle.verity_tree.specs.Levels.{hash_block_of, risen}
 use Rattle.verity_tree.specs.OpenBlocks.{digests_under, open_block}
 use Rattle.verity_tree.proofs.PrefixLemmas.{get_or-pack}

@@ -5,7 +5,7 @@ use Rattle.std.proofs.lemmas.Nat.{div-add-mod', mod_below, mod-mul-add, div-mul-
 use Rattle.std.proofs.Math.Nat.{div-div-eq-div-mul, pow-suc, pow-zero, one-le-pow}
 use Rattle.std.specs.Int.{div_ceil}
 use Rattle.verity_tree.specs.OpenBlocks.{IsReached}
-use Rattle.verity_tree.proofs.CountLemmas.{le-div_ceil, div_ceil-le}
+use Rattle.verity_plan.proofs.CountLemmas.{le-div_ceil, div_ceil-le}
 
 -- one level up a place is divided by the fan
 pub quotient-next : (f i m : ℕ) → i / f ^ (m + 1) ≡ i / f ^ m / f

@@ -9,15 +9,15 @@ use borrow.Rule.Slice.PartMut.{put_mid}
 use Rattle.std.proofs.Math.Nat.{one-le-pow, pow-zero, mul-le-mul_right}
 use Rattle.std.specs.Fork.{slice_chunk}
 use Rattle.std.specs.Int.{div_ceil}
-use Rattle.verity_tree.specs.Settings.{Settings, hash, fan, slot_width, digest_len}
+use Rattle.verity_plan.specs.Settings.{Settings, hash, fan, slot_width, digest_len}
 use Rattle.verity_tree.specs.Levels.{hash_block_of, risen, root}
-use Rattle.verity_tree.specs.Counts.{level_count}
+use Rattle.verity_plan.specs.Counts.{level_count}
 use Rattle.verity_tree.specs.OpenBlocks.{digests_under, open_block, filling, AreOpen, carried, IsCarrying, IsNext, IsClosed, IsKept, IsCarriedOn}
-use Rattle.verity_tree.proofs.CountLemmas.{le-div_ceil, IsLevelCount-level_count}
+use Rattle.verity_plan.proofs.CountLemmas.{le-div_ceil, IsLevelCount-level_count}
 use Rattle.verity_tree.proofs.TreeLemmas.{length-risen, height-level_count}
 use Rattle.verity_tree.proofs.StreamNumbers.{quotient-next, div_ceil-last, IsReached-zero, quotient-reached, IsReached-full, slots-full, slots-more, quotient-stays}
 use Rattle.verity_tree.proofs.StreamLists.{open-push, open-close, block-up}
-use Rattle.verity_tree.proofs.FitLemmas.{slot_width-digest}
+use Rattle.verity_plan.proofs.FitLemmas.{slot_width-digest}
 
 div_small : (a b : ℕ) → a < b → a / b ≡ 0
 div_small a b h =

@@ -9,13 +9,13 @@ use Rattle.std.specs.List.{range_with_len}
 use Rattle.verity_hash.specs.Bytes.{filled}
 use Rattle.verity_tree.specs.Building.{HasGiven, EndsWithin, FailsWithin, bytes_of}
 use Rattle.verity_tree.specs.DataBlocks.{HoldsBlock, HoldsFront, StopsWithin}
-use Rattle.verity_tree.specs.Levels.{block_at, cut, risen}
+use Rattle.verity_tree.specs.Levels.{block_at, cut, risen, data_blocks, whole}
 use Rattle.verity_tree.specs.LevelDigests.{digest_of_block}
 use Rattle.verity_tree.specs.OpenBlocks.{carried}
-use Rattle.verity_tree.specs.Plans.{IsPlanned, Planned, data_blocks, whole}
-use Rattle.verity_tree.specs.Settings.{Settings, hash, fan}
-use Rattle.verity_tree.proofs.CountLemmas.{mul-lt_div_ceil, le-div_ceil, div_ceil-pos}
-use Rattle.verity_tree.proofs.FanLemmas.{some_data}
+use Rattle.verity_plan.specs.Plans.{IsPlanned, Planned}
+use Rattle.verity_plan.specs.Settings.{Settings, hash, fan}
+use Rattle.verity_plan.proofs.CountLemmas.{mul-lt_div_ceil, le-div_ceil, div_ceil-pos}
+use Rattle.verity_plan.proofs.FanLemmas.{some_data}
 use Rattle.verity_tree.proofs.StreamStep.{place-first}
 use Rattle.std.specs.Prelude.{nat_le}
 use Rattle.std.proofs.lemmas.Bool.Decides.{nat_tests}

@@ -5,11 +5,11 @@ use Rattle.std.proofs.lemmas.List.FromFn.{length-map-range_with_len}
 use Rattle.std.proofs.Math.Nat.{pow-zero, pow-suc, one-le-pow}
 use Rattle.std.specs.Int.{div_ceil}
 use Rattle.std.specs.Prelude.{nat_le}
-use Rattle.verity_tree.specs.Settings.{Settings, fan, hash}
+use Rattle.verity_plan.specs.Settings.{Settings, fan, hash}
 use Rattle.verity_tree.specs.Levels.{pack, up, risen, height}
-use Rattle.verity_tree.specs.Counts.{level_count}
-use Rattle.verity_tree.proofs.LeastLemmas.{least_from-same}
-use Rattle.verity_tree.proofs.CountLemmas.{div_ceil-div_ceil, leb-div_ceil_one}
+use Rattle.verity_plan.specs.Counts.{level_count}
+use Rattle.verity_plan.proofs.LeastLemmas.{least_from-same}
+use Rattle.verity_plan.proofs.CountLemmas.{div_ceil-div_ceil, leb-div_ceil_one}
 
 pub length-pack : (s : Settings) (digests : List (List ℕ)) → length (pack s digests) ≡ div_ceil (length digests) (fan s)
 unfolding pack

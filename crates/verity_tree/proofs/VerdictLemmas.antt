@@ -5,12 +5,12 @@ use Rattle.std.proofs.Math.Nat.{mul-le-mul_right}
 use Rattle.std.specs.Prelude.{find, not, Option, Some, None}
 use Rattle.std.specs.Int.{div_ceil}
 use Rattle.std.specs.List.{range_with_len}
-use Rattle.verity_tree.specs.Counts.{level_size}
-use Rattle.verity_tree.specs.Plans.{Planned, HasBlock, size_under}
-use Rattle.verity_tree.specs.Settings.{Settings, digest_len, fan, slot_width}
-use Rattle.verity_tree.proofs.CountLemmas.{mul-lt_div_ceil}
-use Rattle.verity_tree.proofs.FitLemmas.{slot_width-digest}
-use Rattle.verity_tree.proofs.PlanLemmas.{size-more}
+use Rattle.verity_plan.specs.Counts.{level_size}
+use Rattle.verity_plan.specs.Plans.{Planned, HasBlock, size_under}
+use Rattle.verity_plan.specs.Settings.{Settings, digest_len, fan, slot_width}
+use Rattle.verity_plan.proofs.CountLemmas.{mul-lt_div_ceil}
+use Rattle.verity_plan.proofs.FitLemmas.{slot_width-digest}
+use Rattle.verity_plan.proofs.PlanLemmas.{size-more}
 
 -- the first number of a range that passes a test
 pub find-range : (p : ℕ → Bool) (from n k : ℕ) → from ≤ k → k < from + n → ((j : ℕ) → from ≤ j → j < k → p j ≡ false) → p k ≡ true

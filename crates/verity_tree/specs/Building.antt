@@ -2,12 +2,12 @@
 use Rattle.std.specs.Prelude.{◌≡◌, ℕ, ◌+◌, ◌*◌, ◌<◌, ◌≤◌, min, List, [], ◌∷◌, ◌++◌, length, drop, Contains, Result, Ok, Err}
 use Rattle.verity_hash.specs.declared.digest.Digest.{Digest}
 use Rattle.verity_tree.specs.ClosingOrder.{closing, order}
-use Rattle.verity_tree.specs.Counting.{last_count}
+use Rattle.verity_io.specs.Counting.{last_count}
 use Rattle.verity_tree.specs.Image.{written}
-use Rattle.verity_tree.specs.Levels.{root}
-use Rattle.verity_tree.specs.Plans.{Planned, byte_of, data_blocks, whole}
-use Rattle.verity_tree.specs.Settings.{fan}
-use Rattle.verity_tree.specs.Writing.{Spoiled}
+use Rattle.verity_tree.specs.Levels.{root, data_blocks, whole}
+use Rattle.verity_plan.specs.Plans.{Planned, byte_of}
+use Rattle.verity_plan.specs.Settings.{fan}
+use Rattle.verity_io.specs.Writing.{Spoiled}
 use Rattle.verity_tree.specs.declared.building.BuildFault.{BuildFault}
 use Rattle.verity_tree.specs.declared.building.BuildFault.TheVariants.{SourceShort, SourceFailed, DeviceFailed}
 

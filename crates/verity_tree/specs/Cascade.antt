@@ -2,17 +2,17 @@
 -- For the private steps; not needed to read a public contract.
 use Rattle.std.specs.Prelude.{◌≡◌, ◌⊎◌, ℕ, ◌+◌, ◌/◌, ◌%◌, ◌<◌, ◌≤◌, ◌^◌, min, Bool, true, List, map, Result, Ok, Err}
 use Rattle.verity_hash.specs.declared.digest.Digest.{Digest}
-use Rattle.verity_tree.specs.Settings.{Settings, hash, fan}
+use Rattle.verity_plan.specs.Settings.{Settings, hash, fan}
 use Rattle.verity_tree.specs.ClosingOrder.{closing, closes, closed_to}
-use Rattle.verity_tree.specs.Counting.{last_count}
+use Rattle.verity_io.specs.Counting.{last_count}
 use Rattle.verity_tree.specs.Image.{tree_block, written}
-use Rattle.verity_tree.specs.Plans.{Planned, byte_of, levels_of}
+use Rattle.verity_plan.specs.Plans.{Planned, byte_of, levels_of}
 use Rattle.verity_tree.specs.declared.cascade.Stop.{Stop}
 use Rattle.verity_tree.specs.declared.closing.Task.{Task}
 use Rattle.verity_tree.specs.Closings.{CountsCause, IsCause}
 use Rattle.verity_tree.specs.Verdicts.{NoneDiffers, stored}
 use Rattle.verity_tree.specs.OpenBlocks.{IsNext, filling, IsCarriedOn, IsKept, IsClosed}
-use Rattle.verity_tree.specs.Writing.{put, Spoiled}
+use Rattle.verity_io.specs.Writing.{put, Spoiled}
 use Rattle.verity_tree.specs.declared.cascade.Step.{Step}
 use Rattle.verity_tree.specs.declared.cascade.Step.TheVariants.{Open, Closed, Stopped}
 

@@ -3,7 +3,7 @@
 use Rattle.std.specs.Prelude.{◌≡◌, ◌<◌, ℕ, zero, suc, ◌+◌, ◌-◌, ◌/◌, ◌%◌, ◌^◌, Bool, ◌||◌, ◌&&◌, ◌==◌, List, [], ◌++◌, map, filter}
 use Rattle.std.specs.List.{range_with_len, count_by}
 use Rattle.std.specs.Int.{div_ceil}
-use Rattle.verity_tree.specs.Counts.{level_count, IsTreeBlock}
+use Rattle.verity_plan.specs.Counts.{level_count, IsTreeBlock}
 
 -- data block i, counted from 1, is the last below a block of this level
 abbrev pub closes : ℕ → ℕ → ℕ → ℕ → Bool

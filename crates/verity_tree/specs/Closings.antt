@@ -1,10 +1,10 @@
 -- What becomes of a device when a hash block has closed: the block is written, or compared with what stands at its place.
 -- For the private steps; not needed to read a public contract.
 use Rattle.std.specs.Prelude.{◌≡◌, ◌≢◌, ℕ, ◌+◌, ◌-◌, ◌^◌, min, List, length, Result, Ok, Err}
-use Rattle.verity_tree.specs.Counting.{last_count}
-use Rattle.verity_tree.specs.Plans.{Planned, byte_of}
+use Rattle.verity_io.specs.Counting.{last_count}
+use Rattle.verity_plan.specs.Plans.{Planned, byte_of}
 use Rattle.verity_tree.specs.Verdicts.{part_of, stored}
-use Rattle.verity_tree.specs.Writing.{put, Spoiled}
+use Rattle.verity_io.specs.Writing.{put, Spoiled}
 use Rattle.verity_tree.specs.declared.closing.Task.{Task}
 use Rattle.verity_tree.specs.declared.closing.Task.TheVariants.{Write, Compare}
 use Rattle.verity_tree.specs.declared.closing.Cause.{Cause}

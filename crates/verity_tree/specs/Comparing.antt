@@ -2,9 +2,10 @@
 use Rattle.std.specs.Prelude.{◌≡◌, ℕ, ◌+◌, ◌-◌, ◌<◌, ◌^◌, min, List, [], ◌∷◌, ◌++◌, Result, Ok, Err}
 use Rattle.verity_tree.specs.Building.{HasGiven, EndsWithin, FailsWithin, GivesUpTo}
 use Rattle.verity_tree.specs.ClosingOrder.{order}
-use Rattle.verity_tree.specs.Counting.{last_count}
-use Rattle.verity_tree.specs.Plans.{Planned, data_blocks}
-use Rattle.verity_tree.specs.Settings.{Settings, fan}
+use Rattle.verity_io.specs.Counting.{last_count}
+use Rattle.verity_plan.specs.Plans.{Planned}
+use Rattle.verity_tree.specs.Levels.{data_blocks}
+use Rattle.verity_plan.specs.Settings.{Settings, fan}
 use Rattle.verity_tree.specs.Verdicts.{NoneDiffers, verdict}
 use Rattle.verity_tree.specs.declared.comparing.CompareFault.{CompareFault}
 use Rattle.verity_tree.specs.declared.comparing.CompareFault.TheVariants.{SourceShort, SourceFailed, DeviceFailed, Differs, RootDiffers}

@@ -1,14 +1,10 @@
 -- What a device holds of a tree: each hash block at its place (cryptsetup's on-disk format page; Linux kernel, dm-verity
 -- page, "On-disk format").
-use Rattle.std.specs.Prelude.{ℕ, ◌*◌, List, [], ◌∷◌, length, slice_index_or}
-use Rattle.verity_tree.specs.Settings.{Settings, fan}
-use Rattle.verity_tree.specs.Places.{place}
+use Rattle.std.specs.Prelude.{ℕ, List, [], ◌∷◌, length, slice_index_or}
+use Rattle.verity_plan.specs.Settings.{Settings}
+use Rattle.verity_plan.specs.Places.{byte_at}
 use Rattle.verity_tree.specs.Levels.{level}
-use Rattle.verity_tree.specs.Writing.{put}
-
--- the byte at which a block of a level stands
-abbrev pub byte_at : Settings → ℕ → ℕ → ℕ → ℕ → ℕ
-byte_at s n base l j = place (fan s) n base l j * s.hash_block
+use Rattle.verity_io.specs.Writing.{put}
 
 -- block j of level l above these data blocks
 abbrev pub tree_block : Settings → List (List ℕ) → ℕ → ℕ → List ℕ

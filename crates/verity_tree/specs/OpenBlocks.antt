@@ -2,7 +2,7 @@
 -- For the private steps; not needed to read a public contract.
 use Rattle.std.specs.Prelude.{◌≡◌, ℕ, ◌+◌, ◌*◌, ◌/◌, ◌%◌, ◌^◌, ◌<◌, ◌≤◌, List, [], take, drop, length, map, replicate, slice_index_or, Bool, true, false, ◌⊎◌}
 use Rattle.std.specs.Fork.{slice_chunk}
-use Rattle.verity_tree.specs.Settings.{Settings, hash, fan, digest_len}
+use Rattle.verity_plan.specs.Settings.{Settings, hash, fan, digest_len}
 use Rattle.verity_tree.specs.Levels.{hash_block_of, risen, root}
 
 -- the digests that the blocks of level l are made of, level 0 next to the data

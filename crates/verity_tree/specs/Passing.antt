@@ -5,15 +5,19 @@ use Rattle.verity_hash.specs.declared.digest.Digest.{Digest}
 use Rattle.verity_tree.specs.Building.{HasGiven, EndsWithin, FailsWithin, GivesUpTo, StopsAt, begun, begun_after, bytes_of}
 use Rattle.verity_tree.specs.ClosingOrder.{order}
 use Rattle.verity_tree.specs.Closings.{CountsCause, IsCause}
-use Rattle.verity_tree.specs.Counting.{last_count}
+use Rattle.verity_io.specs.Counting.{last_count}
 use Rattle.verity_tree.specs.Image.{tree_block}
-use Rattle.verity_tree.specs.Levels.{root}
+use Rattle.verity_tree.specs.Levels.{root, data_blocks}
 use Rattle.verity_tree.specs.OpenBlocks.{carried}
-use Rattle.verity_tree.specs.Plans.{Planned, data_blocks}
-use Rattle.verity_tree.specs.Settings.{Settings, fan}
+use Rattle.verity_plan.specs.Plans.{Planned}
+use Rattle.verity_plan.specs.Settings.{Settings, fan}
 use Rattle.verity_tree.specs.Verdicts.{NoneDiffers}
 use Rattle.verity_tree.specs.declared.cascade.Stop.{Stop}
 use Rattle.verity_tree.specs.declared.closing.Task.{Task}
+use Rattle.verity_tree.specs.declared.closing.Cause.{Cause}
+use Rattle.verity_tree.specs.declared.closing.Cause.TheVariants as cause
+use Rattle.verity_tree.specs.declared.comparing.CompareFault.{CompareFault}
+use Rattle.verity_tree.specs.declared.comparing.CompareFault.TheVariants as fault
 use Rattle.verity_tree.specs.declared.data_block.BlockFault.{BlockFault}
 use Rattle.verity_tree.specs.declared.data_block.BlockFault.TheVariants.{Short, Failed}
 use Rattle.verity_tree.specs.declared.passing.PassFault.{PassFault}
@@ -71,3 +75,11 @@ CountsDevice task (Ok digest) before after = after ≡ before
 CountsDevice task (Err (SourceShort i)) before after = after ≡ before
 CountsDevice task (Err (SourceFailed i)) before after = after ≡ before
 CountsDevice task (Err (Stopped stop)) before after = CountsCause task stop.cause before after
+
+-- what a comparison answers where a hash block stops its pass, by the cause
+abbrev pub fault_by : ℕ → ℕ → Cause → CompareFault
+fault_by level block cause.Failed = fault.DeviceFailed level block
+fault_by level block (cause.Differs part) = fault.Differs level block part
+
+abbrev pub fault_of : Stop → CompareFault
+fault_of stop = fault_by stop.level stop.block stop.cause

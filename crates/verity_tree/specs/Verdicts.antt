@@ -5,9 +5,9 @@ use Rattle.std.specs.List.{range_with_len}
 use Rattle.std.specs.Str.{bytes_eq}
 use Rattle.verity_tree.specs.ClosingOrder.{order}
 use Rattle.verity_tree.specs.Image.{tree_block}
-use Rattle.verity_tree.specs.Levels.{root}
-use Rattle.verity_tree.specs.Plans.{Planned, byte_of, data_blocks, size_under, whole}
-use Rattle.verity_tree.specs.Settings.{Settings, digest_len, fan, slot_width}
+use Rattle.verity_tree.specs.Levels.{root, data_blocks, whole}
+use Rattle.verity_plan.specs.Plans.{Planned, byte_of, size_under}
+use Rattle.verity_plan.specs.Settings.{Settings, digest_len, fan, slot_width}
 use Rattle.verity_tree.specs.declared.comparing.CompareFault.{CompareFault}
 use Rattle.verity_tree.specs.declared.comparing.CompareFault.TheVariants.{SourceShort, SourceFailed, DeviceFailed, Differs, RootDiffers}
 use Rattle.verity_tree.specs.declared.part.Part.{Part}

@@ -1,17 +1,16 @@
 //! A tree that is built in one pass, as its data blocks come.
 ghost use Rattle.std.specs.Prelude.{◌≡◌, length, IfErr, IfOk};
 ghost use Rattle.verity_tree.specs.Building.{Builds, BuildsImage, CountsDevice, CountsSource, IsOfSource};
-ghost use Rattle.verity_tree.specs.Plans.{data_blocks, store_length_of};
-ghost use Rattle.verity_tree.specs.Settings.{digest_len};
+ghost use Rattle.verity_tree.specs.Levels.{data_blocks};
+ghost use Rattle.verity_plan.specs.Plans.{store_length_of};
+ghost use Rattle.verity_plan.specs.Settings.{digest_len};
 
 use crate::closing::Task;
-use crate::device::Device;
-use crate::nowhere::Nowhere;
 use crate::passing::{PassFault, pass};
-use crate::plan::Plan;
-use crate::source::Source;
 use crate::store::Store;
 use verity_hash::Digest;
+use verity_io::{Device, Nowhere, Source};
+use verity_plan::Plan;
 
 /// Why a tree isn't built.
 #[derive(Clone, Copy, Debug, PartialEq, Eq)]

@@ -3,13 +3,13 @@ ghost use Rattle.std.specs.Prelude.{◌≡◌, ℕ, ◌+◌, ◌-◌, ◌*◌, �
 ghost use Rattle.verity_tree.specs.Cascade.{Carries, CarriesCompared, CarriesCount, CarriesDevice, StepsCompared, StepsCount, StepsDevice, StepsLevel};
 ghost use Rattle.verity_tree.specs.declared.closing.Task.TheVariants.{Compare};
 ghost use Rattle.verity_tree.specs.OpenBlocks.{AreOpen, carried};
-ghost use Rattle.verity_tree.specs.Plans.{Planned, HasBlock, levels_of};
-ghost use Rattle.verity_tree.specs.Settings.{digest_len, fan};
+ghost use Rattle.verity_plan.specs.Plans.{Planned, HasBlock, levels_of};
+ghost use Rattle.verity_plan.specs.Settings.{digest_len, fan};
 
 use crate::closing::{Cause, Task, close};
-use crate::device::Device;
-use crate::plan::Plan;
 use verity_hash::Digest;
+use verity_io::Device;
+use verity_plan::Plan;
 
 /// What became of a level's open block.
 #[derive(Clone, Copy, Debug, PartialEq, Eq)]

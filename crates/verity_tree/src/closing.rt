@@ -1,11 +1,11 @@
 //! What is done with a hash block when it has closed.
 ghost use Rattle.std.specs.Prelude.{◌≡◌, ◌+◌, ◌*◌, ◌≤◌, length, take};
 ghost use Rattle.verity_tree.specs.Closings.{Closes, Compares, CountsClose};
-ghost use Rattle.verity_tree.specs.Plans.{HasBlock};
+ghost use Rattle.verity_plan.specs.Plans.{HasBlock};
 
-use crate::device::Device;
 use crate::part::{Part, part_between};
-use crate::plan::Plan;
+use verity_io::Device;
+use verity_plan::Plan;
 
 /// What is done with a hash block when it has closed.
 #[derive(Clone, Copy, Debug, PartialEq, Eq)]

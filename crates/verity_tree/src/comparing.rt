@@ -1,16 +1,15 @@
 //! A stored tree that is compared in one pass with the data.
 ghost use Rattle.std.specs.Prelude.{◌≡◌, length};
-ghost use Rattle.verity_tree.specs.Plans.{store_length_of};
+ghost use Rattle.verity_plan.specs.Plans.{store_length_of};
 
 use crate::cascade::Stop;
 use crate::closing::{Cause, Task};
-use crate::device::Device;
 use crate::part::Part;
 use crate::passing::{PassFault, pass};
-use crate::plan::Plan;
-use crate::source::Source;
 use crate::store::Store;
 use verity_hash::Digest;
+use verity_io::{Device, Source};
+use verity_plan::Plan;
 
 /// Why a stored tree isn't the one above the data; counted from 0, level 0 next to the data.
 #[derive(Clone, Copy, Debug, PartialEq, Eq)]
@@ -40,7 +39,7 @@ pub enum CompareFault {
 }
 
 ghost use Rattle.verity_tree.specs.Comparing.{CountsDevice, CountsSource, Gives, Judges};
-ghost use Rattle.verity_tree.specs.FaultsOf.{fault_of};
+ghost use Rattle.verity_tree.specs.Passing.{fault_of};
 
 /// Compares a stored tree with the one above the data of a source, which is read once: every byte of every hash block, in
 /// closing order, and then the root hash (veritysetup(8), `verify`). It writes nothing and takes no memory. The store is

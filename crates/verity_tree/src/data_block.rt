@@ -2,7 +2,8 @@
 ghost use Rattle.std.specs.Prelude.{◌≡◌, ◌≤◌, ◌-◌, ◌++◌, length, take, replicate};
 ghost use Rattle.verity_tree.specs.DataBlocks.{CountsBlock, ReadsBlock, ReadsFront};
 
-use crate::source::{Source, read_block};
+use verity_io::{Source, read_block};
+
 
 /// Why a data block isn't read.
 #[derive(Clone, Copy, Debug, PartialEq, Eq)]

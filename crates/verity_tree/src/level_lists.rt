@@ -2,15 +2,13 @@
 ghost use Rattle.std.specs.Prelude.{◌≡◌, ◌+◌, ◌*◌, ◌<◌, ◌≤◌, ◌++◌, length, map, vec_len, IfOk, OnOk};
 ghost use Rattle.std.specs.Int.{div_ceil};
 ghost use Rattle.verity_hash.specs.Bytes.{filled};
-ghost use Rattle.verity_tree.specs.Levels.{cut, hash_block_of, pack, root};
+ghost use Rattle.verity_tree.specs.Levels.{cut, hash_block_of, pack, root, data_blocks};
 ghost use Rattle.verity_tree.specs.LevelDigests.{root_of_digests};
-ghost use Rattle.verity_tree.specs.Plans.{data_blocks};
-ghost use Rattle.verity_tree.specs.Settings.{hash};
+ghost use Rattle.verity_plan.specs.Settings.{hash};
 
-use crate::plan::Plan;
-use crate::settings::TreeSettings;
 use std::alloc::{AllocError, Global};
 use verity_hash::Digest;
+use verity_plan::{Plan, TreeSettings};
 
 /// The hash block of some digests: their slots in order, and zeros.
 fn hash_block(

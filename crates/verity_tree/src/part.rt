@@ -1,10 +1,9 @@
 //! Where a stored hash block differs from the tree's.
 ghost use Rattle.std.specs.Prelude.{◌≡◌, ◌+◌, ◌-◌, ◌*◌, ◌<◌, ◌≤◌, ◌^◌, not, length, min};
 ghost use Rattle.std.specs.Str.{bytes_eq};
-ghost use Rattle.verity_tree.specs.Plans.{HasBlock};
-ghost use Rattle.verity_tree.specs.Settings.{digest_len, fan, slot_width};
+ghost use Rattle.verity_plan.specs.Plans.{HasBlock};
+ghost use Rattle.verity_plan.specs.Settings.{digest_len, fan, slot_width};
 
-use crate::plan::Plan;
 
 /// Where a stored hash block differs.
 #[derive(Clone, Copy, Debug, PartialEq, Eq)]
@@ -18,6 +17,8 @@ pub enum Part {
 }
 
 ghost use Rattle.verity_tree.specs.Verdicts.{digest_in, first_slot, part_at};
+
+use verity_plan::Plan;
 
 /// Where two whole blocks of a place differ.
 pub(crate) fn part_between(

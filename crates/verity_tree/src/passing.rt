@@ -4,17 +4,17 @@ ghost use Rattle.verity_tree.specs.Building.{HasGiven, bytes_of};
 ghost use Rattle.verity_tree.specs.DataBlocks.{CountsBlock};
 ghost use Rattle.verity_tree.specs.OpenBlocks.{AreOpen};
 ghost use Rattle.verity_tree.specs.Passing.{CountsDevice, CountsSource, Passes, PassesCompared, PassesImage, TakesDataBlock};
-ghost use Rattle.verity_tree.specs.Plans.{IsPlanned, Planned, data_blocks, levels_of, store_length_of};
-ghost use Rattle.verity_tree.specs.Settings.{digest_len};
+ghost use Rattle.verity_plan.specs.Plans.{IsPlanned, Planned, levels_of, store_length_of};
+ghost use Rattle.verity_tree.specs.Levels.{data_blocks};
+ghost use Rattle.verity_plan.specs.Settings.{digest_len};
 ghost use Rattle.verity_tree.specs.declared.closing.Task.TheVariants.{Compare};
 
 use crate::cascade::{Stop, carry};
 use crate::closing::Task;
 use crate::data_block::{BlockFault, read_data_block};
-use crate::device::Device;
-use crate::plan::Plan;
-use crate::source::Source;
 use verity_hash::Digest;
+use verity_io::{Device, Source};
+use verity_plan::Plan;
 
 /// Why a pass ends early; data blocks are counted from 0.
 #[derive(Clone, Copy, Debug, PartialEq, Eq)]

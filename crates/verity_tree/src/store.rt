@@ -1,10 +1,10 @@
 //! The memory that a pass over the data works in.
 ghost use Rattle.std.specs.Prelude.{◌≡◌, ◌↔◌, IfOk, IsTrue};
-ghost use Rattle.verity_tree.specs.Plans.{store_length_of};
+ghost use Rattle.verity_plan.specs.Plans.{store_length_of};
 
-use crate::Plan;
 use std::alloc::{AllocError, Global};
 use std::marker::Model;
+use verity_plan::Plan;
 
 /// The memory of a pass over the data: an open block for each level, a data block, and a hash block to compare with.
 /// Contracts see its length in bytes.

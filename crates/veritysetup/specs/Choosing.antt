@@ -1,15 +1,14 @@
 -- What the options choose, or the first fault, in this order: numbers, hash algorithm, hash type, block sizes, salt,
 -- UUID, and then whether the data makes a plan. The order is this project's own.
 use Rattle.std.specs.Prelude.{ℕ, ◌/◌, Bool, List, Option, Some, None, Result, Ok, Err, if◌then◌else◌}
-use Rattle.verity_tree.specs.MakingSettings.{rule_of}
+use Rattle.verity_plan.specs.Settings.{rule_of}
 use Rattle.veritysetup.specs.Options.{Texts, number_or, algorithm_of, hash_type_of, block_size_of, salt_or_random, uuid_or_random}
 use Rattle.veritysetup.specs.declared.options.OptionName.TheVariants.{Format, DataBlockSize, HashBlockSize}
 use Rattle.veritysetup.specs.declared.options.OptionFault.{OptionFault}
 use Rattle.veritysetup.specs.declared.options.OptionFault.TheVariants.{BadNumber, UnknownHash, BadHashType, BadBlockSize, BadSalt, BadUuid, NoData, TooLarge, Overlap}
-use Rattle.verity_tree.specs.Plans.{Planned}
-use Rattle.verity_tree.specs.MakingPlans.{plan_for_blocks}
-use Rattle.verity_tree.specs.declared.plan.PlanFault.{PlanFault}
-use Rattle.verity_tree.specs.declared.plan.PlanFault.TheVariants as plan
+use Rattle.verity_plan.specs.Plans.{Planned, plan_for_blocks}
+use Rattle.verity_plan.specs.declared.plan_fault.PlanFault.{PlanFault}
+use Rattle.verity_plan.specs.declared.plan_fault.PlanFault.TheVariants as plan
 use Rattle.veritysetup.specs.Chosen.{Chosen, base_behind}
 use Rattle.veritysetup.specs.declared.parameters.Parameters.{Parameters}
 

@@ -1,9 +1,9 @@
 -- What format makes (veritysetup(8), "format"; cryptsetup's on-disk format page).
 use Rattle.std.specs.Prelude.{◌≡◌, ℕ, ◌*◌, List}
 use Rattle.std.specs.Int.{div_ceil}
-use Rattle.verity_tree.specs.MakingSettings.{rule_of}
-use Rattle.verity_tree.specs.Plans.{Planned}
-use Rattle.verity_tree.specs.declared.settings.HashType.{HashType}
+use Rattle.verity_plan.specs.Settings.{rule_of}
+use Rattle.verity_plan.specs.Plans.{Planned}
+use Rattle.verity_plan.specs.declared.hash_type.HashType.{HashType}
 
 -- the hash type, the UUID's bytes, and the plan of the tree
 pub record Chosen : Type 0 where

@@ -4,10 +4,9 @@ use Rattle.std.specs.Prelude.{◌≡◌, ℕ, ◌+◌, min, List, [], Option, So
 use Rattle.std.specs.Io.KnownBytes.{Appends, Keeps}
 use Rattle.verity_tree.specs.Building.{Builds, BuildsImage, HasGiven, begun}
 use Rattle.verity_tree.specs.Building as building
-use Rattle.verity_tree.specs.Counting.{last_count}
-use Rattle.verity_tree.specs.Levels.{root}
-use Rattle.verity_tree.specs.Plans.{data_blocks}
-use Rattle.verity_tree.specs.Writing.{Spoiled}
+use Rattle.verity_io.specs.Counting.{last_count}
+use Rattle.verity_tree.specs.Levels.{root, data_blocks}
+use Rattle.verity_io.specs.Writing.{Spoiled}
 use Rattle.veritysetup.specs.Chosen.{Chosen, superblock_size}
 use Rattle.veritysetup.specs.Images.{image, superblock_for}
 use Rattle.veritysetup.specs.Messages.{build_text, memory_text, unwritten_output_text, unwritten_superblock_text}

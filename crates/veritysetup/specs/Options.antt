@@ -5,9 +5,9 @@ use Rattle.uuid.specs.Text.{parsed}
 use Rattle.verity_hash.specs.Algorithms.{named}
 use Rattle.verity_hash.specs.declared.algorithm.Algorithm.{Algorithm}
 use Rattle.verity_hash.specs.declared.algorithm.Algorithm.TheVariants.{Sha256}
-use Rattle.verity_tree.specs.Settings.{is_block_size}
-use Rattle.verity_tree.specs.declared.settings.HashType.{HashType}
-use Rattle.verity_tree.specs.declared.settings.HashType.TheVariants.{Current}
+use Rattle.verity_plan.specs.Settings.{is_block_size}
+use Rattle.verity_plan.specs.declared.hash_type.HashType.{HashType}
+use Rattle.verity_plan.specs.declared.hash_type.HashType.TheVariants.{Current}
 use Rattle.option_texts.specs.Numbers.{number_of}
 use Rattle.option_texts.specs.Salts.{salt_of}
 use Rattle.veritysetup.specs.Uuids.{random_uuid}

@@ -2,7 +2,7 @@
 use Rattle.std.specs.Prelude.{◌≡◌, ℕ, ◌+◌, min, List, take, Some, Result, Ok, Err}
 use Rattle.verity_format.specs.Superblocks.{IsSuperblock, cause}
 use Rattle.verity_format.specs.declared.superblock.Superblock.{Superblock}
-use Rattle.verity_tree.specs.Counting.{last_count}
+use Rattle.verity_io.specs.Counting.{last_count}
 use Rattle.veritysetup.specs.Chosen.{superblock_size}
 use Rattle.veritysetup.specs.declared.stored.StoredFault.{StoredFault}
 use Rattle.veritysetup.specs.declared.stored.StoredFault.TheVariants.{Unread, Refused}

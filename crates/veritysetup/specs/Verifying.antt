@@ -4,11 +4,10 @@ use Rattle.verity_format.specs.SuperblockFields.{SuperblockFields}
 use Rattle.verity_format.specs.Superblocks.{IsSuperblock}
 use Rattle.verity_tree.specs.Comparing.{Judges, Gives}
 use Rattle.verity_tree.specs.Comparing as comparing
-use Rattle.verity_tree.specs.MakingPlans.{plan_for_blocks}
-use Rattle.verity_tree.specs.Plans.{Planned}
+use Rattle.verity_plan.specs.Plans.{plan_for_blocks, Planned}
 use Rattle.verity_tree.specs.declared.comparing.CompareFault.{CompareFault}
 use Rattle.verity_tree.specs.declared.comparing.CompareFault.TheVariants as fault
-use Rattle.verity_tree.specs.declared.plan.PlanFault.{PlanFault}
+use Rattle.verity_plan.specs.declared.plan_fault.PlanFault.{PlanFault}
 use Rattle.veritysetup.specs.Chosen.{base_behind}
 use Rattle.veritysetup.specs.Messages.{compare_text, memory_text, super_text, too_large_text, unread_superblock_text}
 use Rattle.veritysetup.specs.Printing.{GainsPrefix}

@@ -1,6 +1,6 @@
 //! The run of format.
 ghost use Rattle.std.specs.Prelude.{◌≡◌, ℕ, List};
-ghost use Rattle.verity_tree.specs.Plans.{data_blocks};
+ghost use Rattle.verity_tree.specs.Levels.{data_blocks};
 ghost use Rattle.veritysetup.specs.Formatting.{FormatRun, root_above, Reads, Writes, PrintsRoot, CountsSource, CountsDevice, IsFormatted, fault_status, fault_text};
 ghost use Rattle.veritysetup.specs.Printing.{GainsPrefix};
 

@@ -1,7 +1,7 @@
 //! What the texts of options choose, before the data is looked at.
 ghost use Rattle.std.specs.Prelude.{◌≡◌, IfOk, option_map};
 ghost use Rattle.veritysetup.specs.Options.{texts_of, number_or, algorithm_of, hash_type_of, block_size_of, salt_or_random, uuid_or_random};
-ghost use Rattle.verity_tree.specs.MakingSettings.{rule_of};
+ghost use Rattle.verity_plan.specs.Settings.{rule_of};
 ghost use Rattle.veritysetup.specs.Choosing.{parameters};
 
 use crate::options::{OptionFault, OptionName, RawOptions};

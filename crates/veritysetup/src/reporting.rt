@@ -1,6 +1,6 @@
 //! The report of format and dump.
 ghost use Rattle.std.specs.Prelude.{◌≡◌, ◌++◌, IfOk, OnOk, string_bytes, option_map};
-ghost use Rattle.verity_format.specs.Superblocks.{type_number};
+ghost use Rattle.verity_plan.specs.Settings.{type_number};
 ghost use Rattle.veritysetup.specs.Reports.{salt_text, with_header, with_sizes, with_hash, root_line, report_text};
 
 use std::alloc::{AllocError, Global};

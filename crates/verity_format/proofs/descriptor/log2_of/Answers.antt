@@ -3,8 +3,8 @@ use Rattle.std.proofs.Common.{◌≡◌, ℕ, ◌+◌, ◌*◌, ◌^◌, ◌<◌
 use Rattle.std.proofs.lemmas.Bool.Decides.{nat_tests}
 use Rattle.std.proofs.Math.Nat.{le_trans, pow-le-pow_right, pow-suc}
 use Rattle.std.specs.Prelude.{nat_lt}
-use Rattle.verity_tree.proofs.CountLemmas.{lt-pow_self}
-use Rattle.verity_tree.proofs.LeastLemmas.{IsLeast, IsLeast-least_from, IsLeast-same}
+use Rattle.verity_plan.proofs.CountLemmas.{lt-pow_self}
+use Rattle.verity_plan.proofs.LeastLemmas.{IsLeast, IsLeast-least_from, IsLeast-same}
 use Rattle.verity_format.specs.Descriptors.{log2}
 use Rattle.verity_format.proofs.descriptor.log2_of.Goals as goal
 

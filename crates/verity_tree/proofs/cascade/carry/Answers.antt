@@ -1,11 +1,12 @@
 use Rattle.std.proofs.Common.{List, ap, arith, length, refl, subst, sym, true, ℕ, ◌*◌, ◌+◌, ◌-◌, ◌/◌, ◌<◌, ◌^◌, ◌∙◌, ◌≡◌, ◌≤◌}
 use Rattle.verity_tree.specs.ClosingOrder.{closed_to, closing, closes}
-use Rattle.verity_tree.specs.Counts.{level_count}
-use Rattle.verity_tree.specs.Image.{byte_at, tree_block, written}
+use Rattle.verity_plan.specs.Counts.{level_count}
+use Rattle.verity_plan.specs.Places.{byte_at}
+use Rattle.verity_tree.specs.Image.{tree_block, written}
 use Rattle.verity_tree.specs.OpenBlocks.{IsCarrying, digests_under, filling}
-use Rattle.verity_tree.specs.Plans.{byte_of, levels_of}
-use Rattle.verity_tree.specs.Settings.{fan}
-use Rattle.verity_tree.specs.Writing.{Spoiled}
+use Rattle.verity_plan.specs.Plans.{byte_of, levels_of}
+use Rattle.verity_plan.specs.Settings.{fan}
+use Rattle.verity_io.specs.Writing.{Spoiled}
 use Rattle.std.proofs.lemmas.List.Elements.{All-nil}
 use Rattle.verity_tree.specs.Closings.{IsCause}
 use Rattle.verity_tree.specs.Verdicts.{NoneDiffers, stored}

@@ -1,9 +1,9 @@
 use Rattle.std.proofs.Common.{◌≡◌, ℕ, ◌/◌, ◌^◌, List, length}
-use Rattle.verity_tree.specs.Settings.{fan, digest_len}
+use Rattle.verity_plan.specs.Settings.{fan, digest_len}
 use Rattle.verity_tree.specs.OpenBlocks.{AreOpen, carried, IsCarrying}
 use Rattle.verity_tree.specs.ClosingOrder.{closed_to}
 use Rattle.verity_tree.specs.Image.{written}
-use Rattle.verity_tree.specs.Plans.{levels_of}
+use Rattle.verity_plan.specs.Plans.{levels_of}
 use Rattle.verity_tree.specs.Verdicts.{NoneDiffers}
 use Rattle.verity_tree.specs.declared.closing.Task.TheVariants.{Compare}
 use Rattle.verity_tree.proofs.cascade.carry.Given as goal

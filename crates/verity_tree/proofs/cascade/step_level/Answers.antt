@@ -1,11 +1,11 @@
 use Rattle.std.proofs.Common.{◌≡◌, ℕ, ◌/◌, List, length, ap, ◌∙◌, arith, sym, subst, inl, inr, replicate}
-use Rattle.verity_tree.specs.Settings.{hash, fan}
-use Rattle.verity_tree.specs.Writing.{put, Spoiled}
-use Rattle.verity_tree.proofs.FitLemmas.{hash_block-some}
+use Rattle.verity_plan.specs.Settings.{hash, fan}
+use Rattle.verity_io.specs.Writing.{put, Spoiled}
+use Rattle.verity_plan.proofs.FitLemmas.{hash_block-some}
 use Rattle.verity_tree.proofs.StreamLists.{length-hash}
 use Rattle.verity_tree.proofs.StreamStep.{slot-room, filling-put, slots-all, slots-left}
 use Rattle.verity_tree.specs.Closings.{IsCause}
-use Rattle.verity_tree.specs.Plans.{byte_of}
+use Rattle.verity_plan.specs.Plans.{byte_of}
 use Rattle.verity_tree.specs.Verdicts.{stored}
 use Rattle.verity_tree.proofs.ClosingLemmas.{Closes-cause, Closes-put, Closes-same, Closes-spoiled}
 use Rattle.verity_tree.proofs.cascade.step_level.Goals.{else-slot-fan-via-then-slot-fan+else-not-last, else-slot-fan-via-else-slot-fan}

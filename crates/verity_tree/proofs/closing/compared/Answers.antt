@@ -3,9 +3,9 @@ use Rattle.std.proofs.lemmas.Bool.Decides.{nat_tests}
 use Rattle.std.proofs.lemmas.List.{take_all}
 use Rattle.std.proofs.lemmas.Slice.Eq.{bytes_eq-Decides}
 use Rattle.std.specs.Prelude.{nat_lt}
-use Rattle.verity_tree.specs.Plans.{Planned}
+use Rattle.verity_plan.specs.Plans.{Planned}
 use Rattle.verity_tree.specs.Verdicts.{part_at, part_of, first_slot}
-use Rattle.verity_tree.specs.Settings.{fan}
+use Rattle.verity_plan.specs.Settings.{fan}
 use Rattle.verity_tree.proofs.closing.compared.Goals as goal
 
 pub returns-then-eq : goal.returns-then-eq

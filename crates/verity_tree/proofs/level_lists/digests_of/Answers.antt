@@ -5,7 +5,7 @@ use Rattle.std.specs.List.{range_with_len}
 use Rattle.std.specs.Int.{div_ceil}
 use Rattle.std.specs.Fork.{slice_chunk}
 use Rattle.verity_hash.specs.Bytes.{filled}
-use Rattle.verity_tree.specs.Settings.{hash}
+use Rattle.verity_plan.specs.Settings.{hash}
 use Rattle.verity_tree.specs.Levels.{block_at}
 use Rattle.verity_tree.specs.LevelDigests.{digest_of_block}
 use Rattle.verity_tree.proofs.LevelLemmas.{map-hash-cut, take-bytes, mapped_more}

@@ -1,6 +1,6 @@
 use Rattle.std.proofs.Common.{◌≡◌, take}
 use Rattle.std.specs.List.{flat_map}
-use Rattle.verity_tree.specs.Settings.{slot}
+use Rattle.verity_plan.specs.Settings.{slot}
 use Rattle.verity_tree.proofs.level_lists.hash_block.Given as goal
 
 -- the slots of the digests so far

@@ -2,7 +2,7 @@
 use Rattle.std.proofs.Common.{◌≡◌, ℕ, map, arith, sym, ◌∙◌, ap, length}
 use Rattle.std.specs.List.{range_with_len}
 use Rattle.std.specs.Int.{div_ceil}
-use Rattle.verity_tree.specs.Settings.{hash, fan}
+use Rattle.verity_plan.specs.Settings.{hash, fan}
 use Rattle.verity_tree.specs.Levels.{hash_block_of}
 use Rattle.verity_tree.specs.LevelDigests.{digest_of_run}
 use Rattle.verity_tree.proofs.LevelLemmas.{map-hash-pack, take-run, digests_more}

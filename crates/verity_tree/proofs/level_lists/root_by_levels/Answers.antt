@@ -2,11 +2,11 @@
 use Rattle.std.proofs.Common.{◌≡◌, ◌<◌, ℕ, List, map, length, IfOk, arith, sym, ◌∙◌, ap, subst}
 use Rattle.std.proofs.lemmas.List.{length-map}
 use Rattle.std.specs.Int.{div_ceil}
-use Rattle.verity_tree.specs.Settings.{Settings, hash}
-use Rattle.verity_tree.specs.Levels.{cut}
+use Rattle.verity_plan.specs.Settings.{Settings, hash}
+use Rattle.verity_tree.specs.Levels.{cut, data_blocks}
 use Rattle.verity_tree.specs.LevelDigests.{root_of_digests}
-use Rattle.verity_tree.specs.Plans.{Planned, IsPlanned, data_blocks}
-use Rattle.verity_tree.proofs.FanLemmas.{fan-two}
+use Rattle.verity_plan.specs.Plans.{Planned, IsPlanned}
+use Rattle.verity_plan.proofs.FanLemmas.{fan-two}
 use Rattle.verity_tree.proofs.LevelLemmas.{length-cut}
 use Rattle.verity_tree.proofs.RootLemmas.{root-digests}
 use Rattle.verity_tree.proofs.TakeLemmas.{blocks-some}

@@ -3,8 +3,8 @@ use Rattle.verity_tree.specs.declared.part.Part.TheVariants.{Child}
 use Rattle.std.specs.Prelude.{find, not, Some, None, Option}
 use Rattle.std.specs.Str.{bytes_eq}
 use Rattle.std.specs.List.{range_with_len}
-use Rattle.verity_tree.specs.Plans.{Planned, size_under}
-use Rattle.verity_tree.specs.Settings.{fan}
+use Rattle.verity_plan.specs.Plans.{Planned, size_under}
+use Rattle.verity_plan.specs.Settings.{fan}
 use Rattle.verity_tree.specs.Verdicts.{digest_in, part_at}
 use Rattle.verity_tree.proofs.VerdictLemmas.{digest-room, find-range, find-range_none, first-child}
 use Rattle.verity_tree.proofs.part.part_between.Goals as goal

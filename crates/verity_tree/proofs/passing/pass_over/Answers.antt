@@ -1,14 +1,15 @@
 use Rattle.std.proofs.Common.{List, arith, length, refl, rules, subst, sym, ℕ, ◌+◌, ◌<◌, ◌∙◌, ◌≡◌}
 use Rattle.verity_tree.specs.ClosingOrder.{closed_to, closing, order}
 use Rattle.verity_tree.specs.Image.{tree_block, written}
-use Rattle.verity_tree.specs.Plans.{data_blocks, levels_of}
+use Rattle.verity_tree.specs.Levels.{data_blocks}
+use Rattle.verity_plan.specs.Plans.{levels_of}
 use Rattle.verity_tree.proofs.BuildLoop.{AreOpen-zeros, gives-up-to, image-next, image-stopped, none-differs-order, stops-for}
-use Rattle.verity_tree.proofs.FitLemmas.{fan-pos}
+use Rattle.verity_plan.proofs.FitLemmas.{fan-pos}
 use Rattle.verity_tree.proofs.LevelLemmas.{length-cut}
 use Rattle.verity_tree.proofs.TakeLemmas.{HasGiven-none, blocks-some}
 use Rattle.verity_tree.specs.Closings.{IsCause}
 use Rattle.verity_tree.specs.Verdicts.{NoneDiffers}
-use Rattle.verity_tree.specs.Settings.{fan}
+use Rattle.verity_plan.specs.Settings.{fan}
 use Rattle.std.proofs.lemmas.List.Elements.{All-nil}
 use Rattle.std.proofs.lemmas.List.{length-replicate}
 use Rattle.verity_tree.proofs.passing.pass_over.Goals as goal

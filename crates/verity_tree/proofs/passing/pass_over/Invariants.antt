@@ -1,10 +1,10 @@
 use Rattle.std.proofs.Common.{◌≡◌, ◌<◌, length}
 use Rattle.verity_tree.specs.Building.{HasGiven, begun_after, bytes_of}
-use Rattle.verity_tree.specs.Levels.{root}
+use Rattle.verity_tree.specs.Levels.{root, data_blocks}
 use Rattle.verity_tree.specs.OpenBlocks.{AreOpen}
-use Rattle.verity_tree.specs.Plans.{data_blocks, levels_of}
+use Rattle.verity_plan.specs.Plans.{levels_of}
 use Rattle.verity_tree.specs.ClosingOrder.{order}
-use Rattle.verity_tree.specs.Settings.{digest_len, fan}
+use Rattle.verity_plan.specs.Settings.{digest_len, fan}
 use Rattle.verity_tree.specs.Verdicts.{NoneDiffers}
 use Rattle.verity_tree.specs.declared.closing.Task.TheVariants.{Compare}
 use Rattle.verity_tree.proofs.passing.pass_over.Given as goal

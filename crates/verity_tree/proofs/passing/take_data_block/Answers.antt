@@ -1,7 +1,7 @@
 use Rattle.std.proofs.Common.{◌≡◌, ℕ, ◌-◌, ◌*◌, ◌<◌, min, List, length, arith, ap, ◌∙◌, Err}
 use Rattle.verity_tree.specs.Building.{HasGiven, bytes_of}
 use Rattle.verity_tree.specs.DataBlocks.{StopsBy}
-use Rattle.verity_tree.specs.Plans.{Planned, IsPlanned, levels_of}
+use Rattle.verity_plan.specs.Plans.{Planned, IsPlanned, levels_of}
 use Rattle.verity_tree.specs.Passing.{TakesDataBlock}
 use Rattle.verity_tree.specs.declared.data_block.BlockFault.{BlockFault}
 use Rattle.verity_tree.specs.declared.data_block.BlockFault.TheVariants.{Short, Failed}

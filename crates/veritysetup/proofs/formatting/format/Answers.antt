@@ -1,6 +1,6 @@
 use Rattle.std.proofs.Common.{◌∙◌, ap, refl}
-use Rattle.verity_tree.specs.Levels.{root}
-use Rattle.verity_tree.specs.Plans.{Planned, data_blocks}
+use Rattle.verity_tree.specs.Levels.{root, data_blocks}
+use Rattle.verity_plan.specs.Plans.{Planned}
 use Rattle.veritysetup.specs.Formatting.{root_above}
 use Rattle.veritysetup.proofs.PrintingLemmas.{kept}
 use Rattle.veritysetup.proofs.formatting.format.Goals as goal

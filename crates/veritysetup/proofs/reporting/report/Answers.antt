@@ -1,7 +1,7 @@
 use Rattle.std.proofs.Common.{◌≡◌, ◌∙◌, ap, refl, List, ℕ, ◌++◌, Option}
 use Rattle.verity_format.specs.SuperblockFields.{SuperblockFields}
 use Rattle.verity_hash.specs.Algorithms.{name_of}
-use Rattle.verity_tree.specs.Settings.{Settings}
+use Rattle.verity_plan.specs.Settings.{Settings}
 use Rattle.veritysetup.specs.Reports.{salt_text, with_hash, with_header, with_sizes, title, root_line, report_text}
 use Rattle.veritysetup.proofs.reporting.report.Goals as goal
 

@@ -1,8 +1,7 @@
 use Rattle.std.proofs.Common.{◌≡◌, ◌∙◌, ◌*◌, ◌/◌, ℕ, ap, sym, refl, Bool, true, false, cond, Ok, Err}
-use Rattle.verity_tree.specs.Plans.{Planned}
-use Rattle.verity_tree.specs.Settings.{Settings}
-use Rattle.verity_tree.specs.MakingPlans.{planned, plan_for_blocks}
-use Rattle.verity_tree.specs.declared.plan.PlanFault.TheVariants.{NoData, TooLarge}
+use Rattle.verity_plan.specs.Plans.{Planned, planned, plan_for_blocks}
+use Rattle.verity_plan.specs.Settings.{Settings}
+use Rattle.verity_plan.specs.declared.plan_fault.PlanFault.TheVariants.{NoData, TooLarge}
 use Rattle.veritysetup.specs.Chosen.{base_behind}
 use Rattle.veritysetup.proofs.settings.settings_of.Goals as goal
 

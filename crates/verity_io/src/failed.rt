@@ -1,0 +1,18 @@
+//! The one error of sources and devices, and how it is counted.
+ghost use Rattle.std.specs.Prelude.{◌≡◌};
+ghost use Rattle.verity_io.specs.Counting.{CountsFailure};
+
+/// A read or a write failed. What the system said of it isn't kept.
+#[derive(Clone, Copy, Debug, PartialEq, Eq)]
+pub struct Failed;
+
+// Counts the outcome of a call, and hands it back.
+pub(crate) fn counted<X>(failures: &mut u64, outcome: Result<X, Failed>) -> Result<X, Failed>
+    ensures same { result ≡ outcome }
+    ensures count { CountsFailure failures.old failures.new result }
+{
+    if outcome.is_err() {
+        *failures = failures.saturating_add(1);
+    }
+    outcome
+}

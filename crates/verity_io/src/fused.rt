@@ -1,0 +1,154 @@
+//! A source or device that fails one call.
+ghost use Rattle.std.specs.Prelude.{◌≡◌, ◌≤◌, ◌+◌, ◌-◌, ◌^◌, ◌↔◌, length, IfOk, OnOk, OnErr, IsTrue};
+ghost use Rattle.verity_io.specs.Counting.{CountsFailure};
+ghost use Rattle.verity_io.specs.Fusing.{fused_inner, fused_at, fused_calls, fused_failures, BlowsNext, CountsCall, IsBlown, IsPassed};
+ghost use Rattle.verity_io.specs.Reading.{ReadsAt, TakesNext};
+ghost use Rattle.verity_io.specs.Writing.{put, Spoiled};
+
+use crate::device::Device;
+use crate::failed::{Failed, counted};
+use crate::source::Source;
+
+/// A source or device that fails one call, at which the value within stays, and passes each other call on: such a call
+/// answers `Failed` exactly where the value within counts a failure. It tries what a caller does at a fault.
+#[derive(Drop)]
+pub struct Fused<T> {
+    inner: T,
+    at: u64,
+    calls: u64,
+    failures: u64,
+}
+
+impl<T> Fused<T> {
+    /// Fails the call of this number, counted from 1, and none for 0.
+    pub fn new(inner: T, at: u64) -> Self
+        ensures inner { fused_inner result ≡ inner }
+        ensures at { fused_at result ≡ at }
+        ensures calls { fused_calls result ≡ 0 }
+        ensures failures { fused_failures result ≡ 0 }
+    {
+        Fused {
+            inner,
+            at,
+            calls: 0,
+            failures: 0,
+        }
+    }
+
+    /// How often it was called, at most 2^64 - 1.
+    pub fn calls(&self) -> u64
+        ensures { result ≡ fused_calls self.now }
+    {
+        self.calls
+    }
+
+    /// How many calls failed, at most 2^64 - 1.
+    pub fn failures(&self) -> u64
+        ensures { result ≡ fused_failures self.now }
+    {
+        self.failures
+    }
+
+    /// The value within.
+    pub fn inner(&self) -> &T
+        ensures { result.now ≡ fused_inner self.now }
+    {
+        &self.inner
+    }
+
+    /// Takes the value within out.
+    pub fn into_inner(self) -> T
+        ensures { result ≡ fused_inner self }
+    {
+        let Fused { inner, .. } = self;
+        inner
+    }
+
+    // Counts a call, and says whether it is the one to fail.
+    fn blows(&mut self) -> bool
+        ensures calls { CountsCall self.old self.new }
+        ensures blown { IsTrue result ↔ BlowsNext self.old }
+        ensures inner { fused_inner self.new ≡ fused_inner self.old }
+        ensures failures { fused_failures self.new ≡ fused_failures self.old }
+    {
+        if self.calls == u64::MAX {
+            return false;
+        }
+        self.calls += 1;
+        self.calls == self.at
+    }
+}
+
+impl<S: Source> Source for Fused<S> {
+    ghost tells = { λ f. S.tells f.inner };
+
+    ghost to_come = { λ f. S.to_come f.inner };
+
+    ghost failures = { λ f. f.failures };
+
+    fn read(&mut self, buf: &mut [u8]) -> Result<usize, Failed>
+        ensures bound { IfOk result (λ k. k ≤ length buf.new) }
+        ensures told { S.tells (fused_inner self.old) → S.tells (fused_inner self.new) }
+        ensures bytes { S.tells (fused_inner self.old) →
+            TakesNext result buf.new (S.to_come (fused_inner self.old)) (S.to_come (fused_inner self.new)) }
+        ensures count { CountsFailure (fused_failures self.old) (fused_failures self.new) result }
+        ensures calls { CountsCall self.old self.new }
+        ensures blown { IsBlown self.old self.new result }
+        ensures passed { IsPassed S.failures self.old self.new result }
+    {
+        let outcome = if self.blows() {
+            Err(Failed)
+        } else {
+            self.inner.read(buf)
+        };
+        counted(&mut self.failures, outcome)
+    }
+}
+
+impl<D: Device> Device for Fused<D> {
+    ghost tells = { λ f. D.tells f.inner };
+
+    ghost content = { λ f. D.content f.inner };
+
+    ghost failures = { λ f. f.failures };
+
+    fn read_at(&mut self, at: u64, buf: &mut [u8]) -> Result<usize, Failed>
+        ensures bound { IfOk result (λ k. k ≤ length buf.new) }
+        ensures told { D.tells (fused_inner self.old) → D.tells (fused_inner self.new) }
+        ensures same { D.tells (fused_inner self.old) →
+            D.content (fused_inner self.new) ≡ D.content (fused_inner self.old) }
+        ensures bytes { D.tells (fused_inner self.old) →
+            ReadsAt result at (D.content (fused_inner self.old)) buf.new }
+        ensures count { CountsFailure (fused_failures self.old) (fused_failures self.new) result }
+        ensures calls { CountsCall self.old self.new }
+        ensures blown { IsBlown self.old self.new result }
+        ensures passed { IsPassed D.failures self.old self.new result }
+    {
+        let outcome = if self.blows() {
+            Err(Failed)
+        } else {
+            self.inner.read_at(at, buf)
+        };
+        counted(&mut self.failures, outcome)
+    }
+
+    fn write_at(&mut self, at: u64, bytes: &[u8]) -> Result<(), Failed>
+        requires { at + length bytes.now ≤ 2 ^ 63 - 1 }
+        ensures told { D.tells (fused_inner self.old) → D.tells (fused_inner self.new) }
+        ensures ok { D.tells (fused_inner self.old) →
+            OnOk result (D.content (fused_inner self.new) ≡ put (D.content (fused_inner self.old)) at bytes.now) }
+        ensures failed { D.tells (fused_inner self.old) → OnErr result
+            (Spoiled (D.content (fused_inner self.old)) at (length bytes.now) (D.content (fused_inner self.new))) }
+        ensures count { CountsFailure (fused_failures self.old) (fused_failures self.new) result }
+        ensures calls { CountsCall self.old self.new }
+        ensures blown { IsBlown self.old self.new result }
+        ensures passed { IsPassed D.failures self.old self.new result }
+    {
+        let outcome = if self.blows() {
+            Err(Failed)
+        } else {
+            self.inner.write_at(at, bytes)
+        };
+        counted(&mut self.failures, outcome)
+    }
+}

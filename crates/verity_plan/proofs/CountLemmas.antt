@@ -1,0 +1,84 @@
+-- Quotients rounded up.
+use Rattle.std.proofs.Common.{◌≡◌, ℕ, zero, suc, ◌+◌, ◌-◌, ◌*◌, ◌^◌, ◌<◌, ◌≤◌, true, false, leb, arith, sym, ◌∙◌, inl, inr}
+use Rattle.std.proofs.lemmas.Grind.{div_ceil_times}
+use Rattle.std.proofs.lemmas.Bool.Decides.{nat_tests, leb_tells}
+use Rattle.std.proofs.Math.Nat.{mul-le-mul_left, mul-le-mul_right, mul-pos, pow-zero, pow-suc}
+use Rattle.std.proofs.lemmas.Bool.{cases_lt}
+use Rattle.std.specs.Int.{div_ceil}
+use Rattle.std.specs.Prelude.{nat_le}
+use Rattle.verity_plan.specs.Counts.{level_count, IsLevelCount}
+use Rattle.verity_plan.proofs.LeastLemmas.{IsLeast-least_from}
+
+-- n fits k runs of a exactly where the quotient rounded up is at most k
+pub le-div_ceil : (n a k : ℕ) → 0 < a → div_ceil n a ≤ k → n ≤ k * a
+le-div_ceil n a k some h = omega (arith, div_ceil_times n a some, mul-le-mul_right a h)
+
+pub div_ceil-le : (n a k : ℕ) → 0 < a → n ≤ k * a → div_ceil n a ≤ k
+div_ceil-le n a k some h =
+    elim (cases_lt k (div_ceil n a)) [
+      | inl more ↦
+          let step : k + 1 ≤ div_ceil n a = omega arith in
+          absurd (omega (arith, div_ceil_times n a some, mul-le-mul_right a step))
+      | inr less ↦ less
+    ]
+
+-- rounding up twice is rounding up once
+pub div_ceil-div_ceil : (n a b : ℕ) → 0 < a → 0 < b → div_ceil (div_ceil n a) b ≡ div_ceil n (a * b)
+div_ceil-div_ceil n a b pa pb =
+    let both : 0 < a * b = mul-pos pa pb in
+    let once : n ≤ div_ceil n (a * b) * (a * b) = le-div_ceil n (a * b) (div_ceil n (a * b)) both (omega arith) in
+    let inner : div_ceil n a ≤ div_ceil n (a * b) * b = div_ceil-le n a _ pa (omega (arith, once)) in
+    let low : div_ceil (div_ceil n a) b ≤ div_ceil n (a * b) = div_ceil-le (div_ceil n a) b _ pb inner in
+    let twice : div_ceil n a ≤ div_ceil (div_ceil n a) b * b = le-div_ceil (div_ceil n a) b _ pb (omega arith) in
+    let outer : n ≤ div_ceil (div_ceil n a) b * b * a = le-div_ceil n a _ pa twice in
+    let high : div_ceil n (a * b) ≤ div_ceil (div_ceil n a) b = div_ceil-le n (a * b) _ both (omega (arith, outer)) in
+    omega (arith, low, high)
+
+-- a number is below its power
+pub lt-pow_self : (fan n : ℕ) → 2 ≤ fan → n < fan ^ n
+lt-pow_self fan zero two = omega (arith, pow-zero fan)
+lt-pow_self fan (suc n) two =
+    omega (arith, pow-suc fan n, lt-pow_self fan n two, let at_least : 2 ≤ fan = two in mul-le-mul_right (fan ^ n) at_least)
+
+pub IsLevelCount-level_count : (fan n : ℕ) → 2 ≤ fan → IsLevelCount fan n (level_count fan n)
+unfolding level_count
+IsLevelCount-level_count fan n two =
+    let fits : leb n (fan ^ n) ≡ true = grind (arith, nat_tests, lt-pow_self fan n two) in
+    let found = IsLeast-least_from (λ l. nat_le n (fan ^ l)) 0 n n (omega arith) (omega arith) fits in
+    record {
+      enough = let pass : leb n (fan ^ level_count fan n) ≡ true = found.passing in grind (arith, nat_tests, pass);
+      least = λ m below. let fail : leb n (fan ^ m) ≡ false = found.least m (omega arith) below in grind (arith, nat_tests, fail);
+    }
+
+-- one run is enough exactly where the quotient rounded up is at most 1
+pub leb-div_ceil_one : (n a : ℕ) → 0 < a → leb (div_ceil n a) 1 ≡ leb n a
+leb-div_ceil_one n a some =
+    elim (leb_tells n a) [
+      | inl fits ↦ let le : div_ceil n a ≤ 1 = div_ceil-le n a 1 some (omega (arith, fits.1)) in
+          let t : leb (div_ceil n a) 1 ≡ true = grind (arith, nat_tests, le) in t ∙ sym fits.0
+      | inr past ↦ elim (leb_tells (div_ceil n a) 1) [
+        | inl fits ↦ absurd (omega (arith, le-div_ceil n a 1 some fits.1, past.1))
+        | inr also ↦ also.0 ∙ sym past.0
+      ]
+    ]
+
+-- a run before the last begins within the list
+pub mul-lt_div_ceil : (n a k : ℕ) → 0 < a → k < div_ceil n a → k * a < n
+mul-lt_div_ceil n a k some h =
+    elim (cases_lt (k * a) n) [
+      | inl less ↦ less
+      | inr past ↦ absurd (omega (arith, div_ceil-le n a k some past, h))
+    ]
+
+-- some elements make some runs
+pub div_ceil-pos : (n a : ℕ) → 0 < a → 0 < n → 0 < div_ceil n a
+div_ceil-pos n a some more =
+    elim (cases_lt 0 (div_ceil n a)) [
+      | inl pos ↦ pos
+      | inr none ↦ absurd (omega (arith, le-div_ceil n a 0 some none))
+    ]
+
+-- there are fewer runs than elements
+pub div_ceil-lt : (n a : ℕ) → 2 ≤ a → 1 < n → div_ceil n a < n
+div_ceil-lt n a two more =
+    omega (arith, div_ceil-le n a (n - 1) (omega arith) (omega (arith, mul-le-mul_left (n - 1) two)))

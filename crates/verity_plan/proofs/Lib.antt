@@ -1,0 +1,7 @@
+pub mod LeastLemmas
+pub mod CountLemmas
+pub mod FanLemmas
+pub mod FitLemmas
+pub mod PlaceLemmas
+pub mod PlanLemmas
+pub mod Rows

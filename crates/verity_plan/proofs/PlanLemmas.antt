@@ -1,0 +1,137 @@
+-- Sizes and places computed level by level.
+use Rattle.std.proofs.Common.{◌≡◌, ℕ, zero, suc, ◌+◌, ◌-◌, ◌*◌, ◌/◌, ◌^◌, ◌<◌, ◌≤◌, arith, sym, ◌∙◌, ap, refl, inl, inr}
+use Rattle.std.proofs.lemmas.Bool.{cases_lt}
+use Rattle.std.proofs.Math.Nat.{pow-zero, pow-suc, pow-le-pow_left, pow-le-pow_right, one-le-pow, mul-le-mul_left, mul-le-mul_right, mul-le-mul, div-mul-le_self, zero-div}
+use Rattle.std.proofs.Math.Bool.{and-false}
+use Rattle.std.proofs.lemmas.Bool.Decides.{nat_tests}
+use Rattle.std.proofs.lemmas.Nat.{div-add-mod', mod_below}
+use Rattle.std.specs.Prelude.{nat_le, nat_eq, true, false, Ok, Err}
+use Rattle.verity_plan.specs.Plans.{planned, Planned, IsPlanned, HasBlock, byte_of, place_of, levels_of, end_of, store_length_of, has_room, most_bytes}
+use Rattle.verity_plan.specs.declared.plan_fault.PlanFault.TheVariants.{TooLarge}
+use Rattle.std.specs.Int.{div_ceil}
+use Rattle.verity_plan.specs.Counts.{level_count, level_size}
+use Rattle.verity_plan.specs.Settings.{fan}
+use Rattle.verity_plan.proofs.CountLemmas.{div_ceil-div_ceil, IsLevelCount-level_count, le-div_ceil, div_ceil-le}
+use Rattle.verity_plan.proofs.FanLemmas.{fan-two, some_data, two_slots, digest_len_of-pos, data_most, hash_most}
+use Rattle.verity_plan.proofs.PlaceLemmas.{PlacesAreOnce-all}
+
+-- one level more
+pub size-more : (fan n k size : ℕ) → 0 < fan → size ≡ div_ceil n (fan ^ k) → div_ceil size fan ≡ level_size fan n k
+size-more fan n k size some is =
+    let one : k + 1 ≡ suc k = omega arith in
+    let power : fan ^ k * fan ≡ fan ^ (k + 1) = sym (ap (λ (m : ℕ). fan ^ m) one ∙ pow-suc fan k) in
+    ap (λ (m : ℕ). div_ceil m fan) is
+    ∙ div_ceil-div_ceil n (fan ^ k) fan (omega (arith, one-le-pow k fan some)) some
+    ∙ ap (λ (m : ℕ). div_ceil n m) power
+
+-- no level yet
+pub size-none : (fan n : ℕ) → n ≡ div_ceil n (fan ^ 0)
+size-none fan n = let one : n ≡ div_ceil n 1 = omega arith in one ∙ ap (λ (m : ℕ). div_ceil n m) (sym (pow-zero fan))
+
+-- a level has at most two thirds of the blocks below it
+pub div_ceil-half : (n a : ℕ) → 2 ≤ a → 1 < n → 3 * div_ceil n a ≤ 2 * n
+div_ceil-half n a two more =
+    let half : div_ceil n a ≤ (n + 1) / 2 = div_ceil-le n a ((n + 1) / 2) (omega arith) (omega (arith, mul-le-mul_left ((n + 1) / 2) two)) in
+    omega (arith, half)
+
+-- where more than one block is left there is a level more
+pub levels-more : (fan n k size : ℕ) → 2 ≤ fan → size ≡ div_ceil n (fan ^ k) → 1 < size → k < level_count fan n
+levels-more fan n k size two is more =
+    let count = IsLevelCount-level_count fan n two in
+    let some : 0 < fan = omega arith in
+    elim (cases_lt k (level_count fan n)) [
+      | inl below ↦ below
+      | inr past ↦
+          let power : fan ^ level_count fan n ≤ fan ^ k = pow-le-pow_right some past in
+          absurd (omega (arith, count.enough, power, is, more, div_ceil-le n (fan ^ k) 1 (omega (arith, one-le-pow k fan some)) (omega (arith, count.enough, power))))
+    ]
+
+-- where one block is left there is no level more
+pub levels-all : (fan n k size : ℕ) → 2 ≤ fan → size ≡ div_ceil n (fan ^ k) → size ≤ 1 → level_count fan n ≤ k
+levels-all fan n k size two is one =
+    let count = IsLevelCount-level_count fan n two in
+    let some : 0 < fan = omega arith in
+    let enough : n ≤ 1 * fan ^ k = le-div_ceil n (fan ^ k) 1 (omega (arith, one-le-pow k fan some)) (omega (arith, is, one)) in
+    elim (cases_lt k (level_count fan n)) [
+      | inl below ↦ absurd (omega (arith, count.least k below, enough))
+      | inr past ↦ past
+    ]
+
+-- the data blocks of a plan are at most as many as their bytes
+pub blocks_few : (p : Planned) → IsPlanned p → p.blocks ≤ 2 ^ 63 - 1
+blocks_few p h =
+    let some : 1 ≤ p.settings.data_block = omega (arith, some_data p.settings h.valid) in
+    omega (arith, mul-le-mul_left p.blocks some, h.data_most)
+
+-- a plan has at most 63 levels
+pub levels_few : (p : Planned) → IsPlanned p → levels_of p ≤ 63
+levels_few p h =
+    let two = fan-two p.settings h.valid in
+    let count = IsLevelCount-level_count (fan p.settings) p.blocks two in
+    elim (cases_lt 63 (levels_of p)) [
+      | inl more ↦ absurd (omega (arith, count.least 63 more, pow-le-pow_left two 63, blocks_few p h))
+      | inr few ↦ few
+    ]
+
+-- a number past a quotient is past it as a product, and one within it is within it
+pub past-quotient : (m d n : ℕ) → 0 < d → m / d < n → m < n * d
+past-quotient m d n some past =
+    let next : m / d + 1 ≤ n = omega arith in
+    omega (arith, mul-le-mul_right d next, div-add-mod' m d, mod_below m d some)
+
+pub within-quotient : (m d n : ℕ) → n ≤ m / d → n * d ≤ m
+within-quotient m d n within = omega (arith, mul-le-mul_right d within, div-mul-le_self m d)
+
+-- the place behind all blocks is not before the first
+pub base-le-end : (p : Planned) → p.base ≤ end_of p
+base-le-end p = omega arith
+
+-- no plan for areas past the limit
+pub planned-large : (p : Planned) → 0 < p.blocks → has_room p ≡ false → planned p ≡ Err TooLarge
+planned-large p some none =
+    let tested : nat_eq p.blocks 0 ≡ false = grind (arith, nat_tests, some) in
+    rw (tested, none) refl
+
+pub planned-room : (p : Planned) → 0 < p.blocks → has_room p ≡ true → planned p ≡ Ok p
+planned-room p some room =
+    let tested : nat_eq p.blocks 0 ≡ false = grind (arith, nat_tests, some) in
+    rw (tested, room) refl
+
+pub has_room-data : (p : Planned) → most_bytes < p.blocks * p.settings.data_block → has_room p ≡ false
+has_room-data p past = grind (arith, nat_tests, past)
+
+pub has_room-hash : (p : Planned) → most_bytes < end_of p * p.settings.hash_block → has_room p ≡ false
+has_room-hash p past =
+    let tested : nat_le (end_of p * p.settings.hash_block) most_bytes ≡ false = grind (arith, nat_tests, past) in
+    rw tested (and-false _)
+
+pub has_room-both : (p : Planned) → p.blocks * p.settings.data_block ≤ most_bytes → end_of p * p.settings.hash_block ≤ most_bytes → has_room p ≡ true
+has_room-both p low high =
+    let first : nat_le (p.blocks * p.settings.data_block) most_bytes ≡ true = grind (arith, nat_tests, low) in
+    let second : nat_le (end_of p * p.settings.hash_block) most_bytes ≡ true = grind (arith, nat_tests, high) in
+    rw (first, second) refl
+
+-- a hash block has a byte
+pub some_hash : (p : Planned) → IsPlanned p → 1 ≤ p.settings.hash_block
+some_hash p h = omega (arith, two_slots p.settings h.valid, digest_len_of-pos p.settings.algorithm)
+
+-- the end fits a number of 63 bits
+pub end_few : (p : Planned) → IsPlanned p → end_of p ≤ 2 ^ 63 - 1
+end_few p h = omega (arith, mul-le-mul_left (end_of p) (some_hash p h), h.hash_most)
+
+-- a store's length is a small number
+pub store_few : (p : Planned) → IsPlanned p → store_length_of p ≤ 2 ^ 26
+store_few p h =
+    omega (arith, mul-le-mul (levels_few p h) (hash_most p.settings h.valid), hash_most p.settings h.valid, data_most p.settings h.valid)
+
+-- some blocks have some bytes
+pub some_wanted : (wanted size blocks : ℕ) → blocks ≡ div_ceil wanted size → 0 < blocks → 0 < wanted
+some_wanted zero size blocks is some = absurd (omega (arith, is, zero-div size))
+some_wanted (suc wanted) size blocks is some = omega arith
+
+-- a hash block is within the limit
+pub byte-room : (p : Planned) → IsPlanned p → (l j : ℕ) → HasBlock p l j → byte_of p l j + p.settings.hash_block ≤ 2 ^ 63 - 1
+byte-room p h l j here =
+    let within = (PlacesAreOnce-all (fan p.settings) p.blocks p.base).within l j here in
+    let step : place_of p l j + 1 ≤ end_of p = omega (arith, within.1) in
+    omega (arith, mul-le-mul_right p.settings.hash_block step, h.hash_most)

@@ -1,0 +1,28 @@
+use Rattle.std.proofs.Common.{ℕ, ◌*◌, arith, ap, ◌∙◌, subst}
+use Rattle.verity_plan.specs.Plans.{IsPlanned, place_of}
+use Rattle.verity_plan.proofs.PlanLemmas.{byte-room}
+use Rattle.verity_plan.proofs.plan.Plan.byte.Goals as goal
+
+pub overflow_mul-result : goal.overflow_mul-result
+overflow_mul-result c =
+    let p = c.args.self.now in
+    let planned = subst IsPlanned c.self.view_is c.self.invariant.planned in
+    let size = c.from.ensures ∙ c.hash_block.ensures.value ∙ ap (λ q. q.settings.hash_block) c.self.view_is in
+    omega (
+      arith,
+      byte-room p planned c.args.level c.args.block c.requires,
+      ap (λ (n : ℕ). n * c.from.result) c.place.ensures,
+      ap (λ (n : ℕ). place_of p c.args.level c.args.block * n) size,
+    )
+
+pub returns-clause-room : goal.returns-clause-room
+returns-clause-room c =
+    let p = c.args.self.now in
+    let planned = subst IsPlanned c.self.view_is c.self.invariant.planned in
+    let size = c.from.ensures ∙ c.hash_block.ensures.value ∙ ap (λ q. q.settings.hash_block) c.self.view_is in
+    omega (
+      arith,
+      byte-room p planned c.args.level c.args.block c.requires,
+      ap (λ (n : ℕ). n * c.from.result) c.place.ensures,
+      ap (λ (n : ℕ). place_of p c.args.level c.args.block * n) size,
+    )

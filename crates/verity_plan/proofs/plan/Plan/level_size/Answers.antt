@@ -1,0 +1,15 @@
+use Rattle.std.proofs.Common.{◌≡◌, ℕ, ◌<◌, ◌≤◌, arith, ap, ◌∙◌, refl}
+use Rattle.std.specs.Int.{div_ceil}
+use Rattle.verity_plan.specs.Plans.{size_under}
+use Rattle.verity_plan.specs.Settings.{fan}
+use Rattle.verity_plan.proofs.PlanLemmas.{size-more}
+use Rattle.verity_plan.proofs.plan.Plan.level_size.Goals as goal
+
+pub returns : goal.returns
+returns c =
+    let p = c.args.self.now in
+    let some : 0 < fan p.settings = omega (arith, c.fan.ensures.two, c.fan.ensures.value) in
+    c.div_ceil.ensures
+    ∙ ap (λ (n : ℕ). div_ceil n c.fan.result) c.size_under.ensures
+    ∙ ap (λ (n : ℕ). div_ceil (size_under p c.args.level) n) c.fan.ensures.value
+    ∙ size-more (fan p.settings) p.blocks c.args.level (size_under p c.args.level) some refl

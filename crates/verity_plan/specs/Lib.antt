@@ -1,0 +1,5 @@
+pub mod Settings
+pub mod Counts
+pub mod Places
+pub mod Plans
+pub mod PlanFields

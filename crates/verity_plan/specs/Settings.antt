@@ -1,0 +1,128 @@
+-- What a tree is made by: the construction parameters of the Linux kernel's dm-verity page and the tree parameters of
+-- its fs-verity page; how wide a slot of a hash block is and how many slots a hash block has; and which parameters make
+-- settings.
+use Rattle.std.specs.Prelude.{◌≡◌, ℕ, zero, suc, ◌+◌, ◌*◌, ◌^◌, ◌≤◌, ◌&&◌, ◌==◌, Bool, true, false, not, List, length, Option, Some, None, Result, Ok, Err, if◌then◌else◌, nat_le, nat_lt}
+use Rattle.std.specs.Int.{is_power_of_two}
+use Rattle.verity_hash.specs.Algorithms.{digest_len_of}
+use Rattle.verity_hash.specs.Bytes.{filled}
+use Rattle.verity_hash.specs.Salted.{salted_hash}
+use Rattle.verity_hash.specs.declared.algorithm.Algorithm.{Algorithm}
+use Rattle.verity_hash.specs.declared.salting.SaltRule.{SaltRule}
+use Rattle.verity_hash.specs.declared.salting.SaltRule.TheVariants.{Before, PaddedBefore}
+use Rattle.verity_plan.specs.declared.hash_type.HashType.{HashType}
+use Rattle.verity_plan.specs.declared.hash_type.HashType.TheVariants.{Current}
+use Rattle.verity_plan.specs.declared.setting_fault.SettingFault.{SettingFault}
+use Rattle.verity_plan.specs.declared.setting_fault.SettingFault.TheVariants.{DataBlockSize, HashBlockSize, SaltSize}
+
+-- the first of least, least + 1, .. that passes a test; least + fuel if none before it does
+unfoldable pub least_from : (ℕ → Bool) → ℕ → ℕ → ℕ
+least_from passes least zero = least
+least_from passes least (suc fuel) =
+    elim (passes least) [ true ↦ least | false ↦ least_from passes (suc least) fuel ]
+
+-- the least number that passes, if one up to most does
+abbrev pub least_up_to : ℕ → (ℕ → Bool) → ℕ
+least_up_to most passes = least_from passes 0 most
+
+-- the greatest power of two of digests of this length that a hash block has room for
+unfoldable pub greatest_fan : ℕ → ℕ → ℕ
+greatest_fan digest_len hash_block = 2 ^ least_up_to hash_block (λ k. nat_lt hash_block (2 ^ (k + 1) * digest_len))
+
+-- the least power of two that is not below a length
+unfoldable pub least_power : ℕ → ℕ
+least_power len = 2 ^ least_up_to len (λ k. nat_le len (2 ^ k))
+
+-- block sizes are in bytes
+pub record Settings : Type 0 where
+  pub algorithm : Algorithm
+  pub rule : SaltRule
+  pub salt : List ℕ
+  pub data_block : ℕ
+  pub hash_block : ℕ
+
+-- the salted hash of a block
+unfoldable pub hash : Settings → List ℕ → List ℕ
+hash s block = salted_hash s.algorithm s.rule s.salt block
+
+-- the length of a digest
+abbrev pub digest_len : Settings → ℕ
+digest_len s = digest_len_of s.algorithm
+
+-- the width of a slot: in dm-verity's hash type 1 the digest's length rounded up to a power of two
+abbrev pub width_by : SaltRule → ℕ → ℕ
+width_by Before digest_len = least_power digest_len
+width_by PaddedBefore digest_len = digest_len
+
+unfoldable pub slot_width : Settings → ℕ
+slot_width s = width_by s.rule (digest_len s)
+
+-- a digest in its slot: the digest, and zeros
+abbrev pub slot : Settings → List ℕ → List ℕ
+slot s digest = filled (slot_width s) digest
+
+-- the number of slots of a hash block
+unfoldable pub fan : Settings → ℕ
+fan s = greatest_fan (digest_len s) s.hash_block
+
+-- the largest block size (of dm-verity, and for fs-verity this project's own), the longest salt, the smallest block size
+abbrev pub most_block : ℕ
+most_block = 524288
+
+abbrev pub most_salt : SaltRule → ℕ
+most_salt Before = 256
+most_salt PaddedBefore = 32
+
+abbrev pub least_block : SaltRule → ℕ → ℕ
+least_block Before digest_len = 512
+least_block PaddedBefore digest_len = 2 * digest_len
+
+-- a power of two within limits
+abbrev pub is_block_size : ℕ → ℕ → Bool
+is_block_size least size = is_power_of_two size && (nat_le least size && nat_le size most_block)
+
+-- settings that a tree can be made by
+pub record IsValid (s : Settings) : Type 0 where
+  pub data_size : is_block_size (least_block s.rule (digest_len s)) s.data_block ≡ true
+  pub hash_size : is_block_size (least_block s.rule (digest_len s)) s.hash_block ≡ true
+  pub salt_most : length s.salt ≤ most_salt s.rule
+  pub one_size : s.rule ≡ PaddedBefore → s.data_block ≡ s.hash_block
+
+-- where a hash type has its salt
+abbrev pub rule_of : HashType → SaltRule
+rule_of Current = Before
+
+-- the number of a hash type, and the hash type of a number (cryptsetup's on-disk format page, "hash type")
+abbrev pub type_number : HashType → ℕ
+type_number Current = 1
+
+abbrev pub type_of_number : ℕ → Option HashType
+type_of_number number = if number == 1 then Some Current else None
+
+-- the settings, or the first parameter past its limits: those of dm-verity (block sizes 512 to 524288, salts of up to 256
+-- bytes; cryptsetup's on-disk format page) and of fs-verity (block sizes are powers of two that hold at least two digests,
+-- fsverity(1), `--block-size`, and Linux kernel, fs-verity page, "FS_IOC_ENABLE_VERITY"; salts of up to 32 bytes, the same
+-- page). That fs-verity's blocks have at most 524288 bytes is this project's own limit.
+abbrev pub checked : Settings → Result Settings SettingFault
+checked s = if not (is_block_size (least_block s.rule (digest_len_of s.algorithm)) s.data_block) then Err DataBlockSize
+    else (if not (is_block_size (least_block s.rule (digest_len_of s.algorithm)) s.hash_block) then Err HashBlockSize
+    else (if nat_lt (most_salt s.rule) (length s.salt) then Err SaltSize else Ok s))
+
+-- settings of dm-verity
+abbrev pub verity_settings : Algorithm → HashType → List ℕ → ℕ → ℕ → Result Settings SettingFault
+verity_settings algorithm hash_type salt data_block hash_block = checked (record {
+  algorithm = algorithm;
+  rule = rule_of hash_type;
+  salt = salt;
+  data_block = data_block;
+  hash_block = hash_block;
+})
+
+-- settings of fs-verity: data and tree blocks have one size
+abbrev pub fsverity_settings : Algorithm → List ℕ → ℕ → Result Settings SettingFault
+fsverity_settings algorithm salt block = checked (record {
+  algorithm = algorithm;
+  rule = PaddedBefore;
+  salt = salt;
+  data_block = block;
+  hash_block = block;
+})

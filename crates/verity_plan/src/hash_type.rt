@@ -1,0 +1,42 @@
+//! dm-verity's hash types.
+ghost use Rattle.std.specs.Prelude.{◌≡◌};
+ghost use Rattle.verity_plan.specs.Settings.{rule_of, type_number, type_of_number};
+
+use verity_hash::SaltRule;
+
+/// dm-verity's hash type (cryptsetup's on-disk format page, "hash type").
+#[derive(Clone, Copy, Debug, PartialEq, Eq)]
+pub enum HashType {
+    /// Type 1: the salt comes before the block, and slots are padded to a power of two.
+    Current,
+}
+
+impl HashType {
+    /// Where the salt goes.
+    pub fn rule(self) -> SaltRule
+        ensures { result ≡ rule_of self }
+    {
+        match self {
+            HashType::Current => SaltRule::Before,
+        }
+    }
+
+    /// The number in superblocks and of the option `--format`.
+    pub fn number(self) -> u32
+        ensures { result ≡ type_number self }
+    {
+        match self {
+            HashType::Current => 1,
+        }
+    }
+
+    /// The hash type of a number, or `None` where it is no type's.
+    pub fn from_number(number: u64) -> Option<HashType>
+        ensures { result ≡ type_of_number number }
+    {
+        match number {
+            1 => Some(HashType::Current),
+            _ => None,
+        }
+    }
+}

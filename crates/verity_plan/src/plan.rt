@@ -1,0 +1,271 @@
+//! What is read, and where each hash block goes.
+ghost use Rattle.std.specs.Prelude.{◌≡◌, ◌+◌, ◌-◌, ◌*◌, ◌^◌, ◌≤◌, ◌<◌};
+ghost use Rattle.verity_plan.specs.Plans.{Planned, IsPlanned, byte_of, most_bytes, levels_of, size_of_level, place_of, end_of, store_length_of, size_under, HasBlock, planned, plan_for_blocks, plan_for_bytes};
+ghost use Rattle.verity_plan.specs.Settings.{digest_len, fan, hash, slot_width};
+
+use crate::{PlanFault, TreeSettings};
+use std::marker::Model;
+use verity_hash::Digest;
+
+/// A plan for the tree above some data: how many blocks there are, how many bytes are read for them, and where each
+/// hash block goes. It takes no memory of its own.
+#[derive(Clone, Copy, Debug, PartialEq, Eq)]
+pub struct Plan {
+    settings: TreeSettings,
+    blocks: u64,
+    wanted: u64,
+    base: u64,
+    levels: usize,
+    end: u64,
+}
+
+impl Model for Plan {
+    ghost use Rattle.verity_plan.specs.Plans.{Planned, IsPlanned, byte_of, most_bytes, levels_of, end_of};
+    ghost use Rattle.std.specs.Prelude.{◌≡◌};
+
+    ghost Value = { Planned };
+
+    ghost view = { λ p. record { settings = p.settings; blocks = p.blocks; wanted = p.wanted; base = p.base } };
+
+    ghost use Rattle.verity_plan.specs.PlanFields.{IsComputed, fields_of, fields_back};
+
+    ghost invariant = { IsComputed };
+
+    ghost inverse = { fields_of };
+
+    ghost inverse_ok = { λ p computed. fields_back p computed };
+}
+
+ghost use Rattle.std.specs.Int.{div_ceil};
+ghost use Rattle.verity_plan.specs.Counts.{level_count, blocks_from};
+
+/// The largest size of the data area or the hash area, in bytes.
+const MOST_BYTES: u64 = (1 << 63) - 1;
+
+impl Plan {
+    /// A plan for so many whole data blocks, with the hash area from block `base` on, counted in hash blocks (Linux kernel,
+    /// dm-verity page, "Construction Parameters").
+    ///
+    /// `NoData` for no blocks; else `TooLarge` where the data area or the hash area, which ends after the last hash block,
+    /// would go past 2^63 - 1 bytes.
+    pub fn for_blocks(settings: &TreeSettings, blocks: u64, base: u64) -> Result<Plan, PlanFault>
+        ensures { result ≡ plan_for_blocks settings.now blocks base }
+    {
+        match blocks.checked_mul(u64::from(settings.data_block())) {
+            Some(wanted) => Plan::checked(settings, blocks, wanted, base),
+            None => Err(PlanFault::TooLarge),
+        }
+    }
+
+    /// A plan for so many bytes, the last data block perhaps not whole, with the hash area from block `base` on,
+    /// counted in hash blocks (Linux kernel, fs-verity page, "Merkle tree").
+    ///
+    /// `NoData` for no bytes; else `TooLarge` where the data area, in whole blocks, or the hash area would go past
+    /// 2^63 - 1 bytes.
+    pub fn for_bytes(settings: &TreeSettings, size: u64, base: u64) -> Result<Plan, PlanFault>
+        ensures { result ≡ plan_for_bytes settings.now size base }
+    {
+        let blocks = size.div_ceil(u64::from(settings.data_block()));
+        Plan::checked(settings, blocks, size, base)
+    }
+
+    fn checked(
+        settings: &TreeSettings,
+        blocks: u64,
+        wanted: u64,
+        base: u64,
+    ) -> Result<Plan, PlanFault>
+        requires { blocks ≡ div_ceil wanted settings.now.data_block }
+        ensures { result ≡ planned (record { settings = settings.now; blocks = blocks; wanted = wanted; base = base }) }
+    {
+        if blocks == 0 {
+            return Err(PlanFault::NoData);
+        }
+        let most_blocks = MOST_BYTES / u64::from(settings.data_block());
+        let most_end = MOST_BYTES / u64::from(settings.hash_block());
+        if blocks > most_blocks || base > most_end {
+            return Err(PlanFault::TooLarge);
+        }
+        let above = levels_above(settings.fan() as u64, blocks);
+        let end = base + above.blocks;
+        if end > most_end {
+            return Err(PlanFault::TooLarge);
+        }
+        Ok(Plan {
+            settings: *settings,
+            blocks,
+            wanted,
+            base,
+            levels: above.levels,
+            end,
+        })
+    }
+
+    /// What the tree is made by.
+    pub fn settings(&self) -> &TreeSettings
+        ensures { result.now ≡ self.now.settings }
+    {
+        &self.settings
+    }
+
+    /// The place of the first hash block, counted in hash blocks.
+    pub fn base(&self) -> u64
+        ensures { result ≡ self.now.base }
+    {
+        self.base
+    }
+
+    /// The number of data blocks, at least 1.
+    pub fn blocks(&self) -> u64
+        ensures value { result ≡ self.now.blocks }
+        ensures planned { IsPlanned self.now }
+    {
+        self.blocks
+    }
+
+    /// The number of bytes to be read.
+    pub fn wanted(&self) -> u64
+        ensures value { result ≡ self.now.wanted }
+        ensures planned { IsPlanned self.now }
+    {
+        self.wanted
+    }
+
+    /// The number of levels: 0 for a single data block (Linux kernel, dm-verity page, "Hash Tree").
+    pub fn levels(&self) -> usize
+        ensures { result ≡ levels_of self.now }
+    {
+        self.levels
+    }
+
+    /// The number of slots of a hash block.
+    pub fn fan(&self) -> usize
+        ensures value { result ≡ fan self.now.settings }
+        ensures two { 2 ≤ result }
+        ensures fits { fan self.now.settings * slot_width self.now.settings ≤ self.now.settings.hash_block }
+    {
+        self.settings.fan()
+    }
+
+    /// The byte at which a block of a level stands.
+    pub fn byte(&self, level: usize, block: u64) -> u64
+        requires { HasBlock self.now level block }
+        ensures value { result ≡ byte_of self.now level block }
+        ensures room { result + self.now.settings.hash_block ≤ most_bytes }
+    {
+        self.place(level, block) * u64::from(self.settings.hash_block())
+    }
+
+    // The parts of the settings that a pass over the data uses.
+    pub fn slot_width(&self) -> usize
+        ensures { result ≡ slot_width self.now.settings }
+    {
+        self.settings.slot_width()
+    }
+
+    pub fn digest_len(&self) -> usize
+        ensures { result ≡ digest_len self.now.settings }
+    {
+        self.settings.algorithm().digest_len()
+    }
+
+    pub fn data_block(&self) -> usize
+        ensures { result ≡ self.now.settings.data_block }
+    {
+        self.settings.data_block() as usize
+    }
+
+    pub fn hash_block(&self) -> usize
+        ensures { result ≡ self.now.settings.hash_block }
+    {
+        self.settings.hash_block() as usize
+    }
+
+    pub fn hash(&self, block: &[u8]) -> Digest
+        ensures { result ≡ hash self.now.settings block.now }
+    {
+        self.settings.hash(block)
+    }
+
+    /// The place after the last hash block, counted in hash blocks.
+    pub fn end(&self) -> u64
+        ensures { result ≡ end_of self.now }
+    {
+        self.end
+    }
+
+    /// The length of a store for this plan, in bytes: an open block for each level, a data block, and a hash block to
+    /// compare with.
+    pub fn store_length(&self) -> usize
+        ensures { result ≡ store_length_of self.now }
+    {
+        let hash_block = self.settings.hash_block() as usize;
+        self.levels * hash_block + self.settings.data_block() as usize + hash_block
+    }
+
+    /// The number of blocks of a level of the tree, level 0 next to the data. The level is below the number of levels.
+    pub fn level_size(&self, level: usize) -> u64
+        requires { level < levels_of self.now }
+        ensures { result ≡ size_of_level self.now level }
+    {
+        self.size_under(level).div_ceil(self.fan() as u64)
+    }
+
+    /// The number of blocks one level below a level: the data blocks below level 0.
+    pub fn size_under(&self, level: usize) -> u64
+        requires { level ≤ levels_of self.now }
+        ensures { result ≡ size_under self.now level }
+    {
+        let fan = self.settings.fan() as u64;
+        let mut size = self.blocks;
+        for below in 0..level {
+            size = size.div_ceil(fan);
+        }
+        size
+    }
+
+    /// The place of a block of a level, counted in hash blocks: the top level stands first (Linux kernel, dm-verity page,
+    /// "On-disk format"). The level is below the number of levels, and the block below the level's size.
+    pub fn place(&self, level: usize, block: u64) -> u64
+        requires { HasBlock self.now level block }
+        ensures { result ≡ place_of self.now level block }
+    {
+        let fan = self.settings.fan() as u64;
+        let mut size = self.blocks;
+        let mut start = self.end;
+        for below in 0..level + 1 {
+            size = size.div_ceil(fan);
+            start -= size;
+        }
+        start + block
+    }
+}
+
+/// The levels above some data blocks: how many, and how many hash blocks in all.
+#[derive(Clone, Copy)]
+struct Above {
+    levels: usize,
+    blocks: u64,
+}
+
+/// How many levels there are above some data blocks, and how many hash blocks in all.
+fn levels_above(fan: u64, blocks: u64) -> Above
+    requires two { 2 ≤ fan }
+    requires some { 0 < blocks }
+    requires most { blocks ≤ 2 ^ 58 - 1 }
+    ensures levels { result.levels ≡ level_count fan blocks }
+    ensures blocks { result.blocks ≡ blocks_from fan blocks 0 (level_count fan blocks) }
+    ensures most { result.blocks ≤ 2 * blocks }
+{
+    let mut size = blocks;
+    let mut above = Above {
+        levels: 0,
+        blocks: 0,
+    };
+    'levels: while size > 1 {
+        size = size.div_ceil(fan);
+        above.levels += 1;
+        above.blocks += size;
+    }
+    above
+}

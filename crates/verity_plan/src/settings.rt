@@ -1,0 +1,203 @@
+//! What a tree is made by.
+ghost use Rattle.std.specs.Prelude.{◌≡◌, ◌*◌, ◌≤◌, ◌<◌, length};
+ghost use Rattle.verity_plan.specs.Settings.{Settings, IsValid, hash, fan, slot_width, digest_len, least_block, is_block_size, most_salt, least_power, rule_of, checked, verity_settings, fsverity_settings};
+ghost use Rattle.verity_hash.specs.Algorithms.{digest_len_of};
+
+use crate::{HashType, SettingFault};
+use std::marker::Model;
+use verity_hash::{Algorithm, Digest, SaltRule, ShortBytes, salted};
+
+/// What a tree is made by: algorithm, salt and where it goes, block sizes. Valid by its type.
+#[derive(Clone, Copy, Debug, PartialEq, Eq)]
+pub struct TreeSettings {
+    algorithm: Algorithm,
+    rule: SaltRule,
+    salt: ShortBytes<256>,
+    data_block: u32,
+    hash_block: u32,
+}
+
+impl Model for TreeSettings {
+    ghost use Rattle.verity_plan.specs.Settings.{Settings, IsValid};
+
+    ghost Value = { Settings };
+
+    ghost view = { λ t. record { algorithm = t.algorithm; rule = t.rule; salt = t.salt; data_block = t.data_block; hash_block = t.hash_block } };
+
+    ghost invariant = { λ t. IsValid (record { algorithm = t.algorithm; rule = t.rule; salt = t.salt; data_block = t.data_block; hash_block = t.hash_block }) };
+
+    ghost inverse = { λ s. record { algorithm = s.algorithm; rule = s.rule; salt = s.salt; data_block = s.data_block; hash_block = s.hash_block } };
+}
+
+ghost use Rattle.verity_hash.specs.declared.salting.SaltRule.TheVariants.{PaddedBefore};
+
+impl TreeSettings {
+    /// Settings of dm-verity: block sizes are powers of two from 512 to 524288, the salt has up to 256 bytes
+    /// (cryptsetup's on-disk format page; veritysetup(8)). The first parameter past its limits is the fault.
+    pub fn verity(
+        algorithm: Algorithm,
+        hash_type: HashType,
+        salt: &[u8],
+        data_block: u32,
+        hash_block: u32,
+    ) -> Result<TreeSettings, SettingFault>
+        ensures { result ≡ verity_settings algorithm hash_type salt.now data_block hash_block }
+    {
+        TreeSettings::checked(algorithm, hash_type.rule(), salt, data_block, hash_block)
+    }
+
+    /// Settings of fs-verity: data and tree blocks have one size, a power of two of at least twice the digest's length
+    /// (fsverity(1), `--block-size`; Linux kernel, fs-verity page, "FS_IOC_ENABLE_VERITY"), and at most 524288, a limit of
+    /// this project's own; the salt has up to 32 bytes (the kernel's page again). The first parameter past its limits is
+    /// the fault: a bad block size is always `DataBlockSize`, never `HashBlockSize`.
+    pub fn fsverity(
+        algorithm: Algorithm,
+        salt: &[u8],
+        block: u32,
+    ) -> Result<TreeSettings, SettingFault>
+        ensures { result ≡ fsverity_settings algorithm salt.now block }
+    {
+        TreeSettings::checked(algorithm, SaltRule::PaddedBefore, salt, block, block)
+    }
+
+    fn checked(
+        algorithm: Algorithm,
+        rule: SaltRule,
+        salt: &[u8],
+        data_block: u32,
+        hash_block: u32,
+    ) -> Result<TreeSettings, SettingFault>
+        requires { rule ≡ PaddedBefore → data_block ≡ hash_block }
+        ensures { result ≡ checked (record { algorithm = algorithm; rule = rule; salt = salt.now; data_block = data_block; hash_block = hash_block }) }
+    {
+        let least = least_block(rule, algorithm);
+        if !is_block_size(least, data_block) {
+            return Err(SettingFault::DataBlockSize);
+        }
+        if !is_block_size(least, hash_block) {
+            return Err(SettingFault::HashBlockSize);
+        }
+        if salt.len() > most_salt(rule) {
+            return Err(SettingFault::SaltSize);
+        }
+        match ShortBytes::from_bytes(salt) {
+            Some(salt) => Ok(TreeSettings {
+                algorithm,
+                rule,
+                salt,
+                data_block,
+                hash_block,
+            }),
+            None => Err(SettingFault::SaltSize),
+        }
+    }
+
+    /// The hash function.
+    pub fn algorithm(&self) -> Algorithm
+        ensures { result ≡ self.now.algorithm }
+    {
+        self.algorithm
+    }
+
+    /// Where the salt goes.
+    pub fn rule(&self) -> SaltRule
+        ensures { result ≡ self.now.rule }
+    {
+        self.rule
+    }
+
+    /// The salt, 0 to 256 bytes.
+    pub fn salt(&self) -> &[u8]
+        ensures value { result.now ≡ self.now.salt }
+        ensures valid { IsValid self.now }
+    {
+        self.salt.as_bytes()
+    }
+
+    /// The size of a data block in bytes.
+    pub fn data_block(&self) -> u32
+        ensures value { result ≡ self.now.data_block }
+        ensures valid { IsValid self.now }
+    {
+        self.data_block
+    }
+
+    /// The size of a hash block in bytes.
+    pub fn hash_block(&self) -> u32
+        ensures value { result ≡ self.now.hash_block }
+        ensures valid { IsValid self.now }
+    {
+        self.hash_block
+    }
+
+    /// The number of slots of a hash block (Linux kernel, dm-verity page, "Hash Tree").
+    pub fn fan(&self) -> usize
+        ensures value { result ≡ fan self.now }
+        ensures two { 2 ≤ result }
+        ensures most { result ≤ 524288 }
+        ensures fits { fan self.now * slot_width self.now ≤ self.now.hash_block }
+    {
+        let slots = self.hash_block as usize / self.algorithm.digest_len();
+        1 << slots.ilog2()
+    }
+
+    /// The width of a slot in bytes (cryptsetup's on-disk format page).
+    #[tactic(auto, unfolding(crate::specs::Settings::slot_width))]
+    pub fn slot_width(&self) -> usize
+        ensures value { result ≡ slot_width self.now }
+        ensures most { result ≤ 128 }
+    {
+        let len = self.algorithm.digest_len();
+        match self.rule {
+            SaltRule::Before => least_power(len),
+            SaltRule::PaddedBefore => len,
+        }
+    }
+
+    /// The salted hash of a block.
+    #[tactic(auto, unfolding(crate::specs::Settings::hash))]
+    pub fn hash(&self, block: &[u8]) -> Digest
+        ensures { result ≡ hash self.now block.now }
+    {
+        salted(self.algorithm, self.rule, self.salt.as_bytes(), block)
+    }
+}
+
+/// The smallest block size.
+fn least_block(rule: SaltRule, algorithm: Algorithm) -> u32
+    ensures { result ≡ least_block rule (digest_len_of algorithm) }
+{
+    match rule {
+        SaltRule::Before => 512,
+        SaltRule::PaddedBefore => 2 * algorithm.digest_len() as u32,
+    }
+}
+
+/// The longest salt.
+fn most_salt(rule: SaltRule) -> usize
+    ensures { result ≡ most_salt rule }
+{
+    match rule {
+        SaltRule::Before => 256,
+        SaltRule::PaddedBefore => 32,
+    }
+}
+
+/// The largest block size, in bytes (cryptsetup's on-disk format page; for fs-verity a limit of this project's own).
+const MOST_BLOCK: u32 = 524288;
+
+/// Whether a block size is a power of two within its limits.
+fn is_block_size(least: u32, size: u32) -> bool
+    ensures { result ≡ is_block_size least size }
+{
+    size.is_power_of_two() && least <= size && size <= MOST_BLOCK
+}
+
+/// The least power of two that is not below a length.
+fn least_power(len: usize) -> usize
+    requires { len ≤ 64 }
+    ensures value { result ≡ least_power len }
+    ensures most { result ≤ 128 }
+{
+    len.next_power_of_two()
+}

@@ -1,0 +1,5 @@
+use Rattle.verity_tree.proofs.TreeLemmas.{height-level_count}
+use Rattle.verity_tree.proofs.laws.level_counts_agree.Goals as goal
+
+pub returns : goal.returns
+returns c = height-level_count

@@ -1,7 +1,0 @@
-use Rattle.std.proofs.Common.{◌∙◌}
-use Rattle.verity_tree.proofs.Padded.{put_padded}
-use Rattle.verity_tree.proofs.memory_device.put_at.Goals as goal
-
-pub returns-in-Ok-clause-ok : goal.returns-in-Ok-clause-ok
-returns-in-Ok-clause-ok c =
-    c.overwrite.ensures ∙ put_padded c.args.bytes.now.items c.args.others.now c.args.at c.fill_up.new.bytes.items c.in-Ok.ensures.ok
