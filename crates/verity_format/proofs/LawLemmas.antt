@@ -1,11 +1,12 @@
 -- Bytes say a superblock exactly where they pass every test, and then just one.
-use Rattle.std.proofs.Common.{◌≡◌, ℕ, ◌*◌, ◌^◌, ◌<◌, ◌≤◌, Bool, true, false, List, [], ◌∷◌, ◌++◌, length, take, drop, Option, Some, None, is_some, nat_le, nat_lt, arith, refl, ap, sym, ◌∙◌, length-drop}
+use Rattle.std.proofs.Common.{◌≡◌, ℕ, ◌*◌, ◌<◌, ◌≤◌, Bool, true, false, List, [], ◌∷◌, ◌++◌, length, take, drop, Option, Some, None, is_some, nat_le, nat_lt, arith, refl, ap, sym, ◌∙◌, length-drop}
 use Rattle.std.specs.Cmp.Lexicographic.{bytes_decides}
 use Rattle.std.proofs.lemmas.Bool.{eqb-true, le-leb, leb-true}
 use Rattle.std.proofs.lemmas.Bool.Decides.{nat_tests}
 use Rattle.std.proofs.lemmas.List.{length-take-le}
 use Rattle.verity_hash.specs.Algorithms.{named}
-use Rattle.verity_plan.specs.Settings.{Settings, IsValid, digest_len, is_block_size, least_block, most_salt, rule_of, type_of_number}
+use Rattle.verity_plan.specs.Plans.{most_bytes}
+use Rattle.verity_plan.specs.Settings.{Settings, IsValid, digest_len, is_verity_block_size, least_block, most_salt, rule_of, type_of_number}
 use Rattle.verity_plan.specs.declared.hash_type.HashType.{HashType}
 use Rattle.verity_plan.specs.declared.hash_type.HashType.TheVariants.{Current}
 use Rattle.verity_format.specs.Fields.{field, number_at, until_zero}
@@ -41,7 +42,7 @@ cause_none-says s none =
     let short : number_at 80 2 s ≤ 256 = leb-true (number_at 80 2 s) 256 rest.1.1.1.0 in
     let counted = rest.1.1.1.1 in
     let some : 0 < number_at 72 8 s = grind (arith, nat_tests, counted) in
-    let within : number_at 72 8 s * number_at 64 4 s < 2 ^ 63 = grind (arith, nat_tests, counted) in
+    let within : number_at 72 8 s * number_at 64 4 s ≤ most_bytes = grind (arith, nat_tests, counted) in
     let salt = field 88 (number_at 80 2 s) s in
     let held : length salt ≡ number_at 80 2 s = length-take-le (number_at 80 2 s) (drop 88 s) (omega (arith, length-drop 88 s)) in
     let sixteen : length (field 16 16 s) ≡ 16 = length-take-le 16 (drop 16 s) (omega (arith, length-drop 16 s)) in
@@ -73,10 +74,10 @@ says-cause_none s v a =
     let limits = a.valid.tree in
     let least : least_block v.tree.rule (digest_len v.tree) ≡ 512 = ap (λ r. least_block r (digest_len v.tree)) rule ∙ least_512 v.hash_type (digest_len v.tree) in
     let most : most_salt v.tree.rule ≡ 256 = ap most_salt rule ∙ most_256 v.hash_type in
-    let sized : is_block_size 512 v.tree.data_block ≡ true = rw least at limits.data_size in
-    let hash_sized : is_block_size 512 v.tree.hash_block ≡ true = rw least at limits.hash_size in
+    let sized : is_verity_block_size v.tree.data_block ≡ true = rw least at limits.data_size in
+    let hash_sized : is_verity_block_size v.tree.hash_block ≡ true = rw least at limits.hash_size in
     let long : nat_le 512 (length s) ≡ true = le-leb 512 (length s) a.long in
     let short : nat_le (length v.tree.salt) 256 ≡ true = le-leb (length v.tree.salt) 256 (omega (arith, most, limits.salt_most)) in
     let some : nat_lt 0 v.blocks ≡ true = (let h = a.valid.some in grind (arith, nat_tests, h)) in
-    let within : nat_lt (v.blocks * v.tree.data_block) (2 ^ 63) ≡ true = (let h = a.valid.within in grind (arith, nat_tests, h)) in
+    let within : nat_le (v.blocks * v.tree.data_block) most_bytes ≡ true = le-leb (v.blocks * v.tree.data_block) most_bytes a.valid.within in
     rw (long, a.signed, a.version, a.hash_type, a.tree.data_block, sized, a.tree.hash_block, hash_sized, a.tree.name, a.tree.salt_size, short, a.blocks, some, within) refl

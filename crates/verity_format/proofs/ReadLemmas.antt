@@ -1,8 +1,9 @@
 -- Reading a superblock: which test fails first, and what the parts that pass make.
-use Rattle.std.proofs.Common.{◌≡◌, ℕ, ◌*◌, ◌^◌, ◌<◌, ◌≤◌, ◌&&◌, Bool, true, false, List, [], ◌∷◌, ◌++◌, length, Option, Some, None, Ok, if◌then◌else◌, nat_lt, take, arith, sym, ap, ◌∙◌, refl, subst}
+use Rattle.std.proofs.Common.{◌≡◌, ℕ, ◌*◌, ◌<◌, ◌≤◌, ◌&&◌, Bool, true, false, List, [], ◌∷◌, ◌++◌, length, Option, Some, None, Ok, if◌then◌else◌, nat_le, nat_lt, take, arith, sym, ap, ◌∙◌, refl, subst}
 use Rattle.std.proofs.lemmas.Bool.Decides.{nat_tests}
 use Rattle.verity_hash.specs.declared.algorithm.Algorithm.{Algorithm}
-use Rattle.verity_plan.specs.Settings.{Settings, IsValid, is_block_size, rule_of, verity_settings, type_of_number}
+use Rattle.verity_plan.specs.Plans.{most_bytes}
+use Rattle.verity_plan.specs.Settings.{Settings, IsValid, is_verity_block_size, rule_of, verity_settings, type_of_number}
 use Rattle.verity_plan.specs.declared.hash_type.HashType.{HashType}
 use Rattle.verity_plan.specs.declared.hash_type.HashType.TheVariants.{Current}
 use Rattle.verity_format.specs.SuperblockFields.{SuperblockFields, superblock_of, superblock_of_type, type_of}
@@ -38,7 +39,7 @@ cause-blocks s header settings =
 
 -- parts within dm-verity's limits make settings
 pub verity_settings-ok : (algorithm : Algorithm) (hash_type : HashType) (salt : List ℕ) (data_block hash_block : ℕ)
-    → is_block_size 512 data_block ≡ true → is_block_size 512 hash_block ≡ true → length salt ≤ 256
+    → is_verity_block_size data_block ≡ true → is_verity_block_size hash_block ≡ true → length salt ≤ 256
     → verity_settings algorithm hash_type salt data_block hash_block
     ≡ Ok (record { algorithm = algorithm; rule = rule_of hash_type; salt = salt; data_block = data_block; hash_block = hash_block })
 verity_settings-ok algorithm Current salt data_block hash_block sized hash_sized short =
@@ -47,7 +48,7 @@ verity_settings-ok algorithm Current salt data_block hash_block sized hash_sized
 
 -- such settings are valid
 pub IsValid-verity : (algorithm : Algorithm) (hash_type : HashType) (salt : List ℕ) (data_block hash_block : ℕ)
-    → is_block_size 512 data_block ≡ true → is_block_size 512 hash_block ≡ true → length salt ≤ 256
+    → is_verity_block_size data_block ≡ true → is_verity_block_size hash_block ≡ true → length salt ≤ 256
     → IsValid (record { algorithm = algorithm; rule = rule_of hash_type; salt = salt; data_block = data_block; hash_block = hash_block })
 IsValid-verity algorithm Current salt data_block hash_block sized hash_sized short =
     record { data_size = sized; hash_size = hash_sized; salt_most = short; one_size = λ other. cc }
@@ -72,9 +73,9 @@ typed hash_type tree uuid blocks rule =
 -- what a new superblock is
 pub superblock_of-some : (hash_type : HashType) (tree : Settings) (uuid : List ℕ) (blocks : ℕ) (v : SuperblockFields)
     → tree.rule ≡ rule_of hash_type → superblock_of tree uuid blocks ≡ Some v
-    → (record { hash_type = hash_type; tree = tree; uuid = uuid; blocks = blocks } ≡ v) × (0 < blocks) × (blocks * tree.data_block < 2 ^ 63)
+    → (record { hash_type = hash_type; tree = tree; uuid = uuid; blocks = blocks } ≡ v) × (0 < blocks) × (blocks * tree.data_block ≤ most_bytes)
 superblock_of-some hash_type tree uuid blocks v rule made =
-    let both = choice-some (nat_lt 0 blocks && nat_lt (blocks * tree.data_block) (2 ^ 63)) _ v (sym (typed hash_type tree uuid blocks rule) ∙ made) in
+    let both = choice-some (nat_lt 0 blocks && nat_le (blocks * tree.data_block) most_bytes) _ v (sym (typed hash_type tree uuid blocks rule) ∙ made) in
     let test = both.0 in
     (both.1, grind (arith, nat_tests, test), grind (arith, nat_tests, test))
 
@@ -100,8 +101,8 @@ IsSuperblock-made s hash_type tree uuid blocks v valid rule sixteen made long si
 -- no superblock of settings with a type and of some blocks: there is too much data
 pub superblock_of-none : (hash_type : HashType) (tree : Settings) (uuid : List ℕ) (blocks : ℕ)
     → tree.rule ≡ rule_of hash_type → 0 < blocks → superblock_of tree uuid blocks ≡ None
-    → nat_lt (blocks * tree.data_block) (2 ^ 63) ≡ false
+    → nat_le (blocks * tree.data_block) most_bytes ≡ false
 superblock_of-none hash_type tree uuid blocks rule some made =
-    let test = choice-none (nat_lt 0 blocks && nat_lt (blocks * tree.data_block) (2 ^ 63)) _ (sym (typed hash_type tree uuid blocks rule) ∙ made) in
+    let test = choice-none (nat_lt 0 blocks && nat_le (blocks * tree.data_block) most_bytes) _ (sym (typed hash_type tree uuid blocks rule) ∙ made) in
     let first : nat_lt 0 blocks ≡ true = grind (arith, nat_tests, some) in
     rw first at test

@@ -1,7 +1,8 @@
 -- What a superblock says (cryptsetup's on-disk format page, "dm-verity header").
-use Rattle.std.specs.Prelude.{◌≡◌, ℕ, ◌*◌, ◌^◌, ◌<◌, ◌&&◌, List, length, nat_lt, Option, Some, None, if◌then◌else◌}
+use Rattle.std.specs.Prelude.{◌≡◌, ℕ, ◌*◌, ◌<◌, ◌≤◌, ◌&&◌, List, length, nat_le, nat_lt, Option, Some, None, if◌then◌else◌}
 use Rattle.verity_hash.specs.declared.salting.SaltRule.{SaltRule}
 use Rattle.verity_hash.specs.declared.salting.SaltRule.TheVariants.{Before, PaddedBefore}
+use Rattle.verity_plan.specs.Plans.{most_bytes}
 use Rattle.verity_plan.specs.Settings.{Settings, IsValid, rule_of}
 use Rattle.verity_plan.specs.declared.hash_type.HashType.{HashType}
 use Rattle.verity_plan.specs.declared.hash_type.HashType.TheVariants.{Current}
@@ -19,7 +20,7 @@ pub record IsValidSuperblock (v : SuperblockFields) : Type 0 where
   pub of_type : v.tree.rule ≡ rule_of v.hash_type
   pub uuid : length v.uuid ≡ 16
   pub some : 0 < v.blocks
-  pub within : v.blocks * v.tree.data_block < 2 ^ 63
+  pub within : v.blocks * v.tree.data_block ≤ most_bytes
 
 -- the hash type that has its salt there; fs-verity's settings have none
 abbrev pub type_of : SaltRule → Option HashType
@@ -30,7 +31,7 @@ type_of PaddedBefore = None
 abbrev pub superblock_of_type : Option HashType → Settings → List ℕ → ℕ → Option SuperblockFields
 superblock_of_type None tree uuid blocks = None
 superblock_of_type (Some hash_type) tree uuid blocks =
-    if nat_lt 0 blocks && nat_lt (blocks * tree.data_block) (2 ^ 63)
+    if nat_lt 0 blocks && nat_le (blocks * tree.data_block) most_bytes
     then Some (record { hash_type = hash_type; tree = tree; uuid = uuid; blocks = blocks }) else None
 
 abbrev pub superblock_of : Settings → List ℕ → ℕ → Option SuperblockFields

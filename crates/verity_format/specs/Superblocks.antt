@@ -18,9 +18,8 @@ use Rattle.std.specs.Str.{bytes_eq}
 use Rattle.byteorder.specs.Endian.{little_bytes}
 use Rattle.verity_hash.specs.Algorithms.{name_of, named}
 use Rattle.verity_hash.specs.Bytes.{filled}
-use Rattle.verity_plan.specs.Settings.{Settings, is_block_size}
-use Rattle.verity_plan.specs.declared.hash_type.HashType.{HashType}
-use Rattle.verity_plan.specs.declared.hash_type.HashType.TheVariants.{Current}
+use Rattle.verity_plan.specs.Plans.{most_bytes, superblock_size}
+use Rattle.verity_plan.specs.Settings.{Settings, is_verity_block_size, type_number, type_of_number}
 use Rattle.verity_format.specs.Fields.{field, number_at, until_zero}
 use Rattle.verity_format.specs.SuperblockFields.{SuperblockFields, IsValidSuperblock}
 use Rattle.verity_format.specs.declared.super_fault.SuperFault.{SuperFault}
@@ -29,16 +28,9 @@ use Rattle.verity_format.specs.declared.super_fault.SuperFault.TheVariants as fa
 abbrev pub signature : List ℕ
 signature = codes "verity" ++ 0 ∷ 0 ∷ []
 
--- the number of a hash type, and the type of a number
-abbrev pub type_number : HashType → ℕ
-type_number Current = 1
-
-abbrev pub type_of_number : ℕ → Option HashType
-type_of_number number = if number == 1 then Some Current else None
-
 -- the 512 bytes of a superblock
 unfoldable pub superblock_text : SuperblockFields → List ℕ
-superblock_text v = filled 512 (signature
+superblock_text v = filled superblock_size (signature
     ++ little_bytes 4 1
     ++ little_bytes 4 (type_number v.hash_type)
     ++ v.uuid
@@ -60,7 +52,7 @@ pub record AreSettings (s : List ℕ) (tree : Settings) : Type 0 where
 
 -- the bytes say this superblock, field by field
 pub record IsSuperblock (s : List ℕ) (v : SuperblockFields) : Type 0 where
-  pub long : 512 ≤ length s
+  pub long : superblock_size ≤ length s
   pub signed : take 8 s ≡ signature
   pub version : number_at 8 4 s ≡ 1
   pub hash_type : type_of_number (number_at 12 4 s) ≡ Some v.hash_type
@@ -71,20 +63,20 @@ pub record IsSuperblock (s : List ℕ) (v : SuperblockFields) : Type 0 where
 
 -- the tests of a superblock in the order in which they are made, each with the fault of bytes that fail it
 abbrev pub header_tests : List ℕ → List (Bool × SuperFault)
-header_tests s = (nat_le 512 (length s), fault.Short)
+header_tests s = (nat_le superblock_size (length s), fault.Short)
     ∷ (bytes_eq (take 8 s) signature, fault.Signature)
     ∷ (number_at 8 4 s == 1, fault.Version (number_at 8 4 s))
     ∷ (is_some (type_of_number (number_at 12 4 s)), fault.HashType (number_at 12 4 s)) ∷ []
 
 abbrev pub settings_tests : List ℕ → List (Bool × SuperFault)
-settings_tests s = (is_block_size 512 (number_at 64 4 s), fault.DataBlockSize (number_at 64 4 s))
-    ∷ (is_block_size 512 (number_at 68 4 s), fault.HashBlockSize (number_at 68 4 s))
+settings_tests s = (is_verity_block_size (number_at 64 4 s), fault.DataBlockSize (number_at 64 4 s))
+    ∷ (is_verity_block_size (number_at 68 4 s), fault.HashBlockSize (number_at 68 4 s))
     ∷ (is_some (named (until_zero (field 32 32 s))), fault.Algorithm)
     ∷ (nat_le (number_at 80 2 s) 256, fault.SaltSize (number_at 80 2 s)) ∷ []
 
 abbrev pub blocks_tests : List ℕ → List (Bool × SuperFault)
 blocks_tests s = (nat_lt 0 (number_at 72 8 s), fault.NoData)
-    ∷ (nat_lt (number_at 72 8 s * number_at 64 4 s) (2 ^ 63), fault.TooLarge) ∷ []
+    ∷ (nat_le (number_at 72 8 s * number_at 64 4 s) most_bytes, fault.TooLarge) ∷ []
 
 -- the fault of the first test that fails
 abbrev pub first_failed : List (Bool × SuperFault) → Option SuperFault

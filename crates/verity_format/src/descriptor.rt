@@ -5,7 +5,7 @@ ghost use Rattle.verity_format.specs.Descriptors.{IsDescribed, IsValidDescriptor
 use crate::field_writer::FieldWriter;
 use std::marker::Model;
 use verity_hash::{Algorithm, Digest, SaltRule, salted};
-use verity_tree::TreeSettings;
+use verity_plan::TreeSettings;
 
 /// What fs-verity says of a file, version 1: how its tree was made, its size and its root hash (Linux kernel, fs-verity
 /// page, "fs-verity descriptor"). Valid by its type.

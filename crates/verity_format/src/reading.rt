@@ -1,6 +1,6 @@
 //! What bytes say as a superblock.
 ghost use Rattle.std.specs.Prelude.{◌≡◌, ◌≤◌, ◌+◌, ◌==◌, length, position, IfOk, IfErr, Some, None, nat_le, true};
-ghost use Rattle.verity_plan.specs.Settings.{is_block_size, IsValid, rule_of, type_of_number};
+ghost use Rattle.verity_plan.specs.Settings.{is_verity_block_size, IsValid, rule_of};
 ghost use Rattle.verity_format.specs.Fields.{number_at, until_zero};
 ghost use Rattle.verity_format.specs.Superblocks.{AreSettings, IsSuperblock, cause, first_failed, settings_tests};
 
@@ -8,7 +8,7 @@ use crate::writing::VERSION;
 use crate::{SuperFault, Superblock};
 use byteorder::{ByteOrder, LittleEndian};
 use verity_hash::Algorithm;
-use verity_tree::{HashType, TreeSettings};
+use verity_plan::{HashType, MOST_SALT, TreeSettings, is_verity_block_size};
 
 /// The superblock that the first 512 bytes say, or the first test that they fail (cryptsetup's on-disk format page,
 /// "dm-verity header"). Pads, what follows the name's first zero, what follows the salt, and bytes after the 512th are
@@ -28,7 +28,7 @@ pub fn read_superblock(bytes: &[u8]) -> Result<Superblock, SuperFault>
         return Err(SuperFault::Version(version));
     }
     let number = u32_at(bytes, 12);
-    let Some(hash_type) = type_of_number(number) else {
+    let Some(hash_type) = HashType::from_number(u64::from(number)) else {
         return Err(SuperFault::HashType(number));
     };
     let tree = read_settings(bytes, hash_type)?;
@@ -54,18 +54,18 @@ fn read_settings(bytes: &[u8], hash_type: HashType) -> Result<TreeSettings, Supe
     ensures fault { IfErr result (λ fault. first_failed (settings_tests bytes.now) ≡ Some fault) }
 {
     let data_block = u32_at(bytes, 64);
-    if !is_block_size(data_block) {
+    if !is_verity_block_size(u64::from(data_block)) {
         return Err(SuperFault::DataBlockSize(data_block));
     }
     let hash_block = u32_at(bytes, 68);
-    if !is_block_size(hash_block) {
+    if !is_verity_block_size(u64::from(hash_block)) {
         return Err(SuperFault::HashBlockSize(hash_block));
     }
     let Some(algorithm) = Algorithm::from_name(before_zero(&bytes[32..64])) else {
         return Err(SuperFault::Algorithm);
     };
     let salt_size = u16_at(bytes, 80);
-    if salt_size > MOST_SALT {
+    if salt_size as usize > MOST_SALT {
         return Err(SuperFault::SaltSize(salt_size));
     }
     let salt = &bytes[88..88 + salt_size as usize];
@@ -80,32 +80,13 @@ fn settings_within_limits(
     data_block: u32,
     hash_block: u32,
 ) -> TreeSettings
-    requires data_size { is_block_size 512 data_block ≡ true }
-    requires hash_size { is_block_size 512 hash_block ≡ true }
+    requires data_size { is_verity_block_size data_block ≡ true }
+    requires hash_size { is_verity_block_size hash_block ≡ true }
     requires salt_size { length salt.now ≤ 256 }
     ensures value { result ≡ record { algorithm = algorithm; rule = rule_of hash_type; salt = salt.now; data_block = data_block; hash_block = hash_block } }
     ensures valid { IsValid result }
 {
     TreeSettings::verity(algorithm, hash_type, salt, data_block, hash_block).unwrap()
-}
-
-/// The longest salt.
-const MOST_SALT: u16 = 256;
-
-/// The hash type of a number.
-fn type_of_number(number: u32) -> Option<HashType>
-    ensures { result ≡ type_of_number number }
-{
-    match number {
-        1 => Some(HashType::Current),
-        _ => None,
-    }
-}
-
-fn is_block_size(size: u32) -> bool
-    ensures { result ≡ is_block_size 512 size }
-{
-    size.is_power_of_two() && 512 <= size && size <= 524288
 }
 
 /// The number in two bytes.

@@ -4,7 +4,7 @@ ghost use Rattle.verity_format.specs.SuperblockFields.{IsValidSuperblock, superb
 
 use std::marker::Model;
 use verity_hash::SaltRule;
-use verity_tree::{HashType, TreeSettings};
+use verity_plan::{HashType, MOST_BYTES, TreeSettings};
 
 /// A superblock of dm-verity, version 1: what a tree on a device was made by (cryptsetup's on-disk format page,
 /// "dm-verity header"). Valid by its type, so that it can be written.
@@ -27,9 +27,6 @@ impl Model for Superblock {
 
     ghost inverse = { λ v. record { hash_type = v.hash_type; tree = v.tree; uuid = v.uuid; blocks = v.blocks } };
 }
-
-/// The most bytes of data.
-const MOST_BYTES: u64 = 0x7fff_ffff_ffff_ffff;
 
 /// dm-verity's hash type that has its salt there.
 fn hash_type_of(rule: SaltRule) -> Option<HashType>

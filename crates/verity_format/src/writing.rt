@@ -1,23 +1,12 @@
 //! A superblock's bytes.
 ghost use Rattle.std.specs.Prelude.{◌≡◌};
 ghost use Rattle.verity_format.specs.Superblocks.{superblock_text};
-ghost use Rattle.verity_plan.specs.Settings.{type_number};
 
 use crate::Superblock;
 use crate::field_writer::FieldWriter;
-use verity_tree::HashType;
 
 /// The version that is written and read.
 pub(crate) const VERSION: u32 = 1;
-
-/// The number of a hash type.
-fn number_of(hash_type: HashType) -> u32
-    ensures { result ≡ type_number hash_type }
-{
-    match hash_type {
-        HashType::Current => 1,
-    }
-}
 
 /// The 512 bytes of a superblock (cryptsetup's on-disk format page, "dm-verity header"): numbers are little-endian, and
 /// what no field covers is zero.
@@ -29,7 +18,7 @@ pub fn write_superblock(superblock: &Superblock) -> [u8; 512]
     let mut fields = FieldWriter::new();
     fields.put(b"verity\0\0");
     fields.put_u32(VERSION);
-    fields.put_u32(number_of(superblock.hash_type()));
+    fields.put_u32(superblock.hash_type().number());
     fields.put(&superblock.uuid());
     fields.put_filled(32, tree.algorithm().name().as_bytes());
     fields.put_u32(tree.data_block());

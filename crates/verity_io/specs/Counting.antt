@@ -1,5 +1,6 @@
--- Counts of failures, this project's own: a source and a device keep one, which stops at the last value of a u64.
-use Rattle.std.specs.Prelude.{◌≡◌, ℕ, ◌+◌, ◌-◌, ◌^◌, ◌≤◌, min, Result, MatchResult}
+-- Counts of failures, this project's own: a source and a device keep one, which stops at the last value of a u64. And what
+-- contracts see of a source or a device round a call.
+use Rattle.std.specs.Prelude.{◌≡◌, ℕ, ◌+◌, ◌-◌, ◌^◌, ◌≤◌, min, Bool, true, false, List, Result, MatchResult}
 use Rattle.verity_io.specs.declared.failed.Failed.{Failed}
 
 -- the last value of a count
@@ -10,7 +11,31 @@ last_count = 2 ^ 64 - 1
 abbrev pub Rose : ℕ → ℕ → Type 0
 Rose before after = min (before + 1) last_count ≤ after
 
--- the count rises by one exactly where the call fails, and stays at its last value
+-- the count rises by one where a call failed, up to its last value, and else stays
+abbrev pub Counts : Bool → ℕ → ℕ → Type 0
+Counts true before after = after ≡ min (before + 1) last_count
+Counts false before after = after ≡ before
+
+-- the count rises exactly where the call fails
 abbrev pub CountsFailure : {X : Type 0} → ℕ → ℕ → Result X Failed → Type 0
 CountsFailure before after result =
-    (before ≤ after) × MatchResult result (λ _. after ≡ before) (λ _. after ≡ min (before + 1) last_count)
+    (before ≤ after) × MatchResult result (λ _. Counts false before after) (λ _. Counts true before after)
+
+-- a source or a device before and after some calls: whether it tells its bytes; its bytes, which of a source are those
+-- that remain; and its count of failures
+pub record Change : Type 1 where
+  pub told : Type 0
+  pub before : List ℕ
+  pub after : List ℕ
+  pub failures_before : ℕ
+  pub failures_after : ℕ
+
+-- what the members of its trait say of a value before and after
+abbrev pub change : {T : Type 0} → (T → Type 0) → (T → List ℕ) → (T → ℕ) → T → T → Change
+change tells bytes failures old new = record {
+  told = tells old;
+  before = bytes old;
+  after = bytes new;
+  failures_before = failures old;
+  failures_after = failures new;
+}

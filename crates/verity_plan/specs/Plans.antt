@@ -1,6 +1,6 @@
 -- A plan: what is read, and where each hash block goes; and which sizes make one: at least one data block, and a data area
 -- and a hash area of at most 2 ^ 63 - 1 bytes each.
-use Rattle.std.specs.Prelude.{◌≡◌, ◌<◌, ◌≤◌, ℕ, ◌+◌, ◌-◌, ◌*◌, ◌^◌, ◌&&◌, ◌==◌, Bool, nat_le, Result, Ok, Err, if◌then◌else◌}
+use Rattle.std.specs.Prelude.{◌≡◌, ◌<◌, ◌≤◌, ℕ, ◌+◌, ◌-◌, ◌*◌, ◌/◌, ◌^◌, ◌&&◌, ◌==◌, Bool, true, false, nat_le, Option, Some, None, Result, Ok, Err, if◌then◌else◌}
 use Rattle.std.specs.Int.{div_ceil}
 use Rattle.verity_plan.specs.Counts.{level_count, level_size, IsTreeBlock}
 use Rattle.verity_plan.specs.Places.{byte_at, place, end_place}
@@ -22,6 +22,18 @@ block_count s size = div_ceil size s.data_block
 -- the largest size of a data or hash area, in bytes
 abbrev pub most_bytes : ℕ
 most_bytes = 2 ^ 63 - 1
+
+-- the length of a superblock in bytes
+abbrev pub superblock_size : ℕ
+superblock_size = 512
+
+-- where the hash area begins, in hash blocks: at the first whole hash block after a superblock at this offset, or at the
+-- offset where there is no superblock (cryptsetup's on-disk format page; veritysetup(8), `--hash-offset`); none where the
+-- superblock's end, or the offset, is past the limit
+abbrev pub base_of : ℕ → Bool → ℕ → Option ℕ
+base_of offset true hash_block =
+    if nat_le (offset + superblock_size) most_bytes then Some (div_ceil (offset + superblock_size) hash_block) else None
+base_of offset false hash_block = if nat_le offset most_bytes then Some (offset / hash_block) else None
 
 -- the number of levels
 abbrev pub levels_of : Planned → ℕ

@@ -80,6 +80,10 @@ least_block PaddedBefore digest_len = 2 * digest_len
 abbrev pub is_block_size : ℕ → ℕ → Bool
 is_block_size least size = is_power_of_two size && (nat_le least size && nat_le size most_block)
 
+-- a block size of dm-verity
+abbrev pub is_verity_block_size : ℕ → Bool
+is_verity_block_size size = is_block_size 512 size
+
 -- settings that a tree can be made by
 pub record IsValid (s : Settings) : Type 0 where
   pub data_size : is_block_size (least_block s.rule (digest_len s)) s.data_block ≡ true

@@ -2,6 +2,7 @@
 //! hash type, settings, and the plan, which is arithmetic alone.
 #![tactic(auto)]
 
+mod base;
 mod hash_type;
 pub mod laws;
 mod plan;
@@ -9,8 +10,9 @@ mod plan_fault;
 mod setting_fault;
 mod settings;
 
+pub use base::{MOST_BYTES, SUPERBLOCK_SIZE, base_of};
 pub use hash_type::HashType;
 pub use plan::Plan;
 pub use plan_fault::PlanFault;
 pub use setting_fault::SettingFault;
-pub use settings::TreeSettings;
+pub use settings::{MOST_SALT, TreeSettings, is_verity_block_size};

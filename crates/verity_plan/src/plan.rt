@@ -3,7 +3,7 @@ ghost use Rattle.std.specs.Prelude.{◌≡◌, ◌+◌, ◌-◌, ◌*◌, ◌^�
 ghost use Rattle.verity_plan.specs.Plans.{Planned, IsPlanned, byte_of, most_bytes, levels_of, size_of_level, place_of, end_of, store_length_of, size_under, HasBlock, planned, plan_for_blocks, plan_for_bytes};
 ghost use Rattle.verity_plan.specs.Settings.{digest_len, fan, hash, slot_width};
 
-use crate::{PlanFault, TreeSettings};
+use crate::{MOST_BYTES, PlanFault, TreeSettings};
 use std::marker::Model;
 use verity_hash::Digest;
 
@@ -38,9 +38,6 @@ impl Model for Plan {
 
 ghost use Rattle.std.specs.Int.{div_ceil};
 ghost use Rattle.verity_plan.specs.Counts.{level_count, blocks_from};
-
-/// The largest size of the data area or the hash area, in bytes.
-const MOST_BYTES: u64 = (1 << 63) - 1;
 
 impl Plan {
     /// A plan for so many whole data blocks, with the hash area from block `base` on, counted in hash blocks (Linux kernel,

@@ -1,6 +1,6 @@
 //! What a tree is made by.
 ghost use Rattle.std.specs.Prelude.{◌≡◌, ◌*◌, ◌≤◌, ◌<◌, length};
-ghost use Rattle.verity_plan.specs.Settings.{Settings, IsValid, hash, fan, slot_width, digest_len, least_block, is_block_size, most_salt, least_power, rule_of, checked, verity_settings, fsverity_settings};
+ghost use Rattle.verity_plan.specs.Settings.{Settings, IsValid, hash, fan, slot_width, digest_len, least_block, is_block_size, is_verity_block_size, most_salt, least_power, rule_of, checked, verity_settings, fsverity_settings};
 ghost use Rattle.verity_hash.specs.Algorithms.{digest_len_of};
 
 use crate::{HashType, SettingFault};
@@ -173,12 +173,15 @@ fn least_block(rule: SaltRule, algorithm: Algorithm) -> u32
     }
 }
 
+/// The longest salt of dm-verity, in bytes (cryptsetup's on-disk format page, "dm-verity header").
+pub const MOST_SALT: usize = 256;
+
 /// The longest salt.
 fn most_salt(rule: SaltRule) -> usize
     ensures { result ≡ most_salt rule }
 {
     match rule {
-        SaltRule::Before => 256,
+        SaltRule::Before => MOST_SALT,
         SaltRule::PaddedBefore => 32,
     }
 }
@@ -191,6 +194,17 @@ fn is_block_size(least: u32, size: u32) -> bool
     ensures { result ≡ is_block_size least size }
 {
     size.is_power_of_two() && least <= size && size <= MOST_BLOCK
+}
+
+/// Whether a block size, in bytes, is one of dm-verity's: a power of two from 512 to 524288 (cryptsetup's on-disk format
+/// page, "dm-verity header").
+pub fn is_verity_block_size(size: u64) -> bool
+    ensures { result ≡ is_verity_block_size size }
+{
+    match u32::try_from(size) {
+        Ok(size) => is_block_size(512, size),
+        Err(_) => false,
+    }
 }
 
 /// The least power of two that is not below a length.

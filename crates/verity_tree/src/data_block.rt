@@ -4,7 +4,6 @@ ghost use Rattle.verity_tree.specs.DataBlocks.{CountsBlock, ReadsBlock, ReadsFro
 
 use verity_io::{Source, read_block};
 
-
 /// Why a data block isn't read.
 #[derive(Clone, Copy, Debug, PartialEq, Eq)]
 pub(crate) enum BlockFault {

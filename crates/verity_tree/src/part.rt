@@ -4,7 +4,6 @@ ghost use Rattle.std.specs.Str.{bytes_eq};
 ghost use Rattle.verity_plan.specs.Plans.{HasBlock};
 ghost use Rattle.verity_plan.specs.Settings.{digest_len, fan, slot_width};
 
-
 /// Where a stored hash block differs.
 #[derive(Clone, Copy, Debug, PartialEq, Eq)]
 pub enum Part {

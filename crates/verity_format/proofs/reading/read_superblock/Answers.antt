@@ -1,7 +1,8 @@
 -- The tests are made in their order, and bytes that pass them all say what they were read as.
-use Rattle.std.proofs.Common.{◌≡◌, ◌*◌, ◌^◌, ◌<◌, nat_lt, true, false, None, rules, arith, refl, sym, ◌∙◌}
+use Rattle.std.proofs.Common.{◌≡◌, ◌*◌, ◌<◌, nat_le, nat_lt, true, false, None, rules, arith, refl, sym, ◌∙◌}
 use Rattle.std.proofs.lemmas.Bool.Decides.{nat_tests}
 use Rattle.std.proofs.lemmas.Result.{err_from_is_err_and}
+use Rattle.verity_plan.specs.Plans.{most_bytes}
 use Rattle.verity_format.specs.Fields.{number_at}
 use Rattle.verity_format.specs.Superblocks.{first_failed, header_tests}
 use Rattle.verity_format.proofs.ReadLemmas.{IsSuperblock-made, cause-blocks, cause-settings, superblock_of-none}
@@ -31,5 +32,5 @@ returns-in-None-clause-fault c =
     let some : 0 < c.u64_at-blocks.result = omega (arith, c.if-blocks-eq0.false) in
     let first : nat_lt 0 (number_at 72 8 c.args.bytes.now) ≡ true = rw (← c.u64_at-blocks.ensures) (grind (arith, nat_tests, some)) in
     let over = superblock_of-none c.in-Some.hash_type c.in_ok-tree.tree c.copy_from_slice.new.self c.u64_at-blocks.result c.in_ok-tree.ensures.of_type some (sym c.new.ensures ∙ c.in-None.is) in
-    let second : nat_lt (number_at 72 8 c.args.bytes.now * number_at 64 4 c.args.bytes.now) (2 ^ 63) ≡ false = rw (c.in_ok-tree.ensures.value.data_block, ← c.u64_at-blocks.ensures) over in
+    let second : nat_le (number_at 72 8 c.args.bytes.now * number_at 64 4 c.args.bytes.now) most_bytes ≡ false = rw (c.in_ok-tree.ensures.value.data_block, ← c.u64_at-blocks.ensures) over in
     cause-blocks c.args.bytes.now header c.in_ok-tree.ensures.passed ∙ rw (first, second) refl

@@ -20,7 +20,7 @@ returns c =
       c.put_u32.ensures.bytes,
       c.put.ensures.bytes,
       c.new-fields.ensures,
-      c.number_of.ensures,
+      c.number.ensures,
       c.hash_type.ensures,
       c.uuid.ensures,
       c.as_bytes.ensures.value,
