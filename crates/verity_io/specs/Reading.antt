@@ -1,6 +1,11 @@
 -- What reads of a source and of a device give: read(2) and pread(2) of POSIX over lists of bytes, with a failed read that takes nothing.
-use Rattle.std.specs.Prelude.{IfOk, ◌≡◌, ℕ, ◌<◌, List, [], ◌++◌, length, take, drop, Result, MatchResult}
+use Rattle.std.specs.Prelude.{IfOk, ◌≡◌, ◌≤◌, ℕ, ◌<◌, List, [], ◌++◌, length, take, drop, Result, MatchResult}
 use Rattle.verity_io.specs.declared.failed.Failed.{Failed}
+
+-- a source of whose remaining bytes n were read
+pub record HasRead (n : ℕ) (before after : List ℕ) : Type 0 where
+  pub enough : n ≤ length before
+  pub rest : after ≡ drop n before
 
 -- the first k bytes of the buffer were the next of the source, none only at its end or with no room; all stay at a failure
 abbrev pub TakesNext : Result ℕ Failed → List ℕ → List ℕ → List ℕ → Type 0
