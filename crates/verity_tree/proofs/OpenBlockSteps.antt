@@ -17,7 +17,7 @@ use Rattle.verity_plan.proofs.CountLemmas.{le-div_ceil, IsLevelCount-level_count
 use Rattle.verity_tree.proofs.TreeLemmas.{length-risen, height-level_count}
 use Rattle.verity_tree.proofs.QuotientLemmas.{quotient-next, div_ceil-last, IsReached-zero, quotient-reached, IsReached-full, slots-full, slots-more, quotient-stays}
 use Rattle.verity_tree.proofs.OpenBlockLemmas.{open-push, open-close, block-up}
-use Rattle.verity_plan.proofs.FitLemmas.{slot_width-digest}
+use Rattle.verity_plan.proofs.FitLemmas.{digest-slot}
 
 div_small : (a b : ℕ) → a < b → a / b ≡ 0
 div_small a b h =
@@ -199,7 +199,7 @@ slot-room s q f w len size ef ew el es two fits =
     let low : q % f < f = mod_below q f (omega arith) in
     let step : q % f + 1 ≤ f = omega arith in
     let area : f * w ≡ fan s * slot_width s = ap (λ (n : ℕ). n * w) ef ∙ ap (λ (n : ℕ). fan s * n) ew in
-    omega (arith, mul_le (q % f + 1) f w step, area, fits, slot_width-digest s)
+    omega (arith, mul_le (q % f + 1) f w step, area, fits, digest-slot s)
 
 -- the digest in its slot is the block with one more
 pub filling-put : (s : Settings) (below : List (List ℕ)) (q f w : ℕ) (before after digest : List ℕ) → f ≡ fan s → w ≡ slot_width s → 2 ≤ f
@@ -211,7 +211,7 @@ filling-put s below q f w before after digest ef ew two fits put next =
     let place : q % f * w ≡ q % fan s * slot_width s = ap (λ (n : ℕ). q % n * w) ef ∙ ap (λ (n : ℕ). q % fan s * n) ew in
     put
     ∙ ap (λ (xs : List ℕ). take (q % f * w) xs ++ digest ++ drop (q % f * w + length digest) xs) next.stands
-    ∙ open-push s below q digest (q % f * w) (omega (arith, slot_width-digest s)) fits some next.here next.digest_is place
+    ∙ open-push s below q digest (q % f * w) (omega (arith, digest-slot s)) fits some next.here next.digest_is place
 
 -- a slot that is not before the last is the last
 pub slots-all : (s : Settings) (q f : ℕ) → f ≡ fan s → 2 ≤ f → f ≤ q % f + 1 → q % fan s + 1 ≡ fan s

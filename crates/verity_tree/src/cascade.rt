@@ -116,7 +116,9 @@ pub(crate) fn carry<D: Device>(
     for level in 0..plan.levels() {
         let from = level * size;
         let bytes = &mut opened[from..from + size];
-        match step_level(plan, task, level, bytes, stored, index, last, &carried, device) {
+        match step_level(
+            plan, task, level, bytes, stored, index, last, &carried, device,
+        ) {
             Step::Closed(above) => carried = above,
             Step::Open => return Ok(carried),
             Step::Stopped(cause) => {

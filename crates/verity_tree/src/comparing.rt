@@ -4,8 +4,8 @@ ghost use Rattle.verity_plan.specs.Plans.{store_length_of};
 
 use crate::cascade::Stop;
 use crate::closed_block::{Cause, Task};
-use crate::part::Part;
 use crate::one_pass::{PassFault, pass};
+use crate::part::Part;
 use crate::store::Store;
 use verity_hash::Digest;
 use verity_io::{Device, Source};

@@ -4,7 +4,6 @@ use Rattle.std.specs.Prelude.{◌≡◌, ℕ, ◌+◌, ◌<◌, ◌≤◌, Bool,
 use Rattle.verity_hash.specs.declared.digest.Digest.{Digest}
 use Rattle.verity_io.specs.Reading.{HasRead}
 use Rattle.verity_tree.specs.Reading.{EndsWithin, FailsWithin, ReadsUpTo, bytes_of}
-
 use Rattle.verity_tree.specs.Image.{StopsAt, begun, begun_after, tree_block}
 use Rattle.verity_tree.specs.ClosingOrder.{ComesNext, order}
 use Rattle.verity_tree.specs.Steps.ClosedBlocks.{IsCause, call_failed, closed_block}
