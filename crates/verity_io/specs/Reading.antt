@@ -13,11 +13,11 @@ TakesNext result buf before after = MatchResult result
     (λ k. (before ≡ take k buf ++ after) × (k ≡ 0 → 0 < length buf → after ≡ []))
     (λ _. after ≡ before)
 
--- the buffer has the next bytes of the source, less than its length only at the end; at a failure less than that is gone
+-- the buffer has the next bytes of the source, less than its length only at the end; at a failure less than that was read
 abbrev pub TakesBlock : Result ℕ Failed → List ℕ → List ℕ → List ℕ → Type 0
 TakesBlock result buf before after = MatchResult result
     (λ k. (before ≡ take k buf ++ after) × (k < length buf → after ≡ []))
-    (λ _. (gone : List ℕ) × (length gone < length buf) × (before ≡ gone ++ after))
+    (λ _. (taken : List ℕ) × (length taken < length buf) × (before ≡ taken ++ after))
 
 -- the buffer begins with the bytes from a place, fewer than its length only where the device ends
 abbrev pub ReadsAt : Result ℕ Failed → ℕ → List ℕ → List ℕ → Type 0

@@ -96,7 +96,7 @@ data-next p planned i want b a bytes rest after store new digest e below w room 
       carried-data s p.blocks wanted i bytes digest below (is ∙ ap (hash s) stands ∙ next.digest),
     )
 
--- nothing has left the source
+-- nothing was read of the source
 pub HasRead-none : (p : Planned) (bytes : List ℕ) → HasRead (bytes_of p 0) bytes bytes
 HasRead-none p bytes =
     let none : min (0 * p.settings.data_block) p.wanted ≡ 0 = omega arith in

@@ -49,10 +49,10 @@ AreOpen-zeros s blocks levels len store some zeros room = λ l from to.
     ∙ ap (λ (n : ℕ). hash_block_of s (take n (drop (0 / f * f) (digests_under s blocks l)))) (sym (zero_mod f some))
     ∙ ap (open_block s (digests_under s blocks l)) (sym place)
 
--- a write behind the open blocks leaves them
-pub AreOpen-behind : (s : Settings) (blocks : List (List ℕ)) (levels i a k : ℕ) (store new : List ℕ) → a ≡ levels * s.hash_block → a ≤ length store
+-- a write after the open blocks leaves them
+pub AreOpen-after : (s : Settings) (blocks : List (List ℕ)) (levels i a k : ℕ) (store new : List ℕ) → a ≡ levels * s.hash_block → a ≤ length store
     → AreOpen s blocks 0 levels i store → AreOpen s blocks 0 levels i (put_mid a k store new)
-AreOpen-behind s blocks levels i a k store new place within h = λ l from to.
+AreOpen-after s blocks levels i a k store new place within h = λ l from to.
     let size = s.hash_block in
     let step : l + 1 ≤ levels = omega (arith, to) in
     let before : l * size + size ≤ a = omega (arith, place, mul_le (l + 1) levels size step) in

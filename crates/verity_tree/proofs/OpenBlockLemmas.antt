@@ -32,7 +32,7 @@ length-slots s (x ∷ xs) fits =
     ap length (flat_map-cons (slot s) (hash s x) (map (hash s) xs))
     ∙ omega (arith, length-append (slot s (hash s x)) (flat_map (slot s) (map (hash s) xs)), length-slot s x fits, length-slots s xs fits)
 
--- a digest put behind the slots of a block is in its slot
+-- a digest put after the slots of a block is in its slot
 pub block-more : (k w at : ℕ) (slots digest : List ℕ) → length slots ≡ at → length digest ≤ w → at + w ≤ k
     → take at (filled k slots) ++ digest ++ drop (at + length digest) (filled k slots) ≡ filled k (slots ++ filled w digest)
 block-more k w at slots digest len fits room =

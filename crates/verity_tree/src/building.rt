@@ -33,10 +33,10 @@ pub enum BuildFault {
 /// its place, and answers the root hash (Linux kernel, dm-verity page, "Hash Tree"). It takes no memory. The store is one
 /// that `fits` the plan.
 ///
-/// A fault leaves the hash blocks that closed before it; after `DeviceFailed` the failed block's own range is unknown. What
-/// has left the source: all that the plan wants where a root is answered; all its bytes after `SourceShort`; the data up to
-/// the block with which the hash block closed after `DeviceFailed`; the blocks before the failed one, and less than one block
-/// more, after `SourceFailed`.
+/// A fault leaves the hash blocks that closed before it; after `DeviceFailed` the failed block's own range is unknown. How
+/// much was read of the source: all that the plan wants where a root is answered; all its bytes after `SourceShort`; the data
+/// up to the block with which the hash block closed after `DeviceFailed`; the blocks before the failed one, and less than one
+/// block more, after `SourceFailed`.
 pub fn build<S: Source, D: Device>(
     plan: &Plan,
     store: &mut Store,

@@ -95,7 +95,7 @@ fn pass_over<S: Source, D: Device>(
     Ok(root)
 }
 
-/// Reads data block `i` into the work space, behind the open blocks, and hashes it there.
+/// Reads data block `i` into the work space, after the open blocks, and hashes it there.
 fn take_data_block<S: Source>(
     plan: &Plan,
     work: &mut [u8],

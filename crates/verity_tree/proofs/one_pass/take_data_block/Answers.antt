@@ -6,7 +6,7 @@ use Rattle.verity_plan.specs.Plans.{Planned, IsPlanned, levels_of}
 use Rattle.verity_tree.specs.Steps.OnePass.{TakesDataBlock}
 use Rattle.verity_tree.specs.declared.data_block.BlockFault.{BlockFault}
 use Rattle.verity_tree.specs.declared.data_block.BlockFault.TheVariants.{Short, Failed}
-use Rattle.verity_tree.proofs.OnePassLemmas.{AreOpen-behind}
+use Rattle.verity_tree.proofs.OnePassLemmas.{AreOpen-after}
 use Rattle.verity_tree.proofs.OpenBlockLemmas.{length-hash}
 use Rattle.verity_tree.proofs.DataBlockLemmas.{data-next, failed-within, short-within}
 use Rattle.verity_tree.proofs.one_pass.take_data_block.Goals as goal
@@ -26,7 +26,7 @@ returns-in-Ok-clause-opened g c = λ blocks stands.
     let levels = levels_of c.args.plan.now in
     let a : c.levels.result * c.hash_block.result ≡ levels * s.hash_block =
     ap (λ (n : ℕ). n * c.hash_block.result) c.levels.ensures ∙ ap (λ (n : ℕ). levels * n) c.hash_block.ensures in
-    AreOpen-behind s blocks levels c.args.i (c.levels.result * c.hash_block.result) _ c.args.work.now c.read_data_block.new.block a
+    AreOpen-after s blocks levels c.args.i (c.levels.result * c.hash_block.result) _ c.args.work.now c.read_data_block.new.block a
     (omega (arith, a, c.requires.room)) stands
 
 pub returns-in-Err-clause-opened : goal.returns-in-Err-clause-opened
@@ -35,7 +35,7 @@ returns-in-Err-clause-opened g c = λ blocks stands.
     let levels = levels_of c.args.plan.now in
     let a : c.levels.result * c.hash_block.result ≡ levels * s.hash_block =
     ap (λ (n : ℕ). n * c.hash_block.result) c.levels.ensures ∙ ap (λ (n : ℕ). levels * n) c.hash_block.ensures in
-    AreOpen-behind s blocks levels c.args.i (c.levels.result * c.hash_block.result) _ c.args.work.now c.read_data_block.new.block a
+    AreOpen-after s blocks levels c.args.i (c.levels.result * c.hash_block.result) _ c.args.work.now c.read_data_block.new.block a
     (omega (arith, a, c.requires.room)) stands
 
 pub returns-in-Ok-clause-taken : goal.returns-in-Ok-clause-taken

@@ -1,4 +1,4 @@
--- The digest, and zeros behind it up to the slot's width.
+-- The digest, and zeros after it up to the slot's width.
 use Rattle.verity_tree.proofs.SlotLemmas.{slot_pushed}
 use Rattle.verity_tree.proofs.plain_root.push_slot.Goals as goal
 
