@@ -9,6 +9,10 @@ use Rattle.std.specs.Prelude.{nat_le}
 use Rattle.verity_plan.specs.Counts.{level_count, IsLevelCount}
 use Rattle.verity_plan.proofs.LeastLemmas.{IsLeast-least_from}
 
+-- more of the same number are not less
+pub mul_le : (a b w : ℕ) → a ≤ b → a * w ≤ b * w
+mul_le a b w h = mul-le-mul_right w h
+
 -- n fits k runs of a exactly where the quotient rounded up is at most k
 pub le-div_ceil : (n a k : ℕ) → 0 < a → div_ceil n a ≤ k → n ≤ k * a
 le-div_ceil n a k some h = omega (arith, div_ceil_times n a some, mul-le-mul_right a h)

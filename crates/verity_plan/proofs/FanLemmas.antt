@@ -13,7 +13,7 @@ use Rattle.verity_hash.specs.declared.salting.SaltRule.{SaltRule}
 use Rattle.verity_hash.specs.declared.salting.SaltRule.TheVariants.{Before, PaddedBefore}
 use Rattle.verity_plan.specs.Settings.{Settings, IsValid, fan, digest_len, is_block_size, least_block, greatest_fan, least_power}
 use Rattle.verity_plan.proofs.LeastLemmas.{IsLeast, IsLeast-same, IsLeast-least_from}
-use Rattle.verity_plan.proofs.CountLemmas.{lt-pow_self}
+use Rattle.verity_plan.proofs.CountLemmas.{lt-pow_self, mul_le}
 
 -- the greatest power of two with room for as many digests
 pub greatest_fan-is : (len size k : ℕ) → 0 < len → 2 ^ k * len ≤ size → size < 2 ^ (k + 1) * len → greatest_fan len size ≡ 2 ^ k
@@ -97,9 +97,6 @@ two_slots_by PaddedBefore algorithm size h = block_least (2 * digest_len_of algo
 some_block : (rule : SaltRule) (algorithm : Algorithm) (size : ℕ) → is_block_size (least_block rule (digest_len_of algorithm)) size ≡ true → 0 < size
 some_block rule algorithm size h = omega (arith, two_slots_by rule algorithm size h, digest_len_of-pos algorithm)
 
-pub mul-le-mul_right_of : (k : ℕ) {m n : ℕ} → m ≤ n → m * k ≤ n * k
-mul-le-mul_right_of k h = mul-le-mul_right k h
-
 two_from_power : (len size k : ℕ) → 2 * len ≤ size → ltb size (2 ^ (k + 1) * len) ≡ true → 2 ≤ 2 ^ k
 two_from_power len size zero two passing =
     let one : 2 ^ (0 + 1) ≡ 2 = refl in
@@ -115,7 +112,7 @@ greatest_fan-two len size some two =
     let base : 2 ≤ 2 = omega arith in
     let one_more : size + 1 ≡ suc size = omega arith in
     let wide : size < 2 ^ (size + 1) * len =
-    omega (arith, lt-pow_self 2 (size + 1) base, mul-le-mul_right_of (2 ^ (size + 1)) at_least) in
+    omega (arith, lt-pow_self 2 (size + 1) base, mul_le 1 len (2 ^ (size + 1)) at_least) in
     let passing : ltb size (2 ^ (size + 1) * len) ≡ true = grind (arith, nat_tests, wide) in
     let found = IsLeast-least_from (λ m. nat_lt size (2 ^ (m + 1) * len)) 0 size size (omega arith) (omega arith) passing in
     two_from_power len size _ two found.passing

@@ -10,8 +10,8 @@ use Rattle.verity_hash.specs.declared.salting.SaltRule.{SaltRule}
 use Rattle.verity_hash.specs.declared.salting.SaltRule.TheVariants.{Before, PaddedBefore}
 use Rattle.verity_plan.specs.Settings.{Settings, IsValid, fan, digest_len, least_block, slot_width, width_by, least_up_to, greatest_fan, least_power}
 use Rattle.verity_plan.proofs.LeastLemmas.{IsLeast, IsLeast-least_from}
-use Rattle.verity_plan.proofs.CountLemmas.{lt-pow_self}
-use Rattle.verity_plan.proofs.FanLemmas.{block_power, digest_len_of-pos, fan-two, mul-le-mul_right_of, two_slots}
+use Rattle.verity_plan.proofs.CountLemmas.{lt-pow_self, mul_le}
+use Rattle.verity_plan.proofs.FanLemmas.{block_power, digest_len_of-pos, fan-two, two_slots}
 
 fits_from_power : (len size k : ℕ) → len ≤ size → IsLeast (λ m. nat_lt size (2 ^ (m + 1) * len)) 0 k → 2 ^ k * len ≤ size
 fits_from_power len size zero one found = omega (arith, pow-zero 2, one, ap (λ (n : ℕ). n * len) (pow-zero 2))
@@ -28,7 +28,7 @@ greatest_fan-fits len size some one =
     let at_least : 1 ≤ len = omega arith in
     let base : 2 ≤ 2 = omega arith in
     let wide : size < 2 ^ (size + 1) * len =
-    omega (arith, lt-pow_self 2 (size + 1) base, mul-le-mul_right_of (2 ^ (size + 1)) at_least) in
+    omega (arith, lt-pow_self 2 (size + 1) base, mul_le 1 len (2 ^ (size + 1)) at_least) in
     let passing : ltb size (2 ^ (size + 1) * len) ≡ true = grind (arith, nat_tests, wide) in
     let found = IsLeast-least_from (λ m. nat_lt size (2 ^ (m + 1) * len)) 0 size size (omega arith) (omega arith) passing in
     fits_from_power len size _ one found
@@ -72,7 +72,7 @@ slots_fit_power len b k (suc m) some low found =
     let fail : leb len (2 ^ m) ≡ false = found.least m (omega arith) (omega arith) in
     let short : 2 ^ m + 1 ≤ len = grind (arith, nat_tests, fail) in
     let two : 0 < 2 = omega arith in
-    let grown : (2 ^ m + 1) * 2 ^ k ≤ len * 2 ^ k = mul-le-mul_right_of (2 ^ k) short in
+    let grown : (2 ^ m + 1) * 2 ^ k ≤ len * 2 ^ k = mul_le (2 ^ m + 1) len (2 ^ k) short in
     let below : k + m < b = elim (cases_lt (k + m) b) [
       | inl less ↦ less
       | inr past ↦

@@ -24,10 +24,6 @@ size-more fan n k size some is =
     ∙ div_ceil-div_ceil n (fan ^ k) fan (omega (arith, one-le-pow k fan some)) some
     ∙ ap (λ (m : ℕ). div_ceil n m) power
 
--- no level yet
-pub size-none : (fan n : ℕ) → n ≡ div_ceil n (fan ^ 0)
-size-none fan n = let one : n ≡ div_ceil n 1 = omega arith in one ∙ ap (λ (m : ℕ). div_ceil n m) (sym (pow-zero fan))
-
 -- a level has at most two thirds of the blocks below it
 pub div_ceil-half : (n a : ℕ) → 2 ≤ a → 1 < n → 3 * div_ceil n a ≤ 2 * n
 div_ceil-half n a two more =
@@ -92,11 +88,6 @@ planned-large p some none =
     let tested : nat_eq p.blocks 0 ≡ false = grind (arith, nat_tests, some) in
     rw (tested, none) refl
 
-pub planned-room : (p : Planned) → 0 < p.blocks → has_room p ≡ true → planned p ≡ Ok p
-planned-room p some room =
-    let tested : nat_eq p.blocks 0 ≡ false = grind (arith, nat_tests, some) in
-    rw (tested, room) refl
-
 pub has_room-data : (p : Planned) → most_bytes < p.blocks * p.settings.data_block → has_room p ≡ false
 has_room-data p past = grind (arith, nat_tests, past)
 
@@ -104,12 +95,6 @@ pub has_room-hash : (p : Planned) → most_bytes < end_of p * p.settings.hash_bl
 has_room-hash p past =
     let tested : nat_le (end_of p * p.settings.hash_block) most_bytes ≡ false = grind (arith, nat_tests, past) in
     rw tested (and-false _)
-
-pub has_room-both : (p : Planned) → p.blocks * p.settings.data_block ≤ most_bytes → end_of p * p.settings.hash_block ≤ most_bytes → has_room p ≡ true
-has_room-both p low high =
-    let first : nat_le (p.blocks * p.settings.data_block) most_bytes ≡ true = grind (arith, nat_tests, low) in
-    let second : nat_le (end_of p * p.settings.hash_block) most_bytes ≡ true = grind (arith, nat_tests, high) in
-    rw (first, second) refl
 
 -- a hash block has a byte
 pub some_hash : (p : Planned) → IsPlanned p → 1 ≤ p.settings.hash_block

@@ -3,7 +3,7 @@ use Rattle.std.proofs.Common.{Bool, List, [], ap, arith, drop, eqb, false, get_o
 use Rattle.std.proofs.lemmas.Bool.{cases_lt}
 use Rattle.std.proofs.lemmas.Bool.Decides.{eqb_tells}
 use Rattle.std.proofs.lemmas.Nat.{div-add-mod', div-mul-add}
-use Rattle.std.proofs.Math.Nat.{one-le-pow, mul-le-mul_right, pow-suc}
+use Rattle.std.proofs.Math.Nat.{one-le-pow, pow-suc}
 use Rattle.std.specs.Int.{div_ceil}
 use Rattle.verity_plan.specs.Settings.{Settings, hash, fan}
 use Rattle.verity_tree.specs.Levels.{risen}
@@ -15,14 +15,11 @@ use Rattle.verity_io.specs.Writing.{put}
 use Rattle.verity_plan.specs.Plans.{Planned}
 use Rattle.verity_tree.specs.Verdicts.{NoneDiffers, StandsThere, stored}
 use Rattle.verity_tree.specs.Image.{tree_block, written}
-use Rattle.verity_plan.proofs.CountLemmas.{le-div_ceil}
+use Rattle.verity_plan.proofs.CountLemmas.{le-div_ceil, mul_le}
 use Rattle.verity_tree.proofs.QuotientLemmas.{quotient-next, IsReached-full}
 use Rattle.verity_tree.proofs.OpenBlockSteps.{carried-below, carried-next, carried-root}
 use Rattle.verity_tree.proofs.OrderSplit.{closing-prefix, closing-all, closes-reached, closes-last, closed_to-more, closes-none, written-more}
 use Rattle.std.proofs.lemmas.List.Elements.{All-append, All-cons, All-nil}
-
-mul_le : (a b w : ℕ) → a ≤ b → a * w ≤ b * w
-mul_le a b w h = mul-le-mul_right w h
 
 positive : (k : ℕ) → (k ≡ 0 → ⊥) → k ≡ (k - 1) + 1
 positive zero h = absurd (h refl)

@@ -102,14 +102,6 @@ HasRead-none p bytes =
     let none : min (0 * p.settings.data_block) p.wanted ≡ 0 = omega arith in
     record { enough = omega (arith, none); rest = ap (λ (k : ℕ). drop k bytes) (sym none) }
 
--- all blocks are all that is wanted
-pub HasRead-all : (p : Planned) → IsPlanned p → (bytes after : List ℕ) → HasRead (bytes_of p p.blocks) bytes after
-    → HasRead p.wanted bytes after
-HasRead-all p planned bytes after h =
-    let cover = le-div_ceil p.wanted p.settings.data_block p.blocks (some_data p.settings planned.valid) (omega (arith, planned.blocks_are)) in
-    let whole : min (p.blocks * p.settings.data_block) p.wanted ≡ p.wanted = omega (arith, cover) in
-    subst (λ (k : ℕ). HasRead k bytes after) whole h
-
 -- so many runs are within a quotient
 le-div : (i n a : ℕ) → 0 < a → i * a ≤ n → i ≤ n / a
 le-div i n a some h = elim (cases_lt (n / a) i) [
@@ -160,24 +152,6 @@ short-within p planned i want b bytes rest after e below w read_before short non
     let within : length bytes < bytes_of p (i + 1) = omega (arith, left, read_before.enough, here, wide, w, e, short) in
     record { below = below; whole_is = sym (whole-short p i bytes read_before.enough within); enough = read_before.enough; short = within; rest = none }
 
--- a write to a part leaves the length
-pub length-put : (xs ys : List ℕ) (a b : ℕ) → a + b ≤ length xs → length ys ≡ length (take (a + b - a) (drop a xs))
-    → length (put_mid a (a + b - a) xs ys) ≡ length xs
-length-put xs ys a b room len =
-    let k = a + b - a in
-    let part : length (take k (drop a xs)) ≡ b = length-take-le k (drop a xs) (omega (arith, length-drop a xs, room)) ∙ (let e : a + b - a ≡ b = omega arith in e) in
-    omega (
-      arith,
-      length-append (take a xs) (ys ++ drop k (drop a xs)),
-      length-append ys (drop k (drop a xs)),
-      length-take-le a xs (omega (arith, room)),
-      length-drop k (drop a xs),
-      length-drop a xs,
-      len,
-      part,
-      room,
-    )
-
 -- the source failed within block i
 pub failed-within : (p : Planned) → IsPlanned p → (i want b : ℕ) (bytes rest after : List ℕ) → b ≡ p.settings.data_block → i < p.blocks
     → want ≡ min b (p.wanted - i * b) → HasRead (bytes_of p i) bytes rest → StopsWithin want rest after → FailsWithin p i bytes after
@@ -200,16 +174,3 @@ failed-within p planned i want b bytes rest after e below w read_before stop =
       };
     }
 
--- the next bytes over a front, and zeros after them, are a block
-pub HoldsBlock-front : (want size : ℕ) (before after old front : List ℕ) → want ≤ size → length old ≡ size → HoldsFront want before after old front
-    → HoldsBlock want size before after (take want front ++ replicate (size - want) 0)
-HoldsBlock-front want size before after old front within wide h =
-    let len : length (take want before) ≡ want = length-take-le want before h.enough in
-    record {
-      enough = h.enough;
-      bytes =
-          ap (λ (xs : List ℕ). take want xs ++ replicate (size - want) 0) h.bytes
-          ∙ ap (λ (xs : List ℕ). xs ++ replicate (size - want) 0) (take_at (take want before) (drop want old) want len)
-          ∙ ap (λ (n : ℕ). take want before ++ replicate (size - n) 0) (sym len);
-      rest = h.rest;
-    }

@@ -4,9 +4,10 @@ use Rattle.std.proofs.lemmas.List.{drop-replicate, take-replicate}
 use Rattle.std.proofs.lemmas.Slice.{between_is, take-put_mid_below}
 use Rattle.std.proofs.lemmas.Nat.{div-mul-add, mod-mul-add}
 use borrow.Rule.Slice.PartMut.{put_mid}
-use Rattle.std.proofs.Math.Nat.{one-le-pow, mul-le-mul_right}
+use Rattle.std.proofs.Math.Nat.{one-le-pow}
 use Rattle.std.proofs.lemmas.List.Elements.{All-append, Contains-append_left, Contains-append_right}
 use Rattle.std.specs.Prelude.{Contains}
+use Rattle.verity_plan.proofs.CountLemmas.{mul_le}
 use Rattle.verity_plan.specs.Settings.{Settings, fan}
 use Rattle.verity_tree.specs.Levels.{hash_block_of, data_blocks}
 use Rattle.verity_tree.specs.ClosingOrder.{closed_to, closing, order}
@@ -23,9 +24,6 @@ use Rattle.verity_tree.specs.Steps.ClosedBlocks.{IsCause, closed_block}
 use Rattle.verity_tree.specs.Steps.OnePass.{StopsFor}
 use Rattle.verity_tree.specs.Verdicts.{NoneDiffers, StandsThere}
 use Rattle.verity_tree.specs.declared.cascade.Stop.{Stop}
-
-mul_le : (a b w : ℕ) → a ≤ b → a * w ≤ b * w
-mul_le a b w h = mul-le-mul_right w h
 
 zero_div : (w : ℕ) → 0 < w → 0 / w ≡ 0
 zero_div w some = let e : 0 ≡ 0 * w + 0 = omega arith in ap (λ (x : ℕ). x / w) e ∙ div-mul-add 0 w 0 some

@@ -1,6 +1,5 @@
 -- An open block as digests come to it.
 use Rattle.std.proofs.Common.{◌≡◌, ℕ, suc, ◌+◌, ◌-◌, ◌*◌, ◌/◌, ◌%◌, ◌<◌, ◌≤◌, ◌⊎◌, List, [], ◌∷◌, ◌++◌, get_or, take, drop, length, map, replicate, arith, sym, ◌∙◌, ap, inl, inr, length-append, length-drop, append_assoc}
-use Rattle.std.proofs.Math.Nat.{mul-le-mul_right}
 use Rattle.std.proofs.lemmas.Nat.{div-add-mod', mod_below}
 use Rattle.std.proofs.lemmas.List.{length-map, length-take-le, get_or-map, get_or-drop, take-map, drop-map, take_at, drop-replicate, length-replicate, replicate-append-replicate, take_all, append-nil}
 use Rattle.std.proofs.lemmas.List.Concat.{flat_map-cons}
@@ -9,6 +8,7 @@ use Rattle.std.proofs.Math.Seq.{take-suc, drop-append-add}
 use Rattle.std.specs.List.{flat_map}
 use Rattle.std.specs.Fork.{slice_chunk}
 use Rattle.std.specs.Int.{div_ceil}
+use Rattle.verity_plan.proofs.CountLemmas.{mul_le}
 use Rattle.verity_hash.specs.Bytes.{filled}
 use Rattle.verity_hash.proofs.HashLemmas.{length-salted_hash}
 use Rattle.verity_plan.specs.Settings.{Settings, hash, fan, slot, slot_width, digest_len}
@@ -53,9 +53,6 @@ block-more k w at slots digest len fits room =
     ∙ ap (λ (xs : List ℕ). slots ++ digest ++ xs) (back ∙ split)
     ∙ sym (append_assoc (slots ++ digest) slot_zeros after)
     ∙ ap (λ (xs : List ℕ). xs ++ after) (append_assoc slots digest slot_zeros)
-
-mul_le : (a b w : ℕ) → a ≤ b → a * w ≤ b * w
-mul_le a b w h = mul-le-mul_right w h
 
 -- one more digest of an open block
 pub open-push : (s : Settings) (xs : List (List ℕ)) (q : ℕ) (digest : List ℕ) (at : ℕ) → digest_len s ≤ slot_width s → fan s * slot_width s ≤ s.hash_block

@@ -6,14 +6,14 @@ use Rattle.std.proofs.lemmas.Nat.{div-add-mod', mod_below, div-mul-add}
 use Rattle.std.proofs.lemmas.List.{length-map, length-take-le, length-replicate}
 use Rattle.std.proofs.lemmas.Slice.{between_is, take-put_mid_below, drop-put_mid, between-put_mid}
 use borrow.Rule.Slice.PartMut.{put_mid}
-use Rattle.std.proofs.Math.Nat.{one-le-pow, pow-zero, mul-le-mul_right}
+use Rattle.std.proofs.Math.Nat.{one-le-pow, pow-zero}
 use Rattle.std.specs.Fork.{slice_chunk}
 use Rattle.std.specs.Int.{div_ceil}
 use Rattle.verity_plan.specs.Settings.{Settings, hash, fan, slot_width, digest_len}
 use Rattle.verity_tree.specs.Levels.{hash_block_of, risen, root}
 use Rattle.verity_plan.specs.Counts.{level_count}
 use Rattle.verity_tree.specs.Steps.OpenBlocks.{digests_under, open_block, filling, AreOpen, carried, IsCarrying, IsNext, IsClosed, IsKept, IsCarriedOn, climb, arrival}
-use Rattle.verity_plan.proofs.CountLemmas.{le-div_ceil, IsLevelCount-level_count}
+use Rattle.verity_plan.proofs.CountLemmas.{le-div_ceil, IsLevelCount-level_count, mul_le}
 use Rattle.verity_tree.proofs.TreeLemmas.{length-risen, height-level_count}
 use Rattle.verity_tree.proofs.QuotientLemmas.{quotient-next, div_ceil-last, IsReached-zero, quotient-reached, IsReached-full, slots-full, slots-more, quotient-stays}
 use Rattle.verity_tree.proofs.OpenBlockLemmas.{open-push, open-close, block-up}
@@ -23,9 +23,6 @@ div_small : (a b : ℕ) → a < b → a / b ≡ 0
 div_small a b h =
     let e : a ≡ 0 * b + a = omega arith in
     ap (λ (x : ℕ). x / b) e ∙ div-mul-add 0 b a h
-
-mul_le : (a b w : ℕ) → a ≤ b → a * w ≤ b * w
-mul_le a b w h = mul-le-mul_right w h
 
 -- a write to one run leaves the others
 pub chunk-other : (xs ys : List ℕ) (size m l a k : ℕ) → a ≡ m * size → k ≡ size → length ys ≡ size → m * size + size ≤ length xs → (l < m) ⊎ (m < l)
