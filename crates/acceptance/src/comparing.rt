@@ -1,6 +1,6 @@
 //! Stored trees that are compared with their data: 17 data blocks, all blocks of 512 bytes, so block (1,0) stands at byte
 //! 512, (0,0) at 1024 and (0,1) at 1536.
-use crate::laying::data;
+use crate::fixtures::data;
 use crate::trees::{Tree, small, tree_above};
 use std::alloc::Global;
 use std::test::Fail;

@@ -1,5 +1,5 @@
 //! Digests of files: descriptors, lines and messages. Expected digests are those of sha2 over stated bytes.
-use crate::laying::{data, filled};
+use crate::fixtures::{data, filled};
 use crate::stating_opener::StatingOpener;
 use fsverity::{
     DigestFault, DigestOptions, Form, FsOptionFault, FusedOpener, MemoryOpener, digest_file,

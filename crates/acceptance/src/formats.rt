@@ -1,5 +1,5 @@
 //! Superblocks, descriptors, formatted digests and whole writes.
-use crate::laying::{Field, block, lay};
+use crate::fixtures::{Field, block, lay};
 use sha2::{Digest as Hasher, Sha256, Sha512};
 use std::io;
 use std::io::{ErrorKind, Write};

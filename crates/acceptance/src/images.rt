@@ -1,6 +1,6 @@
 //! Images of hash devices, made by format, and made of lists of digests by `sha2`.
 use crate::formats::UUID;
-use crate::laying::{block, data, filled};
+use crate::fixtures::{block, data, filled};
 use sha2::{Digest as Hasher, Sha256};
 use std::alloc::{AllocError, Global};
 use verity_tree::{Device, Source};

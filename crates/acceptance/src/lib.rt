@@ -11,6 +11,8 @@ mod digest;
 #[cfg(test)]
 mod dumping;
 #[cfg(test)]
+mod fixtures;
+#[cfg(test)]
 mod format_faults;
 #[cfg(test)]
 mod formats;
@@ -18,8 +20,6 @@ mod formats;
 mod formatting;
 #[cfg(test)]
 mod images;
-#[cfg(test)]
-mod laying;
 #[cfg(test)]
 mod setup_options;
 #[cfg(test)]

@@ -1,5 +1,5 @@
 //! Salted hashes, plans, and trees that are built. Expected hash blocks are made level by level with `sha2`.
-use crate::laying::data;
+use crate::fixtures::data;
 use sha2::{Digest as Hasher, Sha256};
 use std::alloc::{AllocError, Global};
 use std::test::Fail;
