@@ -6,7 +6,7 @@ use Rattle.verity_plan.specs.declared.hash_type.HashType.{HashType}
 use Rattle.verity_plan.specs.declared.plan_fault.PlanFault.{PlanFault}
 use Rattle.verity_plan.specs.declared.plan_fault.PlanFault.TheVariants.{NoData, TooLarge}
 
--- the hash type, the UUID's bytes, the hash offset in bytes, whether a superblock stands there, and the plan of the tree
+-- the hash type, the UUID's bytes, the hash offset in bytes, whether a superblock stands there, and the tree's plan
 pub record Chosen : Type 0 where
   pub hash_type : HashType
   pub uuid : List ℕ
@@ -14,7 +14,7 @@ pub record Chosen : Type 0 where
   pub superblock : Bool
   pub plan : Planned
 
--- the plan for so many data blocks where the hash area begins at this hash block; without one the hash area is too large
+-- the plan for so many data blocks where the tree begins at this hash block; without one the hash area is too large
 abbrev pub plan_from : Settings → ℕ → Option ℕ → Result Planned PlanFault
 plan_from tree blocks (Some base) = plan_for_blocks tree blocks base
 plan_from tree blocks None = if blocks == 0 then Err NoData else Err TooLarge

@@ -30,8 +30,10 @@ fault_text (Report Memory) = memory_text
 fault_text (Report (Output taken)) = unwritten_output_text
 
 -- the report of the superblock at the device's start is printed, without a root hash
-abbrev pub ReportsSuperblock : List ℕ → Change → Result (Unit {0}) PrintFault → Option (List ℕ) → Option (List ℕ) → Type 0
-ReportsSuperblock path device result before after = (v : SuperblockFields) × (device.told → IsSuperblock (header 0 device.before) v)
+abbrev pub ReportsSuperblock : List ℕ → Change → Result (Unit {0}) PrintFault → Option (List ℕ) → Option (List ℕ)
+    → Type 0
+ReportsSuperblock path device result before after = (v : SuperblockFields)
+    × (device.told → IsSuperblock (header 0 device.before) v)
     × Prints result (report_text path (uuid_text v.uuid) v None) before after
 
 -- what is printed of a device

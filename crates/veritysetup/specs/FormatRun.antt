@@ -1,5 +1,5 @@
--- How a run of format ends (veritysetup(8), "format"; statuses and messages are this project's own). Where it stops at a
--- fault, nothing that comes later has been done: the superblock is written after all hash blocks, and the report last.
+-- How a run of format ends (veritysetup(8), "format"; statuses and messages are this project's own). Where it stops at
+-- a fault, nothing that comes later has been done: the superblock is written after all hash blocks, the report last.
 use Rattle.std.specs.Prelude.{◌≡◌, ℕ, Bool, true, false, List, Option, Some, Result, Ok, Err}
 use Rattle.std.specs.Io.KnownBytes.{Appends, Keeps}
 use Rattle.verity_io.specs.Counting.{Change, Counts}
@@ -87,7 +87,8 @@ pub record FormatRun (c : Chosen) (path : List ℕ) (status : ℕ) (source devic
   pub outcome : Result (Unit {0}) FormatFault
   pub status_is : status ≡ status_of fault_status outcome
   pub read : source.told → Reads c outcome source.before source.after
-  pub stands : source.told → device.told → Writes c (data_blocks c.plan source.before) outcome device.before device.after
+  pub stands : source.told → device.told
+      → Writes c (data_blocks c.plan source.before) outcome device.before device.after
   pub root_hash : List ℕ
   pub root_is : source.told → root_hash ≡ root_above c source.before
   pub printed : PrintsReport (format_report c path root_hash) outcome texts.out_before texts.out_after

@@ -1,5 +1,5 @@
--- What format leaves on the hash device: every hash block at its place, and then the superblock at the hash offset, where
--- there is one (cryptsetup's on-disk format page; Linux kernel, dm-verity page, "On-disk format").
+-- What format leaves on the hash device: every hash block at its place, and then the superblock at the hash offset,
+-- where there is one (cryptsetup's on-disk format page; Linux kernel, dm-verity page, "On-disk format").
 use Rattle.std.specs.Prelude.{ℕ, List, if◌then◌else◌}
 use Rattle.verity_format.specs.SuperblockFields.{SuperblockFields}
 use Rattle.verity_format.specs.Superblocks.{superblock_text}

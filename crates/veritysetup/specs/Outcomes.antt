@@ -1,5 +1,5 @@
--- How a run of a command ends: with status 0 and no message, or with those of its first fault. And what contracts see of
--- what it prints.
+-- How a run of a command ends: with status 0 and no message, or with those of its first fault; and what contracts see
+-- of what it prints.
 use Rattle.std.specs.Prelude.{ℕ, List, [], Option, Result, Ok, Err}
 
 -- the status of an outcome, by that of a fault

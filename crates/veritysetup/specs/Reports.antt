@@ -52,4 +52,5 @@ root_line (Some root) = report_line (codes "Root hash:") (encode_lower root)
 -- the whole report, with this text of the UUID
 unfoldable pub report_text : List ℕ → List ℕ → SuperblockFields → Option (List ℕ) → List ℕ
 report_text path uuid v root =
-    with_hash (with_sizes (with_header (title path) uuid v) v.tree) (name_of v.tree.algorithm) (salt_text v.tree.salt) ++ root_line root
+    with_hash (with_sizes (with_header (title path) uuid v) v.tree) (name_of v.tree.algorithm) (salt_text v.tree.salt)
+    ++ root_line root

@@ -98,7 +98,8 @@ abbrev pub Refuses : VerifyInput → List ℕ → InputFault → Type 0
 Refuses (Stored text) device fault = RefusesStored 0 text.now device fault
 
 -- the tree is compared: the answer, and how much was read of the source
-pub record Compares (input : VerifyInput) (device before after : List ℕ) (result : Result Unit CompareFault) : Type 0 where
+pub record Compares (input : VerifyInput) (device before after : List ℕ) (result : Result Unit CompareFault)
+    : Type 0 where
   pub plan : Planned
   pub root : List ℕ
   pub trusted : Trusts input device plan root
@@ -138,7 +139,8 @@ source_failed (Err Store) = false
 source_failed (Err (Compare fault)) = compare_source_failed fault
 
 -- a run: one outcome says what became of the source, the device and the writer of the message
-pub record VerifyRun (input : VerifyInput) (status : ℕ) (source device : Change) (msgs_before msgs_after : Option (List ℕ)) : Type 0 where
+pub record VerifyRun (input : VerifyInput) (status : ℕ) (source device : Change)
+    (msgs_before msgs_after : Option (List ℕ)) : Type 0 where
   pub outcome : Result (Unit {0}) VerifyFault
   pub status_is : status ≡ status_of fault_status outcome
   pub verdict : source.told → device.told → Verifies input device.before source.before source.after outcome

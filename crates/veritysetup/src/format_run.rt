@@ -61,7 +61,8 @@ impl FormatFault {
 /// Writes the superblock at the hash offset, where there is one.
 fn put_superblock<D: Device>(settings: &Settings, device: &mut D) -> Result<(), Failed>
     ensures told { D.tells device.old → D.tells device.new }
-    ensures ok { D.tells device.old → OnOk result (D.content device.new ≡ with_superblock settings.now (D.content device.old)) }
+    ensures ok { D.tells device.old →
+        OnOk result (D.content device.new ≡ with_superblock settings.now (D.content device.old)) }
     ensures failed { D.tells device.old →
         OnErr result (Spoiled (D.content device.old) settings.now.offset superblock_size (D.content device.new)) }
     ensures count { CountsFailure (D.failures device.old) (D.failures device.new) result }
@@ -87,9 +88,11 @@ fn format<S: Source, D: Device, O: Write>(
     ensures device_told { D.tells device.old → D.tells device.new }
     ensures read { S.tells source.old → Reads settings.now result (S.to_come source.old) (S.to_come source.new) }
     ensures stands { S.tells source.old → D.tells device.old →
-        Writes settings.now (data_blocks settings.now.plan (S.to_come source.old)) result (D.content device.old) (D.content device.new) }
+        Writes settings.now (data_blocks settings.now.plan (S.to_come source.old)) result
+        (D.content device.old) (D.content device.new) }
     ensures printed { (root : List ℕ) × (S.tells source.old → root ≡ root_above settings.now (S.to_come source.old))
-        × PrintsReport (format_report settings.now hash_path.now root) result (O.contents out.old) (O.contents out.new) }
+        × PrintsReport (format_report settings.now hash_path.now root) result
+        (O.contents out.old) (O.contents out.new) }
     ensures source_count { Counts (source_failed result) (S.failures source.old) (S.failures source.new) }
     ensures device_count { Counts (device_failed result) (D.failures device.old) (D.failures device.new) }
 {
@@ -112,10 +115,10 @@ fn format<S: Source, D: Device, O: Write>(
     }
 }
 
-/// Makes a hash device for the data of a source: builds the tree and writes it, then the superblock, and prints a report
-/// with the root hash (veritysetup(8), "format"). The answer is the status: 0 done, 3 out of memory, 4 the source or the
-/// device failed, the data is too short, or `out` is not written. A fault's message goes to `msgs` as far as that takes
-/// it, and nothing that comes later is done.
+/// Makes a hash device for the data of a source: builds the tree and writes it, then the superblock, and prints a
+/// report with the root hash (veritysetup(8), "format"). The answer is the status: 0 done, 3 out of memory, 4 the source
+/// or the device failed, the data is too short, or `out` is not written. A fault's message goes to `msgs` as far as that
+/// takes it, and nothing that comes later is done.
 pub fn run_format<S: Source, D: Device, O: Write, M: Write>(
     alloc: Global,
     settings: &Settings,

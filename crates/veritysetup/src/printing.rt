@@ -26,7 +26,8 @@ pub fn print_report<W: Write>(
     path: &str,
     out: &mut W,
 ) -> Result<(), PrintFault>
-    ensures { Prints result (report_text path.now (uuid_text superblock.now.uuid) superblock.now (option_map (λ d. d.now) root.entry))
+    ensures { Prints result
+        (report_text path.now (uuid_text superblock.now.uuid) superblock.now (option_map (λ d. d.now) root.entry))
         (W.contents out.old) (W.contents out.new) }
 {
     match report(alloc, superblock, root, path) {

@@ -4,8 +4,8 @@ ghost use Rattle.veritysetup.specs.RandomBytes.{drawn};
 
 use rand::Rng;
 
-/// The first six `u64` numbers of the generator's stream, each little-endian: 32 bytes for a salt that is not given, and
-/// 16 for a UUID.
+/// The first six `u64` numbers of the generator's stream, each little-endian: 32 bytes for a salt that is not given,
+/// and 16 for a UUID.
 pub fn draw<R: Rng>(rng: &mut R) -> [u8; 48]
     ensures { (result, R.stream rng.new) ≡ drawn (R.stream rng.old) }
 {

@@ -33,7 +33,8 @@ fn report_with(
     root: Option<&Digest>,
     path: &str,
 ) -> Result<String, AllocError>
-    ensures { IfOk result (λ s. string_bytes s ≡ report_text path.now uuid.now superblock.now (option_map (λ d. d.now) root.entry)) }
+    ensures { IfOk result (λ s. string_bytes s
+        ≡ report_text path.now uuid.now superblock.now (option_map (λ d. d.now) root.entry)) }
 {
     let tree = superblock.tree();
     let salt = salt_value(alloc, tree.salt())?;
@@ -76,7 +77,8 @@ fn push_hash(text: &mut String, algorithm: &str, salt: &str) -> Result<(), Alloc
 
 /// The root hash, where there is one.
 fn push_root(alloc: Global, text: &mut String, root: Option<&Digest>) -> Result<(), AllocError>
-    ensures { OnOk result (string_bytes text.new ≡ string_bytes text.old ++ root_line (option_map (λ d. d.now) root.entry)) }
+    ensures { OnOk result (string_bytes text.new
+        ≡ string_bytes text.old ++ root_line (option_map (λ d. d.now) root.entry)) }
 {
     match root {
         Some(root) => {

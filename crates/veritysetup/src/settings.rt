@@ -29,11 +29,29 @@ impl Model for Settings {
 
     ghost Value = { Chosen };
 
-    ghost view = { λ s. record { hash_type = s.hash_type; uuid = s.uuid; offset = s.offset; superblock = s.superblock; plan = s.plan } };
+    ghost view = { λ s. record {
+      hash_type = s.hash_type;
+      uuid = s.uuid;
+      offset = s.offset;
+      superblock = s.superblock;
+      plan = s.plan;
+    } };
 
-    ghost invariant = { λ s. IsChosen (record { hash_type = s.hash_type; uuid = s.uuid; offset = s.offset; superblock = s.superblock; plan = s.plan }) };
+    ghost invariant = { λ s. IsChosen (record {
+      hash_type = s.hash_type;
+      uuid = s.uuid;
+      offset = s.offset;
+      superblock = s.superblock;
+      plan = s.plan;
+    }) };
 
-    ghost inverse = { λ c. record { hash_type = c.hash_type; uuid = c.uuid; offset = c.offset; superblock = c.superblock; plan = c.plan } };
+    ghost inverse = { λ c. record {
+      hash_type = c.hash_type;
+      uuid = c.uuid;
+      offset = c.offset;
+      superblock = c.superblock;
+      plan = c.plan;
+    } };
 }
 
 impl Settings {

@@ -40,9 +40,9 @@ fn verify<S: Source, D: Device>(
 }
 
 /// Verifies a hash device against the data of a source and a root hash (veritysetup(8), "verify"). The answer is the
-/// status: 0 all is right, 1 the superblock or the root hash is refused, 2 the tree or the root is another one, 3 out of
-/// memory, 4 the source or the device failed or the data is too short. A fault's message goes to `msgs` as far as that
-/// takes it. The device stays.
+/// status: 0 all is right, 1 the superblock or the root hash is refused, 2 the tree or the root is another one, 3 out
+/// of memory, 4 the source or the device failed or the data is too short. A fault's message goes to `msgs` as far as
+/// that takes it. The device stays.
 pub fn run_verify<S: Source, D: Device, M: Write>(
     alloc: Global,
     input: &VerifyInput,

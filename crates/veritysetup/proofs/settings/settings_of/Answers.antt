@@ -20,7 +20,8 @@ record IsPlan (s : Settings) (count : ℕ) (from : Option ℕ) (q : Planned) : T
   from_is : from ≡ Some base
   plan_is : q ≡ record { settings = s; blocks = count; wanted = count * s.data_block; base = base }
 
-plan_is : (s : Settings) (count : ℕ) (from : Option ℕ) (q : Planned) → Ok q ≡ plan_from s count from → IsPlan s count from q
+plan_is : (s : Settings) (count : ℕ) (from : Option ℕ) (q : Planned) → Ok q ≡ plan_from s count from
+    → IsPlan s count from q
 plan_is s count (Some base) q e = record { base = base; from_is = refl; plan_is = planned_is _ q e }
 plan_is s count None q e = by_test _ e
   where

@@ -5,6 +5,7 @@ returns-in-Ok-compare-clause-verdict g c = λ source_told device_told. record {
   plan = c.in-Ok.trusted.plan;
   root = c.in-Ok.trusted.root;
   trusted = c.in-Ok.ensures.trusted device_told;
-  judged = rw (c.in-Ok.ensures.stands device_told) at (c.in-Ok-compare.ensures.judged source_told (c.in-Ok.ensures.told device_told));
+  judged = rw (c.in-Ok.ensures.stands device_told)
+      at (c.in-Ok-compare.ensures.judged source_told (c.in-Ok.ensures.told device_told));
   read = c.in-Ok-compare.ensures.given source_told;
 }
