@@ -1,4 +1,4 @@
--- What writing a text leaves in a writer, as far as the writer tells what it holds.
+-- What writing a text leaves in a writer, where the writer's content is known.
 use Rattle.std.specs.Prelude.{ℕ, ◌<◌, List, length, take, Option, Result, Ok, Err}
 use Rattle.std.specs.Io.KnownBytes.{Appends, Keeps}
 use Rattle.veritysetup.specs.declared.printing.PrintFault.{PrintFault}

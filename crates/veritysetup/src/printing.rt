@@ -1,9 +1,9 @@
 //! Writing the report and messages.
 ghost use Rattle.std.specs.Prelude.{◌≡◌, ℕ, List, IfOk, string_bytes, option_map};
 ghost use Rattle.veritysetup.specs.Printing.{Prints, GainsPrefix};
-ghost use Rattle.veritysetup.specs.Reports.{report_text};
+ghost use Rattle.veritysetup.specs.Reports.{report_text, uuid_text};
 
-use crate::reporting::report;
+use crate::reports::report;
 use std::alloc::{AllocError, Global};
 use std::io::Write;
 use verity_format::{PutFault, Superblock, put_all};
@@ -26,7 +26,9 @@ pub fn print_report<W: Write>(
     path: &str,
     out: &mut W,
 ) -> Result<(), PrintFault>
-    ensures { Prints result (report_text path.now superblock.now (option_map (λ d. d.now) root.entry)) (W.contents out.old) (W.contents out.new) }
+    ensures { Prints result
+        (report_text path.now (uuid_text superblock.now.uuid) superblock.now (option_map (λ d. d.now) root.entry))
+        (W.contents out.old) (W.contents out.new) }
 {
     match report(alloc, superblock, root, path) {
         Ok(text) => match put_all(out, text.as_bytes()) {
