@@ -4,7 +4,8 @@ use Rattle.std.specs.Io.KnownBytes.{Appends, Keeps}
 use Rattle.verity_format.specs.SuperblockFields.{SuperblockFields}
 use Rattle.verity_format.specs.Superblocks.{IsSuperblock}
 use Rattle.veritysetup.specs.Messages.{super_text, unread_superblock_text, memory_text, unwritten_output_text}
-use Rattle.veritysetup.specs.Printing.{Prints, GainsPrefix}
+use Rattle.command_line.specs.Printing.{AppendsFront}
+use Rattle.veritysetup.specs.Printing.{Prints}
 use Rattle.veritysetup.specs.Reports.{report_text}
 use Rattle.veritysetup.specs.Stored.{header, ReadsSuperblock, CountsStored}
 use Rattle.veritysetup.specs.declared.dumping.DumpFault.{DumpFault}
@@ -54,5 +55,5 @@ pub record DumpRun (told : Type 0) (path device : List ℕ) (status failures fai
   pub outcome : Result (Unit {0}) DumpFault
   pub status_is : status ≡ dump_status outcome
   pub printed : DumpsTo told path device outcome out out'
-  pub message : GainsPrefix (dump_text outcome) msgs msgs'
+  pub message : AppendsFront (dump_text outcome) msgs msgs'
   pub counted : CountsDump outcome failures failures'

@@ -10,7 +10,8 @@ use Rattle.verity_io.specs.Writing.{Spoiled}
 use Rattle.veritysetup.specs.Chosen.{Chosen, superblock_size}
 use Rattle.veritysetup.specs.Images.{image, superblock_for}
 use Rattle.veritysetup.specs.Messages.{build_text, memory_text, unwritten_output_text, unwritten_superblock_text}
-use Rattle.veritysetup.specs.Printing.{Prints, GainsPrefix}
+use Rattle.command_line.specs.Printing.{AppendsFront}
+use Rattle.veritysetup.specs.Printing.{Prints}
 use Rattle.veritysetup.specs.Reports.{report_text}
 use Rattle.veritysetup.specs.declared.formatting.FormatFault.{FormatFault}
 use Rattle.veritysetup.specs.declared.formatting.FormatFault.TheVariants.{Store, Build, Superblock, Report}
@@ -98,7 +99,7 @@ pub record FormatRun (c : Chosen) (path : List ℕ) (status : ℕ)
   pub root_hash : List ℕ
   pub root_is : source_told → root_hash ≡ root_above c bytes
   pub printed : PrintsRoot c path root_hash outcome out out'
-  pub message : GainsPrefix (format_text outcome) msgs msgs'
+  pub message : AppendsFront (format_text outcome) msgs msgs'
   pub source_counted : CountsSource outcome source_failures source_failures'
   pub device_counted : CountsDevice outcome device_failures device_failures'
 

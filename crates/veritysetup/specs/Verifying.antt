@@ -10,7 +10,7 @@ use Rattle.verity_tree.specs.declared.comparing.CompareFault.TheVariants as faul
 use Rattle.verity_plan.specs.declared.plan_fault.PlanFault.{PlanFault}
 use Rattle.veritysetup.specs.Chosen.{base_behind}
 use Rattle.veritysetup.specs.Messages.{compare_text, memory_text, super_text, too_large_text, unread_superblock_text}
-use Rattle.veritysetup.specs.Printing.{GainsPrefix}
+use Rattle.command_line.specs.Printing.{AppendsFront}
 use Rattle.veritysetup.specs.Roots.{root_of}
 use Rattle.veritysetup.specs.Stored.{CountsStored, ReadsSuperblock, header}
 use Rattle.veritysetup.specs.declared.stored.StoredFault.TheVariants.{Unread, Refused}
@@ -126,6 +126,6 @@ pub record VerifyRun (text : List ℕ) (status : ℕ)
   pub outcome : Result (Unit {0}) VerifyFault
   pub status_is : status ≡ verify_status outcome
   pub verdict : source_told → device_told → Verifies text device bytes bytes' outcome
-  pub message : GainsPrefix (verify_text outcome) msgs msgs'
+  pub message : AppendsFront (verify_text outcome) msgs msgs'
   pub source_counted : CountsSource outcome source_failures source_failures'
   pub device_counted : CountsDevice outcome device_failures device_failures'

@@ -1,12 +1,13 @@
 //! The run of dump.
 ghost use Rattle.std.specs.Prelude.{◌≡◌};
-ghost use Rattle.veritysetup.specs.Printing.{GainsPrefix};
+ghost use Rattle.command_line.specs.Printing.{AppendsFront};
 ghost use Rattle.veritysetup.specs.Dumping.{DumpRun, DumpsTo, CountsDump, fault_status, fault_text};
 
 use crate::messages::{OUT_OF_MEMORY, OUTPUT_UNWRITTEN, SUPERBLOCK_UNREAD, super_message};
-use crate::printing::{PrintFault, print_report, tell, tell_text};
+use crate::printing::{PrintFault, print_report};
 use crate::stored::{StoredFault, stored_superblock};
-use std::alloc::{AllocError, Global};
+use command_line::{tell, tell_text};
+use std::alloc::Global;
 use std::io::Write;
 use verity_tree::Device;
 
@@ -34,7 +35,7 @@ impl DumpFault {
 
     /// Writes the message of the fault.
     fn tell<M: Write>(&self, alloc: Global, msgs: &mut M)
-        ensures { GainsPrefix (fault_text self.now) (M.contents msgs.old) (M.contents msgs.new) }
+        ensures { AppendsFront (fault_text self.now) (M.contents msgs.old) (M.contents msgs.new) }
     {
         match self {
             DumpFault::Superblock(StoredFault::Refused(fault)) => {

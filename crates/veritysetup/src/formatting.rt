@@ -2,11 +2,12 @@
 ghost use Rattle.std.specs.Prelude.{◌≡◌, ℕ, List};
 ghost use Rattle.verity_tree.specs.Levels.{data_blocks};
 ghost use Rattle.veritysetup.specs.Formatting.{FormatRun, root_above, Reads, Writes, PrintsRoot, CountsSource, CountsDevice, IsFormatted, fault_status, fault_text};
-ghost use Rattle.veritysetup.specs.Printing.{GainsPrefix};
+ghost use Rattle.command_line.specs.Printing.{AppendsFront};
 
 use crate::messages::{OUT_OF_MEMORY, OUTPUT_UNWRITTEN, SUPERBLOCK_UNWRITTEN, build_message};
-use crate::printing::{PrintFault, print_report, tell, tell_text};
+use crate::printing::{PrintFault, print_report};
 use crate::settings::Settings;
+use command_line::{tell, tell_text};
 use std::alloc::Global;
 use std::io::Write;
 use verity_format::write_superblock;
@@ -42,7 +43,7 @@ impl FormatFault {
 
     /// Writes the message of the fault.
     fn tell<M: Write>(&self, alloc: Global, msgs: &mut M)
-        ensures { GainsPrefix (fault_text self.now) (M.contents msgs.old) (M.contents msgs.new) }
+        ensures { AppendsFront (fault_text self.now) (M.contents msgs.old) (M.contents msgs.new) }
     {
         match self {
             FormatFault::Build(fault) => tell(build_message(alloc, fault), msgs),

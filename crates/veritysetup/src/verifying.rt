@@ -1,15 +1,15 @@
 //! The run of verify.
 ghost use Rattle.std.specs.Prelude.{◌≡◌};
-ghost use Rattle.veritysetup.specs.Printing.{GainsPrefix};
+ghost use Rattle.command_line.specs.Printing.{AppendsFront};
 ghost use Rattle.veritysetup.specs.Verifying.{Trusts, Verifies, IsVerified, CountsSource, CountsDevice, CountsTrusted, VerifyRun, root_text_of, fault_status, fault_text, compare_status};
 
 use crate::messages::{
     OUT_OF_MEMORY, SUPERBLOCK_UNREAD, TOO_LARGE, compare_message, super_message,
 };
-use crate::printing::{tell, tell_text};
 use crate::roots::read_root;
 use crate::settings::base_behind;
 use crate::stored::{StoredFault, stored_superblock};
+use command_line::{tell, tell_text};
 use std::alloc::Global;
 use std::io::Write;
 use verity_hash::Digest;
@@ -79,7 +79,7 @@ impl VerifyFault {
 
     /// Writes the message of the fault.
     fn tell<M: Write>(&self, alloc: Global, msgs: &mut M)
-        ensures { GainsPrefix (fault_text self.now) (M.contents msgs.old) (M.contents msgs.new) }
+        ensures { AppendsFront (fault_text self.now) (M.contents msgs.old) (M.contents msgs.new) }
     {
         match self {
             VerifyFault::Superblock(StoredFault::Refused(fault)) => {
