@@ -1,7 +1,7 @@
 -- What the answer of a pass over the data says of a file.
 use Rattle.std.proofs.Common.{◌≡◌, ℕ, ◌+◌, ◌*◌, ◌/◌, ◌<◌, ◌≤◌, ◌==◌, Bool, true, false, cond, List, [], length, Ok, Err, sym, arith}
 use Rattle.std.proofs.Math.Nat.{div-eq_of_lt-le}
-use Rattle.verity_tree.specs.Building.{EndsWithin}
+use Rattle.verity_tree.specs.Reading.{EndsWithin}
 use Rattle.verity_plan.specs.Plans.{planned, Planned, has_room}
 use Rattle.verity_plan.specs.declared.plan_fault.PlanFault.TheVariants.{NoData, TooLarge}
 

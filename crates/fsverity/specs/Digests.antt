@@ -4,7 +4,7 @@ use Rattle.std.specs.Prelude.{◌≡◌, ℕ, ◌+◌, ◌*◌, ◌/◌, ◌<◌
 use Rattle.std.specs.Int.{div_ceil}
 use Rattle.verity_format.specs.Descriptors.{DescriptorFields, descriptor_text, digest_of_file}
 use Rattle.verity_hash.specs.declared.digest.Digest.{Digest}
-use Rattle.verity_tree.specs.Building.{HasGiven}
+use Rattle.verity_io.specs.Reading.{HasRead}
 use Rattle.verity_io.specs.Counting.{last_count}
 use Rattle.verity_tree.specs.Levels.{cut, root}
 use Rattle.verity_plan.specs.Plans.{plan_for_bytes}
@@ -44,18 +44,18 @@ abbrev pub FaultsIn : Settings → ℕ → List ℕ → List ℕ → DigestFault
 FaultsIn s size before after TooLarge = after ≡ before
 FaultsIn s size before after (SourceShort i) = (length before < size) × (i ≡ length before / s.data_block) × (after ≡ [])
 FaultsIn s size before after (SourceFailed i) =
-    (gone : ℕ) × (i * s.data_block ≤ gone) × (gone < min ((i + 1) * s.data_block) size) × HasGiven gone before after
+    (gone : ℕ) × (i * s.data_block ≤ gone) × (gone < min ((i + 1) * s.data_block) size) × HasRead gone before after
 FaultsIn s size before after Memory = after ≡ before
 
 -- the answer for the first size bytes of a source, and what has left it
 abbrev pub Digests : Settings → ℕ → Result FileDigest DigestFault → List ℕ → List ℕ → Type 0
 Digests s size result before after = MatchResult result
-    (λ made. IsFileDigest s size before made × HasGiven size before after) (FaultsIn s size before after)
+    (λ made. IsFileDigest s size before made × HasRead size before after) (FaultsIn s size before after)
 
 -- the same of the root hash alone
 abbrev pub Roots : Settings → ℕ → Result Digest DigestFault → List ℕ → List ℕ → Type 0
 Roots s size result before after = MatchResult result
-    (λ root. (root ≡ root_of_file s size before) × HasGiven size before after) (FaultsIn s size before after)
+    (λ root. (root ≡ root_of_file s size before) × HasRead size before after) (FaultsIn s size before after)
 
 -- the source's count rises exactly where the source failed
 abbrev pub FaultCounts : ℕ → ℕ → DigestFault → Type 0

@@ -9,14 +9,14 @@ use Rattle.verity_hash.specs.Bytes.{filled, IsHeld}
 front_long : (n at : ℕ) (block : List ℕ) → IsHeld n block at → length (take at block) ≡ at
 front_long n at block held = length-take-le at block (omega (arith, held.whole, held.most))
 
--- what has room behind the fields has room behind their place
-pub room_behind : (n at count : ℕ) (block fields : List ℕ) → IsHeld n block at → take at block ≡ fields → length fields + count ≤ n
+-- what has room after the fields has room after their offset
+pub room_after : (n at count : ℕ) (block fields : List ℕ) → IsHeld n block at → take at block ≡ fields → length fields + count ≤ n
     → at + count ≤ n
-room_behind n at count block fields held same room = omega (arith, front_long n at block held, ap length same, room)
+room_after n at count block fields held same room = omega (arith, front_long n at block held, ap length same, room)
 
--- zeros stand behind the fields
-zeros_behind : (n at : ℕ) (block : List ℕ) → IsHeld n block at → drop at block ≡ replicate (n - at) 0
-zeros_behind n at block held =
+-- zeros stand after the fields
+zeros_after : (n at : ℕ) (block : List ℕ) → IsHeld n block at → drop at block ≡ replicate (n - at) 0
+zeros_after n at block held =
     let long = front_long n at block held in
     ap (drop at) held.zeros ∙ drop_at (take at block) (replicate (n - length (take at block)) 0) at long ∙ ap (λ m. replicate (n - m) 0) long
 
@@ -28,7 +28,7 @@ put_mid-filled n at k block xs held same =
     let long = front_long n at block held in
     let less : n - at - k ≡ n - length (front ++ xs) = omega (arith, length-append front xs, long) in
     let zeros : drop k (drop at block) ≡ replicate (n - length (front ++ xs)) 0 =
-    ap (drop k) (zeros_behind n at block held) ∙ drop-replicate k (n - at) 0 ∙ ap (λ m. replicate m 0) less in
+    ap (drop k) (zeros_after n at block held) ∙ drop-replicate k (n - at) 0 ∙ ap (λ m. replicate m 0) less in
     ap (λ (r : List ℕ). front ++ (xs ++ r)) zeros ∙ sym (append_assoc front xs (replicate (n - length (front ++ xs)) 0))
 
 -- the fields are what stood there and the bytes
@@ -60,7 +60,7 @@ pub take-zeros : (n at count : ℕ) (block : List ℕ) → IsHeld n block at →
     → take (at + count) block ≡ take at block ++ replicate count 0
 take-zeros n at count block held room =
     let less : count ≤ n - at = omega arith in
-    let zeros : take count (drop at block) ≡ replicate count 0 = ap (take count) (zeros_behind n at block held) ∙ take-replicate count (n - at) 0 less in
+    let zeros : take count (drop at block) ≡ replicate count 0 = ap (take count) (zeros_after n at block held) ∙ take-replicate count (n - at) 0 less in
     take-add at count block ∙ ap (λ (r : List ℕ). take at block ++ r) zeros
 
 pub IsHeld-zeros : (n at count : ℕ) (block : List ℕ) → IsHeld n block at → at + count ≤ n → IsHeld n block (at + count)

@@ -11,7 +11,7 @@ use Rattle.verity_format.specs.Fields.{field, number_at}
 use Rattle.verity_format.specs.Superblocks.{AreSettings, IsSuperblock, blocks_tests, cause, first_failed, header_tests, settings_tests, signature}
 use Rattle.verity_format.specs.declared.super_fault.SuperFault.{SuperFault}
 
--- tests that pass leave it to those behind them
+-- tests that pass leave it to those after them
 first_failed-passed : (xs ys : List (Bool × SuperFault)) → first_failed xs ≡ None → first_failed (xs ++ ys) ≡ first_failed ys
 first_failed-passed [] ys passed = refl
 first_failed-passed ((true, fault) ∷ xs) ys passed = first_failed-passed xs ys passed

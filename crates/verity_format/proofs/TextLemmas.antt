@@ -24,7 +24,7 @@ tail : SuperblockFields → List ℕ → List ℕ
 tail v z = little_bytes 4 v.tree.data_block ++ (little_bytes 4 v.tree.hash_block ++ (little_bytes 8 v.blocks
     ++ (little_bytes 2 (length v.tree.salt) ++ (replicate 6 0 ++ (v.tree.salt ++ z)))))
 
--- all the fields, and the zeros behind them
+-- all the fields, and the zeros after them
 fields : SuperblockFields → List ℕ → List ℕ
 fields v z = signature ++ (little_bytes 4 1 ++ (little_bytes 4 (type_number v.hash_type) ++ (v.uuid
     ++ (filled 32 (name_of v.tree.algorithm) ++ tail v z))))
@@ -47,7 +47,7 @@ text_is v =
       omega (arith, length-append all z, length-replicate {A = ℕ} (512 - length all) 0),
     )
 
--- what stands behind a UUID and a name
+-- what stands after a UUID and a name
 past : (uuid name rest : List ℕ) (m : ℕ) → length uuid ≡ 16 → length name ≡ 32 → drop (48 + m) (uuid ++ (name ++ rest)) ≡ drop m rest
 past uuid name rest m sixteen long =
     let both : length (uuid ++ name) + m ≡ 48 + m = omega (arith, length-append uuid name) in

@@ -34,7 +34,7 @@ impl<const N: usize> FieldWriter<N> {
         }
     }
 
-    /// Puts bytes behind the fields.
+    /// Puts bytes after the fields.
     pub(crate) fn put(&mut self, bytes: &[u8])
         requires { length self.old + length bytes.now ≤ N }
         ensures bytes { self.new ≡ self.old ++ bytes.now }

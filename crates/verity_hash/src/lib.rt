@@ -3,6 +3,7 @@
 
 mod algorithm;
 mod digest;
+mod hasher;
 mod salting;
 mod short_bytes;
 

@@ -1,51 +1,52 @@
 //! The salted hash of a block.
-ghost use Rattle.std.specs.Prelude.{◌≡◌, ◌<◌, ◌≤◌, length};
+ghost use Rattle.std.specs.Prelude.{◌≡◌};
 ghost use Rattle.verity_hash.specs.Salted.{salted_input, salted_hash};
 
+use crate::hasher::Hasher;
 use crate::{Algorithm, Digest};
-use sha2::{Digest as Hasher, Sha256, Sha512};
+use sha2::{Sha256, Sha512};
 
 /// Where the salt of a tree goes.
 #[derive(Clone, Copy, Debug, PartialEq, Eq)]
 pub enum SaltRule {
-    /// Salt, then block: dm-verity's hash type 1 (Linux kernel, dm-verity page, "Construction Parameters").
+    /// The salt, then the block: dm-verity's hash type 1 (Linux kernel, dm-verity page, "Construction Parameters").
     Before,
-    /// Salt filled with zeros to whole input blocks of the hash function, then block; an empty salt adds nothing
-    /// (Linux kernel, fs-verity page, "Merkle tree").
+    /// The salt, padded with zeros to whole input blocks of the hash function, then the block. An empty salt adds
+    /// nothing (Linux kernel, fs-verity page, "Merkle tree").
     PaddedBefore,
 }
 
-/// The zeros between a salt and the block.
+/// Zeros to pad a salt with, as many as the longest input block has bytes.
 const ZEROS: [u8; 128] = [0; 128];
 
-/// A hasher that has been fed what is hashed for a block.
+/// A hasher that has taken all that is hashed for a block.
 fn fed<H: Hasher>(algorithm: Algorithm, rule: SaltRule, salt: &[u8], block: &[u8]) -> H
     ensures { H.holds result (salted_input algorithm rule salt.now block.now) }
 {
-    let mut hasher = H::new();
+    let mut hasher = H::begin();
     match rule {
         SaltRule::Before => {
-            hasher.update(salt);
-            hasher.update(block);
+            hasher.add(salt);
+            hasher.add(block);
         }
         SaltRule::PaddedBefore => {
-            let whole = algorithm.input_block();
-            let rest = (whole - salt.len() % whole) % whole;
-            hasher.update(salt);
-            hasher.update(&ZEROS[..rest]);
-            hasher.update(block);
+            let input_block = algorithm.input_block();
+            let padding = (input_block - salt.len() % input_block) % input_block;
+            hasher.add(salt);
+            hasher.add(&ZEROS[..padding]);
+            hasher.add(block);
         }
     }
     hasher
 }
 
-/// The digest of these bytes, of which there are 1 to 64.
-fn digest_of(bytes: &[u8]) -> Digest
-    requires some { 0 < length bytes.now }
-    requires most { length bytes.now ≤ 64 }
-    ensures { result ≡ bytes.now }
+/// The salted hash of a block by the hash function of `H`. The rule may pad the salt to whole input blocks of
+/// `algorithm`.
+fn salted_by<H: Hasher>(algorithm: Algorithm, rule: SaltRule, salt: &[u8], block: &[u8]) -> Digest
+    ensures { result ≡ H.hash (salted_input algorithm rule salt.now block.now) }
 {
-    Digest::from_bytes(bytes).unwrap()
+    let hasher: H = fed(algorithm, rule, salt, block);
+    hasher.end()
 }
 
 /// The salted hash of a block of any length, with a salt of any length. The same rule serves data blocks and hash
@@ -54,13 +55,7 @@ pub fn salted(algorithm: Algorithm, rule: SaltRule, salt: &[u8], block: &[u8]) -
     ensures { result ≡ salted_hash algorithm rule salt.now block.now }
 {
     match algorithm {
-        Algorithm::Sha256 => {
-            let hasher: Sha256 = fed(algorithm, rule, salt, block);
-            digest_of(&hasher.finalize())
-        }
-        Algorithm::Sha512 => {
-            let hasher: Sha512 = fed(algorithm, rule, salt, block);
-            digest_of(&hasher.finalize())
-        }
+        Algorithm::Sha256 => salted_by::<Sha256>(algorithm, rule, salt, block),
+        Algorithm::Sha512 => salted_by::<Sha512>(algorithm, rule, salt, block),
     }
 }

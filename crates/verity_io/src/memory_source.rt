@@ -7,7 +7,7 @@ use crate::failed::Failed;
 use crate::source::Source;
 use std::marker::Model;
 
-/// Borrowed bytes, read from the first on. Contracts see it as the list of those still to come. It never fails.
+/// Borrowed bytes, read from the first on. Contracts see it as the list of those that remain. It never fails.
 #[derive(Drop)]
 pub struct MemorySource<'a> {
     rest: &'a [u8],
@@ -27,7 +27,7 @@ impl<'a> MemorySource<'a> {
         MemorySource { rest: bytes }
     }
 
-    /// The bytes still to come.
+    /// The remaining bytes.
     pub fn rest(&self) -> &'a [u8]
         ensures { result.now ≡ self.now }
     {

@@ -11,7 +11,7 @@ pub trait Source {
     /// Whether the value tells its bytes.
     ghost tells: { Self → Type 0 };
 
-    /// The bytes still to come, where it tells them.
+    /// The remaining bytes, where it tells them.
     ghost to_come: { Self → List ℕ };
 
     /// How many calls have failed, up to the last value of a u64.

@@ -5,6 +5,7 @@ use Rattle.std.proofs.Math.Nat.{pow-suc, pow-le-pow_right, mul-le-mul_right, le_
 use Rattle.std.proofs.lemmas.Nat.{pow_pos, div-add-mod', mod_below}
 use Rattle.std.proofs.lemmas.Bool.{cases_lt}
 use Rattle.std.specs.Prelude.{nat_le, nat_lt}
+use Rattle.std.specs.Int.{is_power_of_two}
 use Rattle.verity_hash.specs.Algorithms.{digest_len_of}
 use Rattle.verity_hash.specs.declared.algorithm.Algorithm.{Algorithm}
 use Rattle.verity_hash.specs.declared.algorithm.Algorithm.TheVariants.{Sha256, Sha512}
@@ -74,16 +75,23 @@ pub digest_len_of-pos : (algorithm : Algorithm) → 0 < digest_len_of algorithm
 digest_len_of-pos Sha256 = omega arith
 digest_len_of-pos Sha512 = omega arith
 
+-- and at most 64
+pub digest_len_of-most : (algorithm : Algorithm) → digest_len_of algorithm ≤ 64
+digest_len_of-most Sha256 = omega arith
+digest_len_of-most Sha512 = omega arith
+
 -- what a block size is
 block_least : (least size : ℕ) → is_block_size least size ≡ true → least ≤ size
 block_least least size h = grind (arith, nat_tests, h)
+
+pub block_power : (least size : ℕ) → is_block_size least size ≡ true → is_power_of_two size ≡ true
+block_power least size h = grind (arith, nat_tests, h)
 
 block_most : (least size : ℕ) → is_block_size least size ≡ true → size ≤ 524288
 block_most least size h = grind (arith, nat_tests, h)
 
 two_slots_by : (rule : SaltRule) (algorithm : Algorithm) (size : ℕ) → is_block_size (least_block rule (digest_len_of algorithm)) size ≡ true → 2 * digest_len_of algorithm ≤ size
-two_slots_by Before Sha256 size h = omega (arith, block_least 512 size h)
-two_slots_by Before Sha512 size h = omega (arith, block_least 512 size h)
+two_slots_by Before algorithm size h = omega (arith, block_least 512 size h, digest_len_of-most algorithm)
 two_slots_by PaddedBefore algorithm size h = block_least (2 * digest_len_of algorithm) size h
 
 some_block : (rule : SaltRule) (algorithm : Algorithm) (size : ℕ) → is_block_size (least_block rule (digest_len_of algorithm)) size ≡ true → 0 < size

@@ -1,17 +1,17 @@
 -- A hash block has room for its slots.
-use Rattle.std.proofs.Common.{◌≡◌, ℕ, zero, suc, ◌+◌, ◌*◌, ◌^◌, ◌<◌, ◌≤◌, true, false, ltb, arith, ap, refl}
+use Rattle.std.proofs.Common.{◌≡◌, ℕ, zero, suc, ◌+◌, ◌-◌, ◌*◌, ◌^◌, ◌<◌, ◌≤◌, true, false, ltb, leb, arith, ap, sym, subst, ◌∙◌, inl, inr}
+use Rattle.std.proofs.lemmas.Bool.{cases_lt}
 use Rattle.std.proofs.lemmas.Bool.Decides.{nat_tests}
-use Rattle.std.proofs.Math.Nat.{mul-le-mul_left, pow-zero}
-use Rattle.std.specs.Prelude.{nat_lt}
-use Rattle.verity_hash.specs.Algorithms.{digest_len_of}
-use Rattle.verity_hash.specs.declared.algorithm.Algorithm.{Algorithm}
-use Rattle.verity_hash.specs.declared.algorithm.Algorithm.TheVariants.{Sha256, Sha512}
+use Rattle.std.proofs.lemmas.Nat.{leading_top, ones_cat, pow-add, pow_pos, zero_from_ones}
+use Rattle.std.proofs.Math.Nat.{mul-le-mul_left, pow-le-pow_right, pow-suc, pow-zero}
+use Rattle.std.specs.Prelude.{nat_le, nat_lt, count_ones}
+use Rattle.std.specs.Int.{is_power_of_two}
 use Rattle.verity_hash.specs.declared.salting.SaltRule.{SaltRule}
 use Rattle.verity_hash.specs.declared.salting.SaltRule.TheVariants.{Before, PaddedBefore}
-use Rattle.verity_plan.specs.Settings.{Settings, fan, digest_len, slot_width, width_by, IsValid, least_from, greatest_fan, least_power}
+use Rattle.verity_plan.specs.Settings.{Settings, IsValid, fan, digest_len, least_block, slot_width, width_by, least_up_to, greatest_fan, least_power}
 use Rattle.verity_plan.proofs.LeastLemmas.{IsLeast, IsLeast-least_from}
 use Rattle.verity_plan.proofs.CountLemmas.{lt-pow_self}
-use Rattle.verity_plan.proofs.FanLemmas.{mul-le-mul_right_of, digest_len_of-pos, fan-two, two_slots}
+use Rattle.verity_plan.proofs.FanLemmas.{block_power, digest_len_of-pos, fan-two, mul-le-mul_right_of, two_slots}
 
 fits_from_power : (len size k : ℕ) → len ≤ size → IsLeast (λ m. nat_lt size (2 ^ (m + 1) * len)) 0 k → 2 ^ k * len ≤ size
 fits_from_power len size zero one found = omega (arith, pow-zero 2, one, ap (λ (n : ℕ). n * len) (pow-zero 2))
@@ -33,25 +33,83 @@ greatest_fan-fits len size some one =
     let found = IsLeast-least_from (λ m. nat_lt size (2 ^ (m + 1) * len)) 0 size size (omega arith) (omega arith) passing in
     fits_from_power len size _ one found
 
-width-digest : (rule : SaltRule) (algorithm : Algorithm) → width_by rule (digest_len_of algorithm) ≡ digest_len_of algorithm
-unfolding least_power least_from
-width-digest Before Sha256 = refl
-width-digest Before Sha512 = refl
-width-digest PaddedBefore algorithm = refl
+-- a number with one bit set is a power of two
+pub power_of_two-is : (n : ℕ) → 0 < n → is_power_of_two n ≡ true → (k : ℕ) × (n ≡ 2 ^ k)
+power_of_two-is n some h =
+    let one : count_ones n ≡ 1 = grind (arith, nat_tests, h) in
+    let top = leading_top n n some (lt-pow_self 2 n (omega arith)) in
+    let low : 2 ^ top.0 ≤ n = top.2 in
+    let high : n < 2 ^ suc top.0 = top.3 in
+    let rest : n - 2 ^ top.0 < 2 ^ top.0 = omega (arith, low, high, pow-suc 2 top.0) in
+    let same : n ≡ 1 * 2 ^ top.0 + (n - 2 ^ top.0) = omega (arith, low) in
+    let apart : count_ones n ≡ count_ones 1 + count_ones (n - 2 ^ top.0) = ap count_ones same ∙ ones_cat top.0 1 (n - 2 ^ top.0) rest in
+    let bit : 0 < count_ones 1 = elim (cases_lt 0 (count_ones 1)) [
+      | inl more ↦ more
+      | inr none ↦ absurd (omega (arith, zero_from_ones 1 (omega (arith, none))))
+    ] in
+    let none : n - 2 ^ top.0 ≡ 0 = zero_from_ones (n - 2 ^ top.0) (omega (arith, one, apart, bit)) in
+    (top.0, omega (arith, low, none))
 
-pub slot_width-digest : (s : Settings) → slot_width s ≡ digest_len s
+-- the least power of two that is not below a length
+least_power-found : (len : ℕ) → IsLeast (λ m. nat_le len (2 ^ m)) 0 (least_up_to len (λ m. nat_le len (2 ^ m)))
+least_power-found len =
+    let high : len ≤ 2 ^ len = omega (arith, lt-pow_self 2 len (omega arith)) in
+    let passing : leb len (2 ^ len) ≡ true = grind (arith, nat_tests, high) in
+    IsLeast-least_from (λ m. nat_le len (2 ^ m)) 0 len len (omega arith) (omega arith) passing
+
+pub least_power-above : (len : ℕ) → len ≤ least_power len
+unfolding least_power
+least_power-above len =
+    let passing : leb len (2 ^ least_up_to len (λ m. nat_le len (2 ^ m))) ≡ true = (least_power-found len).passing in
+    grind (arith, nat_tests, passing)
+
+-- where so many digests fit into a power of two, so many of their slots do, each the least power of two that holds one
+slots_fit_power : (len b k w : ℕ) → 0 < len → 2 ^ k * len ≤ 2 ^ b → IsLeast (λ m. nat_le len (2 ^ m)) 0 w → 2 ^ k * 2 ^ w ≤ 2 ^ b
+slots_fit_power len b k zero some low found =
+    let one : 1 ≤ len = omega arith in
+    omega (arith, mul-le-mul_left (2 ^ k) one, low, ap (λ (n : ℕ). 2 ^ k * n) (pow-zero 2))
+slots_fit_power len b k (suc m) some low found =
+    let fail : leb len (2 ^ m) ≡ false = found.least m (omega arith) (omega arith) in
+    let short : 2 ^ m + 1 ≤ len = grind (arith, nat_tests, fail) in
+    let two : 0 < 2 = omega arith in
+    let grown : (2 ^ m + 1) * 2 ^ k ≤ len * 2 ^ k = mul-le-mul_right_of (2 ^ k) short in
+    let below : k + m < b = elim (cases_lt (k + m) b) [
+      | inl less ↦ less
+      | inr past ↦
+          let over : 2 ^ b ≤ 2 ^ (k + m) = pow-le-pow_right two past in
+          absurd (omega (arith, over, pow-add 2 k m, grown, low, pow_pos k))
+    ] in
+    let next : k + suc m ≤ b = omega arith in
+    omega (arith, pow-add 2 k (suc m), pow-le-pow_right two next)
+
+power_fits : (len b : ℕ) → 0 < len → len ≤ 2 ^ b → greatest_fan len (2 ^ b) * least_power len ≤ 2 ^ b
+unfolding greatest_fan least_power
+power_fits len b some one = slots_fit_power len b _ _ some (greatest_fan-fits len (2 ^ b) some one) (least_power-found len)
+
+-- as many slots as the fan fit, by the rule
+width_fits : (rule : SaltRule) (len size : ℕ) → 0 < len → len ≤ size → is_power_of_two size ≡ true
+    → greatest_fan len size * width_by rule len ≤ size
+width_fits Before len size some one power =
+    let exponent = power_of_two-is size (omega (arith, some, one)) power in
+    subst (λ (n : ℕ). greatest_fan len n * least_power len ≤ n) (sym exponent.1)
+    (power_fits len exponent.0 some (omega (arith, one, exponent.1)))
+width_fits PaddedBefore len size some one power = greatest_fan-fits len size some one
+
+width_above : (rule : SaltRule) (len : ℕ) → len ≤ width_by rule len
+width_above Before len = least_power-above len
+width_above PaddedBefore len = omega arith
+
+-- a digest fits into its slot
+pub digest-slot : (s : Settings) → digest_len s ≤ slot_width s
 unfolding slot_width
-slot_width-digest s = width-digest s.rule s.algorithm
+digest-slot s = width_above s.rule (digest_len s)
 
 -- as many slots as the fan fit
 pub fan-fits : (s : Settings) → IsValid s → fan s * slot_width s ≤ s.hash_block
-unfolding fan
+unfolding fan slot_width
 fan-fits s valid =
-    omega (
-      arith,
-      greatest_fan-fits (digest_len s) s.hash_block (digest_len_of-pos s.algorithm) (omega (arith, two_slots s valid)),
-      ap (λ (n : ℕ). greatest_fan (digest_len s) s.hash_block * n) (slot_width-digest s),
-    )
+    width_fits s.rule (digest_len s) s.hash_block (digest_len_of-pos s.algorithm) (omega (arith, two_slots s valid))
+    (block_power (least_block s.rule (digest_len s)) s.hash_block valid.hash_size)
 
 pub fan-pos : (s : Settings) → IsValid s → 0 < fan s
 fan-pos s valid = omega (arith, fan-two s valid)
@@ -59,5 +117,5 @@ fan-pos s valid = omega (arith, fan-two s valid)
 -- a hash block with slots has a byte
 pub hash_block-some : (s : Settings) → 2 ≤ fan s → fan s * slot_width s ≤ s.hash_block → 0 < s.hash_block
 hash_block-some s two fits =
-    let wide : 1 ≤ slot_width s = omega (arith, slot_width-digest s, digest_len_of-pos s.algorithm) in
+    let wide : 1 ≤ slot_width s = omega (arith, digest-slot s, digest_len_of-pos s.algorithm) in
     omega (arith, mul-le-mul_left (fan s) wide, two, fits)

@@ -82,7 +82,7 @@ past-quotient m d n some past =
 pub within-quotient : (m d n : ℕ) → n ≤ m / d → n * d ≤ m
 within-quotient m d n within = omega (arith, mul-le-mul_right d within, div-mul-le_self m d)
 
--- the place behind all blocks is not before the first
+-- the place after all blocks is not before the first
 pub base-le-end : (p : Planned) → p.base ≤ end_of p
 base-le-end p = omega arith
 

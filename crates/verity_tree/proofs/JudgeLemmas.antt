@@ -6,13 +6,12 @@ use Rattle.std.proofs.lemmas.Slice.Eq.{bytes_eq-Decides}
 use Rattle.std.specs.Prelude.{find, not, nat_lt, Some, None, Option, Result}
 use Rattle.std.proofs.lemmas.Bool.{not-true}
 use Rattle.std.specs.Str.{bytes_eq}
-use Rattle.verity_tree.specs.Building.{EndsWithin}
+use Rattle.verity_tree.specs.Reading.{EndsWithin}
 use Rattle.verity_tree.specs.ClosingOrder.{order}
 use Rattle.verity_tree.specs.Comparing.{ComesTo, Judges}
-use Rattle.verity_tree.specs.Passing.{fault_by, fault_of}
+use Rattle.verity_tree.specs.Steps.OnePass.{fault_by, fault_of, StopsFor}
 use Rattle.verity_tree.specs.Image.{tree_block}
 use Rattle.verity_tree.specs.Levels.{root, data_blocks, whole}
-use Rattle.verity_tree.specs.Passing.{StopsFor}
 use Rattle.verity_plan.specs.Plans.{Planned, IsPlanned}
 use Rattle.verity_plan.specs.Settings.{fan}
 use Rattle.verity_tree.specs.Verdicts.{NoneDiffers, StandsThere, differs, difference, judged, part_of, stored, verdict}
@@ -20,12 +19,12 @@ use Rattle.verity_tree.specs.declared.cascade.Stop.{Stop}
 use Rattle.verity_tree.specs.declared.comparing.CompareFault.{CompareFault}
 use Rattle.verity_tree.specs.declared.comparing.CompareFault.TheVariants.{SourceShort, RootDiffers}
 use Rattle.verity_tree.specs.declared.comparing.CompareFault.TheVariants as F
-use Rattle.verity_tree.specs.declared.closing.Cause.{Cause}
-use Rattle.verity_tree.specs.declared.closing.Cause.TheVariants.{Failed, Differs}
-use Rattle.verity_tree.specs.Closings.{IsCause}
+use Rattle.verity_tree.specs.declared.closed_block.Cause.{Cause}
+use Rattle.verity_tree.specs.declared.closed_block.Cause.TheVariants.{Failed, Differs}
+use Rattle.verity_tree.specs.Steps.ClosedBlocks.{IsCause, closed_block}
 use Rattle.verity_tree.specs.declared.part.Part.{Part}
 use Rattle.verity_tree.proofs.OrderSplit.{order-prefix}
-use Rattle.verity_tree.proofs.TakeLemmas.{whole-above, whole-all}
+use Rattle.verity_tree.proofs.DataBlockLemmas.{whole-above, whole-all}
 
 -- a block that stands there does not differ
 stands-same : (p : Planned) (blocks : List (List ℕ)) (device : List ℕ) (pair : ℕ × ℕ) → StandsThere p blocks device pair → differs p blocks device pair ≡ false
@@ -111,23 +110,25 @@ judges-differs p planned device bytes digest stop part stops other is =
     let after = order-prefix f p.blocks (stops.i + 1) (m - (stops.i + 1)) in
     let e : m ≡ stops.i + 1 + (m - (stops.i + 1)) = omega arith in
     let pair : ℕ × ℕ = (stop.level, stop.block) in
-    let split : order f p.blocks m ≡ stops.front ++ (pair ∷ (stops.rest ++ after.0)) =
-    ap (order f p.blocks) e ∙ after.1 ∙ ap (λ (ps : List (ℕ × ℕ)). ps ++ after.0) stops.next ∙ simp append_assoc in
+    let split : order f p.blocks m ≡ stops.done ++ (pair ∷ (stops.next.rest ++ after.0)) =
+    ap (order f p.blocks) e ∙ after.1 ∙ ap (λ (ps : List (ℕ × ℕ)). ps ++ after.0) stops.next.in_order ∙ simp append_assoc in
     ap (λ (ps : List (ℕ × ℕ)). judged p device bytes (find (differs p blocks device) ps) digest) split
     ∙ ap (λ (met : Option (ℕ × ℕ)). judged p device bytes met digest)
-    (find-first p blocks device stops.front (stops.rest ++ after.0) pair stops.same (bytes-differ _ _ other))
+    (find-first p blocks device stops.done (stops.next.rest ++ after.0) pair stops.same (bytes-differ _ _ other))
     ∙ ap (λ (q : Part). Err (F.Differs stop.level stop.block q)) (sym is)
 
 -- a failure at a block comes where nothing before it differs
-comes-to : (p : Planned) (device bytes : List ℕ) (stop : Stop) → StopsFor p bytes device stop → ComesTo p device bytes stop.level stop.block
+comes-to : (p : Planned) (device bytes : List ℕ) (stop : Stop) → StopsFor p bytes device stop → ComesTo p device bytes (stop.level, stop.block)
 comes-to p device bytes stop stops =
     let f = fan p.settings in
     let after = order-prefix f p.blocks (stops.i + 1) (p.blocks - (stops.i + 1)) in
     let e : p.blocks ≡ stops.i + 1 + (p.blocks - (stops.i + 1)) = omega (arith, stops.below) in
     record {
-      front = stops.front;
-      rest = stops.rest ++ after.0;
-      next = ap (order f p.blocks) e ∙ after.1 ∙ ap (λ (ps : List (ℕ × ℕ)). ps ++ after.0) stops.next ∙ simp append_assoc;
+      done = stops.done;
+      next = record {
+        rest = stops.next.rest ++ after.0;
+        in_order = ap (order f p.blocks) e ∙ after.1 ∙ ap (λ (ps : List (ℕ × ℕ)). ps ++ after.0) stops.next.in_order ∙ simp append_assoc;
+      };
       same = stops.same;
     }
 
@@ -136,7 +137,7 @@ pub judges-stop : (p : Planned) → IsPlanned p → (device bytes digest : List 
     → Judges p device bytes digest (Err (fault_of stop))
 judges-stop p planned device bytes digest stop stops = go stop.cause refl stops.cause_is
   where
-    go : (cause : Cause) → stop.cause ≡ cause → IsCause p stop.level stop.block (tree_block p.settings (data_blocks p bytes) stop.level stop.block) device cause
+    go : (cause : Cause) → stop.cause ≡ cause → IsCause p (closed_block stop.level stop.block (tree_block p.settings (data_blocks p bytes) stop.level stop.block)) device cause
         → Judges p device bytes digest (Err (fault_by stop.level stop.block cause))
     go Failed e h = comes-to p device bytes stop stops
     go (Differs part) e h = judges-differs p planned device bytes digest stop part stops h.0 h.1

@@ -7,7 +7,7 @@ use Rattle.std.specs.Fork.{slice_chunk}
 use Rattle.std.specs.Int.{div_ceil}
 use Rattle.verity_plan.specs.Settings.{Settings, hash, fan}
 use Rattle.verity_tree.specs.Levels.{pack, cut, block_at, hash_block_of}
-use Rattle.verity_tree.specs.LevelDigests.{digest_of_run, digest_of_block}
+use Rattle.verity_tree.specs.Steps.PlainRoots.{digest_of_run, digest_of_block}
 
 -- a map of a map
 map-map : (f : List ℕ → List ℕ) (g : ℕ → List ℕ) (xs : List ℕ) → map f (map g xs) ≡ map (λ x. f (g x)) xs

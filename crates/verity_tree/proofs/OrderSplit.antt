@@ -11,12 +11,12 @@ use Rattle.std.specs.Prelude.{◌==◌, ◌||◌, slice_index_or}
 use Rattle.verity_plan.specs.Counts.{level_count}
 use Rattle.verity_tree.specs.ClosingOrder.{closes, closing, order, closed_to}
 use Rattle.verity_plan.specs.Settings.{Settings, fan}
-use Rattle.verity_tree.specs.OpenBlocks.{IsReached}
+use Rattle.verity_tree.specs.Steps.OpenBlocks.{IsReached}
 use Rattle.verity_tree.specs.Levels.{risen}
 use Rattle.verity_io.specs.Writing.{put}
 use Rattle.verity_tree.specs.Image.{written}
 use Rattle.verity_plan.specs.Places.{byte_at}
-use Rattle.verity_tree.proofs.StreamNumbers.{div_ceil-last, quotient-stays}
+use Rattle.verity_tree.proofs.QuotientLemmas.{div_ceil-last, quotient-stays}
 
 -- a test that the first numbers pass and the others don't
 pub filter-prefix : (c : ℕ → Bool) (a n m : ℕ) → m ≤ n → ((l : ℕ) → a ≤ l → l < a + m → c l ≡ true)

@@ -7,7 +7,7 @@ use Rattle.std.specs.Int.{div_ceil}
 use Rattle.verity_plan.specs.Counts.{level_count, IsLevelCount}
 use Rattle.verity_plan.specs.Settings.{Settings, hash, fan}
 use Rattle.verity_tree.specs.Levels.{pack, risen, root}
-use Rattle.verity_tree.specs.LevelDigests.{digests_risen, root_of_digests}
+use Rattle.verity_tree.specs.Steps.PlainRoots.{digests_risen, root_of_digests}
 use Rattle.verity_plan.proofs.CountLemmas.{IsLevelCount-level_count, le-div_ceil, mul-lt_div_ceil, div_ceil-pos}
 use Rattle.verity_tree.proofs.TreeLemmas.{length-pack, length-risen, height-level_count}
 

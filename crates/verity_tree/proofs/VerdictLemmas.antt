@@ -9,7 +9,7 @@ use Rattle.verity_plan.specs.Counts.{level_size}
 use Rattle.verity_plan.specs.Plans.{Planned, HasBlock, size_under}
 use Rattle.verity_plan.specs.Settings.{Settings, digest_len, fan, slot_width}
 use Rattle.verity_plan.proofs.CountLemmas.{mul-lt_div_ceil}
-use Rattle.verity_plan.proofs.FitLemmas.{slot_width-digest}
+use Rattle.verity_plan.proofs.FitLemmas.{digest-slot}
 use Rattle.verity_plan.proofs.PlanLemmas.{size-more}
 
 -- the first number of a range that passes a test
@@ -44,4 +44,4 @@ first-child p some l j here =
 pub digest-room : (s : Settings) (slot : ℕ) → slot < fan s → fan s * slot_width s ≤ s.hash_block → slot * slot_width s + digest_len s ≤ s.hash_block
 digest-room s slot below fits =
     let next : slot + 1 ≤ fan s = omega arith in
-    omega (arith, slot_width-digest s, mul-le-mul_right (slot_width s) next, fits)
+    omega (arith, digest-slot s, mul-le-mul_right (slot_width s) next, fits)

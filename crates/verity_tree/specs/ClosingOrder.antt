@@ -1,6 +1,6 @@
 -- The order in which hash blocks close, and so are written and compared, as the data blocks come one after another: a
 -- block closes when it is full, or with the last data block. This project's own; the kernel's pages leave it open.
-use Rattle.std.specs.Prelude.{◌≡◌, ◌<◌, ℕ, zero, suc, ◌+◌, ◌-◌, ◌/◌, ◌%◌, ◌^◌, Bool, ◌||◌, ◌&&◌, ◌==◌, List, [], ◌++◌, map, filter}
+use Rattle.std.specs.Prelude.{◌≡◌, ◌<◌, ℕ, zero, suc, ◌+◌, ◌-◌, ◌/◌, ◌%◌, ◌^◌, Bool, ◌||◌, ◌&&◌, ◌==◌, List, [], ◌∷◌, ◌++◌, map, filter}
 use Rattle.std.specs.List.{range_with_len, count_by}
 use Rattle.std.specs.Int.{div_ceil}
 use Rattle.verity_plan.specs.Counts.{level_count, IsTreeBlock}
@@ -21,6 +21,11 @@ order fan n (suc i) = order fan n i ++ closing fan n (suc i)
 -- the blocks of the levels below m that close with data block i, counted from 0, where all of them do
 abbrev pub closed_to : ℕ → ℕ → ℕ → List (ℕ × ℕ)
 closed_to fan i m = map (λ level. (level, i / fan ^ (level + 1))) (range_with_len 0 m)
+
+-- a pair that comes in an order after those that are done
+pub record ComesNext (pairs done : List (ℕ × ℕ)) (next : ℕ × ℕ) : Type 0 where
+  pub rest : List (ℕ × ℕ)
+  pub in_order : pairs ≡ (done ++ next ∷ []) ++ rest
 
 -- how often a block of a level stands in a list
 abbrev pub times : ℕ → ℕ → List (ℕ × ℕ) → ℕ

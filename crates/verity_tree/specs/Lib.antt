@@ -1,12 +1,8 @@
-pub mod ClosingOrder
 pub mod Levels
-pub mod LevelDigests
+pub mod ClosingOrder
 pub mod Image
-pub mod OpenBlocks
-pub mod DataBlocks
-pub mod Cascade
+pub mod Reading
 pub mod Building
-pub mod Passing
 pub mod Verdicts
-pub mod Closings
 pub mod Comparing
+pub mod Steps

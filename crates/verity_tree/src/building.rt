@@ -1,12 +1,13 @@
 //! A tree that is built in one pass, as its data blocks come.
 ghost use Rattle.std.specs.Prelude.{◌≡◌, length, IfErr, IfOk};
-ghost use Rattle.verity_tree.specs.Building.{Builds, BuildsImage, CountsDevice, CountsSource, IsOfSource};
+ghost use Rattle.verity_io.specs.Counting.{Counts};
+ghost use Rattle.verity_tree.specs.Building.{Builds, BuildsImage, IsOfSource, device_failed, source_failed};
 ghost use Rattle.verity_tree.specs.Levels.{data_blocks};
 ghost use Rattle.verity_plan.specs.Plans.{store_length_of};
 ghost use Rattle.verity_plan.specs.Settings.{digest_len};
 
-use crate::closing::Task;
-use crate::passing::{PassFault, pass};
+use crate::closed_block::Task;
+use crate::one_pass::{PassFault, pass};
 use crate::store::Store;
 use verity_hash::Digest;
 use verity_io::{Device, Nowhere, Source};
@@ -32,10 +33,10 @@ pub enum BuildFault {
 /// its place, and answers the root hash (Linux kernel, dm-verity page, "Hash Tree"). It takes no memory. The store is one
 /// that `fits` the plan.
 ///
-/// A fault leaves the hash blocks that closed before it; after `DeviceFailed` the failed block's own range is unknown. What
-/// has left the source: all that the plan wants where a root is answered; all its bytes after `SourceShort`; the data up to
-/// the block with which the hash block closed after `DeviceFailed`; the blocks before the failed one, and less than one block
-/// more, after `SourceFailed`.
+/// A fault leaves the hash blocks that closed before it; after `DeviceFailed` the failed block's own range is unknown. How
+/// much was read of the source: all that the plan wants where a root is answered; all its bytes after `SourceShort`; the data
+/// up to the block with which the hash block closed after `DeviceFailed`; the blocks before the failed one, and less than one
+/// block more, after `SourceFailed`.
 pub fn build<S: Source, D: Device>(
     plan: &Plan,
     store: &mut Store,
@@ -49,12 +50,12 @@ pub fn build<S: Source, D: Device>(
     ensures device_told { D.tells device.old → D.tells device.new }
 
     // A failure is answered only where its count rose.
-    ensures source_count { CountsSource result (S.failures source.old) (S.failures source.new) }
-    ensures device_count { CountsDevice result (D.failures device.old) (D.failures device.new) }
+    ensures source_count { Counts (source_failed result) (S.failures source.old) (S.failures source.new) }
+    ensures device_count { Counts (device_failed result) (D.failures device.old) (D.failures device.new) }
 
     // The root is that of the levels over whole lists.
-    ensures root { S.tells source.old → Builds plan.now result (S.to_come source.old) (S.to_come source.new) }
-    ensures image { S.tells source.old → D.tells device.old
+    ensures read { S.tells source.old → Builds plan.now result (S.to_come source.old) (S.to_come source.new) }
+    ensures stands { S.tells source.old → D.tells device.old
         → BuildsImage plan.now (data_blocks plan.now (S.to_come source.old)) result (D.content device.old) (D.content device.new) }
 {
     match pass(plan, Task::Write, &mut store.bytes, source, device) {
@@ -79,9 +80,9 @@ pub fn root_only<S: Source>(
     ensures kept { store.new ≡ store.old }
     ensures size { IfOk result (λ root. length root ≡ digest_len plan.now.settings) }
     ensures told { S.tells source.old → S.tells source.new }
-    ensures count { CountsSource result (S.failures source.old) (S.failures source.new) }
+    ensures count { Counts (source_failed result) (S.failures source.old) (S.failures source.new) }
     ensures fault { IfErr result IsOfSource }
-    ensures root { S.tells source.old → Builds plan.now result (S.to_come source.old) (S.to_come source.new) }
+    ensures read { S.tells source.old → Builds plan.now result (S.to_come source.old) (S.to_come source.new) }
 {
     match pass(plan, Task::Write, &mut store.bytes, source, &mut Nowhere) {
         Ok(root) => Ok(root),

@@ -1,12 +1,13 @@
 //! A data block's digest on its way up through the levels, with one open block a level.
 ghost use Rattle.std.specs.Prelude.{◌≡◌, ℕ, ◌+◌, ◌-◌, ◌*◌, ◌/◌, ◌%◌, ◌<◌, ◌≤◌, ◌++◌, List, length, take, drop, IfOk};
-ghost use Rattle.verity_tree.specs.Cascade.{Carries, CarriesCompared, CarriesCount, CarriesDevice, StepsCompared, StepsCount, StepsDevice, StepsLevel};
-ghost use Rattle.verity_tree.specs.declared.closing.Task.TheVariants.{Compare};
-ghost use Rattle.verity_tree.specs.OpenBlocks.{AreOpen, carried};
+ghost use Rattle.verity_io.specs.Counting.{Counts};
+ghost use Rattle.verity_tree.specs.Steps.Cascade.{Carries, CarriesCompared, CarriesDevice, StepsCompared, StepsDevice, StepsLevel, carry_failed, step_failed};
+ghost use Rattle.verity_tree.specs.declared.closed_block.Task.TheVariants.{Compare};
+ghost use Rattle.verity_tree.specs.Steps.OpenBlocks.{AreOpen, arrival, carried};
 ghost use Rattle.verity_plan.specs.Plans.{Planned, HasBlock, levels_of};
 ghost use Rattle.verity_plan.specs.Settings.{digest_len, fan};
 
-use crate::closing::{Cause, Task, close};
+use crate::closed_block::{Cause, Task, close};
 use verity_hash::Digest;
 use verity_io::Device;
 use verity_plan::Plan;
@@ -39,38 +40,38 @@ fn put_slot(block: &mut [u8], from: usize, digest: &Digest)
     block[from..from + bytes.len()].copy_from_slice(bytes);
 }
 
-/// Adds the digest of place `at` to a level's open block; if that is then full, or the last, closes it and leaves zeros.
+/// Adds the digest of this number to a level's open block; if that is then full, or the last, closes it and leaves zeros.
 fn step_level<D: Device>(
     plan: &Plan,
     task: Task,
     level: usize,
-    block: &mut [u8],
-    spare: &mut [u8],
-    at: u64,
+    bytes: &mut [u8],
+    stored: &mut [u8],
+    index: u64,
     last: bool,
     digest: &Digest,
     device: &mut D,
 ) -> Step
-    requires size { length block.old ≡ plan.now.settings.hash_block }
-    requires spare { length spare.old ≡ plan.now.settings.hash_block }
+    requires size { length bytes.old ≡ plan.now.settings.hash_block }
+    requires stored { length stored.old ≡ plan.now.settings.hash_block }
     requires digest { length digest.now ≡ digest_len plan.now.settings }
-    requires here { HasBlock plan.now level (at / fan plan.now.settings) }
+    requires here { HasBlock plan.now level (index / fan plan.now.settings) }
     ensures told { D.tells device.old → D.tells device.new }
-    ensures level { StepsLevel plan.now.settings at last block.old block.new digest.now result }
-    ensures device { D.tells device.old → StepsDevice plan.now level at block.old digest.now result (D.content device.old) (D.content device.new) }
-    ensures compared { task ≡ Compare → D.tells device.old → StepsCompared plan.now level at block.old digest.now result (D.content device.old) (D.content device.new) }
-    ensures count { StepsCount task result (D.failures device.old) (D.failures device.new) }
+    ensures level { StepsLevel plan.now.settings (arrival index bytes.old digest.now) last bytes.new result }
+    ensures device { D.tells device.old → StepsDevice plan.now level (arrival index bytes.old digest.now) result (D.content device.old) (D.content device.new) }
+    ensures compared { task ≡ Compare → D.tells device.old → StepsCompared plan.now level (arrival index bytes.old digest.now) result (D.content device.old) (D.content device.new) }
+    ensures count { Counts (step_failed task result) (D.failures device.old) (D.failures device.new) }
 {
     let fan = plan.fan();
-    let slot = (at % fan as u64) as usize;
-    put_slot(block, slot * plan.slot_width(), digest);
+    let slot = (index % fan as u64) as usize;
+    put_slot(bytes, slot * plan.slot_width(), digest);
     if slot + 1 < fan && !last {
         return Step::Open;
     }
-    match close(plan, task, level, at / fan as u64, block, spare, device) {
+    match close(plan, task, level, index / fan as u64, bytes, stored, device) {
         Ok(()) => {
-            let above = plan.hash(block);
-            block.fill(0);
+            let above = plan.hash(bytes);
+            bytes.fill(0);
             Step::Closed(above)
         }
         Err(cause) => Step::Stopped(cause),
@@ -83,18 +84,18 @@ pub(crate) fn carry<D: Device>(
     plan: &Plan,
     task: Task,
     opened: &mut [u8],
-    spare: &mut [u8],
+    stored: &mut [u8],
     i: u64,
     digest: Digest,
     device: &mut D,
 ) -> Result<Digest, Stop>
     requires room { levels_of plan.now * plan.now.settings.hash_block ≤ length opened.old }
-    requires spare { length spare.old ≡ plan.now.settings.hash_block }
+    requires stored { length stored.old ≡ plan.now.settings.hash_block }
     requires digest { length digest ≡ digest_len plan.now.settings }
     requires below { i < plan.now.blocks }
     ensures size { IfOk result (λ root. length root ≡ digest_len plan.now.settings) }
     ensures told { D.tells device.old → D.tells device.new }
-    ensures count { CarriesCount task result (D.failures device.old) (D.failures device.new) }
+    ensures count { Counts (carry_failed task result) (D.failures device.old) (D.failures device.new) }
     ensures carries { (blocks : List (List ℕ)) → plan.now.blocks ≡ length blocks
         → digest ≡ carried plan.now.settings blocks i 0 → AreOpen plan.now.settings blocks 0 (levels_of plan.now) i opened.old
         → Carries plan.now blocks i result opened.new }
@@ -111,22 +112,24 @@ pub(crate) fn carry<D: Device>(
     let fan = plan.fan() as u64;
     let size = plan.hash_block();
     let mut carried = digest;
-    let mut at = i;
+    let mut index = i;
     for level in 0..plan.levels() {
         let from = level * size;
-        let block = &mut opened[from..from + size];
-        match step_level(plan, task, level, block, spare, at, last, &carried, device) {
+        let bytes = &mut opened[from..from + size];
+        match step_level(
+            plan, task, level, bytes, stored, index, last, &carried, device,
+        ) {
             Step::Closed(above) => carried = above,
             Step::Open => return Ok(carried),
             Step::Stopped(cause) => {
                 return Err(Stop {
                     level,
-                    block: at / fan,
+                    block: index / fan,
                     cause,
                 });
             }
         }
-        at /= fan;
+        index /= fan;
     }
     Ok(carried)
 }

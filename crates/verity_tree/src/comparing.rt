@@ -3,9 +3,9 @@ ghost use Rattle.std.specs.Prelude.{◌≡◌, length};
 ghost use Rattle.verity_plan.specs.Plans.{store_length_of};
 
 use crate::cascade::Stop;
-use crate::closing::{Cause, Task};
+use crate::closed_block::{Cause, Task};
+use crate::one_pass::{PassFault, pass};
 use crate::part::Part;
-use crate::passing::{PassFault, pass};
 use crate::store::Store;
 use verity_hash::Digest;
 use verity_io::{Device, Source};
@@ -38,8 +38,9 @@ pub enum CompareFault {
     RootDiffers(Digest),
 }
 
-ghost use Rattle.verity_tree.specs.Comparing.{CountsDevice, CountsSource, Gives, Judges};
-ghost use Rattle.verity_tree.specs.Passing.{fault_of};
+ghost use Rattle.verity_io.specs.Counting.{Counts};
+ghost use Rattle.verity_tree.specs.Comparing.{Judges, Reads, device_failed, source_failed};
+ghost use Rattle.verity_tree.specs.Steps.OnePass.{fault_of};
 
 /// Compares a stored tree with the one above the data of a source, which is read once: every byte of every hash block, in
 /// closing order, and then the root hash (veritysetup(8), `verify`). It writes nothing and takes no memory. The store is
@@ -56,16 +57,16 @@ pub fn compare<S: Source, D: Device>(
 ) -> Result<(), CompareFault>
     requires { store.old ≡ store_length_of plan.now }
     ensures kept { store.new ≡ store.old }
-    ensures stays { D.tells device.old → D.content device.new ≡ D.content device.old }
+    ensures stands { D.tells device.old → D.content device.new ≡ D.content device.old }
     ensures source_told { S.tells source.old → S.tells source.new }
     ensures device_told { D.tells device.old → D.tells device.new }
 
     // A failure is answered only where its count rose.
-    ensures source_count { CountsSource result (S.failures source.old) (S.failures source.new) }
-    ensures device_count { CountsDevice result (D.failures device.old) (D.failures device.new) }
+    ensures source_count { Counts (source_failed result) (S.failures source.old) (S.failures source.new) }
+    ensures device_count { Counts (device_failed result) (D.failures device.old) (D.failures device.new) }
 
-    ensures given { S.tells source.old → Gives plan.now result (S.to_come source.old) (S.to_come source.new) }
-    ensures judged { S.tells source.old → D.tells device.old
+    ensures read { S.tells source.old → Reads plan.now result (S.to_come source.old) (S.to_come source.new) }
+    ensures verdict { S.tells source.old → D.tells device.old
         → Judges plan.now (D.content device.old) (S.to_come source.old) root.now result }
 {
     judge(plan, &mut store.bytes, source, device, root)
@@ -80,13 +81,13 @@ fn judge<S: Source, D: Device>(
     root: &Digest,
 ) -> Result<(), CompareFault>
     requires { length store.old ≡ store_length_of plan.now }
-    ensures stays { D.tells device.old → D.content device.new ≡ D.content device.old }
+    ensures stands { D.tells device.old → D.content device.new ≡ D.content device.old }
     ensures source_told { S.tells source.old → S.tells source.new }
     ensures device_told { D.tells device.old → D.tells device.new }
-    ensures source_count { CountsSource result (S.failures source.old) (S.failures source.new) }
-    ensures device_count { CountsDevice result (D.failures device.old) (D.failures device.new) }
-    ensures given { S.tells source.old → Gives plan.now result (S.to_come source.old) (S.to_come source.new) }
-    ensures judged { S.tells source.old → D.tells device.old
+    ensures source_count { Counts (source_failed result) (S.failures source.old) (S.failures source.new) }
+    ensures device_count { Counts (device_failed result) (D.failures device.old) (D.failures device.new) }
+    ensures read { S.tells source.old → Reads plan.now result (S.to_come source.old) (S.to_come source.new) }
+    ensures verdict { S.tells source.old → D.tells device.old
         → Judges plan.now (D.content device.old) (S.to_come source.old) root.now result }
 {
     match pass(plan, Task::Compare, store, source, device) {

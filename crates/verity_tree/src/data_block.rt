@@ -1,6 +1,7 @@
 //! One data block, read whole.
 ghost use Rattle.std.specs.Prelude.{◌≡◌, ◌≤◌, ◌-◌, ◌++◌, length, take, replicate};
-ghost use Rattle.verity_tree.specs.DataBlocks.{CountsBlock, ReadsBlock, ReadsFront};
+ghost use Rattle.verity_io.specs.Counting.{Counts};
+ghost use Rattle.verity_tree.specs.Steps.DataBlocks.{ReadsBlock, ReadsFront, read_failed};
 
 use verity_io::{Source, read_block};
 
@@ -21,7 +22,7 @@ pub(crate) fn read_data_block<S: Source>(
 ) -> Result<(), BlockFault>
     requires { want ≤ length block.old }
     ensures told { S.tells source.old → S.tells source.new }
-    ensures count { CountsBlock result (S.failures source.old) (S.failures source.new) }
+    ensures count { Counts (read_failed result) (S.failures source.old) (S.failures source.new) }
     ensures bytes { S.tells source.old → ReadsBlock result want (length block.old) (S.to_come source.old) (S.to_come source.new) block.new }
 {
     match read_front(source, block, want) {
@@ -37,7 +38,7 @@ pub(crate) fn read_data_block<S: Source>(
 fn read_front<S: Source>(source: &mut S, block: &mut [u8], want: usize) -> Result<(), BlockFault>
     requires { want ≤ length block.old }
     ensures told { S.tells source.old → S.tells source.new }
-    ensures count { CountsBlock result (S.failures source.old) (S.failures source.new) }
+    ensures count { Counts (read_failed result) (S.failures source.old) (S.failures source.new) }
     ensures bytes { S.tells source.old → ReadsFront result want (S.to_come source.old) (S.to_come source.new) block.old block.new }
 {
     match read_block(source, &mut block[..want]) {

@@ -5,19 +5,19 @@
 
 mod building;
 mod cascade;
-mod closing;
+mod closed_block;
 mod comparing;
 mod data_block;
 pub mod laws;
-mod level_lists;
+mod one_pass;
 mod part;
-mod passing;
+mod plain_root;
 mod store;
 
 pub use building::{BuildFault, build, root_only};
 pub use comparing::{CompareFault, compare};
-pub use level_lists::root_by_levels;
 pub use part::Part;
+pub use plain_root::root_by_levels;
 pub use store::Store;
 pub use verity_io::{
     Device, Failed, FileDevice, FileSource, Fused, MemoryDevice, MemorySource, Nowhere, Source,

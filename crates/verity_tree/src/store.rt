@@ -22,7 +22,7 @@ impl Model for Store {
 }
 
 impl Store {
-    /// A store for a plan, or want of memory.
+    /// A store for a plan. The error is out of memory.
     pub fn new(alloc: Global, plan: &Plan) -> Result<Store, AllocError>
         ensures { IfOk result (λ store. store ≡ store_length_of plan.now) }
     {

@@ -2,7 +2,9 @@
 -- fault, nothing that comes later has been done: the superblock is written after all hash blocks, and the report last.
 use Rattle.std.specs.Prelude.{◌≡◌, ℕ, ◌+◌, min, List, [], Option, Some, Result, Ok, Err}
 use Rattle.std.specs.Io.KnownBytes.{Appends, Keeps}
-use Rattle.verity_tree.specs.Building.{Builds, BuildsImage, HasGiven, begun}
+use Rattle.verity_tree.specs.Building.{Builds, BuildsImage}
+use Rattle.verity_io.specs.Reading.{HasRead}
+use Rattle.verity_tree.specs.Image.{begun}
 use Rattle.verity_tree.specs.Building as building
 use Rattle.verity_io.specs.Counting.{last_count}
 use Rattle.verity_tree.specs.Levels.{root, data_blocks}
@@ -48,11 +50,11 @@ root_above c bytes = root c.plan.settings (data_blocks c.plan bytes)
 
 -- what has left the source: once the tree is built, the bytes of all data blocks
 abbrev pub Reads : Chosen → Result (Unit {0}) FormatFault → List ℕ → List ℕ → Type 0
-Reads c (Ok done) before after = HasGiven c.plan.wanted before after
+Reads c (Ok done) before after = HasRead c.plan.wanted before after
 Reads c (Err Store) before after = after ≡ before
 Reads c (Err (Build fault)) before after = Builds c.plan (Err fault) before after
-Reads c (Err Superblock) before after = HasGiven c.plan.wanted before after
-Reads c (Err (Report fault)) before after = HasGiven c.plan.wanted before after
+Reads c (Err Superblock) before after = HasRead c.plan.wanted before after
+Reads c (Err (Report fault)) before after = HasRead c.plan.wanted before after
 
 -- what stands on the device
 abbrev pub Writes : Chosen → List (List ℕ) → Result (Unit {0}) FormatFault → List ℕ → List ℕ → Type 0
@@ -106,5 +108,5 @@ pub record FormatRun (c : Chosen) (path : List ℕ) (status : ℕ)
 -- what status 0 stands for: the image is on the device, the data was read once, and the report with the root is printed
 pub record IsFormatted (c : Chosen) (path bytes bytes' device device' : List ℕ) (out out' : Option (List ℕ)) : Type 0 where
   pub image_is : device' ≡ image c (data_blocks c.plan bytes) device
-  pub read : HasGiven c.plan.wanted bytes bytes'
+  pub read : HasRead c.plan.wanted bytes bytes'
   pub printed : Appends out out' (report_text path (superblock_for c) (Some (root_above c bytes)))

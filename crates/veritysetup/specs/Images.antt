@@ -3,7 +3,7 @@
 use Rattle.std.specs.Prelude.{ℕ, List}
 use Rattle.verity_format.specs.SuperblockFields.{SuperblockFields}
 use Rattle.verity_format.specs.Superblocks.{superblock_text}
-use Rattle.verity_tree.specs.Building.{begun}
+use Rattle.verity_tree.specs.Image.{begun}
 use Rattle.verity_io.specs.Writing.{put}
 use Rattle.veritysetup.specs.Chosen.{Chosen}
 

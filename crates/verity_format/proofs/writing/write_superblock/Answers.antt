@@ -1,4 +1,4 @@
--- Each field is put behind those before it.
+-- Each field is put after those before it.
 use Rattle.std.proofs.Common.{refl}
 use Rattle.verity_format.specs.Superblocks.{superblock_text}
 use Rattle.verity_format.proofs.writing.write_superblock.Goals as goal

@@ -7,7 +7,7 @@ returns-in-Err-clause-bytes g c = λ tells.
     let stop = c.in-Err.ensures.bytes tells in
     let after = g.S.Source.to_come c.read_block.new.source in
     record {
-      gone = length stop.0;
+      count = length stop.0;
       less = omega (arith, stop.1, c.read_block.auto.buf, length-take-le c.args.want c.args.block.now c.requires);
       within = omega (arith, ap length stop.2, length-append stop.0 after);
       rest = sym (ap (drop (length stop.0)) stop.2 ∙ drop_at stop.0 after (length stop.0) refl);

@@ -1,0 +1,76 @@
+//! One trait for all hash functions, since the crates that compute them need not share one.
+ghost use Rattle.std.specs.Prelude.{◌≡◌, ◌<◌, ◌≤◌, ℕ, List, [], ◌++◌, length};
+ghost use Rattle.sha2.specs.Hashers.{Holds256, Holds512};
+ghost use Rattle.sha2.specs.Sha256.{sha256};
+ghost use Rattle.sha2.specs.Sha512.{sha512};
+
+use crate::Digest;
+use sha2::{Digest as Sha2, Sha256, Sha512};
+
+/// A hash function at work: it takes a message piece by piece, however the message is cut, and ends with its digest.
+pub(crate) trait Hasher: Drop {
+    // The hasher has taken this message.
+    ghost holds: { Self → List ℕ → Type 0 };
+
+    // The hash function, from a message to its digest.
+    ghost hash: { List ℕ → List ℕ };
+
+    /// A hasher of the empty message.
+    fn begin() -> Self
+        ensures { holds result [] };
+
+    /// Adds bytes at the end of the message.
+    fn add(&mut self, bytes: &[u8])
+        ensures { (message : List ℕ) → holds self.old message → holds self.new (message ++ bytes.now) };
+
+    /// The digest of the message.
+    fn end(self) -> Digest
+        ensures { (message : List ℕ) → holds self message → result ≡ hash message };
+}
+
+/// SHA-256 (FIPS 180-4, section 6.2).
+impl Hasher for Sha256 {
+    ghost holds = { λ hasher message. Holds256 hasher message };
+
+    ghost hash = { sha256 };
+
+    fn begin() -> Sha256 {
+        <Sha256 as Sha2>::new()
+    }
+
+    fn add(&mut self, bytes: &[u8]) {
+        self.update(bytes);
+    }
+
+    fn end(self) -> Digest {
+        digest_of(&self.finalize())
+    }
+}
+
+/// SHA-512 (FIPS 180-4, section 6.4).
+impl Hasher for Sha512 {
+    ghost holds = { λ hasher message. Holds512 hasher message };
+
+    ghost hash = { sha512 };
+
+    fn begin() -> Sha512 {
+        <Sha512 as Sha2>::new()
+    }
+
+    fn add(&mut self, bytes: &[u8]) {
+        self.update(bytes);
+    }
+
+    fn end(self) -> Digest {
+        digest_of(&self.finalize())
+    }
+}
+
+/// The digest of these bytes, of which there are 1 to 64.
+fn digest_of(bytes: &[u8]) -> Digest
+    requires some { 0 < length bytes.now }
+    requires most { length bytes.now ≤ 64 }
+    ensures { result ≡ bytes.now }
+{
+    Digest::from_bytes(bytes).unwrap()
+}

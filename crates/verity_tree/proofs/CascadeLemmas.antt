@@ -1,0 +1,200 @@
+-- One level of the cascade, with the device.
+use Rattle.std.proofs.Common.{Bool, List, [], ap, arith, drop, eqb, false, get_or, inl, inr, length, refl, subst, suc, sym, take, true, zero, ℕ, ◌%◌, ◌*◌, ◌+◌, ◌-◌, ◌/◌, ◌<◌, ◌^◌, ◌∙◌, ◌∷◌, ◌≡◌, ◌≤◌, ◌⊎◌}
+use Rattle.std.proofs.lemmas.Bool.{cases_lt}
+use Rattle.std.proofs.lemmas.Bool.Decides.{eqb_tells}
+use Rattle.std.proofs.lemmas.Nat.{div-add-mod', div-mul-add}
+use Rattle.std.proofs.Math.Nat.{one-le-pow, mul-le-mul_right, pow-suc}
+use Rattle.std.specs.Int.{div_ceil}
+use Rattle.verity_plan.specs.Settings.{Settings, hash, fan}
+use Rattle.verity_tree.specs.Levels.{risen}
+use Rattle.verity_plan.specs.Counts.{level_count, level_size}
+use Rattle.verity_tree.specs.ClosingOrder.{closing, closes, closed_to}
+use Rattle.verity_plan.specs.Places.{place, byte_at}
+use Rattle.verity_tree.specs.Steps.OpenBlocks.{digests_under, open_block, filling, IsReached, IsCarrying, IsNext, IsClosed, IsKept, climb, arrival}
+use Rattle.verity_io.specs.Writing.{put}
+use Rattle.verity_plan.specs.Plans.{Planned}
+use Rattle.verity_tree.specs.Verdicts.{NoneDiffers, StandsThere, stored}
+use Rattle.verity_tree.specs.Image.{tree_block, written}
+use Rattle.verity_plan.proofs.CountLemmas.{le-div_ceil}
+use Rattle.verity_tree.proofs.QuotientLemmas.{quotient-next, IsReached-full}
+use Rattle.verity_tree.proofs.OpenBlockSteps.{carried-below, carried-next, carried-root}
+use Rattle.verity_tree.proofs.OrderSplit.{closing-prefix, closing-all, closes-reached, closes-last, closed_to-more, closes-none, written-more}
+use Rattle.std.proofs.lemmas.List.Elements.{All-append, All-cons, All-nil}
+
+mul_le : (a b w : ℕ) → a ≤ b → a * w ≤ b * w
+mul_le a b w h = mul-le-mul_right w h
+
+positive : (k : ℕ) → (k ≡ 0 → ⊥) → k ≡ (k - 1) + 1
+positive zero h = absurd (h refl)
+positive (suc k) h = omega arith
+
+-- what is reached was reached at the levels below
+reached-before : (f i m : ℕ) → 0 < f → IsReached f i (m + 1) → IsReached f i m
+reached-before f i m some h = record {
+  whole =
+      let w = f ^ m in
+      let k = (i / f ^ (m + 1) + 1) * f in
+      let e : m + 1 ≡ suc m = omega arith in
+      let power : f ^ (m + 1) ≡ w * f = ap (λ (n : ℕ). f ^ n) e ∙ pow-suc f m in
+      let wide : 0 < w = one-le-pow m f some in
+      let whole : i + 1 ≡ k * w = omega (arith, h.whole, ap (λ (n : ℕ). (i / f ^ (m + 1) + 1) * n) power) in
+      let split = div-add-mod' i w in
+      let one : k ≡ (k - 1) + 1 = positive k (λ none. omega (arith, whole, ap (λ (n : ℕ). n * w) none)) in
+      let area : k * w ≡ (k - 1) * w + w = ap (λ (n : ℕ). n * w) one ∙ (let t : (k - 1 + 1) * w ≡ (k - 1) * w + w = omega arith in t) in
+      let here : i ≡ (k - 1) * w + (w - 1) = omega (arith, whole, area, wide) in
+      let less : w - 1 < w = omega (arith, wide) in
+      let q : i / w ≡ k - 1 = ap (λ (n : ℕ). n / w) here ∙ div-mul-add (k - 1) w (w - 1) less in
+      let next : i / w + 1 ≡ k = omega (arith, q, one) in
+      whole ∙ ap (λ (n : ℕ). n * w) (sym next);
+}
+
+reached-down-by : (f i l k : ℕ) → 0 < f → IsReached f i (l + k) → IsReached f i l
+reached-down-by f i l zero some h = let e : l + 0 ≡ l = omega arith in subst (λ (n : ℕ). IsReached f i n) e h
+reached-down-by f i l (suc k) some h =
+    let e : l + suc k ≡ l + k + 1 = omega arith in
+    reached-down-by f i l k some (reached-before f i (l + k) some (subst (λ (n : ℕ). IsReached f i n) e h))
+
+pub reached-down : (f i m l : ℕ) → 0 < f → IsReached f i m → l ≤ m → IsReached f i l
+reached-down f i m l some h le =
+    let e : m ≡ l + (m - l) = omega arith in
+    reached-down-by f i l (m - l) some (subst (λ (n : ℕ). IsReached f i n) e h)
+
+-- the digest that is carried is the next of its level
+pub carried-is_next : (s : Settings) (blocks : List (List ℕ)) (i m levels count at a k : ℕ) (store block digest : List ℕ) → 2 ≤ fan s
+    → i < count → m < levels → at ≡ i / fan s ^ m → a ≡ m * s.hash_block → k ≡ s.hash_block
+    → block ≡ take k (drop a store) → count ≡ length blocks → IsCarrying s blocks (climb i m levels) store digest → IsNext s (risen s blocks m) (arrival at block digest)
+carried-is_next s blocks i m levels count at a k store block digest two below inside place from wide was many h =
+    let some : 0 < fan s = omega arith in
+    let less : i < length blocks = omega (arith, below, many) in
+    record {
+      here = omega (arith, carried-below s blocks i m some less, place);
+      stands = was ∙ ap (λ (n : ℕ). take n (drop a store)) wide ∙ ap (λ (n : ℕ). take s.hash_block (drop n store)) from
+          ∙ h.above m (omega arith) inside ∙ ap (open_block s (digests_under s blocks m)) (sym place);
+      digest_is = h.digest_is ∙ ap (λ (n : ℕ). hash s (get_or (risen s blocks m) n [])) (sym place);
+    }
+
+-- the block that closes is the tree's
+pub closed-block : (s : Settings) (blocks : List (List ℕ)) (i m count at : ℕ) (last : Bool) → 0 < fan s
+    → i < count → last ≡ eqb (i + 1) count → at ≡ i / fan s ^ m → count ≡ length blocks → (at % fan s + 1 ≡ fan s) ⊎ (last ≡ true)
+    → filling s (digests_under s blocks m) at ≡ tree_block s blocks m (i / fan s ^ (m + 1))
+closed-block s blocks i m count at last some below l place many ends =
+    let less : i < length blocks = omega (arith, below, many) in
+    let either : (i / fan s ^ m % fan s + 1 ≡ fan s) ⊎ (i + 1 ≡ length blocks) = elim ends [
+      | inl full ↦ inl (ap (λ (n : ℕ). n % fan s + 1) (sym place) ∙ full)
+      | inr final ↦ inr (elim (eqb_tells (i + 1) count) [
+        | inl same ↦ same.1 ∙ many
+        | inr other ↦ let bad : true ≡ false = sym final ∙ l ∙ other.0 in cc
+      ])
+    ] in
+    ap (filling s (digests_under s blocks m)) place ∙ sym (carried-next s blocks i m some less either)
+
+-- a block that closed is put at its place
+pub device-closed : (s : Settings) (blocks : List (List ℕ)) (base i m at target : ℕ) (start device new : List ℕ)
+    → filling s (digests_under s blocks m) at ≡ tree_block s blocks m (i / fan s ^ (m + 1))
+    → target ≡ byte_at s (length blocks) base m (i / fan s ^ (m + 1))
+    → device ≡ written s blocks base (closed_to (fan s) i m) start
+    → new ≡ put device target (filling s (digests_under s blocks m) at)
+    → new ≡ written s blocks base (closed_to (fan s) i (m + 1)) start
+device-closed s blocks base i m at target start device new block to so_far put_is =
+    put_is
+    ∙ ap (λ (xs : List ℕ). put xs target (filling s (digests_under s blocks m) at)) so_far
+    ∙ ap (λ (n : ℕ). put (written s blocks base (closed_to (fan s) i m) start) n (filling s (digests_under s blocks m) at)) to
+    ∙ ap (put (written s blocks base (closed_to (fan s) i m) start) (byte_at s (length blocks) base m (i / fan s ^ (m + 1)))) block
+    ∙ sym (written-more s blocks base i m start)
+
+-- a level that stays open ends the data block's list
+pub closing-kept : (s : Settings) (blocks : List (List ℕ)) (i m levels count at : ℕ) (last : Bool) (block after store digest : List ℕ) → 2 ≤ fan s
+    → i < count → m < levels → levels ≡ level_count (fan s) count → last ≡ eqb (i + 1) count → at ≡ i / fan s ^ m → count ≡ length blocks
+    → IsKept s (arrival at block digest) last after → IsCarrying s blocks (climb i m levels) store digest
+    → closing (fan s) count (i + 1) ≡ closed_to (fan s) i m
+closing-kept s blocks i m levels count at last block after store digest two below inside all l place many kept h =
+    let f = fan s in
+    let n = length blocks in
+    let some : 0 < f = omega arith in
+    let more : i + 1 < n = elim (eqb_tells (i + 1) count) [
+      | inl equal ↦ let bad : true ≡ false = sym equal.0 ∙ sym l ∙ kept.more in cc
+      | inr other ↦ elim (cases_lt (i + 1) n) [
+        | inl more ↦ more
+        | inr past ↦ let same : i + 1 ≡ count = omega (arith, past, below, many) in absurd (other.1 same)
+      ]
+    ] in
+    let room : i / f ^ m % f + 1 < f = subst (λ (q : ℕ). q % f + 1 < f) place kept.room in
+    let reached = h.reached more in
+    let top : m ≤ level_count f n = omega (arith, inside, all, ap (level_count f) many) in
+    ap (λ (k : ℕ). closing f k (i + 1)) many
+    ∙ closing-prefix f n i m some top
+    (λ j low. closes-reached f n i j some (reached-down f i m (j + 1) some reached (omega (arith, low))))
+    (λ j high. closes-none f n i m j some reached room more high)
+
+-- all levels close
+pub closing-done : (s : Settings) (blocks : List (List ℕ)) (i levels count : ℕ) (store digest : List ℕ) → 2 ≤ fan s
+    → i < count → levels ≡ level_count (fan s) count → count ≡ length blocks → IsCarrying s blocks (climb i levels levels) store digest
+    → closing (fan s) count (i + 1) ≡ closed_to (fan s) i levels
+closing-done s blocks i levels count store digest two below all many h =
+    let f = fan s in
+    let n = length blocks in
+    let some : 0 < f = omega arith in
+    let top : levels ≡ level_count f n = all ∙ ap (level_count f) many in
+    let done = carried-root s blocks i levels store digest two (omega (arith, below, many)) top h in
+    ap (λ (k : ℕ). closing f k (i + 1)) many
+    ∙ closing-all f n i some (λ j low. closes-last f n i j done.0)
+    ∙ ap (closed_to f i) (sym top)
+
+-- the block that closes with data block i is one of its level
+pub closing-below : (f count m i : ℕ) → 0 < f → i < count → i / f ^ (m + 1) < level_size f count m
+closing-below f count m i some below =
+    let w = f ^ (m + 1) in
+    elim (cases_lt (i / w) (div_ceil count w)) [
+      | inl less ↦ less
+      | inr past ↦ absurd (omega (arith, div-add-mod' i w, below, le-div_ceil count w (i / w) (one-le-pow (m + 1) f some) past))
+    ]
+
+-- its place in its level, from the place of its digest
+pub closing-place : (f i m at g : ℕ) → at ≡ i / f ^ m → g ≡ f → at / g ≡ i / f ^ (m + 1)
+closing-place f i m at g at_is g_is = ap (λ (n : ℕ). n / g) at_is ∙ ap (λ (n : ℕ). i / f ^ m / n) g_is ∙ sym (quotient-next f i m)
+
+-- the block that could not be written is one that closes
+pub closes-stopped : (s : Settings) (blocks : List (List ℕ)) (i m levels count at : ℕ) (last : Bool) (store digest : List ℕ) → 0 < fan s → i < count
+    → last ≡ eqb (i + 1) count → at ≡ i / fan s ^ m → count ≡ length blocks → (at % fan s + 1 ≡ fan s) ⊎ (last ≡ true)
+    → IsCarrying s blocks (climb i m levels) store digest → closes (fan s) (length blocks) (i + 1) m ≡ true
+closes-stopped s blocks i m levels count at last store digest some below l place many ends h =
+    let n = length blocks in
+    elim ends [
+      | inl full ↦ elim (eqb_tells (i + 1) n) [
+        | inl equal ↦ closes-last (fan s) n i m equal.1
+        | inr other ↦ elim (cases_lt (i + 1) n) [
+          | inl more ↦ closes-reached (fan s) n i m some
+              (IsReached-full (fan s) i m some (h.reached more) (ap (λ (q : ℕ). q % fan s + 1) (sym place) ∙ full))
+          | inr past ↦ let same : i + 1 ≡ n = omega (arith, past, below, many) in absurd (other.1 same)
+        ]
+      ]
+      | inr final ↦ elim (eqb_tells (i + 1) count) [
+        | inl same ↦ closes-last (fan s) n i m (same.1 ∙ many)
+        | inr other ↦ let bad : true ≡ false = sym final ∙ l ∙ other.0 in cc
+      ]
+    ]
+
+-- and so do the levels below it
+pub closes-stopped_all : (s : Settings) (blocks : List (List ℕ)) (i m levels count at : ℕ) (last : Bool) (store digest : List ℕ) → 0 < fan s → i < count
+    → last ≡ eqb (i + 1) count → at ≡ i / fan s ^ m → count ≡ length blocks → (at % fan s + 1 ≡ fan s) ⊎ (last ≡ true)
+    → IsCarrying s blocks (climb i m levels) store digest → (k : ℕ) → k ≤ m → closes (fan s) (length blocks) (i + 1) k ≡ true
+closes-stopped_all s blocks i m levels count at last store digest some below l place many ends h k le =
+    let n = length blocks in
+    elim (cases_lt k m) [
+      | inl low ↦ elim (cases_lt (i + 1) n) [
+        | inl more ↦ closes-reached (fan s) n i k some (reached-down (fan s) i m (k + 1) some (h.reached more) (omega (arith, low)))
+        | inr past ↦ closes-last (fan s) n i k (omega (arith, past, below, many))
+      ]
+      | inr high ↦
+          let same : m ≡ k = omega (arith, high, le) in
+          subst (λ (j : ℕ). closes (fan s) n (i + 1) j ≡ true) same (closes-stopped s blocks i m levels count at last store digest some below l place many ends h)
+    ]
+
+-- one block more that stands there
+pub none-differs-more : (p : Planned) (blocks : List (List ℕ)) (i m : ℕ) (device : List ℕ) → NoneDiffers p blocks device (closed_to (fan p.settings) i m)
+    → stored p device m (i / fan p.settings ^ (m + 1)) ≡ tree_block p.settings blocks m (i / fan p.settings ^ (m + 1))
+    → NoneDiffers p blocks device (closed_to (fan p.settings) i (m + 1))
+none-differs-more p blocks i m device h here =
+    let pair : ℕ × ℕ = (m, i / fan p.settings ^ (m + 1)) in
+    subst (NoneDiffers p blocks device) (sym (closed_to-more (fan p.settings) i m))
+    (All-append (StandsThere p blocks device) (closed_to (fan p.settings) i m) (pair ∷ []) h (All-cons (StandsThere p blocks device) pair [] here (All-nil (StandsThere p blocks device))))

@@ -1,0 +1,215 @@
+-- One data block taken from the source.
+use Rattle.std.proofs.Common.{List, [], ap, arith, drop, false, get_or, inl, inr, length, length-append, length-drop, map, min, refl, replicate, subst, sym, take, true, ℕ, ◌*◌, ◌++◌, ◌+◌, ◌-◌, ◌/◌, ◌<◌, ◌∙◌, ◌≡◌, ◌≤◌}
+use Rattle.std.proofs.lemmas.Bool.{cases_lt}
+use Rattle.std.proofs.lemmas.List.{take_all, take_at, take-take, drop-take, drop-drop, length-take, length-take-le}
+use Rattle.std.proofs.lemmas.List.FromFn.{get_or-map-range_with_len}
+use Rattle.std.proofs.lemmas.Slice.{between-put_mid}
+use borrow.Rule.Slice.PartMut.{put_mid}
+use Rattle.std.specs.List.{range_with_len}
+use Rattle.verity_hash.specs.Bytes.{filled}
+use Rattle.verity_io.specs.Reading.{HasRead}
+use Rattle.verity_tree.specs.Reading.{EndsWithin, FailsWithin, bytes_of}
+use Rattle.verity_tree.specs.Steps.DataBlocks.{HoldsBlock, HoldsFront, StopsWithin}
+use Rattle.verity_tree.specs.Levels.{block_at, cut, risen, data_blocks, whole}
+use Rattle.verity_tree.specs.Steps.PlainRoots.{digest_of_block}
+use Rattle.verity_tree.specs.Steps.OpenBlocks.{carried}
+use Rattle.verity_plan.specs.Plans.{IsPlanned, Planned}
+use Rattle.verity_plan.specs.Settings.{Settings, hash, fan}
+use Rattle.verity_plan.proofs.CountLemmas.{mul-lt_div_ceil, le-div_ceil, div_ceil-pos}
+use Rattle.verity_plan.proofs.FanLemmas.{some_data}
+use Rattle.verity_tree.proofs.OpenBlockSteps.{place-first}
+use Rattle.std.specs.Prelude.{nat_le}
+use Rattle.std.proofs.lemmas.Bool.Decides.{nat_tests}
+use Rattle.std.proofs.Math.Nat.{div-eq_of_lt-le, mul-le-mul_right}
+use Rattle.std.proofs.lemmas.Nat.{div-add-mod', mod_below}
+
+take-take_min : (n m : ℕ) (xs : List ℕ) → take n (take m xs) ≡ take (min n m) xs
+take-take_min n m xs =
+    elim (cases_lt n m) [
+      | inl less ↦ take-take n m xs (omega arith) ∙ ap (λ (k : ℕ). take k xs) (let e : n ≡ min n m = omega arith in e)
+      | inr most ↦ take_all n (take m xs) (omega (arith, length-take m xs)) ∙ ap (λ (k : ℕ). take k xs) (let e : m ≡ min n m = omega arith in e)
+    ]
+
+-- the next bytes of a file in a block are its next block
+block-next : (bytes : List ℕ) (b size i want : ℕ) → i * b < size → want ≡ min b (size - i * b)
+    → filled b (take want (drop (i * b) bytes)) ≡ block_at b (take size bytes) i
+block-next bytes b size i want here w =
+    let split : i * b + (size - i * b) ≡ size = omega arith in
+    ap (filled b)
+    (ap (λ (k : ℕ). take k (drop (i * b) bytes)) w
+    ∙ sym (take-take_min b (size - i * b) (drop (i * b) bytes))
+    ∙ ap (take b) (sym (drop-take (i * b) (size - i * b) bytes))
+    ∙ ap (λ (k : ℕ). take b (drop (i * b) (take k bytes))) split)
+
+-- the bytes so far and one more block
+record NextBlock (s : Settings) (size i : ℕ) (bytes after block : List ℕ) : Type 0 where
+  pub enough : min ((i + 1) * s.data_block) size ≤ length bytes
+  pub rest : after ≡ drop (min ((i + 1) * s.data_block) size) bytes
+  pub digest : hash s block ≡ digest_of_block s size bytes i
+
+NextBlock-read : (s : Settings) (size i want b : ℕ) (bytes rest after block : List ℕ) → b ≡ s.data_block → i * s.data_block < size
+    → want ≡ min b (size - i * b) → min (i * s.data_block) size ≤ length bytes → rest ≡ drop (min (i * s.data_block) size) bytes
+    → HoldsBlock want b rest after block → NextBlock s size i bytes after block
+NextBlock-read s size i want b bytes rest after block e here w have goes h =
+    let wanted : want ≡ min s.data_block (size - i * s.data_block) = w ∙ ap (λ (n : ℕ). min n (size - i * n)) e in
+    let place : min (i * s.data_block) size ≡ i * s.data_block = omega arith in
+    let next : min ((i + 1) * s.data_block) size ≡ i * s.data_block + want = omega (arith, wanted) in
+    let from : rest ≡ drop (i * s.data_block) bytes = goes ∙ ap (λ (k : ℕ). drop k bytes) place in
+    record {
+      enough = omega (arith, next, h.enough, ap length from, length-drop (i * s.data_block) bytes, have);
+      rest = h.rest ∙ ap (drop want) from ∙ drop-drop want (i * s.data_block) bytes ∙ ap (λ (k : ℕ). drop k bytes) (sym next);
+      digest = ap (hash s)
+          (h.bytes ∙ ap (λ (xs : List ℕ). filled b (take want xs)) from
+          ∙ ap (λ (n : ℕ). filled n (take want (drop (i * s.data_block) bytes))) e
+          ∙ block-next bytes s.data_block size i want here wanted);
+    }
+
+-- the digest of data block i is what comes to level 0
+pub carried-data : (s : Settings) (n wanted i : ℕ) (bytes digest : List ℕ) → i < n → digest ≡ digest_of_block s wanted bytes i
+    → digest ≡ carried s (cut s n wanted bytes) i 0
+unfolding cut risen
+carried-data s n wanted i bytes digest below is =
+    is
+    ∙ ap (hash s) (sym (get_or-map-range_with_len (block_at s.data_block (take wanted bytes)) 0 n i i [] below (omega arith)))
+    ∙ ap (λ (k : ℕ). hash s (get_or (map (block_at s.data_block (take wanted bytes)) (range_with_len 0 n)) k [])) (place-first i (fan s))
+
+-- the next data block is read, and hashed where it stands
+pub data-next : (p : Planned) → IsPlanned p → (i want b a : ℕ) (bytes rest after store new digest : List ℕ) → b ≡ p.settings.data_block → i < p.blocks
+    → want ≡ min b (p.wanted - i * b) → a + b ≤ length store → length new ≡ length (take (a + b - a) (drop a store))
+    → HasRead (bytes_of p i) bytes rest → HoldsBlock want (length (take (a + b - a) (drop a store))) rest after new
+    → digest ≡ hash p.settings (take (a + b - a) (drop a (put_mid a (a + b - a) store new)))
+    → HasRead (bytes_of p (i + 1)) bytes after × (digest ≡ carried p.settings (data_blocks p bytes) i 0)
+data-next p planned i want b a bytes rest after store new digest e below w room len read_before block is =
+    let s = p.settings in
+    let wanted = p.wanted in
+    let some = some_data s planned.valid in
+    let many = planned.blocks_are in
+    let here : i * s.data_block < wanted = mul-lt_div_ceil wanted s.data_block i some (omega (arith, below, many)) in
+    let wide : a + b - a ≡ b = omega arith in
+    let left : length (drop a store) ≡ length store - a = length-drop a store in
+    let size : length (take (a + b - a) (drop a store)) ≡ b = length-take-le (a + b - a) (drop a store) (omega (arith, left, room)) ∙ wide in
+    let read : HoldsBlock want b rest after new = subst (λ (k : ℕ). HoldsBlock want k rest after new) size block in
+    let next = NextBlock-read s wanted i want b bytes rest after new e here w read_before.enough read_before.rest read in
+    let stands : take (a + b - a) (drop a (put_mid a (a + b - a) store new)) ≡ new =
+    between-put_mid a (a + b - a) store new (a + b) (omega (arith, room)) (len ∙ size ∙ sym wide) in (
+      record { enough = next.enough; rest = next.rest },
+      carried-data s p.blocks wanted i bytes digest below (is ∙ ap (hash s) stands ∙ next.digest),
+    )
+
+-- nothing was read of the source
+pub HasRead-none : (p : Planned) (bytes : List ℕ) → HasRead (bytes_of p 0) bytes bytes
+HasRead-none p bytes =
+    let none : min (0 * p.settings.data_block) p.wanted ≡ 0 = omega arith in
+    record { enough = omega (arith, none); rest = ap (λ (k : ℕ). drop k bytes) (sym none) }
+
+-- all blocks are all that is wanted
+pub HasRead-all : (p : Planned) → IsPlanned p → (bytes after : List ℕ) → HasRead (bytes_of p p.blocks) bytes after
+    → HasRead p.wanted bytes after
+HasRead-all p planned bytes after h =
+    let cover = le-div_ceil p.wanted p.settings.data_block p.blocks (some_data p.settings planned.valid) (omega (arith, planned.blocks_are)) in
+    let whole : min (p.blocks * p.settings.data_block) p.wanted ≡ p.wanted = omega (arith, cover) in
+    subst (λ (k : ℕ). HasRead k bytes after) whole h
+
+-- so many runs are within a quotient
+le-div : (i n a : ℕ) → 0 < a → i * a ≤ n → i ≤ n / a
+le-div i n a some h = elim (cases_lt (n / a) i) [
+  | inl less ↦
+      let next : n / a + 1 ≤ i = omega arith in
+      absurd (omega (arith, mul-le-mul_right a next, h, div-add-mod' n a, mod_below n a some))
+  | inr within ↦ within
+]
+
+-- a plan has a data block
+pub blocks-some : (p : Planned) → IsPlanned p → 0 < p.blocks
+blocks-some p planned = omega (arith, planned.blocks_are, div_ceil-pos p.wanted p.settings.data_block (some_data p.settings planned.valid) planned.some)
+
+-- bytes that hold all that is wanted hold all blocks
+pub whole-all : (p : Planned) (bytes : List ℕ) → p.wanted ≤ length bytes → whole p bytes ≡ p.blocks
+whole-all p bytes enough = let tested : nat_le p.wanted (length bytes) ≡ true = grind (arith, nat_tests, enough) in rw tested refl
+
+-- bytes that end within block i hold i blocks
+pub whole-short : (p : Planned) (i : ℕ) (bytes : List ℕ) → bytes_of p i ≤ length bytes → length bytes < bytes_of p (i + 1) → whole p bytes ≡ i
+whole-short p i bytes enough short =
+    let less : length bytes < p.wanted = omega (arith, short) in
+    let tested : nat_le p.wanted (length bytes) ≡ false = grind (arith, nat_tests, less) in
+    let from : i * p.settings.data_block ≤ length bytes = omega (arith, enough, less) in
+    let to : length bytes < (i + 1) * p.settings.data_block = omega (arith, short) in
+    rw tested (div-eq_of_lt-le p.settings.data_block from to)
+
+-- bytes of which i blocks were read hold as many
+pub whole-above : (p : Planned) → IsPlanned p → (i : ℕ) (bytes : List ℕ) → i ≤ p.blocks → bytes_of p i ≤ length bytes → i ≤ whole p bytes
+whole-above p planned i bytes within enough = elim (cases_lt (length bytes) p.wanted) [
+  | inl less ↦
+      let tested : nat_le p.wanted (length bytes) ≡ false = grind (arith, nat_tests, less) in
+      let from : i * p.settings.data_block ≤ length bytes = omega (arith, enough, less) in
+      rw tested (le-div i (length bytes) p.settings.data_block (some_data p.settings planned.valid) from)
+  | inr all ↦ omega (arith, whole-all p bytes all, within)
+]
+
+-- the source ends within block i
+pub short-within : (p : Planned) → IsPlanned p → (i want b : ℕ) (bytes rest after : List ℕ) → b ≡ p.settings.data_block → i < p.blocks
+    → want ≡ min b (p.wanted - i * b) → HasRead (bytes_of p i) bytes rest → length rest < want → after ≡ [] → EndsWithin p i bytes after
+short-within p planned i want b bytes rest after e below w read_before short none =
+    let s = p.settings in
+    let wanted = p.wanted in
+    let some = some_data s planned.valid in
+    let many = planned.blocks_are in
+    let here : i * s.data_block < wanted = mul-lt_div_ceil wanted s.data_block i some (omega (arith, below, many)) in
+    let left : length rest ≡ length bytes - min (i * s.data_block) wanted = ap length read_before.rest ∙ length-drop (bytes_of p i) bytes in
+    let wide : i * b ≡ i * s.data_block = ap (λ (k : ℕ). i * k) e in
+    let within : length bytes < bytes_of p (i + 1) = omega (arith, left, read_before.enough, here, wide, w, e, short) in
+    record { below = below; whole_is = sym (whole-short p i bytes read_before.enough within); enough = read_before.enough; short = within; rest = none }
+
+-- a write to a part leaves the length
+pub length-put : (xs ys : List ℕ) (a b : ℕ) → a + b ≤ length xs → length ys ≡ length (take (a + b - a) (drop a xs))
+    → length (put_mid a (a + b - a) xs ys) ≡ length xs
+length-put xs ys a b room len =
+    let k = a + b - a in
+    let part : length (take k (drop a xs)) ≡ b = length-take-le k (drop a xs) (omega (arith, length-drop a xs, room)) ∙ (let e : a + b - a ≡ b = omega arith in e) in
+    omega (
+      arith,
+      length-append (take a xs) (ys ++ drop k (drop a xs)),
+      length-append ys (drop k (drop a xs)),
+      length-take-le a xs (omega (arith, room)),
+      length-drop k (drop a xs),
+      length-drop a xs,
+      len,
+      part,
+      room,
+    )
+
+-- the source failed within block i
+pub failed-within : (p : Planned) → IsPlanned p → (i want b : ℕ) (bytes rest after : List ℕ) → b ≡ p.settings.data_block → i < p.blocks
+    → want ≡ min b (p.wanted - i * b) → HasRead (bytes_of p i) bytes rest → StopsWithin want rest after → FailsWithin p i bytes after
+failed-within p planned i want b bytes rest after e below w read_before stop =
+    let s = p.settings in
+    let wanted = p.wanted in
+    let some = some_data s planned.valid in
+    let many = planned.blocks_are in
+    let here : i * s.data_block < wanted = mul-lt_div_ceil wanted s.data_block i some (omega (arith, below, many)) in
+    let left : length rest ≡ length bytes - min (i * s.data_block) wanted = ap length read_before.rest ∙ length-drop (bytes_of p i) bytes in
+    let wide : i * b ≡ i * s.data_block = ap (λ (k : ℕ). i * k) e in
+    record {
+      below = below;
+      count = bytes_of p i + stop.count;
+      from = omega arith;
+      to = omega (arith, here, wide, w, e, stop.less);
+      read = record {
+        enough = omega (arith, left, read_before.enough, stop.within);
+        rest = stop.rest ∙ ap (drop stop.count) read_before.rest ∙ drop-drop stop.count (bytes_of p i) bytes;
+      };
+    }
+
+-- the next bytes over a front, and zeros after them, are a block
+pub HoldsBlock-front : (want size : ℕ) (before after old front : List ℕ) → want ≤ size → length old ≡ size → HoldsFront want before after old front
+    → HoldsBlock want size before after (take want front ++ replicate (size - want) 0)
+HoldsBlock-front want size before after old front within wide h =
+    let len : length (take want before) ≡ want = length-take-le want before h.enough in
+    record {
+      enough = h.enough;
+      bytes =
+          ap (λ (xs : List ℕ). take want xs ++ replicate (size - want) 0) h.bytes
+          ∙ ap (λ (xs : List ℕ). xs ++ replicate (size - want) 0) (take_at (take want before) (drop want old) want len)
+          ∙ ap (λ (n : ℕ). take want before ++ replicate (size - n) 0) (sym len);
+      rest = h.rest;
+    }

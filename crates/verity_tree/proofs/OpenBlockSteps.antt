@@ -1,0 +1,309 @@
+-- One level of the cascade.
+use Rattle.std.proofs.Common.{◌≡◌, ℕ, ◌+◌, ◌-◌, ◌*◌, ◌/◌, ◌%◌, ◌^◌, ◌<◌, ◌≤◌, ◌⊎◌, Bool, true, false, eqb, List, [], ◌++◌, get_or, take, drop, length, map, replicate, arith, sym, ◌∙◌, ap, subst, inl, inr, length-drop}
+use Rattle.std.proofs.lemmas.Bool.{cases_lt}
+use Rattle.std.proofs.lemmas.Bool.Decides.{eqb_tells}
+use Rattle.std.proofs.lemmas.Nat.{div-add-mod', mod_below, div-mul-add}
+use Rattle.std.proofs.lemmas.List.{length-map, length-take-le, length-replicate}
+use Rattle.std.proofs.lemmas.Slice.{between_is, take-put_mid_below, drop-put_mid, between-put_mid}
+use borrow.Rule.Slice.PartMut.{put_mid}
+use Rattle.std.proofs.Math.Nat.{one-le-pow, pow-zero, mul-le-mul_right}
+use Rattle.std.specs.Fork.{slice_chunk}
+use Rattle.std.specs.Int.{div_ceil}
+use Rattle.verity_plan.specs.Settings.{Settings, hash, fan, slot_width, digest_len}
+use Rattle.verity_tree.specs.Levels.{hash_block_of, risen, root}
+use Rattle.verity_plan.specs.Counts.{level_count}
+use Rattle.verity_tree.specs.Steps.OpenBlocks.{digests_under, open_block, filling, AreOpen, carried, IsCarrying, IsNext, IsClosed, IsKept, IsCarriedOn, climb, arrival}
+use Rattle.verity_plan.proofs.CountLemmas.{le-div_ceil, IsLevelCount-level_count}
+use Rattle.verity_tree.proofs.TreeLemmas.{length-risen, height-level_count}
+use Rattle.verity_tree.proofs.QuotientLemmas.{quotient-next, div_ceil-last, IsReached-zero, quotient-reached, IsReached-full, slots-full, slots-more, quotient-stays}
+use Rattle.verity_tree.proofs.OpenBlockLemmas.{open-push, open-close, block-up}
+use Rattle.verity_plan.proofs.FitLemmas.{digest-slot}
+
+div_small : (a b : ℕ) → a < b → a / b ≡ 0
+div_small a b h =
+    let e : a ≡ 0 * b + a = omega arith in
+    ap (λ (x : ℕ). x / b) e ∙ div-mul-add 0 b a h
+
+mul_le : (a b w : ℕ) → a ≤ b → a * w ≤ b * w
+mul_le a b w h = mul-le-mul_right w h
+
+-- a write to one run leaves the others
+pub chunk-other : (xs ys : List ℕ) (size m l a k : ℕ) → a ≡ m * size → k ≡ size → length ys ≡ size → m * size + size ≤ length xs → (l < m) ⊎ (m < l)
+    → slice_chunk (put_mid a k xs ys) size l ≡ slice_chunk xs size l
+chunk-other xs ys size m l a k place wide len room apart =
+    elim apart [
+      | inl below ↦
+          let le : l + 1 ≤ m = omega arith in
+          let before : l * size + size ≤ a = omega (arith, place, mul_le (l + 1) m size le) in
+          let e : l * size + size - l * size ≡ size = omega arith in
+          ap (λ (n : ℕ). take n (drop (l * size) (put_mid a k xs ys))) (sym e)
+          ∙ between_is (put_mid a k xs ys) (l * size) (l * size + size)
+          ∙ ap (drop (l * size)) (take-put_mid_below a k xs ys (l * size + size) before (omega (arith, place, room)))
+          ∙ sym (between_is xs (l * size) (l * size + size))
+          ∙ ap (λ (n : ℕ). take n (drop (l * size) xs)) e
+      | inr above ↦
+          let le : m + 1 ≤ l = omega arith in
+          let after : a + k ≤ l * size = omega (arith, place, wide, mul_le (m + 1) l size le) in
+          ap (take size) (drop-put_mid a k xs ys (l * size) after (omega (arith, place, room)) (len ∙ sym wide))
+    ]
+
+pub chunk-same : (xs ys : List ℕ) (size m a k : ℕ) → a ≡ m * size → length ys ≡ size → m * size + size ≤ length xs
+    → slice_chunk (put_mid a k xs ys) size m ≡ ys
+chunk-same xs ys size m a k place len room =
+    let e : size ≡ m * size + size - a = omega (arith, place) in
+    ap (λ (n : ℕ). take n (drop (m * size) (put_mid a k xs ys))) e
+    ∙ ap (λ (n : ℕ). take (m * size + size - a) (drop n (put_mid a k xs ys))) (sym place)
+    ∙ between-put_mid a k xs ys (m * size + size) (omega (arith, place, room)) (len ∙ e)
+
+-- the place that a digest comes to is in its level
+pub carried-below : (s : Settings) (blocks : List (List ℕ)) (i m : ℕ) → 0 < fan s → i < length blocks → i / fan s ^ m < length (risen s blocks m)
+carried-below s blocks i m some below =
+    let wide : 0 < fan s ^ m = one-le-pow m (fan s) some in
+    let split = div-add-mod' i (fan s ^ m) in
+    elim (cases_lt (i / fan s ^ m) (div_ceil (length blocks) (fan s ^ m))) [
+      | inl less ↦ omega (arith, less, length-risen s blocks m some)
+      | inr past ↦ absurd (omega (arith, split, below, le-div_ceil (length blocks) (fan s ^ m) (i / fan s ^ m) wide past))
+    ]
+
+-- at the last data block the place is the last of each level
+pub carried-last : (s : Settings) (blocks : List (List ℕ)) (i m : ℕ) → 0 < fan s → i + 1 ≡ length blocks → i / fan s ^ m + 1 ≡ length (risen s blocks m)
+carried-last s blocks i m some last =
+    sym (div_ceil-last i (fan s ^ m) (one-le-pow m (fan s) some))
+    ∙ ap (λ (n : ℕ). div_ceil n (fan s ^ m)) last
+    ∙ sym (length-risen s blocks m some)
+
+-- the block that closes gives the digest one level up
+pub carried-next : (s : Settings) (blocks : List (List ℕ)) (i m : ℕ) → 0 < fan s → i < length blocks
+    → (i / fan s ^ m % fan s + 1 ≡ fan s) ⊎ (i + 1 ≡ length blocks)
+    → get_or (risen s blocks (m + 1)) (i / fan s ^ (m + 1)) [] ≡ filling s (digests_under s blocks m) (i / fan s ^ m)
+carried-next s blocks i m some below ends =
+    let f = fan s in
+    let q = i / f ^ m in
+    let digests = digests_under s blocks m in
+    let many : length digests ≡ length (risen s blocks m) = length-map (risen s blocks m) (hash s) in
+    let here : q < length (risen s blocks m) = carried-below s blocks i m some below in
+    let split : q / f * f + q % f ≡ q = div-add-mod' q f in
+    let run : q / f < div_ceil (length (risen s blocks m)) f = elim (cases_lt (q / f) (div_ceil (length (risen s blocks m)) f)) [
+      | inl less ↦ less
+      | inr past ↦ absurd (omega (arith, split, here, le-div_ceil (length (risen s blocks m)) f (q / f) some past))
+    ] in
+    let closes : (q % f + 1 ≡ f) ⊎ (q + 1 ≡ length digests) = elim ends [
+      | inl full ↦ inl full
+      | inr last ↦ inr (carried-last s blocks i m some last ∙ sym many)
+    ] in
+    ap (λ (n : ℕ). get_or (risen s blocks (m + 1)) n []) (quotient-next f i m)
+    ∙ block-up s blocks m (q / f) run
+    ∙ sym (open-close s digests q some closes)
+
+-- an open block with no slot is all zeros
+pub hash_block_of-none : (s : Settings) (n : ℕ) (digests : List (List ℕ)) → hash_block_of s (take 0 (drop n digests)) ≡ replicate s.hash_block 0
+hash_block_of-none s n digests =
+    ap (λ (k : ℕ). replicate k 0) (let e : s.hash_block - 0 ≡ s.hash_block = omega arith in e)
+
+-- a level whose block closed goes on
+pub IsCarrying-closed : (s : Settings) (blocks : List (List ℕ)) (i m levels a k : ℕ) (store zeros digest next : List ℕ) → 0 < fan s → i < length blocks → m < levels
+    → (i / fan s ^ m % fan s + 1 ≡ fan s) ⊎ (i + 1 ≡ length blocks) → levels * s.hash_block ≤ length store
+    → a ≡ m * s.hash_block → k ≡ s.hash_block → zeros ≡ replicate s.hash_block 0 → length zeros ≡ s.hash_block
+    → next ≡ hash s (filling s (digests_under s blocks m) (i / fan s ^ m))
+    → IsCarrying s blocks (climb i m levels) store digest → IsCarrying s blocks (climb i (m + 1) levels) (put_mid a k store zeros) next
+IsCarrying-closed s blocks i m levels a k store zeros digest next some below inside ends room place wide none len is h =
+    let f = fan s in
+    let q = i / f ^ m in
+    let size = s.hash_block in
+    let step : m + 1 ≤ levels = omega arith in
+    let fits : m * size + size ≤ length store = omega (arith, room, mul_le (m + 1) levels size step) in
+    record {
+      reached = λ more. elim ends [
+        | inl full ↦ IsReached-full f i m some (h.reached more) full
+        | inr last ↦ absurd (omega (arith, more, last))
+      ];
+      above = λ l from to.
+          let apart : (l < m) ⊎ (m < l) = inr (omega (arith, from)) in
+          chunk-other store zeros size m l a k place wide len fits apart ∙ h.above l (omega (arith, from)) to;
+      below = λ more l from to. elim (cases_lt l m) [
+        | inl low ↦ chunk-other store zeros size m l a k place wide len fits (inl low) ∙ h.below more l from low
+        | inr high ↦
+            let same : l ≡ m = omega (arith, high, to) in
+            let full : q % f + 1 ≡ f = elim ends [ inl full ↦ full | inr last ↦ absurd (omega (arith, more, last)) ] in
+            let empty : (i + 1) / f ^ m % f ≡ 0 = ap (λ (n : ℕ). n % f) (quotient-reached f i m some (h.reached more)) ∙ slots-full f q some full in
+            let stood : zeros ≡ open_block s (digests_under s blocks m) ((i + 1) / f ^ m) =
+            none ∙ sym (hash_block_of-none s ((i + 1) / f ^ m / f * f) (digests_under s blocks m)) ∙ ap (λ (n : ℕ). hash_block_of s (take n (drop ((i + 1) / f ^ m / f * f) (digests_under s blocks m)))) (sym empty) in
+            ap (slice_chunk (put_mid a k store zeros) size) same
+            ∙ chunk-same store zeros size m a k place len fits
+            ∙ stood
+            ∙ ap (λ (n : ℕ). open_block s (digests_under s blocks n) ((i + 1) / f ^ n)) (sym same)
+      ];
+      digest_is = is ∙ ap (hash s) (sym (carried-next s blocks i m some below ends));
+    }
+
+-- a level whose block stays stood ends the cascade
+pub AreOpen-kept : (s : Settings) (blocks : List (List ℕ)) (i m levels a k : ℕ) (store stood digest : List ℕ) → 0 < fan s → i + 1 < length blocks → m < levels
+    → i / fan s ^ m % fan s + 1 < fan s → levels * s.hash_block ≤ length store
+    → a ≡ m * s.hash_block → k ≡ s.hash_block → length stood ≡ s.hash_block
+    → stood ≡ filling s (digests_under s blocks m) (i / fan s ^ m)
+    → IsCarrying s blocks (climb i m levels) store digest → AreOpen s blocks 0 levels (i + 1) (put_mid a k store stood)
+AreOpen-kept s blocks i m levels a k store stood digest some more inside less room place wide len is h =
+    let f = fan s in
+    let q = i / f ^ m in
+    let size = s.hash_block in
+    let step : m + 1 ≤ levels = omega arith in
+    let fits : m * size + size ≤ length store = omega (arith, room, mul_le (m + 1) levels size step) in
+    λ l from to. elim (cases_lt l m) [
+      | inl low ↦ chunk-other store stood size m l a k place wide len fits (inl low) ∙ h.below more l from low
+      | inr high ↦ elim (cases_lt m l) [
+        | inl past ↦
+            chunk-other store stood size m l a k place wide len fits (inr past)
+            ∙ h.above l high to
+            ∙ ap (open_block s (digests_under s blocks l)) (sym (quotient-stays f i m l some (h.reached more) less past))
+        | inr low ↦
+            let same : l ≡ m = omega (arith, high, low) in
+            let next : (i + 1) / f ^ m ≡ q + 1 = quotient-reached f i m some (h.reached more) in
+            let slots = slots-more f q less in
+            let one : q % f + 1 ≡ (i + 1) / f ^ m % f = sym slots.0 ∙ ap (λ (n : ℕ). n % f) (sym next) in
+            let run : q / f ≡ (i + 1) / f ^ m / f = sym slots.1 ∙ ap (λ (n : ℕ). n / f) (sym next) in
+            ap (slice_chunk (put_mid a k store stood) size) same
+            ∙ chunk-same store stood size m a k place len fits
+            ∙ is
+            ∙ ap (λ (n : ℕ). hash_block_of s (take n (drop (q / f * f) (digests_under s blocks m)))) one
+            ∙ ap (λ (n : ℕ). hash_block_of s (take ((i + 1) / f ^ m % f) (drop (n * f) (digests_under s blocks m)))) run
+            ∙ ap (λ (n : ℕ). open_block s (digests_under s blocks n) ((i + 1) / f ^ n)) (sym same)
+      ]
+    ]
+
+-- past all levels only the last data block comes, and its digest is the root
+pub carried-root : (s : Settings) (blocks : List (List ℕ)) (i levels : ℕ) (store digest : List ℕ) → 2 ≤ fan s → i < length blocks
+    → levels ≡ level_count (fan s) (length blocks) → IsCarrying s blocks (climb i levels levels) store digest → (i + 1 ≡ length blocks) × (digest ≡ root s blocks)
+unfolding root
+carried-root s blocks i levels store digest two below count h =
+    let f = fan s in
+    let some : 0 < f = omega arith in
+    let most : length blocks ≤ f ^ levels = omega (arith, (IsLevelCount-level_count f (length blocks) two).enough, ap (λ (n : ℕ). f ^ n) count) in
+    let zero_place : i / f ^ levels ≡ 0 = div_small i (f ^ levels) (omega (arith, most, below)) in
+    let last : i + 1 ≡ length blocks = elim (cases_lt (i + 1) (length blocks)) [
+      | inl more ↦
+          let whole = (h.reached more).whole in
+          let e : (i / f ^ levels + 1) * f ^ levels ≡ (0 + 1) * f ^ levels = ap (λ (n : ℕ). (n + 1) * f ^ levels) zero_place in
+          absurd (omega (arith, whole, e, most, more))
+      | inr past ↦ omega (arith, past, below)
+    ] in (
+      last,
+      h.digest_is
+          ∙ ap (λ (n : ℕ). hash s (get_or (risen s blocks levels) n [])) zero_place
+          ∙ ap (λ (l : ℕ). hash s (get_or (risen s blocks l) 0 [])) (count ∙ sym (height-level_count s blocks some)),
+    )
+
+-- a slot is within its block
+pub slot-room : (s : Settings) (q f w len size : ℕ) → f ≡ fan s → w ≡ slot_width s → len ≡ digest_len s → size ≡ s.hash_block → 2 ≤ f
+    → fan s * slot_width s ≤ s.hash_block → q % f * w + len ≤ size
+slot-room s q f w len size ef ew el es two fits =
+    let low : q % f < f = mod_below q f (omega arith) in
+    let step : q % f + 1 ≤ f = omega arith in
+    let area : f * w ≡ fan s * slot_width s = ap (λ (n : ℕ). n * w) ef ∙ ap (λ (n : ℕ). fan s * n) ew in
+    omega (arith, mul_le (q % f + 1) f w step, area, fits, digest-slot s)
+
+-- the digest in its slot is the block with one more
+pub filling-put : (s : Settings) (below : List (List ℕ)) (q f w : ℕ) (before after digest : List ℕ) → f ≡ fan s → w ≡ slot_width s → 2 ≤ f
+    → fan s * slot_width s ≤ s.hash_block
+    → after ≡ take (q % f * w) before ++ digest ++ drop (q % f * w + length digest) before
+    → IsNext s below (arrival q before digest) → after ≡ filling s (map (hash s) below) q
+filling-put s below q f w before after digest ef ew two fits put next =
+    let some : 0 < fan s = omega arith in
+    let place : q % f * w ≡ q % fan s * slot_width s = ap (λ (n : ℕ). q % n * w) ef ∙ ap (λ (n : ℕ). q % fan s * n) ew in
+    put
+    ∙ ap (λ (xs : List ℕ). take (q % f * w) xs ++ digest ++ drop (q % f * w + length digest) xs) next.stands
+    ∙ open-push s below q digest (q % f * w) (omega (arith, digest-slot s)) fits some next.here next.digest_is place
+
+-- a slot that is not before the last is the last
+pub slots-all : (s : Settings) (q f : ℕ) → f ≡ fan s → 2 ≤ f → f ≤ q % f + 1 → q % fan s + 1 ≡ fan s
+slots-all s q f e two all =
+    let low : q % f < f = mod_below q f (omega arith) in
+    let full : q % f + 1 ≡ f = omega arith in
+    ap (λ (n : ℕ). q % n + 1) (sym e) ∙ full ∙ e
+
+-- the loop over the levels begins
+pub IsCarrying-first : (s : Settings) (blocks : List (List ℕ)) (i levels : ℕ) (store digest : List ℕ) → digest ≡ carried s blocks i 0
+    → AreOpen s blocks 0 levels i store → IsCarrying s blocks (climb i 0 levels) store digest
+IsCarrying-first s blocks i levels store digest is stands = record {
+  reached = λ _. IsReached-zero (fan s) i;
+  above = stands;
+  below = λ _ l from to. absurd (omega (arith, to));
+  digest_is = is;
+}
+
+-- a level closes and the next one gets its digest
+pub carry-closed : (s : Settings) (blocks : List (List ℕ)) (i m levels count at a k : ℕ) (last : Bool) (store block after digest above : List ℕ) → 2 ≤ fan s
+    → i < count → m < levels → last ≡ eqb (i + 1) count → at ≡ i / fan s ^ m → levels * s.hash_block ≤ length store → a ≡ m * s.hash_block → k ≡ s.hash_block
+    → block ≡ take k (drop a store) → IsClosed s (arrival at block digest) last after above → count ≡ length blocks
+    → IsCarrying s blocks (climb i m levels) store digest → IsCarrying s blocks (climb i (m + 1) levels) (put_mid a k store after) above
+carry-closed s blocks i m levels count at a k last store block after digest above two below inside l place room from wide was closed many h =
+    let some : 0 < fan s = omega arith in
+    let less : i < length blocks = omega (arith, below, many) in
+    let stands : block ≡ open_block s (digests_under s blocks m) at =
+    was ∙ ap (λ (n : ℕ). take n (drop a store)) wide ∙ ap (λ (n : ℕ). take s.hash_block (drop n store)) from
+    ∙ h.above m (omega arith) inside ∙ ap (open_block s (digests_under s blocks m)) (sym place) in
+    let next : IsNext s (risen s blocks m) (arrival at block digest) = record {
+      here = omega (arith, carried-below s blocks i m some less, place);
+      stands = stands;
+      digest_is = h.digest_is ∙ ap (λ (n : ℕ). hash s (get_or (risen s blocks m) n [])) (sym place);
+    } in
+    let ends : (i / fan s ^ m % fan s + 1 ≡ fan s) ⊎ (i + 1 ≡ length blocks) = elim closed.ends [
+      | inl full ↦ inl (ap (λ (n : ℕ). n % fan s + 1) (sym place) ∙ full)
+      | inr final ↦ inr (elim (eqb_tells (i + 1) count) [
+        | inl same ↦ same.1 ∙ many
+        | inr other ↦ let no : true ≡ false = sym final ∙ l ∙ other.0 in cc
+      ])
+    ] in
+    IsCarrying-closed s blocks i m levels a k store after digest above some less inside ends room from wide closed.zeros
+    (ap length closed.zeros ∙ length-replicate s.hash_block 0)
+    (closed.hashed (risen s blocks m) next ∙ ap (λ (n : ℕ). hash s (filling s (digests_under s blocks m) n)) place) h
+
+-- a level stays open and the cascade ends
+pub carry-kept : (s : Settings) (blocks : List (List ℕ)) (i m levels count at a k : ℕ) (last : Bool) (store block after digest : List ℕ) → 2 ≤ fan s
+    → i < count → m < levels → last ≡ eqb (i + 1) count → at ≡ i / fan s ^ m → levels * s.hash_block ≤ length store → a ≡ m * s.hash_block → k ≡ s.hash_block
+    → block ≡ take k (drop a store) → length after ≡ length block → IsKept s (arrival at block digest) last after → count ≡ length blocks
+    → IsCarrying s blocks (climb i m levels) store digest → IsCarriedOn s blocks i levels (put_mid a k store after) digest
+carry-kept s blocks i m levels count at a k last store block after digest two below inside l place room from wide was len kept many h =
+    let some : 0 < fan s = omega arith in
+    let less : i < length blocks = omega (arith, below, many) in
+    let here : slice_chunk store s.hash_block m ≡ open_block s (digests_under s blocks m) (i / fan s ^ m) = h.above m (omega arith) inside in
+    let chunk : block ≡ slice_chunk store s.hash_block m =
+    was ∙ ap (λ (n : ℕ). take n (drop a store)) wide ∙ ap (λ (n : ℕ). take s.hash_block (drop n store)) from in
+    let next : IsNext s (risen s blocks m) (arrival at block digest) = record {
+      here = omega (arith, carried-below s blocks i m some less, place);
+      stands = chunk ∙ here ∙ ap (open_block s (digests_under s blocks m)) (sym place);
+      digest_is = h.digest_is ∙ ap (λ (n : ℕ). hash s (get_or (risen s blocks m) n [])) (sym place);
+    } in
+    let apart : i + 1 ≡ length blocks → ⊥ = λ same. elim (eqb_tells (i + 1) count) [
+      | inl equal ↦ let no : true ≡ false = sym equal.0 ∙ sym l ∙ kept.more in cc
+      | inr other ↦ other.1 (same ∙ sym many)
+    ] in
+    let more : i + 1 < length blocks = elim (cases_lt (i + 1) (length blocks)) [ inl more ↦ more | inr past ↦ absurd (apart (omega (arith, past, less))) ] in
+    let step : m + 1 ≤ levels = omega arith in
+    let fits : m * s.hash_block + s.hash_block ≤ length store = omega (arith, room, mul_le (m + 1) levels s.hash_block step) in
+    let size : length after ≡ s.hash_block = len ∙ ap length chunk ∙ length-take-le s.hash_block (drop (m * s.hash_block) store) (omega (arith, length-drop (m * s.hash_block) store, fits)) in
+    record {
+      stands = λ _. AreOpen-kept s blocks i m levels a k store after digest some more inside
+          (omega (arith, kept.room, ap (λ (n : ℕ). n % fan s) place)) room from wide size
+          (kept.filled (risen s blocks m) next ∙ ap (filling s (digests_under s blocks m)) place) h;
+      root_is = λ same. absurd (apart same);
+    }
+
+-- past the last level
+pub carry-all : (s : Settings) (blocks : List (List ℕ)) (i levels : ℕ) (store digest : List ℕ) → 2 ≤ fan s → i < length blocks
+    → levels ≡ level_count (fan s) (length blocks) → IsCarrying s blocks (climb i levels levels) store digest → IsCarriedOn s blocks i levels store digest
+carry-all s blocks i levels store digest two below many h =
+    let done = carried-root s blocks i levels store digest two below many h in
+    record {
+      stands = λ more. absurd (omega (arith, more, done.0));
+      root_is = λ _. done.1;
+    }
+
+-- a slot before the last
+pub slots-left : (s : Settings) (q f : ℕ) → f ≡ fan s → q % f + 1 < f → q % fan s + 1 < fan s
+slots-left s q f e room = subst (λ (n : ℕ). q % n + 1 < n) e room
+
+-- at level 0 the place is the data block's number
+pub place-first : (i f : ℕ) → i ≡ i / f ^ 0
+place-first i f =
+    let e : i / f ^ 0 ≡ i / 1 = ap (λ (n : ℕ). i / n) (pow-zero f) in
+    omega (arith, e)

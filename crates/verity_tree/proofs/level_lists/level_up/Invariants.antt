@@ -1,8 +1,0 @@
-use Rattle.std.proofs.Common.{◌≡◌, map}
-use Rattle.std.specs.List.{range_with_len}
-use Rattle.verity_tree.specs.LevelDigests.{digest_of_run}
-use Rattle.verity_tree.proofs.level_lists.level_up.Given as goal
-
--- the digests of the runs so far
-abbrev pub invariant-loop-j : goal.invariant-loop-j
-invariant-loop-j l = l.above.items ≡ map (digest_of_run l.settings l.digests) (range_with_len 0 l.j)

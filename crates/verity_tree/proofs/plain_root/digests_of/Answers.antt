@@ -1,0 +1,34 @@
+-- Each block gives its digest, and the blocks end where the bytes do.
+use Rattle.std.proofs.Common.{◌≡◌, ℕ, List, map, arith, sym, ◌∙◌, ap, length}
+use Rattle.std.proofs.lemmas.List.{take_all}
+use Rattle.std.specs.List.{range_with_len}
+use Rattle.std.specs.Int.{div_ceil}
+use Rattle.std.specs.Fork.{slice_chunk}
+use Rattle.verity_hash.specs.Bytes.{filled}
+use Rattle.verity_plan.specs.Settings.{hash}
+use Rattle.verity_tree.specs.Levels.{block_at}
+use Rattle.verity_tree.specs.Steps.PlainRoots.{digest_of_block}
+use Rattle.verity_tree.proofs.LevelLemmas.{map-hash-cut, take-bytes, mapped_more}
+use Rattle.verity_tree.proofs.plain_root.digests_of.Goals as goal
+
+pub loop-i-preserved : goal.loop-i-preserved
+loop-i-preserved c =
+    let settings = c.args.settings.now in
+    let bytes = c.args.bytes.now in
+    let run = take-bytes bytes c.loop-i.i c.data_block-size.result c.min-count.result settings.data_block c.data_block-size.ensures.value c.min-count.ensures in
+    let block = c.deref.ensures.value ∙ c.in_ok-block.ensures ∙ ap (filled c.data_block-size.result) run
+    ∙ ap (λ (n : ℕ). filled n (slice_chunk bytes settings.data_block c.loop-i.i)) c.data_block-size.ensures.value
+    ∙ ap (λ (xs : List ℕ). block_at settings.data_block xs c.loop-i.i) (sym (take_all (length bytes) bytes (omega arith))) in
+    mapped_more (digest_of_block settings (length bytes) bytes) c.loop-i.digests.items _ c.loop-i.i c.hash.result
+    c.in_ok-push.ensures.items c.loop-i.invariant (c.hash.ensures ∙ ap (hash settings) block)
+
+pub returns : goal.returns
+returns c =
+    let settings = c.args.settings.now in
+    let bytes = c.args.bytes.now in
+    let count = div_ceil (length bytes) settings.data_block in
+    let same : c.div_ceil-i-end.result ≡ count = c.div_ceil-i-end.ensures ∙ ap (λ (n : ℕ). div_ceil (length bytes) n) c.data_block-size.ensures.value in
+    let last : c.loop-i.i ≡ count = omega (arith, same, c.loop-i.auto.i-end, c.loop-i-test.false) in
+    c.loop-i.invariant
+    ∙ ap (λ (n : ℕ). map (digest_of_block settings (length bytes) bytes) (range_with_len 0 n)) last
+    ∙ sym (map-hash-cut settings count (length bytes) bytes)

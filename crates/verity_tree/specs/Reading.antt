@@ -1,0 +1,34 @@
+-- How much of a source a pass over the data reads: data blocks from the first on, each once.
+use Rattle.std.specs.Prelude.{◌≡◌, ℕ, ◌+◌, ◌*◌, ◌<◌, ◌≤◌, min, List, [], length, Contains}
+use Rattle.verity_io.specs.Reading.{HasRead}
+use Rattle.verity_plan.specs.Plans.{Planned}
+use Rattle.verity_plan.specs.Settings.{fan}
+use Rattle.verity_tree.specs.ClosingOrder.{closing}
+use Rattle.verity_tree.specs.Levels.{whole}
+
+-- the bytes of i data blocks, or all that are wanted
+abbrev pub bytes_of : Planned → ℕ → ℕ
+bytes_of p i = min (i * p.settings.data_block) p.wanted
+
+-- a source that ended within data block i: it held i whole blocks, and all its bytes were read
+pub record EndsWithin (p : Planned) (i : ℕ) (before after : List ℕ) : Type 0 where
+  pub below : i < p.blocks
+  pub whole_is : i ≡ whole p before
+  pub enough : bytes_of p i ≤ length before
+  pub short : length before < bytes_of p (i + 1)
+  pub rest : after ≡ []
+
+-- a source that failed within data block i
+pub record FailsWithin (p : Planned) (i : ℕ) (before after : List ℕ) : Type 0 where
+  pub below : i < p.blocks
+  pub count : ℕ
+  pub from : bytes_of p i ≤ count
+  pub to : count < bytes_of p (i + 1)
+  pub read : HasRead count before after
+
+-- a source of which the data blocks were read with which a hash block closes, and no more
+pub record ReadsUpTo (p : Planned) (level block : ℕ) (before after : List ℕ) : Type 0 where
+  pub i : ℕ
+  pub below : i < p.blocks
+  pub here : Contains (closing (fan p.settings) p.blocks (i + 1)) (level, block)
+  pub read : HasRead (bytes_of p (i + 1)) before after

@@ -1,0 +1,44 @@
+-- How one data block is read from a source.
+-- For the private steps; not needed to read a public contract.
+use Rattle.std.specs.Prelude.{◌≡◌, ℕ, ◌<◌, ◌≤◌, Bool, true, false, List, [], ◌++◌, length, take, drop, Result, Ok, Err}
+use Rattle.verity_hash.specs.Bytes.{filled}
+use Rattle.verity_tree.specs.declared.data_block.BlockFault.{BlockFault}
+use Rattle.verity_tree.specs.declared.data_block.BlockFault.TheVariants.{Short, Failed}
+
+-- the next bytes, and zeros after them
+pub record HoldsBlock (want size : ℕ) (before after block : List ℕ) : Type 0 where
+  pub enough : want ≤ length before
+  pub bytes : block ≡ filled size (take want before)
+  pub rest : after ≡ drop want before
+
+-- the next bytes over the front of a block
+pub record HoldsFront (want : ℕ) (before after old new : List ℕ) : Type 0 where
+  pub enough : want ≤ length before
+  pub bytes : new ≡ take want before ++ drop want old
+  pub rest : after ≡ drop want before
+
+-- fewer bytes than were wanted were read
+pub record StopsWithin (want : ℕ) (before after : List ℕ) : Type 0 where
+  pub count : ℕ
+  pub less : count < want
+  pub within : count ≤ length before
+  pub rest : after ≡ drop count before
+
+-- a source ended before that, or failed
+abbrev pub StopsBy : BlockFault → ℕ → List ℕ → List ℕ → Type 0
+StopsBy Short want before after = (length before < want) × (after ≡ [])
+StopsBy Failed want before after = StopsWithin want before after
+
+abbrev pub ReadsFront : Result Unit BlockFault → ℕ → List ℕ → List ℕ → List ℕ → List ℕ → Type 0
+ReadsFront (Ok _) want before after old new = HoldsFront want before after old new
+ReadsFront (Err fault) want before after old new = StopsBy fault want before after
+
+abbrev pub ReadsBlock : Result Unit BlockFault → ℕ → ℕ → List ℕ → List ℕ → List ℕ → Type 0
+ReadsBlock (Ok _) want size before after block = HoldsBlock want size before after block
+ReadsBlock (Err fault) want size before after block = StopsBy fault want before after
+
+-- whether the source failed
+abbrev pub read_failed : {X : Type 0} → Result X BlockFault → Bool
+read_failed (Ok _) = false
+read_failed (Err Short) = false
+read_failed (Err Failed) = true

@@ -1,0 +1,122 @@
+//! One pass over the data, with one open block a level.
+ghost use Rattle.std.specs.Prelude.{◌≡◌, ℕ, ◌+◌, ◌*◌, ◌<◌, ◌≤◌, List, length, IfOk};
+ghost use Rattle.verity_io.specs.Counting.{Counts};
+ghost use Rattle.verity_io.specs.Reading.{HasRead};
+ghost use Rattle.verity_tree.specs.Reading.{bytes_of};
+ghost use Rattle.verity_tree.specs.Steps.DataBlocks.{read_failed};
+ghost use Rattle.verity_tree.specs.Steps.OpenBlocks.{AreOpen};
+ghost use Rattle.verity_tree.specs.Steps.OnePass.{Passes, PassesCompared, PassesImage, TakesDataBlock, device_failed, source_failed};
+ghost use Rattle.verity_plan.specs.Plans.{IsPlanned, Planned, levels_of, store_length_of};
+ghost use Rattle.verity_tree.specs.Levels.{data_blocks};
+ghost use Rattle.verity_plan.specs.Settings.{digest_len};
+ghost use Rattle.verity_tree.specs.declared.closed_block.Task.TheVariants.{Compare};
+
+use crate::cascade::{Stop, carry};
+use crate::closed_block::Task;
+use crate::data_block::{BlockFault, read_data_block};
+use verity_hash::Digest;
+use verity_io::{Device, Source};
+use verity_plan::Plan;
+
+/// Why a pass ends early; data blocks are counted from 0.
+#[derive(Clone, Copy, Debug, PartialEq, Eq)]
+pub(crate) enum PassFault {
+    /// The source ended before the end of this data block.
+    SourceShort(u64),
+    /// The source failed while this data block was read.
+    SourceFailed(u64),
+    /// A hash block stopped it.
+    Stopped(Stop),
+}
+
+/// Passes over the data once, in a store, and does with each hash block, as it closes, what the task says.
+pub(crate) fn pass<S: Source, D: Device>(
+    plan: &Plan,
+    task: Task,
+    store: &mut [u8],
+    source: &mut S,
+    device: &mut D,
+) -> Result<Digest, PassFault>
+    requires { length store.old ≡ store_length_of plan.now }
+    ensures planned { IsPlanned plan.now }
+    ensures size { IfOk result (λ root. length root ≡ digest_len plan.now.settings) }
+    ensures source_told { S.tells source.old → S.tells source.new }
+    ensures device_told { D.tells device.old → D.tells device.new }
+    ensures source_count { Counts (source_failed result) (S.failures source.old) (S.failures source.new) }
+    ensures device_count { Counts (device_failed task result) (D.failures device.old) (D.failures device.new) }
+    ensures stays { task ≡ Compare → D.tells device.old → D.content device.new ≡ D.content device.old }
+    ensures read { S.tells source.old → Passes plan.now result (S.to_come source.old) (S.to_come source.new) }
+    ensures stands { S.tells source.old → D.tells device.old
+        → PassesImage plan.now (data_blocks plan.now (S.to_come source.old)) result (D.content device.old) (D.content device.new) }
+    ensures compared { task ≡ Compare → S.tells source.old → D.tells device.old
+        → PassesCompared plan.now (S.to_come source.old) result (D.content device.old) (D.content device.new) }
+{
+    let (work, stored) = store.split_at_mut(store.len() - plan.hash_block());
+    pass_over(plan, task, work, stored, source, device)
+}
+
+/// The pass, with the open blocks and the data block in `work`, and a hash block to compare with in `stored`.
+fn pass_over<S: Source, D: Device>(
+    plan: &Plan,
+    task: Task,
+    work: &mut [u8],
+    stored: &mut [u8],
+    source: &mut S,
+    device: &mut D,
+) -> Result<Digest, PassFault>
+    requires room { levels_of plan.now * plan.now.settings.hash_block + plan.now.settings.data_block ≤ length work.old }
+    requires stored { length stored.old ≡ plan.now.settings.hash_block }
+    ensures planned { IsPlanned plan.now }
+    ensures size { IfOk result (λ root. length root ≡ digest_len plan.now.settings) }
+    ensures source_told { S.tells source.old → S.tells source.new }
+    ensures device_told { D.tells device.old → D.tells device.new }
+    ensures source_count { Counts (source_failed result) (S.failures source.old) (S.failures source.new) }
+    ensures device_count { Counts (device_failed task result) (D.failures device.old) (D.failures device.new) }
+    ensures stays { task ≡ Compare → D.tells device.old → D.content device.new ≡ D.content device.old }
+    ensures read { S.tells source.old → Passes plan.now result (S.to_come source.old) (S.to_come source.new) }
+    ensures stands { S.tells source.old → D.tells device.old
+        → PassesImage plan.now (data_blocks plan.now (S.to_come source.old)) result (D.content device.old) (D.content device.new) }
+    ensures compared { task ≡ Compare → S.tells source.old → D.tells device.old
+        → PassesCompared plan.now (S.to_come source.old) result (D.content device.old) (D.content device.new) }
+{
+    work.fill(0);
+    let mut root = Digest::zeros(plan.settings().algorithm());
+    for i in 0..plan.blocks() {
+        let digest = match take_data_block(plan, work, i, source) {
+            Ok(digest) => digest,
+            Err(BlockFault::Short) => return Err(PassFault::SourceShort(i)),
+            Err(BlockFault::Failed) => return Err(PassFault::SourceFailed(i)),
+        };
+        root = match carry(plan, task, work, stored, i, digest, device) {
+            Ok(above) => above,
+            Err(stop) => return Err(PassFault::Stopped(stop)),
+        };
+    }
+    Ok(root)
+}
+
+/// Reads data block `i` into the work space, after the open blocks, and hashes it there.
+fn take_data_block<S: Source>(
+    plan: &Plan,
+    work: &mut [u8],
+    i: u64,
+    source: &mut S,
+) -> Result<Digest, BlockFault>
+    requires room { levels_of plan.now * plan.now.settings.hash_block + plan.now.settings.data_block ≤ length work.old }
+    requires below { i < plan.now.blocks }
+    ensures size { IfOk result (λ digest. length digest ≡ digest_len plan.now.settings) }
+    ensures told { S.tells source.old → S.tells source.new }
+    ensures count { Counts (read_failed result) (S.failures source.old) (S.failures source.new) }
+    ensures opened { (blocks : List (List ℕ)) → AreOpen plan.now.settings blocks 0 (levels_of plan.now) i work.old
+        → AreOpen plan.now.settings blocks 0 (levels_of plan.now) i work.new }
+    ensures taken { S.tells source.old → (bytes : List ℕ) → HasRead (bytes_of plan.now i) bytes (S.to_come source.old)
+        → TakesDataBlock plan.now i bytes result (S.to_come source.new) }
+{
+    let size = plan.data_block();
+    let from = plan.levels() * plan.hash_block();
+    let want = (size as u64).min(plan.wanted() - i * size as u64) as usize;
+    match read_data_block(source, &mut work[from..from + size], want) {
+        Ok(()) => Ok(plan.hash(&work[from..from + size])),
+        Err(fault) => Err(fault),
+    }
+}
