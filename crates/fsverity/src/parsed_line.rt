@@ -2,6 +2,7 @@
 ghost use Rattle.std.specs.Prelude.{◌≡◌, option_map, option_copied, string_bytes};
 
 use crate::DigestOptions;
+use command_line::text_of;
 
 /// What a command line of `fsverity digest` holds, as copies of its own.
 #[derive(Debug, Drop)]
@@ -28,14 +29,5 @@ impl Line {
             block_size: text_of(&self.block_size),
             salt: text_of(&self.salt),
         }
-    }
-}
-
-fn text_of(text: &Option<String>) -> Option<&str>
-    ensures { option_copied result ≡ option_map string_bytes text.now }
-{
-    match text {
-        Some(text) => Some(text.as_str()),
-        None => None,
     }
 }
