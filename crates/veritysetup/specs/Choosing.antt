@@ -2,7 +2,8 @@
 -- UUID, and then whether the data makes a plan. The order is this project's own.
 use Rattle.std.specs.Prelude.{ℕ, ◌/◌, Bool, true, List, Option, Some, None, Result, Ok, Err, if◌then◌else◌}
 use Rattle.verity_plan.specs.Settings.{rule_of, type_of_number}
-use Rattle.veritysetup.specs.Options.{Texts, number_or, algorithm_of, block_size_of, salt_or_random, uuid_or_random}
+use Rattle.command_line.specs.Options.{algorithm_or_default, number_or, or_fault}
+use Rattle.veritysetup.specs.Options.{Texts, block_size_of, salt_or_random, uuid_or_random}
 use Rattle.veritysetup.specs.declared.options.OptionName.TheVariants.{Format, DataBlockSize, HashBlockSize}
 use Rattle.veritysetup.specs.declared.options.OptionFault.{OptionFault}
 use Rattle.veritysetup.specs.declared.options.OptionFault.TheVariants.{BadNumber, UnknownHash, BadHashType, BadBlockSize, BadSalt, BadUuid, NoData, TooLarge, Overlap}
@@ -12,23 +13,18 @@ use Rattle.verity_plan.specs.declared.plan_fault.PlanFault.TheVariants as plan
 use Rattle.veritysetup.specs.Chosen.{Chosen, plan_at}
 use Rattle.veritysetup.specs.declared.parameters.Parameters.{Parameters}
 
--- what follows from a value that is needed, or the fault that there is none
-abbrev pub needed : {A B E : Type 0} → Option A → E → (A → Result B E) → Result B E
-needed (Some a) fault next = next a
-needed None fault next = Err fault
-
 -- what the texts choose for tree and superblock, which stands at the start of the hash device
 abbrev pub parameters : Texts → Option (List ℕ) → Result Parameters OptionFault
 parameters texts random =
-    needed (number_or 1 texts.format) (BadNumber Format) (λ format.
-    needed (number_or 4096 texts.data_block_size) (BadNumber DataBlockSize) (λ data_size.
-    needed (number_or 4096 texts.hash_block_size) (BadNumber HashBlockSize) (λ hash_size.
-    needed (algorithm_of texts.hash) UnknownHash (λ algorithm.
-    needed (type_of_number format) BadHashType (λ hash_type.
-    needed (block_size_of data_size) (BadBlockSize DataBlockSize) (λ data_block.
-    needed (block_size_of hash_size) (BadBlockSize HashBlockSize) (λ hash_block.
-    needed (salt_or_random texts.salt random) BadSalt (λ salt.
-    needed (uuid_or_random texts.uuid random) BadUuid (λ uuid.
+    or_fault (number_or 1 texts.format) (BadNumber Format) (λ format.
+    or_fault (number_or 4096 texts.data_block_size) (BadNumber DataBlockSize) (λ data_size.
+    or_fault (number_or 4096 texts.hash_block_size) (BadNumber HashBlockSize) (λ hash_size.
+    or_fault (algorithm_or_default texts.hash) UnknownHash (λ algorithm.
+    or_fault (type_of_number format) BadHashType (λ hash_type.
+    or_fault (block_size_of data_size) (BadBlockSize DataBlockSize) (λ data_block.
+    or_fault (block_size_of hash_size) (BadBlockSize HashBlockSize) (λ hash_block.
+    or_fault (salt_or_random texts.salt random) BadSalt (λ salt.
+    or_fault (uuid_or_random texts.uuid random) BadUuid (λ uuid.
     Ok (record {
       hash_type = hash_type;
       uuid = uuid;

@@ -6,7 +6,8 @@ use Rattle.verity_format.specs.Superblocks.{IsSuperblock}
 use Rattle.verity_io.specs.Counting.{Change, Counts}
 use Rattle.veritysetup.specs.Messages.{super_text, unread_superblock_text, memory_text, unwritten_output_text}
 use Rattle.veritysetup.specs.Outcomes.{Printed, status_of, message_of}
-use Rattle.veritysetup.specs.Printing.{Prints, GainsPrefix}
+use Rattle.command_line.specs.Printing.{AppendsFront}
+use Rattle.veritysetup.specs.Printing.{Prints}
 use Rattle.veritysetup.specs.Reports.{report_text, uuid_text}
 use Rattle.veritysetup.specs.StoredSuperblock.{header, ReadsSuperblock, is_unread}
 use Rattle.veritysetup.specs.declared.dump_run.DumpFault.{DumpFault}
@@ -54,5 +55,5 @@ pub record DumpRun (path : List ℕ) (status : ℕ) (device : Change) (texts : P
   pub outcome : Result (Unit {0}) DumpFault
   pub status_is : status ≡ status_of fault_status outcome
   pub printed : DumpsTo path device outcome texts.out_before texts.out_after
-  pub message : GainsPrefix (message_of fault_text outcome) texts.msgs_before texts.msgs_after
+  pub message : AppendsFront (message_of fault_text outcome) texts.msgs_before texts.msgs_after
   pub counted : Counts (device_failed outcome) device.failures_before device.failures_after

@@ -14,7 +14,8 @@ use Rattle.veritysetup.specs.Chosen.{Chosen}
 use Rattle.veritysetup.specs.Images.{image, superblock_for}
 use Rattle.veritysetup.specs.Messages.{build_text, memory_text, unwritten_output_text, unwritten_superblock_text}
 use Rattle.veritysetup.specs.Outcomes.{Printed, status_of, message_of}
-use Rattle.veritysetup.specs.Printing.{Prints, GainsPrefix}
+use Rattle.command_line.specs.Printing.{AppendsFront}
+use Rattle.veritysetup.specs.Printing.{Prints}
 use Rattle.veritysetup.specs.Reports.{report_text, uuid_text}
 use Rattle.veritysetup.specs.declared.format_run.FormatFault.{FormatFault}
 use Rattle.veritysetup.specs.declared.format_run.FormatFault.TheVariants.{Store, Build, Superblock, Report}
@@ -94,7 +95,7 @@ pub record FormatRun (c : Chosen) (path : List ℕ) (status : ℕ) (source devic
   pub root_hash : List ℕ
   pub root_is : source.told → root_hash ≡ root_above c source.before
   pub printed : PrintsReport (format_report c path root_hash) outcome texts.out_before texts.out_after
-  pub message : GainsPrefix (message_of fault_text outcome) texts.msgs_before texts.msgs_after
+  pub message : AppendsFront (message_of fault_text outcome) texts.msgs_before texts.msgs_after
   pub source_counted : Counts (source_failed outcome) source.failures_before source.failures_after
   pub device_counted : Counts (device_failed outcome) device.failures_before device.failures_after
 

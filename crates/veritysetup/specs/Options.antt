@@ -2,13 +2,9 @@
 use Rattle.std.specs.Prelude.{ℕ, Bool, List, [], replicate, take, drop, codes, Option, Some, None, option_map, if◌then◌else◌}
 use Rattle.std.specs.Str.{bytes_eq}
 use Rattle.uuid.specs.Text.{parsed}
-use Rattle.verity_hash.specs.Algorithms.{named}
-use Rattle.verity_hash.specs.declared.algorithm.Algorithm.{Algorithm}
-use Rattle.verity_hash.specs.declared.algorithm.Algorithm.TheVariants.{Sha256}
 use Rattle.verity_hash.specs.declared.salting.SaltRule.TheVariants.{Before}
 use Rattle.verity_plan.specs.Settings.{is_verity_block_size, most_salt}
-use Rattle.option_texts.specs.Numbers.{number_of}
-use Rattle.option_texts.specs.Salts.{salt_of}
+use Rattle.command_line.specs.Options.{salt_of}
 use Rattle.veritysetup.specs.Uuids.{random_uuid}
 use Rattle.veritysetup.specs.declared.options.RawOptions.{RawOptions}
 
@@ -32,16 +28,6 @@ texts_of raw = record {
   uuid = option_map (λ t. t.now) raw.uuid;
   same_file = raw.same_file;
 }
-
--- a number, or its default
-abbrev pub number_or : ℕ → Option (List ℕ) → Option ℕ
-number_or default None = Some default
-number_or default (Some text) = number_of text
-
--- an algorithm's name; by default sha256
-abbrev pub algorithm_of : Option (List ℕ) → Option Algorithm
-algorithm_of None = Some Sha256
-algorithm_of (Some name) = named name
 
 -- a block size of dm-verity
 abbrev pub block_size_of : ℕ → Option ℕ

@@ -12,7 +12,7 @@ use Rattle.verity_tree.specs.declared.comparing.CompareFault.TheVariants as faul
 use Rattle.veritysetup.specs.Chosen.{plan_at}
 use Rattle.veritysetup.specs.Messages.{compare_text, memory_text, super_text, too_large_text, unread_superblock_text}
 use Rattle.veritysetup.specs.Outcomes.{status_of, message_of}
-use Rattle.veritysetup.specs.Printing.{GainsPrefix}
+use Rattle.command_line.specs.Printing.{AppendsFront}
 use Rattle.veritysetup.specs.RootHash.{root_of}
 use Rattle.veritysetup.specs.StoredSuperblock.{ReadsSuperblock, header, is_unread}
 use Rattle.veritysetup.specs.declared.stored_superblock.StoredFault.TheVariants.{Unread, Refused}
@@ -144,6 +144,6 @@ pub record VerifyRun (input : VerifyInput) (status : ℕ) (source device : Chang
   pub outcome : Result (Unit {0}) VerifyFault
   pub status_is : status ≡ status_of fault_status outcome
   pub verdict : source.told → device.told → Verifies input device.before source.before source.after outcome
-  pub message : GainsPrefix (message_of fault_text outcome) msgs_before msgs_after
+  pub message : AppendsFront (message_of fault_text outcome) msgs_before msgs_after
   pub source_counted : Counts (source_failed outcome) source.failures_before source.failures_after
   pub device_counted : Counts (device_failed outcome) device.failures_before device.failures_after

@@ -3,11 +3,12 @@ ghost use Rattle.std.specs.Prelude.{◌≡◌};
 ghost use Rattle.verity_io.specs.Counting.{Counts, change};
 ghost use Rattle.veritysetup.specs.DumpRun.{DumpRun, DumpsTo, device_failed, fault_status, fault_text};
 ghost use Rattle.veritysetup.specs.Outcomes.{printed};
-ghost use Rattle.veritysetup.specs.Printing.{GainsPrefix};
+ghost use Rattle.command_line.specs.Printing.{AppendsFront};
 
 use crate::messages::{OUT_OF_MEMORY, OUTPUT_UNWRITTEN, SUPERBLOCK_UNREAD, super_message};
-use crate::printing::{PrintFault, print_report, tell, tell_text};
+use crate::printing::{PrintFault, print_report};
 use crate::stored_superblock::{StoredFault, stored_superblock};
+use command_line::{tell, tell_text};
 use std::alloc::Global;
 use std::io::Write;
 use verity_tree::Device;
@@ -36,7 +37,7 @@ impl DumpFault {
 
     /// Writes the message of the fault.
     fn tell<M: Write>(&self, alloc: Global, msgs: &mut M)
-        ensures { GainsPrefix (fault_text self.now) (M.contents msgs.old) (M.contents msgs.new) }
+        ensures { AppendsFront (fault_text self.now) (M.contents msgs.old) (M.contents msgs.new) }
     {
         match self {
             DumpFault::Superblock(StoredFault::Refused(fault)) => {

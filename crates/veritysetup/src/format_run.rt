@@ -7,11 +7,12 @@ ghost use Rattle.verity_tree.specs.Levels.{data_blocks};
 ghost use Rattle.veritysetup.specs.FormatRun.{FormatRun, IsFormatted, PrintsReport, Reads, Writes, device_failed, fault_status, fault_text, format_report, root_above, source_failed};
 ghost use Rattle.veritysetup.specs.Images.{with_superblock};
 ghost use Rattle.veritysetup.specs.Outcomes.{printed};
-ghost use Rattle.veritysetup.specs.Printing.{GainsPrefix};
+ghost use Rattle.command_line.specs.Printing.{AppendsFront};
 
 use crate::messages::{OUT_OF_MEMORY, OUTPUT_UNWRITTEN, SUPERBLOCK_UNWRITTEN, build_message};
-use crate::printing::{PrintFault, print_report, tell, tell_text};
+use crate::printing::{PrintFault, print_report};
 use crate::settings::Settings;
+use command_line::{tell, tell_text};
 use std::alloc::Global;
 use std::io::Write;
 use verity_format::write_superblock;
@@ -46,7 +47,7 @@ impl FormatFault {
 
     /// Writes the message of the fault.
     fn tell<M: Write>(&self, alloc: Global, msgs: &mut M)
-        ensures { GainsPrefix (fault_text self.now) (M.contents msgs.old) (M.contents msgs.new) }
+        ensures { AppendsFront (fault_text self.now) (M.contents msgs.old) (M.contents msgs.new) }
     {
         match self {
             FormatFault::Build(fault) => tell(build_message(alloc, fault), msgs),

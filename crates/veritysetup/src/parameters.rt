@@ -1,14 +1,14 @@
 //! What the texts of options choose, before the data is looked at.
 ghost use Rattle.std.specs.Prelude.{◌≡◌, IfOk, option_map};
-ghost use Rattle.veritysetup.specs.Options.{texts_of, number_or, algorithm_of, block_size_of, salt_or_random, uuid_or_random};
+ghost use Rattle.veritysetup.specs.Options.{texts_of, block_size_of, salt_or_random, uuid_or_random};
 ghost use Rattle.verity_plan.specs.Settings.{rule_of};
 ghost use Rattle.veritysetup.specs.Choosing.{parameters};
 
 use crate::options::{OptionFault, OptionName, RawOptions};
 use crate::uuids::{random_uuid, read_uuid};
-use option_texts::{read_number, read_salt};
+use command_line::{algorithm_or_default, number_or, read_salt};
 use uuid::Uuid;
-use verity_hash::{Algorithm, ShortBytes};
+use verity_hash::ShortBytes;
 use verity_plan::{MOST_SALT, is_verity_block_size};
 use verity_tree::{HashType, TreeSettings};
 
@@ -40,7 +40,7 @@ impl Parameters {
         let hash_size = number_or(4096, raw.hash_block_size).ok_or(OptionFault::BadNumber(
             OptionName::HashBlockSize,
         ))?;
-        let algorithm = algorithm_of(raw.hash).ok_or(OptionFault::UnknownHash)?;
+        let algorithm = algorithm_or_default(raw.hash).ok_or(OptionFault::UnknownHash)?;
         let hash_type = HashType::from_number(format).ok_or(OptionFault::BadHashType)?;
         let data_block = block_size_of(data_size).ok_or(OptionFault::BadBlockSize(
             OptionName::DataBlockSize,
@@ -65,26 +65,6 @@ impl Parameters {
             superblock: true,
             tree,
         })
-    }
-}
-
-/// The number of an option, its default where it is not given, or `None` where it is no number.
-fn number_or(default: u64, text: Option<&str>) -> Option<u64>
-    ensures { result ≡ number_or default (option_map (λ t. t.now) text.entry) }
-{
-    match text {
-        Some(text) => read_number(text),
-        None => Some(default),
-    }
-}
-
-/// The algorithm of a name, by default SHA-256.
-fn algorithm_of(name: Option<&str>) -> Option<Algorithm>
-    ensures { result ≡ algorithm_of (option_map (λ t. t.now) name.entry) }
-{
-    match name {
-        Some(name) => Algorithm::from_name(name.as_bytes()),
-        None => Some(Algorithm::Sha256),
     }
 }
 

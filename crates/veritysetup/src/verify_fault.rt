@@ -1,13 +1,13 @@
 //! Why verify stops, with its statuses and messages.
 ghost use Rattle.std.specs.Prelude.{◌≡◌};
-ghost use Rattle.veritysetup.specs.Printing.{GainsPrefix};
+ghost use Rattle.command_line.specs.Printing.{AppendsFront};
 ghost use Rattle.veritysetup.specs.VerifyRun.{compare_status, fault_status, fault_text, input_status, input_text};
 
 use crate::messages::{
     OUT_OF_MEMORY, SUPERBLOCK_UNREAD, TOO_LARGE, compare_message, super_message,
 };
-use crate::printing::{tell, tell_text};
 use crate::stored_superblock::StoredFault;
+use command_line::{tell, tell_text};
 use std::alloc::Global;
 use std::io::Write;
 use verity_tree::CompareFault;
@@ -49,7 +49,7 @@ impl InputFault {
 
     /// Writes the message of the fault.
     fn tell<M: Write>(&self, alloc: Global, msgs: &mut M)
-        ensures { GainsPrefix (input_text self.now) (M.contents msgs.old) (M.contents msgs.new) }
+        ensures { AppendsFront (input_text self.now) (M.contents msgs.old) (M.contents msgs.new) }
     {
         match self {
             InputFault::Superblock(StoredFault::Refused(fault)) => {
@@ -89,7 +89,7 @@ impl VerifyFault {
 
     /// Writes the message of the fault.
     pub fn tell<M: Write>(&self, alloc: Global, msgs: &mut M)
-        ensures { GainsPrefix (fault_text self.now) (M.contents msgs.old) (M.contents msgs.new) }
+        ensures { AppendsFront (fault_text self.now) (M.contents msgs.old) (M.contents msgs.new) }
     {
         match self {
             VerifyFault::Input(fault) => fault.tell(alloc, msgs),
