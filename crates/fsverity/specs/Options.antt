@@ -11,7 +11,8 @@ use Rattle.fsverity.specs.declared.option_fault.FsOptionFault.TheVariants.{Unkno
 
 -- a block size within the limits
 abbrev pub within_limits : Algorithm → ℕ → Option ℕ
-within_limits algorithm size = if is_block_size (least_block PaddedBefore (digest_len_of algorithm)) size then Some size else None
+within_limits algorithm size =
+    if is_block_size (least_block PaddedBefore (digest_len_of algorithm)) size then Some size else None
 
 -- the block size of a number
 abbrev pub block_size_of : Algorithm → Option (List ℕ) → Option ℕ
