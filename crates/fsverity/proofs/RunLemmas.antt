@@ -1,8 +1,8 @@
 -- A run over files, file after file.
-use Rattle.std.proofs.Common.{◌≡◌, ℕ, zero, suc, ◌+◌, ◌<◌, ◌≤◌, add-one, List, [], ◌∷◌, ◌++◌, length, take, map, Bool, true, false, get_or, inl, inr, Option, Some, Result, Ok, Err, IfErr, refl, sym, ◌∙◌, ap, subst, arith, append-nil, append_assoc}
+use Rattle.std.proofs.Common.{◌≡◌, ℕ, zero, suc, ◌+◌, ◌<◌, ◌≤◌, List, [], ◌∷◌, length, take, Bool, true, false, inl, inr, Option, Some, Result, Ok, Err, refl, sym, subst, arith}
 use Rattle.std.specs.Prelude.{◌↔◌, IsErr, slice_get}
 use Rattle.std.proofs.lemmas.Option.{get_or_from_slice_get}
-use Rattle.std.specs.List.{zip, flat_map, prefix_len}
+use Rattle.std.specs.List.{zip, prefix_len}
 use Rattle.std.specs.Io.KnownBytes.{Appends}
 use Rattle.command_line.proofs.Fronts.{appends_nothing, pieces_more}
 use Rattle.verity_format.proofs.KnownLemmas.{appends_twice}

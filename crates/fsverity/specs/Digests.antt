@@ -3,7 +3,6 @@
 use Rattle.std.specs.Prelude.{◌≡◌, ℕ, ◌+◌, ◌*◌, ◌/◌, ◌<◌, ◌≤◌, ◌==◌, ◌&&◌, min, Bool, true, false, not, List, [], length, replicate, Result, Ok, Err, MatchResult, is_ok, nat_lt, if◌then◌else◌}
 use Rattle.std.specs.Int.{div_ceil}
 use Rattle.verity_format.specs.Descriptors.{DescriptorFields, descriptor_text, digest_of_file}
-use Rattle.verity_hash.specs.declared.digest.Digest.{Digest}
 use Rattle.verity_io.specs.Reading.{HasRead}
 use Rattle.verity_tree.specs.Levels.{cut, root}
 use Rattle.verity_plan.specs.Plans.{plan_for_bytes}

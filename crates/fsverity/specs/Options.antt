@@ -1,6 +1,6 @@
 -- What the options of `fsverity digest` stand for (fsverity(1), "fsverity digest"; Linux kernel, fs-verity page,
 -- "FS_IOC_ENABLE_VERITY"): SHA-256, blocks of 4096 bytes and no salt where nothing is said.
-use Rattle.std.specs.Prelude.{ℕ, List, [], Option, Some, None, Result, Ok, Err, unwrap_or, option_and_then, if◌then◌else◌}
+use Rattle.std.specs.Prelude.{ℕ, List, [], Option, Some, None, Result, Ok, unwrap_or, option_and_then, if◌then◌else◌}
 use Rattle.verity_hash.specs.Algorithms.{digest_len_of}
 use Rattle.verity_hash.specs.declared.algorithm.Algorithm.{Algorithm}
 use Rattle.verity_hash.specs.declared.salting.SaltRule.TheVariants.{PaddedBefore}
