@@ -5,7 +5,8 @@ use Rattle.clap.specs.declared.builder.arg.Arg.{Arg}
 use Rattle.clap.specs.declared.builder.command.Command.{Command}
 use Rattle.command_line.specs.Arguments.{Defines}
 
-pub arg_added : (old new : Command) (arg : Arg) (a : App) (r : Rule) → Defines a old → rule_of arg ≡ r → arg.global ≡ false
+pub arg_added : (old new : Command) (arg : Arg) (a : App) (r : Rule) → Defines a old → rule_of arg ≡ r
+    → arg.global ≡ false
     → AddsArg old arg new → Defines (with_rule a r) new
 arg_added old new arg a r before rule local adds = record {
   app = adds.shape local ∙ ap₂ with_rule before.app rule;

@@ -1,4 +1,3 @@
 pub mod Fronts
 pub mod Chains
 pub mod Named
-pub mod Values

@@ -2,3 +2,4 @@ pub mod Options
 pub mod Arguments
 pub mod LineFaults
 pub mod Printing
+pub mod NullFiles

@@ -1,5 +1,5 @@
--- What the texts of options stand for, with the defaults of both programs (veritysetup(8); fsverity(1)). How a text writes
--- a number is this project's own, since both pages leave it open.
+-- What the texts of options stand for, with the defaults of both programs (veritysetup(8); fsverity(1)). How a text
+-- writes a number is this project's own, since both pages leave it open.
 use Rattle.std.specs.Prelude.{ℕ, ◌+◌, ◌-◌, ◌*◌, ◌/◌, ◌^◌, ◌&&◌, List, [], ◌∷◌, length, Option, Some, None, Result, Err, if◌then◌else◌, nat_le, nat_lt}
 use Rattle.std.specs.Result.{result_ok}
 use Rattle.std.specs.Str.{all_ascii_digits}
@@ -15,7 +15,9 @@ number (c ∷ cs) = (c - 48) * 10 ^ length cs + number cs
 
 -- one ASCII digit or more, leading zeros allowed, of a value below 2 ^ 64
 abbrev pub number_of : List ℕ → Option ℕ
-number_of text = if all_ascii_digits text && (nat_lt 0 (length text) && nat_lt (number text) (2 ^ 64)) then Some (number text) else None
+number_of text =
+    if all_ascii_digits text && (nat_lt 0 (length text) && nat_lt (number text) (2 ^ 64))
+    then Some (number text) else None
 
 -- a number, or its default
 abbrev pub number_or : ℕ → Option (List ℕ) → Option ℕ

@@ -14,7 +14,7 @@ pub fn option<'a>(alloc: Global, name: &'a str) -> Arg<'a>
     Arg::new(alloc, name).long(name).action(ArgAction::Set)
 }
 
-/// A word that has to be given, in its place among the words beside the options.
+/// A word that has to be given, in order among the words beside the options.
 pub fn word<'a>(alloc: Global, name: &'a str) -> Arg<'a>
     ensures rule { rule_of result ≡ word_rule name.entry.now }
     ensures local { result.global ≡ false }

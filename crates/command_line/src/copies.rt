@@ -25,7 +25,8 @@ pub fn copied_values(
     matches: &ArgMatches<'_>,
     name: &str,
 ) -> Result<Vec<String>, AllocError>
-    ensures { IfOk result (λ v. map string_bytes v.items ≡ unwrap_or (all_of name.now (rows_of (found_of matches.now))) []) }
+    ensures { IfOk result (λ v. map string_bytes v.items
+        ≡ unwrap_or (all_of name.now (rows_of (found_of matches.now))) []) }
 {
     match matches.get_strs(name) {
         Some(texts) => copies(alloc, texts),

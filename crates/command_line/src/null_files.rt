@@ -1,9 +1,12 @@
-//! The null device in the place of closed standard streams.
+//! The null device, opened for standard streams that may be closed.
+ghost use Rattle.std.specs.Prelude.{◌↔◌, IsTrue};
+ghost use Rattle.command_line.specs.NullFiles.{AreOpen};
+
 use std::fs::File;
 use std::rt::Files;
 
-/// The null device, opened once for each standard stream. A standard stream that is closed would else lend its number to
-/// a file that is opened later, and a message would be written into that file.
+/// The null device, opened once for each standard stream. A standard stream that is closed would else lend its number
+/// to a file that is opened later, and a message would be written into that file.
 #[derive(Drop)]
 pub struct NullFiles<F> {
     first: Option<F>,
@@ -22,7 +25,9 @@ impl<F> NullFiles<F> {
     }
 
     /// Whether each of the three could be opened.
-    pub fn are_open(&self) -> bool {
+    pub fn are_open(&self) -> bool
+        ensures { IsTrue result ↔ AreOpen self.now }
+    {
         self.first.is_some() && self.second.is_some() && self.third.is_some()
     }
 }

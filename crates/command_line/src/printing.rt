@@ -15,7 +15,8 @@ pub fn tell_text<W: Write>(text: &str, msgs: &mut W)
 
 /// Writes a message as far as the writer takes it, and nothing where there was no memory for it.
 pub fn tell<W: Write>(message: Result<String, AllocError>, msgs: &mut W)
-    ensures { (text : List ℕ) → IfOk message (λ s. string_bytes s ≡ text) → AppendsFront text (W.contents msgs.old) (W.contents msgs.new) }
+    ensures { (text : List ℕ) → IfOk message (λ s. string_bytes s ≡ text)
+        → AppendsFront text (W.contents msgs.old) (W.contents msgs.new) }
 {
     if let Ok(text) = message {
         tell_text(text.as_str(), msgs);

@@ -7,7 +7,8 @@ use Rattle.fsverity.specs.declared.parsed_line.Line.{Line}
 -- the command `digest`
 unfoldable pub digest_app : App
 digest_app = with_rule (with_rule (with_rule (with_rule (new_app (codes "digest"))
-    (option_rule (codes "hash-alg"))) (option_rule (codes "block-size"))) (option_rule (codes "salt"))) (words_rule (codes "files"))
+    (option_rule (codes "hash-alg"))) (option_rule (codes "block-size"))) (option_rule (codes "salt")))
+    (words_rule (codes "files"))
 
 -- the program
 unfoldable pub fsverity_app : App

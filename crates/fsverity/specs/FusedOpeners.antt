@@ -10,7 +10,7 @@ opener_within o = o.inner
 
 -- the number of the call that fails, from 1
 abbrev pub fused_call : {O : Type 0} → FusedOpener O → ℕ
-fused_call o = o.at
+fused_call o = o.call
 
 -- how many calls failed
 abbrev pub opener_failures : {O : Type 0} → FusedOpener O → ℕ
@@ -18,4 +18,4 @@ opener_failures o = o.failures
 
 -- a source that was not called yet, with this call to fail
 abbrev pub StartsFused : {T : Type 0} → ℕ → Fused T → Type 0
-StartsFused at source = (fused_at source ≡ at) × (fused_calls source ≡ 0)
+StartsFused call source = (fused_at source ≡ call) × (fused_calls source ≡ 0)

@@ -4,5 +4,6 @@ pub mod Messages
 pub mod Opening
 pub mod Digests
 pub mod Runs
+pub mod RunSteps
 pub mod CommandLines
 pub mod FusedOpeners

@@ -9,4 +9,5 @@ use Rattle.fsverity.specs.declared.digest_lines.Form.TheVariants.{Full}
 
 -- the line of a file digest
 abbrev pub line : Form → Algorithm → List ℕ → List ℕ → List ℕ
-line Full algorithm digest name = concat (name_of algorithm ∷ codes ":" ∷ encode_lower digest ∷ codes " " ∷ name ∷ codes "\n" ∷ [])
+line Full algorithm digest name =
+    concat (name_of algorithm ∷ codes ":" ∷ encode_lower digest ∷ codes " " ∷ name ∷ codes "\n" ∷ [])

@@ -1,9 +1,10 @@
--- The messages of `fsverity digest`, one line each. This project's own; numbers are decimal, and names stand as they are given.
+-- The messages of `fsverity digest`, one line each. This project's own; numbers are decimal, and names stand as they
+-- are given.
 use Rattle.std.specs.Prelude.{ℕ, List, [], ◌∷◌, codes}
 use Rattle.std.specs.List.{concat}
 use Rattle.std.specs.Fmt.{decimal}
-use Rattle.fsverity.specs.declared.fault.DigestFault.{DigestFault}
-use Rattle.fsverity.specs.declared.fault.DigestFault.TheVariants.{TooLarge, SourceShort, SourceFailed, Memory}
+use Rattle.fsverity.specs.declared.digest_fault.DigestFault.{DigestFault}
+use Rattle.fsverity.specs.declared.digest_fault.DigestFault.TheVariants.{TooLarge, SourceShort, SourceFailed, Memory}
 use Rattle.fsverity.specs.declared.option_fault.FsOptionFault.{FsOptionFault}
 use Rattle.fsverity.specs.declared.option_fault.FsOptionFault.TheVariants.{UnknownHash, BadBlockSize, BadSalt}
 
@@ -12,7 +13,8 @@ abbrev pub fault_text : DigestFault → List ℕ → List ℕ
 fault_text TooLarge name = concat (codes "fsverity: file is too large: " ∷ name ∷ codes ".\n" ∷ [])
 fault_text (SourceShort i) name =
     concat (codes "fsverity: file ends before the end of block " ∷ decimal i ∷ codes ": " ∷ name ∷ codes ".\n" ∷ [])
-fault_text (SourceFailed i) name = concat (codes "fsverity: cannot read block " ∷ decimal i ∷ codes ": " ∷ name ∷ codes ".\n" ∷ [])
+fault_text (SourceFailed i) name =
+    concat (codes "fsverity: cannot read block " ∷ decimal i ∷ codes ": " ∷ name ∷ codes ".\n" ∷ [])
 fault_text Memory name = codes "fsverity: out of memory.\n"
 
 -- why the options are refused

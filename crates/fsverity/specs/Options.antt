@@ -1,6 +1,6 @@
 -- What the options of `fsverity digest` stand for (fsverity(1), "fsverity digest"; Linux kernel, fs-verity page,
 -- "FS_IOC_ENABLE_VERITY"): SHA-256, blocks of 4096 bytes and no salt where nothing is said.
-use Rattle.std.specs.Prelude.{ℕ, List, [], Option, Some, None, Result, Ok, Err, unwrap_or, option_and_then, if◌then◌else◌}
+use Rattle.std.specs.Prelude.{ℕ, List, [], Option, Some, None, Result, Ok, unwrap_or, option_and_then, if◌then◌else◌}
 use Rattle.verity_hash.specs.Algorithms.{digest_len_of}
 use Rattle.verity_hash.specs.declared.algorithm.Algorithm.{Algorithm}
 use Rattle.verity_hash.specs.declared.salting.SaltRule.TheVariants.{PaddedBefore}
@@ -11,7 +11,8 @@ use Rattle.fsverity.specs.declared.option_fault.FsOptionFault.TheVariants.{Unkno
 
 -- a block size within the limits
 abbrev pub within_limits : Algorithm → ℕ → Option ℕ
-within_limits algorithm size = if is_block_size (least_block PaddedBefore (digest_len_of algorithm)) size then Some size else None
+within_limits algorithm size =
+    if is_block_size (least_block PaddedBefore (digest_len_of algorithm)) size then Some size else None
 
 -- the block size of a number
 abbrev pub block_size_of : Algorithm → Option (List ℕ) → Option ℕ

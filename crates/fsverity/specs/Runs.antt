@@ -1,16 +1,16 @@
 -- A run of `fsverity digest` over files, one after another (fsverity(1), "fsverity digest"): a line for each, up to the
 -- first that fails.
-use Rattle.std.specs.Prelude.{◌≡◌, ◌⊎◌, ℕ, ◌+◌, ◌<◌, ◌≤◌, Bool, false, true, not, List, [], ◌∷◌, ◌++◌, length, take, codes, Option, Some, None, slice_get, slice_index_or}
+use Rattle.std.specs.Prelude.{◌≡◌, ◌⊎◌, ℕ, ◌+◌, ◌<◌, ◌≤◌, Bool, false, not, List, [], ◌∷◌, ◌++◌, length, take, codes, Option, Some, None, slice_get, slice_index_or}
 use Rattle.std.specs.List.{concat, zip, flat_map, prefix_len}
 use Rattle.std.specs.Io.KnownBytes.{Appends}
 use Rattle.command_line.specs.Printing.{AppendsFront}
 use Rattle.verity_io.specs.Counting.{Rose}
 use Rattle.verity_plan.specs.Settings.{Settings}
-use Rattle.fsverity.specs.Digests.{IsFileDigest, file_digest_of, is_too_large}
+use Rattle.fsverity.specs.Digests.{file_digest_of, is_too_large}
 use Rattle.fsverity.specs.Lines.{line}
 use Rattle.fsverity.specs.Messages.{fault_text}
-use Rattle.fsverity.specs.declared.digesting.FileDigest.{FileDigest}
-use Rattle.fsverity.specs.declared.fault.DigestFault.TheVariants.{TooLarge, SourceShort, SourceFailed, Memory}
+use Rattle.fsverity.specs.Opening.{OpenerChange}
+use Rattle.fsverity.specs.declared.digest_fault.DigestFault.TheVariants.{TooLarge, SourceShort, SourceFailed, Memory}
 use Rattle.fsverity.specs.declared.digest_lines.Form.{Form}
 use Rattle.fsverity.specs.declared.run_fault.RunFault.{RunFault}
 use Rattle.fsverity.specs.declared.run_fault.RunFault.TheVariants.{NotOpened, Digest, NotWritten}
@@ -39,66 +39,45 @@ run_fault_text NotOpened name = concat (codes "fsverity: cannot open " ∷ name 
 run_fault_text (Digest fault) name = fault_text fault name
 run_fault_text NotWritten name = codes "fsverity: cannot write output.\n"
 
--- the file has no digest
-abbrev pub IsRefused : Settings → List (Option (List ℕ)) → ℕ → Type 0
-IsRefused s files f = (file : Option (List ℕ)) × (slice_get files f ≡ Some file) × (has_digest s file ≡ false)
+-- why a run ends at file f: it is absent, or a count rose; it is too large; it was short, which a told file isn't; out
+-- of memory, or the writer failed
+abbrev pub HasReason : Type 0 → OpenerChange → ℕ → RunFault → Type 0
+HasReason refused opener f NotOpened =
+    (opener.told × (slice_get opener.files f ≡ Some None) × refused) ⊎ Rose opener.failures_before opener.failures_after
+HasReason refused opener f (Digest TooLarge) = opener.told → refused
+HasReason refused opener f (Digest (SourceShort i)) = opener.told → ⊥
+HasReason refused opener f (Digest (SourceFailed i)) = Rose opener.failures_before opener.failures_after
+HasReason refused opener f (Digest Memory) = Unit {0}
+HasReason refused opener f NotWritten = Unit {0}
 
--- why a run ends at file f: it is absent, or a count rose; it is too large; it was short, which a told file isn't; memory
--- or the writer failed
-abbrev pub HasReason : Type 0 → Type 0 → List (Option (List ℕ)) → ℕ → ℕ → ℕ → RunFault → Type 0
-HasReason tells refused files f before after NotOpened = (tells × (slice_get files f ≡ Some None) × refused) ⊎ Rose before after
-HasReason tells refused files f before after (Digest TooLarge) = tells → refused
-HasReason tells refused files f before after (Digest (SourceShort i)) = tells → ⊥
-HasReason tells refused files f before after (Digest (SourceFailed i)) = Rose before after
-HasReason tells refused files f before after (Digest Memory) = Unit {0}
-HasReason tells refused files f before after NotWritten = Unit {0}
-
--- what stands of the file's line: a front where it could not be written, and else nothing
+-- what stands of the file's line: its first bytes where it could not be written, and else nothing
 abbrev pub StandsOf : List ℕ → List ℕ → RunFault → Type 0
 StandsOf whole part NotOpened = part ≡ []
 StandsOf whole part (Digest fault) = part ≡ []
 StandsOf whole part NotWritten = (k : ℕ) × (part ≡ take k whole)
 
+-- what a run is given beside its files: the settings, the form of the lines, and the files' names
+pub record Run : Type 0 where
+  pub settings : Settings
+  pub form : Form
+  pub names : List (List ℕ)
+
 -- the lines of all files before f, and what stands of f's own
-pub record WritesUpTo (s : Settings) (form : Form) (names : List (List ℕ)) (files : List (Option (List ℕ))) (f : ℕ) (fault : RunFault)
+pub record WritesUpTo (run : Run) (files : List (Option (List ℕ))) (f : ℕ) (fault : RunFault)
     (old new : Option (List ℕ)) : Type 0 where
   pub file : Option (List ℕ)
   pub is : slice_get files f ≡ Some file
   pub part : List ℕ
-  pub stands : StandsOf (file_line s form (slice_index_or names f []) file) part fault
-  pub written : Appends old new (lines s form (take f (zip names files)) ++ part)
+  pub stands : StandsOf (file_line run.settings run.form (slice_index_or run.names f []) file) part fault
+  pub written : Appends old new (lines run.settings run.form (take f (zip run.names files)) ++ part)
 
--- a run ended at file f, the next place is behind it, and no file before it is absent or too large
-pub record EndsAt (tells : Type 0) (s : Settings) (form : Form) (names : List (List ℕ)) (files : List (Option (List ℕ)))
-    (next before after : ℕ) (out out' msgs msgs' : Option (List ℕ)) : Type 0 where
+-- a run ended at file f, the next one is after it, and no file before it is absent or too large
+pub record EndsAt (run : Run) (opener : OpenerChange) (out out' msgs msgs' : Option (List ℕ)) : Type 0 where
   pub f : ℕ
   pub fault : RunFault
-  pub has_name : f < length names
-  pub is_next : next ≡ f + 1
-  pub within : tells → f ≤ stop s files
-  pub reason : HasReason tells (stop s files ≡ f) files f before after fault
-  pub message : AppendsFront (run_fault_text fault (slice_index_or names f [])) msgs msgs'
-  pub written : tells → WritesUpTo s form names files f fault out out'
-
--- the digest of the file at a place, which has one
-pub record IsDigestAt (s : Settings) (files : List (Option (List ℕ))) (f : ℕ) (made : FileDigest) : Type 0 where
-  pub bytes : List ℕ
-  pub is : slice_get files f ≡ Some (Some bytes)
-  pub fits : has_digest s (Some bytes) ≡ true
-  pub made_of : IsFileDigest s (length bytes) bytes made
-
--- the line of the file at a place, which has a digest, was written
-pub record WritesLine (s : Settings) (form : Form) (name : List ℕ) (files : List (Option (List ℕ))) (f : ℕ) (old new : Option (List ℕ)) : Type 0 where
-  pub file : Option (List ℕ)
-  pub is : slice_get files f ≡ Some file
-  pub fits : has_digest s file ≡ true
-  pub written : Appends old new (file_line s form name file)
-
--- the line of the file at a place was not written, or a front of it
-pub record WritesPart (s : Settings) (form : Form) (name : List ℕ) (files : List (Option (List ℕ))) (f : ℕ) (fault : RunFault)
-    (old new : Option (List ℕ)) : Type 0 where
-  pub file : Option (List ℕ)
-  pub is : slice_get files f ≡ Some file
-  pub part : List ℕ
-  pub stands : StandsOf (file_line s form name file) part fault
-  pub written : Appends old new part
+  pub has_name : f < length run.names
+  pub is_next : opener.next_after ≡ f + 1
+  pub within : opener.told → f ≤ stop run.settings opener.files
+  pub reason : HasReason (stop run.settings opener.files ≡ f) opener f fault
+  pub message : AppendsFront (run_fault_text fault (slice_index_or run.names f [])) msgs msgs'
+  pub written : opener.told → WritesUpTo run opener.files f fault out out'

@@ -12,8 +12,8 @@ pub enum Form {
     Full,
 }
 
-/// The line of a file digest, with its newline: hexadecimal digits are in lower case, and the name stands as it is given.
-/// The error is want of memory.
+/// The line of a file digest, with its newline: hexadecimal digits are in lower case, and the name stands as it is
+/// given. The error is out of memory.
 pub fn digest_line(
     alloc: Global,
     form: Form,

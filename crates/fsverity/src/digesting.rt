@@ -1,7 +1,7 @@
 //! The digest of a file.
 ghost use Rattle.std.specs.Prelude.{◌≡◌, ◌↔◌, ◌<◌, ℕ, length, IsTrue, IsOk, IfOk, IfErr, Result};
 ghost use Rattle.verity_hash.specs.declared.salting.SaltRule.TheVariants.{PaddedBefore};
-ghost use Rattle.fsverity.specs.declared.fault.DigestFault.TheVariants.{TooLarge};
+ghost use Rattle.fsverity.specs.declared.digest_fault.DigestFault.TheVariants.{TooLarge};
 
 use crate::DigestFault;
 use std::alloc::Global;
@@ -19,12 +19,14 @@ pub struct FileDigest {
 }
 
 ghost use Rattle.verity_plan.specs.Settings.{digest_len};
-ghost use Rattle.fsverity.specs.Digests.{Digests, CountsReads, ComesFirst, IsDescribedBy, Roots, is_too_large};
+ghost use Rattle.verity_io.specs.Counting.{Counts};
+ghost use Rattle.fsverity.specs.Digests.{Digests, ComesFirst, IsDescribedBy, is_too_large, source_failed};
+ghost use Rattle.fsverity.specs.RunSteps.{Roots};
 
-/// The digest of the first `size` bytes of a source, which are read once: the hash of the file's descriptor (Linux kernel,
-/// fs-verity page, "File digest computation").
+/// The digest of the first `size` bytes of a source, which are read once: the hash of the file's descriptor (Linux
+/// kernel, fs-verity page, "File digest computation").
 ///
-/// `TooLarge` where there is data and no plan for it; this and want of memory come before any read. `SourceShort` where
+/// `TooLarge` where there is data and no plan for it; this and out of memory come before any read. `SourceShort` where
 /// the source holds fewer bytes, `SourceFailed` where a read fails. An empty file takes no memory and isn't read.
 pub fn digest_file<S: Source>(
     alloc: Global,
@@ -37,8 +39,9 @@ pub fn digest_file<S: Source>(
     ensures too_large { (result ≡ Err TooLarge) ↔ IsTrue (is_too_large settings.now size) }
     ensures first { IfErr result (λ fault. ComesFirst fault → source.new ≡ source.old) }
     ensures empty { size ≡ 0 → IsOk result × (source.new ≡ source.old) }
-    ensures count { CountsReads result (S.failures source.old) (S.failures source.new) }
-    ensures bytes { S.tells source.old → Digests settings.now size result (S.to_come source.old) (S.to_come source.new) }
+    ensures count { Counts (source_failed result) (S.failures source.old) (S.failures source.new) }
+    ensures bytes { S.tells source.old
+        → Digests settings.now size result (S.to_come source.old) (S.to_come source.new) }
 {
     let root = if size == 0 {
         Digest::zeros(settings.algorithm())
@@ -60,7 +63,7 @@ fn root_of<S: Source>(
     ensures too_large { (result ≡ Err TooLarge) ↔ IsTrue (is_too_large settings.now size) }
     ensures first { IfErr result (λ fault. ComesFirst fault → source.new ≡ source.old) }
     ensures length { IfOk result (λ root. length root ≡ digest_len settings.now) }
-    ensures count { CountsReads result (S.failures source.old) (S.failures source.new) }
+    ensures count { Counts (source_failed result) (S.failures source.old) (S.failures source.new) }
     ensures bytes { S.tells source.old → Roots settings.now size result (S.to_come source.old) (S.to_come source.new) }
 {
     let plan = match Plan::for_bytes(settings, size, 0) {

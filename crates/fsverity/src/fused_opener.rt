@@ -1,9 +1,9 @@
 //! An opener each of whose sources fails one call.
-ghost use Rattle.std.specs.Prelude.{◌≡◌, ◌≤◌, ◌+◌, ◌-◌, ◌^◌, ◌<◌, ◌↔◌, ℕ, List, Option, length, min, IfOk, OnErr};
+ghost use Rattle.std.specs.Prelude.{◌≡◌, ◌≤◌, ◌+◌, ◌<◌, min, IfOk, OnErr};
 ghost use Rattle.verity_io.specs.Counting.{last_count};
-ghost use Rattle.verity_io.specs.Fusing.{fused_at, fused_calls, fused_failures, fused_inner};
-ghost use Rattle.fsverity.specs.FusedOpeners.{fused_call, opener_within, opener_failures, StartsFused};
-ghost use Rattle.fsverity.specs.Opening.{IsSuch, CountsOpening, FailsFor};
+ghost use Rattle.verity_io.specs.Fusing.{fused_failures, fused_inner};
+ghost use Rattle.fsverity.specs.FusedOpeners.{fused_call, opener_failures, opener_within, StartsFused};
+ghost use Rattle.fsverity.specs.Opening.{CountsOpening, FailsFor, IsSuch, SameFiles};
 
 use crate::opener::Opener;
 use verity_tree::{Failed, Fused};
@@ -12,20 +12,20 @@ use verity_tree::{Failed, Fused};
 #[derive(Drop)]
 pub struct FusedOpener<O> {
     inner: O,
-    at: u64,
+    call: u64,
     failures: u64,
 }
 
 impl<O: Opener> FusedOpener<O> {
     /// Fails the call of this number of each source, counted from 1, and none for 0.
-    pub fn new(inner: O, at: u64) -> Self
+    pub fn new(inner: O, call: u64) -> Self
         ensures within { opener_within result ≡ inner }
-        ensures at { fused_call result ≡ at }
+        ensures call { fused_call result ≡ call }
         ensures failures { opener_failures result ≡ 0 }
     {
         FusedOpener {
             inner,
-            at,
+            call,
             failures: 0,
         }
     }
@@ -49,23 +49,21 @@ impl<O: Opener> Opener for FusedOpener<O> {
     fn start(&mut self) -> Result<(u64, Fused<O::Stream>), Failed>
         requires { O.next (opener_within self.old) < O.count (opener_within self.old) }
         ensures next { O.next (opener_within self.new) ≡ O.next (opener_within self.old) + 1 }
-        ensures count { O.count (opener_within self.new) ≡ O.count (opener_within self.old) }
-        ensures told { O.tells (opener_within self.old) ↔ O.tells (opener_within self.new) }
-        ensures files { O.files (opener_within self.new) ≡ O.files (opener_within self.old) }
+        ensures same { SameFiles O.tells O.files O.count (opener_within self.old) (opener_within self.new) }
         ensures fresh { IfOk result (λ opened. fused_failures opened.1 ≡ 0) }
         ensures ok { O.tells (opener_within self.old) → IfOk result (λ opened.
-            O.Stream.tells (fused_inner opened.1) × IsSuch (O.files (opener_within self.old)) (O.next (opener_within self.old)) opened.0
-            (O.Stream.to_come (fused_inner opened.1))) }
+            O.Stream.tells (fused_inner opened.1) × IsSuch (O.files (opener_within self.old))
+            (O.next (opener_within self.old)) opened.0 (O.Stream.to_come (fused_inner opened.1))) }
         ensures failures { CountsOpening (opener_failures self.old) (opener_failures self.new) result }
-        ensures failed { OnErr result (FailsFor (O.tells (opener_within self.old)) (O.files (opener_within self.old)) (O.next (opener_within self.old))
-            (opener_failures self.old) (opener_failures self.new)) }
+        ensures failed { OnErr result (FailsFor (O.tells (opener_within self.old)) (O.files (opener_within self.old))
+            (O.next (opener_within self.old)) (opener_failures self.old) (opener_failures self.new)) }
 
-        // Each source has its fuse, and no call behind it.
+        // Each source has its fuse, and was not called yet.
         ensures fused { IfOk result (λ opened. StartsFused (fused_call self.old) opened.1) }
-        ensures same { fused_call self.new ≡ fused_call self.old }
+        ensures call { fused_call self.new ≡ fused_call self.old }
     {
         match self.inner.start() {
-            Ok((length, stream)) => Ok((length, Fused::new(stream, self.at))),
+            Ok((length, stream)) => Ok((length, Fused::new(stream, self.call))),
             Err(Failed) => {
                 self.failures = self.failures.saturating_add(1);
                 Err(Failed)
@@ -75,12 +73,11 @@ impl<O: Opener> Opener for FusedOpener<O> {
 
     fn end(&mut self, stream: Fused<O::Stream>)
         ensures next { O.next (opener_within self.new) ≡ O.next (opener_within self.old) }
-        ensures count { O.count (opener_within self.new) ≡ O.count (opener_within self.old) }
-        ensures told { O.tells (opener_within self.old) ↔ O.tells (opener_within self.new) }
-        ensures files { O.files (opener_within self.new) ≡ O.files (opener_within self.old) }
-        ensures failures { opener_failures self.new ≡ min (opener_failures self.old + fused_failures stream) last_count }
+        ensures same { SameFiles O.tells O.files O.count (opener_within self.old) (opener_within self.new) }
+        ensures failures { opener_failures self.new
+            ≡ min (opener_failures self.old + fused_failures stream) last_count }
         ensures kept { opener_failures self.old ≤ opener_failures self.new }
-        ensures same { fused_call self.new ≡ fused_call self.old }
+        ensures call { fused_call self.new ≡ fused_call self.old }
     {
         let failures = stream.failures();
         self.inner.end(stream.into_inner());

@@ -1,9 +1,10 @@
-//! File digests of fs-verity, made without the kernel: the options, the digest of a file, its line, and a run over files.
+//! File digests of fs-verity, made without the kernel: the command line, the options, the digest of a file, its line,
+//! and a run over files.
 #![tactic(auto)]
 
+mod digest_fault;
 mod digest_lines;
 mod digesting;
-mod fault;
 mod file_opener;
 mod fused_opener;
 mod memory_opener;
@@ -16,9 +17,9 @@ mod running;
 mod words;
 
 pub use command_line::LineFault;
+pub use digest_fault::{DigestFault, digest_message};
 pub use digest_lines::{Form, digest_line};
 pub use digesting::{FileDigest, digest_file};
-pub use fault::{DigestFault, digest_message};
 pub use file_opener::FileOpener;
 pub use fused_opener::FusedOpener;
 pub use memory_opener::MemoryOpener;

@@ -19,8 +19,8 @@ pub struct DigestOptions<'a> {
     pub salt: Option<&'a str>,
 }
 
-/// The settings that the options stand for, or the first option that is refused: the algorithm, then the block size, then
-/// the salt (Linux kernel, fs-verity page, "FS_IOC_ENABLE_VERITY").
+/// The settings that the options stand for, or the first option that is refused: the algorithm, then the block size,
+/// then the salt (Linux kernel, fs-verity page, "FS_IOC_ENABLE_VERITY").
 pub fn digest_settings(options: &DigestOptions<'_>) -> Result<TreeSettings, FsOptionFault>
     ensures value { result ≡ fs_settings (option_copied options.now.hash_alg)
         (option_copied options.now.block_size) (option_copied options.now.salt) }

@@ -20,8 +20,8 @@ pub enum RunFault {
 }
 
 impl RunFault {
-    /// Writes the message of the fault at the file of this name, as far as memory and the writer take it. That a file can't
-    /// be opened is written without memory.
+    /// Writes the message of the fault at the file of this name, as far as memory and the writer take it. That a file
+    /// can't be opened is written without memory.
     pub(crate) fn tell<W: Write>(&self, alloc: Global, name: &str, msgs: &mut W)
         ensures { AppendsFront (run_fault_text self.now name.now) (W.contents msgs.old) (W.contents msgs.new) }
     {

@@ -1,9 +1,11 @@
 //! A run over files, one after another.
-ghost use Rattle.std.specs.Prelude.{◌≡◌, ◌⊎◌, ◌↔◌, ℕ, ◌+◌, ◌<◌, ◌≤◌, List, [], length, map, take, slice_index_or, IfOk, IfErr, OnOk};
+ghost use Rattle.std.specs.Prelude.{◌≡◌, ◌⊎◌, ◌+◌, ◌<◌, ◌≤◌, length, map, IfOk, IfErr};
 ghost use Rattle.std.specs.Io.KnownBytes.{Appends};
 ghost use Rattle.std.specs.List.{zip};
 ghost use Rattle.verity_hash.specs.declared.salting.SaltRule.TheVariants.{PaddedBefore};
-ghost use Rattle.fsverity.specs.Runs.{stop, lines, run_fault_text, IsRefused, HasReason, IsDigestAt, WritesLine, WritesPart, EndsAt};
+ghost use Rattle.fsverity.specs.Opening.{SameFiles, opener_change};
+ghost use Rattle.fsverity.specs.Runs.{EndsAt, lines, stop};
+ghost use Rattle.fsverity.specs.RunSteps.{IsDigestAt, StopsStep, WritesStep};
 
 use crate::{DigestFault, FileDigest, Form, Opener, RunFault, digest_file, digest_line};
 use std::alloc::Global;
@@ -20,14 +22,12 @@ fn digest_opened<O: Opener>(
     requires settings { settings.now.rule ≡ PaddedBefore }
     requires more { O.next opener.old < O.count opener.old }
     ensures next { O.next opener.new ≡ O.next opener.old + 1 }
-    ensures count { O.count opener.new ≡ O.count opener.old }
-    ensures told { O.tells opener.old ↔ O.tells opener.new }
-    ensures files { O.files opener.new ≡ O.files opener.old }
+    ensures same { SameFiles O.tells O.files O.count opener.old opener.new }
     ensures failures { O.failures opener.old ≤ O.failures opener.new }
-    ensures reason { IfErr result (HasReason (O.tells opener.old)
-        (IsRefused settings.now (O.files opener.old) (O.next opener.old)) (O.files opener.old) (O.next opener.old)
-        (O.failures opener.old) (O.failures opener.new)) }
-    ensures digest { O.tells opener.old → IfOk result (IsDigestAt settings.now (O.files opener.old) (O.next opener.old)) }
+    ensures reason { IfErr result (StopsStep settings.now
+        (opener_change O.tells O.files O.next O.failures opener.old opener.new)) }
+    ensures digest { O.tells opener.old
+        → IfOk result (IsDigestAt settings.now (O.files opener.old) (O.next opener.old)) }
 {
     match opener.start() {
         Err(_) => Err(RunFault::NotOpened),
@@ -54,17 +54,17 @@ fn digest_next<O: Opener, W: Write>(
     requires settings { settings.now.rule ≡ PaddedBefore }
     requires more { O.next opener.old < O.count opener.old }
     ensures next { O.next opener.new ≡ O.next opener.old + 1 }
-    ensures count { O.count opener.new ≡ O.count opener.old }
-    ensures told { O.tells opener.old ↔ O.tells opener.new }
-    ensures files { O.files opener.new ≡ O.files opener.old }
+    ensures same { SameFiles O.tells O.files O.count opener.old opener.new }
     ensures failures { O.failures opener.old ≤ O.failures opener.new }
-    ensures reason { IfErr result (HasReason (O.tells opener.old)
-        (IsRefused settings.now (O.files opener.old) (O.next opener.old)) (O.files opener.old) (O.next opener.old)
-        (O.failures opener.old) (O.failures opener.new)) }
-    ensures line { O.tells opener.old → OnOk result (WritesLine settings.now form name.now
-        (O.files opener.old) (O.next opener.old) (W.contents out.old) (W.contents out.new)) }
-    ensures part { O.tells opener.old → IfErr result (λ fault. WritesPart settings.now form name.now
-        (O.files opener.old) (O.next opener.old) fault (W.contents out.old) (W.contents out.new)) }
+    ensures reason { IfErr result (StopsStep settings.now
+        (opener_change O.tells O.files O.next O.failures opener.old opener.new)) }
+    ensures written { O.tells opener.old → WritesStep (record {
+      settings = settings.now;
+      form = form;
+      name = name.now;
+      files = O.files opener.old;
+      index = O.next opener.old;
+    }) result (W.contents out.old) (W.contents out.new) }
 {
     let made = digest_opened(alloc, settings, opener)?;
     match digest_line(alloc, form, settings.algorithm(), &made.digest, name) {
@@ -77,10 +77,12 @@ fn digest_next<O: Opener, W: Write>(
 }
 
 /// Writes the line of each file to `out`, in the order of their names. The status is 0 where all are written. The first
-/// file that fails ends the run with status 1: its message goes to `msgs`, the lines before it stand, and later files are
-/// not started. A line is made whole and then written. A fault of `msgs` changes nothing (fsverity(1), "fsverity digest").
+/// file that fails ends the run with status 1: its message goes to `msgs`, the lines before it stand, and later files
+/// are not started. A line is made whole and then written. A fault of `msgs` changes nothing (fsverity(1), "fsverity
+/// digest").
 ///
-/// The caller sees to settings of fs-verity, and to an opener of as many files as there are names, none of them started.
+/// The caller sees to settings of fs-verity, and to an opener of as many files as there are names, none of them
+/// started.
 pub fn run_digest<O: Opener, W: Write, M: Write>(
     alloc: Global,
     settings: &TreeSettings,
@@ -104,9 +106,9 @@ pub fn run_digest<O: Opener, W: Write, M: Write>(
         (lines settings.now form (zip (map (λ n. n.now) names.now) (O.files opener.old))) }
 
     // The run ended at one file, with its message.
-    ensures ended { result ≡ 1 → EndsAt (O.tells opener.old) settings.now form
-        (map (λ n. n.now) names.now) (O.files opener.old)
-        (O.next opener.new) (O.failures opener.old) (O.failures opener.new)
+    ensures ended { result ≡ 1 → EndsAt
+        (record { settings = settings.now; form = form; names = map (λ n. n.now) names.now })
+        (opener_change O.tells O.files O.next O.failures opener.old opener.new)
         (W.contents out.old) (W.contents out.new) (M.contents msgs.old) (M.contents msgs.new) }
 {
     for name in names {

@@ -39,9 +39,9 @@ fn line_of(alloc: Global, matches: &ArgMatches<'_>) -> Result<Line, AllocError>
     })
 }
 
-/// Reads the words of a command line, the program's name first: `fsverity digest`, its options, each once, and the names
-/// of the files (fsverity(1)). What clap refuses is `Refused`, with clap's text; the help flag and the help command are
-/// switched off. `Memory` is out of memory for the copies.
+/// Reads the words of a command line, the program's name first: `fsverity digest`, its options, each once, and the
+/// names of the files (fsverity(1)). What clap refuses is `Refused`, with clap's text; the help flag and the help
+/// command are switched off. `Memory` is out of memory for the copies.
 pub fn read_words(alloc: Global, words: &[&str]) -> Result<Line, LineFault>
     ensures holds { IfOk result (HoldsCommand (subcommand_of fsverity_app (map (λ w. w.now) words.now))) }
     ensures taken { takes fsverity_app (map (λ w. w.now) words.now) ≡ true → IfErr result IsMemory }

@@ -6,7 +6,7 @@ use std::fs::File;
 use verity_tree::FileDevice;
 use veritysetup::run_dump;
 
-/// Prints what the superblock of a hash device tells.
+/// Prints what the superblock of a hash device describes.
 pub fn run(rt: &HostRuntime, matches: &ArgMatches<'_>) -> u8 {
     let Some(hash) = matches.get_str(HASH) else {
         return messages::incomplete_line(rt);

@@ -4,4 +4,5 @@ use Rattle.std.specs.Io.KnownBytes.{Appends}
 use Rattle.command_line.proofs.printing.tell_pieces.Given as goal
 
 abbrev pub invariant-loop-piece : goal.invariant-loop-piece
-invariant-loop-piece g l = Appends (g.W.Write.contents l.fn.msgs) (g.W.Write.contents l.msgs) (flat_map (λ p. p.now) (take l.piece-index l.pieces))
+invariant-loop-piece g l =
+    Appends (g.W.Write.contents l.fn.msgs) (g.W.Write.contents l.msgs) (flat_map (λ p. p.now) (take l.piece-index l.pieces))

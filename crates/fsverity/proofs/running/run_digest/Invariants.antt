@@ -1,15 +1,14 @@
-use Rattle.std.proofs.Common.{◌≡◌, ◌≤◌, ◌↔◌, take, map}
+use Rattle.std.proofs.Common.{◌≡◌, ◌≤◌, take, map}
 use Rattle.std.specs.Io.KnownBytes.{Appends}
 use Rattle.std.specs.List.{zip}
+use Rattle.fsverity.specs.Opening.{SameFiles}
 use Rattle.fsverity.specs.Runs.{stop, lines}
 use Rattle.fsverity.proofs.running.run_digest.Given as goal
 
 abbrev pub invariant-loop-name : goal.invariant-loop-name
 invariant-loop-name g l = record {
   next : g.O.Opener.next l.opener ≡ l.name-index;
-  count : g.O.Opener.count l.opener ≡ g.O.Opener.count l.fn.opener;
-  told : g.O.Opener.tells l.fn.opener ↔ g.O.Opener.tells l.opener;
-  files : g.O.Opener.files l.opener ≡ g.O.Opener.files l.fn.opener;
+  same : SameFiles g.O.Opener.tells g.O.Opener.files g.O.Opener.count l.fn.opener l.opener;
   failures : g.O.Opener.failures l.fn.opener ≤ g.O.Opener.failures l.opener;
   quiet : l.msgs ≡ l.fn.msgs;
   within : g.O.Opener.tells l.fn.opener → l.name-index ≤ stop l.settings (g.O.Opener.files l.fn.opener);

@@ -8,7 +8,8 @@ use Rattle.fsverity.proofs.words.command.Goals as goal
 pub returns-clause-defined : goal.returns-clause-defined
 unfolding fsverity_app
 returns-clause-defined c =
-    IfOk-weaker c.subcommand.result _ _ (λ r h. subcommand_added _ _ r _ _ c.program.ensures c.in_ok-digest_command.ensures h) c.subcommand.ensures
+    IfOk-weaker c.subcommand.result _ _
+    (λ r h. subcommand_added _ _ r _ _ c.program.ensures c.in_ok-digest_command.ensures h) c.subcommand.ensures
 
 pub returns-clause-required : goal.returns-clause-required
 unfolding fsverity_app

@@ -9,8 +9,10 @@ use Rattle.fsverity.proofs.words.digest_command.Goals as goal
 pub returns : goal.returns
 unfolding digest_app
 returns c =
-    let none : Defines (new_app (codes "digest")) c.new.result = record { app = c.new.ensures.app; local = c.new.ensures.local } in
+    let none : Defines (new_app (codes "digest")) c.new.result
+    = record { app = c.new.ensures.app; local = c.new.ensures.local } in
     let one = arg_added _ _ _ _ _ none c.option.ensures.rule c.option.ensures.local c.in_ok-arg.ensures in
     let two = arg_added _ _ _ _ _ one c.option-2.ensures.rule c.option-2.ensures.local c.in_ok-arg-2.ensures in
     let three = arg_added _ _ _ _ _ two c.option-3.ensures.rule c.option-3.ensures.local c.in_ok-arg-3.ensures in
-    IfOk-weaker c.arg-4.result _ _ (λ r h. arg_added _ r _ _ _ three c.words.ensures.rule c.words.ensures.local h) c.arg-4.ensures
+    IfOk-weaker c.arg-4.result _ _ (λ r h. arg_added _ r _ _ _ three c.words.ensures.rule c.words.ensures.local h)
+    c.arg-4.ensures

@@ -17,7 +17,7 @@ pub enum DigestFault {
     Memory,
 }
 
-/// The message of a fault of the file of this name: one line, with its newline. The error is want of memory.
+/// The message of a fault of the file of this name: one line, with its newline. The error is out of memory.
 pub fn digest_message(alloc: Global, fault: &DigestFault, name: &str) -> Result<String, AllocError>
     ensures { IfOk result (λ text. string_bytes text ≡ fault_text fault.now name.now) }
 {
