@@ -6,6 +6,7 @@ pub mod Chosen
 pub mod Choosing
 pub mod Messages
 pub mod Reports
+pub mod ReportSteps
 pub mod Printing
 pub mod Outcomes
 pub mod StoredSuperblock

@@ -5,7 +5,7 @@ use Rattle.std.specs.List.{concat}
 use Rattle.hex.specs.Hex.{encode_lower}
 use Rattle.uuid.specs.Text.{hyphenated_text, lower}
 use Rattle.verity_format.specs.SuperblockFields.{SuperblockFields}
-use Rattle.verity_plan.specs.Settings.{type_number, Settings}
+use Rattle.verity_plan.specs.Settings.{type_number}
 use Rattle.verity_hash.specs.Algorithms.{name_of}
 
 -- a line: the label filled with spaces to 17 bytes, a tab, the value
@@ -25,25 +25,6 @@ salt_text (b ∷ rest) = encode_lower (b ∷ rest)
 abbrev pub uuid_text : List ℕ → List ℕ
 uuid_text uuid = hyphenated_text lower uuid
 
--- a text, and the lines on the device, with this text of the UUID
-abbrev pub with_header : List ℕ → List ℕ → SuperblockFields → List ℕ
-with_header text uuid v = text
-    ++ report_line (codes "UUID:") uuid
-    ++ report_line (codes "Hash type:") (decimal (type_number v.hash_type))
-    ++ report_line (codes "Data blocks:") (decimal v.blocks)
-
--- a text, and the lines on the block sizes
-abbrev pub with_sizes : List ℕ → Settings → List ℕ
-with_sizes text tree = text
-    ++ report_line (codes "Data block size:") (decimal tree.data_block)
-    ++ report_line (codes "Hash block size:") (decimal tree.hash_block)
-
--- a text, and the lines on the salted hash
-abbrev pub with_hash : List ℕ → List ℕ → List ℕ → List ℕ
-with_hash text algorithm salt = text
-    ++ report_line (codes "Hash algorithm:") algorithm
-    ++ report_line (codes "Salt:") salt
-
 -- the line of the root hash, where there is one
 abbrev pub root_line : Option (List ℕ) → List ℕ
 root_line None = []
@@ -51,6 +32,12 @@ root_line (Some root) = report_line (codes "Root hash:") (encode_lower root)
 
 -- the whole report, with this text of the UUID
 unfoldable pub report_text : List ℕ → List ℕ → SuperblockFields → Option (List ℕ) → List ℕ
-report_text path uuid v root =
-    with_hash (with_sizes (with_header (title path) uuid v) v.tree) (name_of v.tree.algorithm) (salt_text v.tree.salt)
+report_text path uuid v root = title path
+    ++ report_line (codes "UUID:") uuid
+    ++ report_line (codes "Hash type:") (decimal (type_number v.hash_type))
+    ++ report_line (codes "Data blocks:") (decimal v.blocks)
+    ++ report_line (codes "Data block size:") (decimal v.tree.data_block)
+    ++ report_line (codes "Hash block size:") (decimal v.tree.hash_block)
+    ++ report_line (codes "Hash algorithm:") (name_of v.tree.algorithm)
+    ++ report_line (codes "Salt:") (salt_text v.tree.salt)
     ++ root_line root

@@ -1,6 +1,7 @@
 //! The report of format and dump.
 ghost use Rattle.std.specs.Prelude.{◌≡◌, ◌++◌, IfOk, OnOk, string_bytes, option_map};
-ghost use Rattle.veritysetup.specs.Reports.{salt_text, uuid_text, with_header, with_sizes, with_hash, root_line, report_text};
+ghost use Rattle.veritysetup.specs.ReportSteps.{with_header, with_sizes, with_hash};
+ghost use Rattle.veritysetup.specs.Reports.{salt_text, uuid_text, root_line, report_text};
 
 use std::alloc::{AllocError, Global};
 use uuid::Uuid;
