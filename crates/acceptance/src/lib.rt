@@ -11,6 +11,8 @@ mod digest;
 #[cfg(test)]
 mod dumping;
 #[cfg(test)]
+mod files;
+#[cfg(test)]
 mod format_faults;
 #[cfg(test)]
 mod formats;
