@@ -21,7 +21,11 @@ mod formatting;
 #[cfg(test)]
 mod images;
 #[cfg(test)]
+mod large_blocks;
+#[cfg(test)]
 mod laying;
+#[cfg(test)]
+mod plain_trees;
 #[cfg(test)]
 mod setup_options;
 #[cfg(test)]
