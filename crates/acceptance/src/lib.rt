@@ -11,6 +11,8 @@ mod digest;
 #[cfg(test)]
 mod dumping;
 #[cfg(test)]
+mod files;
+#[cfg(test)]
 mod fixtures;
 #[cfg(test)]
 mod format_faults;
@@ -20,6 +22,10 @@ mod formats;
 mod formatting;
 #[cfg(test)]
 mod images;
+#[cfg(test)]
+mod large_blocks;
+#[cfg(test)]
+mod plain_trees;
 #[cfg(test)]
 mod setup_options;
 #[cfg(test)]

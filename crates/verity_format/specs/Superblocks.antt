@@ -13,7 +13,7 @@
 --       82       6  pad                    zeros                       ignored
 --       88     256  salt                   salt, then zeros            the first salt size bytes
 --      344     168  pad                    zeros                       ignored
-use Rattle.std.specs.Prelude.{◌≡◌, ℕ, ◌*◌, ◌^◌, ◌≤◌, ◌==◌, Bool, List, [], ◌∷◌, ◌++◌, length, take, replicate, codes, Option, Some, None, is_some, if◌then◌else◌, nat_le, nat_lt}
+use Rattle.std.specs.Prelude.{◌≡◌, ℕ, ◌*◌, ◌≤◌, ◌==◌, Bool, List, [], ◌∷◌, ◌++◌, length, take, replicate, codes, Option, Some, None, is_some, if◌then◌else◌, nat_le, nat_lt}
 use Rattle.std.specs.Str.{bytes_eq}
 use Rattle.byteorder.specs.Endian.{little_bytes}
 use Rattle.verity_hash.specs.Algorithms.{name_of, named}

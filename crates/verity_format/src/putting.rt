@@ -1,8 +1,10 @@
 //! Writing a text whole.
-ghost use Rattle.std.specs.Prelude.{◌≡◌, ◌≤◌, ◌<◌, take, length, IfErr, IfSome, OnOk, MatchOption};
-ghost use Rattle.std.specs.Io.KnownBytes.{Appends, Keeps};
+ghost use Rattle.std.specs.Prelude.{◌≢◌, ◌≤◌, ◌<◌, take, length, IfErr, IfOk, OnOk};
+ghost use Rattle.std.specs.Io.KnownBytes.{Appends, WriteAppends};
+ghost use Rattle.std.specs.IoError.{error_kind};
 ghost use Rattle.verity_format.specs.Putting.{taken};
 
+use std::io;
 use std::io::{ErrorKind, Write};
 
 /// The first bytes of a text were taken, this many, and then a write failed or took nothing.
@@ -18,34 +20,35 @@ pub fn put_all<W: Write>(writer: &mut W, text: &[u8]) -> Result<(), PutFault>
 {
     let mut taken = 0;
     while taken < text.len() {
-        match write_some(writer, &text[taken..]) {
-            Some(count) => {
+        match write_retrying(writer, &text[taken..]) {
+            Ok(count) => {
                 if count == 0 {
                     return Err(PutFault(taken));
                 }
                 taken += count;
             }
-            None => return Err(PutFault(taken)),
+            Err(_) => return Err(PutFault(taken)),
         }
     }
     Ok(())
 }
 
-/// One write, tried again where a signal interrupts it: how many bytes were taken, or `None` where it failed.
-fn write_some<W: Write>(writer: &mut W, text: &[u8]) -> Option<usize>
-    ensures bound { IfSome result (λ count. count ≤ length text.now) }
-    ensures front { MatchOption result (Keeps (W.contents writer.old) (W.contents writer.new))
-        (λ count. Appends (W.contents writer.old) (W.contents writer.new) (take count text.now)) }
+/// One write, tried again where a signal interrupts it: how many bytes were taken. The error is never an interrupt: it is
+/// the writer's, or that all tries were interrupted.
+fn write_retrying<W: Write>(writer: &mut W, text: &[u8]) -> io::Result<usize>
+    ensures bound { IfOk result (λ count. count ≤ length text.now) }
+    ensures front { WriteAppends (W.contents writer.old) (W.contents writer.new) result text.now }
+    ensures retried { IfErr result (λ error. error_kind error ≢ ErrorKind.Interrupted) }
 {
     for _ in 0..u64::MAX {
         match writer.write(text) {
-            Ok(count) => return Some(count),
+            Ok(count) => return Ok(count),
             Err(error) => {
                 if error.kind() != ErrorKind::Interrupted {
-                    return None;
+                    return Err(error);
                 }
             }
         }
     }
-    None
+    Err(io::Error::from(ErrorKind::TimedOut))
 }

@@ -1,10 +1,13 @@
 //! A device over an opened file.
-ghost use Rattle.std.specs.Prelude.{◌≡◌, ◌≤◌, [], length, IfOk, IfSome, OnOk};
+ghost use Rattle.std.specs.Prelude.{◌≡◌, ◌⊎◌, ◌≤◌, ◌+◌, ◌-◌, ◌^◌, [], length, IfOk, IfSome, OnOk};
+ghost use Rattle.std.specs.Io.KnownBytes.{Appends, Keeps};
+ghost use Rattle.std.specs.Io.Seek.{MovesTo};
+ghost use Rattle.verity_io.specs.Counting.{CountsFailure};
+ghost use Rattle.verity_io.specs.Moving.{file_of, EndsBefore, Fills, From};
 
 use crate::device::Device;
 use crate::failed::{Failed, counted};
-use crate::file_source::FileSource;
-use crate::source::read_block;
+use crate::file_source::read_some;
 use std::fs::File;
 use std::io::{Read, Seek, SeekFrom, Write};
 
@@ -19,12 +22,15 @@ pub struct FileDevice<F = File> {
 impl<F: Read + Write + Seek> FileDevice<F> {
     /// A device of this file's bytes.
     pub fn new(file: F) -> Self
-        ensures { ⟦<FileDevice<F> as Device>⟧.failures result ≡ 0 }
+        ensures file { file_of result ≡ file }
+        ensures failures { ⟦<FileDevice<F> as Device>⟧.failures result ≡ 0 }
     {
         FileDevice { file, failures: 0 }
     }
 }
 
+/// A read or a write moves the file to its place and then reads or writes there, as far as the file says where it stands
+/// and what bytes it has.
 impl<F: Read + Write + Seek> Device for FileDevice<F> {
     ghost tells = { λ _. ⊥ };
 
@@ -32,32 +38,71 @@ impl<F: Read + Write + Seek> Device for FileDevice<F> {
 
     ghost failures = { λ d. d.failures };
 
-    fn read_at(&mut self, at: u64, buf: &mut [u8]) -> Result<usize, Failed> {
+    fn read_at(&mut self, at: u64, buf: &mut [u8]) -> Result<usize, Failed>
+        ensures bound { IfOk result (λ k. k ≤ length buf.new) }
+        ensures count { CountsFailure (⟦<FileDevice<F> as Device>⟧.failures self.old) (⟦<FileDevice<F> as Device>⟧.failures self.new) result }
+        ensures bytes { IfOk result (λ k.
+            EndsBefore (F.stream_position (file_of self.old)) (F.stream_bytes (file_of self.old)) at k
+            ⊎ From F.stream_position (file_of self.old) at (λ moved.
+            Fills (F.remaining moved) (F.remaining (file_of self.new)) k buf.new)) }
+    {
         let outcome = read_from(&mut self.file, at, buf);
         counted(&mut self.failures, outcome)
     }
 
-    fn write_at(&mut self, at: u64, bytes: &[u8]) -> Result<(), Failed> {
+    fn write_at(&mut self, at: u64, bytes: &[u8]) -> Result<(), Failed>
+        requires { at + length bytes.now ≤ 2 ^ 63 - 1 }
+        ensures count { CountsFailure (⟦<FileDevice<F> as Device>⟧.failures self.old) (⟦<FileDevice<F> as Device>⟧.failures self.new) result }
+        ensures bytes { OnOk result (From F.stream_position (file_of self.old) at (λ moved.
+            Appends (F.contents moved) (F.contents (file_of self.new)) bytes.now)) }
+    {
         let outcome = write_from(&mut self.file, at, bytes);
         counted(&mut self.failures, outcome)
     }
 }
 
-// Reads on until the buffer is full or nothing comes.
-fn read_from<F: Read + Seek>(file: &mut F, at: u64, buf: &mut [u8]) -> Result<usize, Failed>
-    ensures { IfOk result (λ k. k ≤ length buf.new) }
+fn move_to<F: Seek>(file: &mut F, at: u64) -> Result<(), Failed>
+    ensures moves { MovesTo (F.stream_position file.old) (F.stream_position file.new) at result }
+    ensures bytes { Keeps (F.stream_bytes file.old) (F.stream_bytes file.new) }
 {
     match file.seek(SeekFrom::Start(at)) {
-        Ok(_) => read_block(&mut FileSource::new(file, u64::MAX), buf),
+        Ok(_) => Ok(()),
+        Err(_) => Err(Failed),
+    }
+}
+
+fn read_from<F: Read + Seek>(file: &mut F, at: u64, buf: &mut [u8]) -> Result<usize, Failed>
+    ensures bound { IfOk result (λ k. k ≤ length buf.new) }
+    ensures bytes { IfOk result (λ k.
+        EndsBefore (F.stream_position file.old) (F.stream_bytes file.old) at k
+        ⊎ From F.stream_position file.old at (λ moved. Fills (F.remaining moved) (F.remaining file.new) k buf.new)) }
+{
+    match move_to(file, at) {
+        Ok(()) => fill(file, buf),
         Err(_) => read_refused(file, at),
     }
 }
 
+// Reads on until the buffer is full or nothing comes.
+fn fill<R: Read>(reader: &mut R, buf: &mut [u8]) -> Result<usize, Failed>
+    ensures bound { IfOk result (λ k. k ≤ length buf.new) }
+    ensures bytes { IfOk result (λ k. Fills (R.remaining reader.old) (R.remaining reader.new) k buf.new) }
+{
+    let mut filled = 0;
+    while filled < buf.len() {
+        let count = read_some(reader, &mut buf[filled..])?;
+        if count == 0 {
+            break;
+        }
+        filled += count;
+    }
+    Ok(filled)
+}
+
 // A file system refuses a place beyond what it can hold, and the file ends before such a place.
 fn read_refused<F: Seek>(file: &mut F, at: u64) -> Result<usize, Failed>
-    ensures none { IfOk result (λ k. k ≡ 0) }
-    ensures beyond { IfSome (F.stream_position file.old) (λ _.
-        IfSome (F.stream_bytes file.old) (λ bytes. OnOk result (length bytes ≤ at))) }
+    ensures bound { IfOk result (λ k. k ≡ 0) }
+    ensures beyond { IfOk result (EndsBefore (F.stream_position file.old) (F.stream_bytes file.old) at) }
 {
     match file.seek(SeekFrom::End(0)) {
         Ok(end) if end <= at => Ok(0),
@@ -66,9 +111,19 @@ fn read_refused<F: Seek>(file: &mut F, at: u64) -> Result<usize, Failed>
 }
 
 // `write_all` tries an interrupted write again, and fails where a write takes nothing.
-fn write_from<F: Write + Seek>(file: &mut F, at: u64, bytes: &[u8]) -> Result<(), Failed> {
-    if file.seek(SeekFrom::Start(at)).is_err() || file.write_all(bytes).is_err() {
-        return Err(Failed);
+fn write_from<F: Write + Seek>(file: &mut F, at: u64, bytes: &[u8]) -> Result<(), Failed>
+    ensures { OnOk result (From F.stream_position file.old at (λ moved.
+        Appends (F.contents moved) (F.contents file.new) bytes.now)) }
+{
+    move_to(file, at)?;
+    write_whole(file, bytes)
+}
+
+fn write_whole<W: Write>(writer: &mut W, bytes: &[u8]) -> Result<(), Failed>
+    ensures { OnOk result (Appends (W.contents writer.old) (W.contents writer.new) bytes.now) }
+{
+    match writer.write_all(bytes) {
+        Ok(()) => Ok(()),
+        Err(_) => Err(Failed),
     }
-    Ok(())
 }

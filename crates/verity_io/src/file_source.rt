@@ -1,11 +1,13 @@
 //! A source over an opened file.
-ghost use Rattle.std.specs.Prelude.{◌≡◌, ◌≤◌, [], take, length, IfOk, IsSome, unwrap_or};
+ghost use Rattle.std.specs.Prelude.{◌≡◌, ◌≢◌, ◌≤◌, [], take, length, IfErr, IfOk, IsSome, unwrap_or};
 ghost use Rattle.std.specs.Io.KnownBytes.{ReadConsumes};
 ghost use Rattle.std.specs.Io.Take.{take_remaining};
+ghost use Rattle.std.specs.IoError.{error_kind};
 
 use crate::failed::{Failed, counted};
 use crate::source::Source;
 use std::fs::File;
+use std::io;
 use std::io::{ErrorKind, Read, Take};
 
 /// The bytes of an opened file from its place on, up to a length. The length is the one found at opening: a file that
@@ -47,25 +49,37 @@ impl<F: Read> Source for FileSource<F> {
     ghost failures = { λ s. s.failures };
 
     fn read(&mut self, buf: &mut [u8]) -> Result<usize, Failed> {
-        let outcome = read_retrying(&mut self.file, buf);
+        let outcome = read_some(&mut self.file, buf);
         counted(&mut self.failures, outcome)
     }
 }
 
 // One read, tried again where a signal interrupts it.
-fn read_retrying<R: Read>(reader: &mut R, buf: &mut [u8]) -> Result<usize, Failed>
+pub(crate) fn read_some<R: Read>(reader: &mut R, buf: &mut [u8]) -> Result<usize, Failed>
     ensures bound { IfOk result (λ k. k ≤ length buf.new) }
     ensures bytes { ReadConsumes (R.remaining reader.old) (R.remaining reader.new) result buf.new }
+{
+    match read_retrying(reader, buf) {
+        Ok(count) => Ok(count),
+        Err(_) => Err(Failed),
+    }
+}
+
+// The error is never an interrupt: of the reader, or that all tries were interrupted.
+fn read_retrying<R: Read>(reader: &mut R, buf: &mut [u8]) -> io::Result<usize>
+    ensures bound { IfOk result (λ k. k ≤ length buf.new) }
+    ensures bytes { ReadConsumes (R.remaining reader.old) (R.remaining reader.new) result buf.new }
+    ensures retried { IfErr result (λ error. error_kind error ≢ ErrorKind.Interrupted) }
 {
     for _ in 0..u64::MAX {
         match reader.read(buf) {
             Ok(count) => return Ok(count),
             Err(error) => {
                 if error.kind() != ErrorKind::Interrupted {
-                    return Err(Failed);
+                    return Err(error);
                 }
             }
         }
     }
-    Err(Failed)
+    Err(io::Error::from(ErrorKind::TimedOut))
 }

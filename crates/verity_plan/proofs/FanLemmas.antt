@@ -11,7 +11,7 @@ use Rattle.verity_hash.specs.declared.algorithm.Algorithm.{Algorithm}
 use Rattle.verity_hash.specs.declared.algorithm.Algorithm.TheVariants.{Sha256, Sha512}
 use Rattle.verity_hash.specs.declared.salting.SaltRule.{SaltRule}
 use Rattle.verity_hash.specs.declared.salting.SaltRule.TheVariants.{Before, PaddedBefore}
-use Rattle.verity_plan.specs.Settings.{Settings, IsValid, fan, digest_len, is_block_size, least_block, greatest_fan, least_power}
+use Rattle.verity_plan.specs.Settings.{Settings, IsValid, fan, digest_len, is_block_size, least_block, greatest_fan, least_power, least_up_to}
 use Rattle.verity_plan.proofs.LeastLemmas.{IsLeast, IsLeast-same, IsLeast-least_from}
 use Rattle.verity_plan.proofs.CountLemmas.{lt-pow_self, mul_le}
 
@@ -104,18 +104,33 @@ two_from_power len size zero two passing =
     absurd (omega (arith, two, lt, ap (λ (n : ℕ). n * len) one))
 two_from_power len size (suc k) two passing = omega (arith, pow-suc 2 k, pow_pos k)
 
--- a fan is at least 2 where two digests fit
-pub greatest_fan-two : (len size : ℕ) → 0 < len → 2 * len ≤ size → 2 ≤ greatest_fan len size
-unfolding greatest_fan
-greatest_fan-two len size some two =
+-- the exponent of the greatest fan
+pub greatest_fan-found : (len size : ℕ) → 0 < len
+    → IsLeast (λ m. nat_lt size (2 ^ (m + 1) * len)) 0 (least_up_to size (λ m. nat_lt size (2 ^ (m + 1) * len)))
+greatest_fan-found len size some =
     let at_least : 1 ≤ len = omega arith in
     let base : 2 ≤ 2 = omega arith in
-    let one_more : size + 1 ≡ suc size = omega arith in
     let wide : size < 2 ^ (size + 1) * len =
     omega (arith, lt-pow_self 2 (size + 1) base, mul_le 1 len (2 ^ (size + 1)) at_least) in
     let passing : ltb size (2 ^ (size + 1) * len) ≡ true = grind (arith, nat_tests, wide) in
-    let found = IsLeast-least_from (λ m. nat_lt size (2 ^ (m + 1) * len)) 0 size size (omega arith) (omega arith) passing in
-    two_from_power len size _ two found.passing
+    IsLeast-least_from (λ m. nat_lt size (2 ^ (m + 1) * len)) 0 size size (omega arith) (omega arith) passing
+
+-- a fan is at least 2 where two digests fit
+pub greatest_fan-two : (len size : ℕ) → 0 < len → 2 * len ≤ size → 2 ≤ greatest_fan len size
+unfolding greatest_fan
+greatest_fan-two len size some two = two_from_power len size _ two (greatest_fan-found len size some).passing
+
+twice_power : (len size k : ℕ) → ltb size (2 ^ (k + 1) * len) ≡ true → size < 2 * 2 ^ k * len
+twice_power len size k passing =
+    let lt : size < 2 ^ (k + 1) * len = grind (arith, nat_tests, passing) in
+    let one_more : k + 1 ≡ suc k = omega arith in
+    let twice : 2 ^ (k + 1) ≡ 2 * 2 ^ k = omega (arith, pow-suc 2 k, ap (λ (n : ℕ). 2 ^ n) one_more) in
+    rw twice at lt
+
+-- twice as many digests don't fit
+pub greatest_fan-below : (len size : ℕ) → 0 < len → size < 2 * greatest_fan len size * len
+unfolding greatest_fan
+greatest_fan-below len size some = twice_power len size _ (greatest_fan-found len size some).passing
 
 -- a hash block has room for two digests
 pub two_slots : (s : Settings) → IsValid s → 2 * digest_len s ≤ s.hash_block
@@ -135,3 +150,15 @@ hash_most s valid = block_most (least_block s.rule (digest_len s)) s.hash_block 
 pub fan-two : (s : Settings) → IsValid s → 2 ≤ fan s
 unfolding fan
 fan-two s valid = greatest_fan-two (digest_len s) s.hash_block (digest_len_of-pos s.algorithm) (two_slots s valid)
+
+-- a fan is a power of two
+pub fan-power : (s : Settings) → (k : ℕ) × (fan s ≡ 2 ^ k)
+unfolding fan greatest_fan
+fan-power s = (least_up_to s.hash_block (λ k. nat_lt s.hash_block (2 ^ (k + 1) * digest_len s)), refl)
+
+pub fan-some : (s : Settings) → 0 < fan s
+fan-some s = let power = fan-power s in omega (arith, power.1, pow_pos power.0)
+
+pub fan-greatest : (s : Settings) → s.hash_block < 2 * fan s * digest_len s
+unfolding fan
+fan-greatest s = greatest_fan-below (digest_len s) s.hash_block (digest_len_of-pos s.algorithm)

@@ -1,5 +1,5 @@
 -- A hash block has room for its slots.
-use Rattle.std.proofs.Common.{◌≡◌, ℕ, zero, suc, ◌+◌, ◌-◌, ◌*◌, ◌^◌, ◌<◌, ◌≤◌, true, false, ltb, leb, arith, ap, sym, subst, ◌∙◌, inl, inr}
+use Rattle.std.proofs.Common.{◌≡◌, ℕ, zero, suc, ◌+◌, ◌-◌, ◌*◌, ◌^◌, ◌<◌, ◌≤◌, true, false, ltb, leb, arith, ap, refl, sym, subst, ◌∙◌, inl, inr}
 use Rattle.std.proofs.lemmas.Bool.{cases_lt}
 use Rattle.std.proofs.lemmas.Bool.Decides.{nat_tests}
 use Rattle.std.proofs.lemmas.Nat.{leading_top, ones_cat, pow-add, pow_pos, zero_from_ones}
@@ -11,7 +11,7 @@ use Rattle.verity_hash.specs.declared.salting.SaltRule.TheVariants.{Before, Padd
 use Rattle.verity_plan.specs.Settings.{Settings, IsValid, fan, digest_len, least_block, slot_width, width_by, least_up_to, greatest_fan, least_power}
 use Rattle.verity_plan.proofs.LeastLemmas.{IsLeast, IsLeast-least_from}
 use Rattle.verity_plan.proofs.CountLemmas.{lt-pow_self, mul_le}
-use Rattle.verity_plan.proofs.FanLemmas.{block_power, digest_len_of-pos, fan-two, two_slots}
+use Rattle.verity_plan.proofs.FanLemmas.{block_power, digest_len_of-pos, fan-two, greatest_fan-found, two_slots}
 
 fits_from_power : (len size k : ℕ) → len ≤ size → IsLeast (λ m. nat_lt size (2 ^ (m + 1) * len)) 0 k → 2 ^ k * len ≤ size
 fits_from_power len size zero one found = omega (arith, pow-zero 2, one, ap (λ (n : ℕ). n * len) (pow-zero 2))
@@ -24,14 +24,7 @@ fits_from_power len size (suc k) one found =
 -- as many digests as the fan fit
 pub greatest_fan-fits : (len size : ℕ) → 0 < len → len ≤ size → greatest_fan len size * len ≤ size
 unfolding greatest_fan
-greatest_fan-fits len size some one =
-    let at_least : 1 ≤ len = omega arith in
-    let base : 2 ≤ 2 = omega arith in
-    let wide : size < 2 ^ (size + 1) * len =
-    omega (arith, lt-pow_self 2 (size + 1) base, mul_le 1 len (2 ^ (size + 1)) at_least) in
-    let passing : ltb size (2 ^ (size + 1) * len) ≡ true = grind (arith, nat_tests, wide) in
-    let found = IsLeast-least_from (λ m. nat_lt size (2 ^ (m + 1) * len)) 0 size size (omega arith) (omega arith) passing in
-    fits_from_power len size _ one found
+greatest_fan-fits len size some one = fits_from_power len size _ one (greatest_fan-found len size some)
 
 -- a number with one bit set is a power of two
 pub power_of_two-is : (n : ℕ) → 0 < n → is_power_of_two n ≡ true → (k : ℕ) × (n ≡ 2 ^ k)
@@ -62,6 +55,18 @@ unfolding least_power
 least_power-above len =
     let passing : leb len (2 ^ least_up_to len (λ m. nat_le len (2 ^ m))) ≡ true = (least_power-found len).passing in
     grind (arith, nat_tests, passing)
+
+half_short : (len w : ℕ) → 0 < len → IsLeast (λ m. nat_le len (2 ^ m)) 0 w → 2 ^ w < 2 * len
+half_short len zero some found = omega (arith, pow-zero 2)
+half_short len (suc m) some found =
+    let fail : leb len (2 ^ m) ≡ false = found.least m (omega arith) (omega arith) in
+    let short : 2 ^ m < len = grind (arith, nat_tests, fail) in
+    omega (arith, pow-suc 2 m, short)
+
+-- half of it is below the length
+pub least_power-half : (len : ℕ) → 0 < len → least_power len < 2 * len
+unfolding least_power
+least_power-half len some = half_short len _ some (least_power-found len)
 
 -- where so many digests fit into a power of two, so many of their slots do, each the least power of two that holds one
 slots_fit_power : (len b k w : ℕ) → 0 < len → 2 ^ k * len ≤ 2 ^ b → IsLeast (λ m. nat_le len (2 ^ m)) 0 w → 2 ^ k * 2 ^ w ≤ 2 ^ b
@@ -119,3 +124,22 @@ pub hash_block-some : (s : Settings) → 2 ≤ fan s → fan s * slot_width s �
 hash_block-some s two fits =
     let wide : 1 ≤ slot_width s = omega (arith, digest-slot s, digest_len_of-pos s.algorithm) in
     omega (arith, mul-le-mul_left (fan s) wide, two, fits)
+
+-- as many digests as the fan fit, where one does
+pub fan-digests : (s : Settings) → digest_len s ≤ s.hash_block → fan s * digest_len s ≤ s.hash_block
+unfolding fan
+fan-digests s one = greatest_fan-fits (digest_len s) s.hash_block (digest_len_of-pos s.algorithm) one
+
+-- dm-verity's slots: the least power of two that is not below the digest
+pub slot-power : (s : Settings) → s.rule ≡ Before → (k : ℕ) × (slot_width s ≡ 2 ^ k)
+unfolding slot_width least_power
+slot-power s before = rw before (least_up_to (digest_len s) (λ k. nat_le (digest_len s) (2 ^ k)), refl)
+
+pub slot-least : (s : Settings) → s.rule ≡ Before → slot_width s < 2 * digest_len s
+unfolding slot_width
+slot-least s before = rw before (least_power-half (digest_len s) (digest_len_of-pos s.algorithm))
+
+-- fs-verity's slots
+pub slot-same : (s : Settings) → s.rule ≡ PaddedBefore → slot_width s ≡ digest_len s
+unfolding slot_width
+slot-same s padded = rw padded refl

@@ -1,13 +1,30 @@
 //! Laws of the definitions of slots, counts and places: each holds for all settings and sizes.
-ghost use Rattle.std.specs.Prelude.{ℕ, ◌*◌, ◌≤◌};
+ghost use Rattle.std.specs.Prelude.{◌≡◌, ℕ, ◌*◌, ◌^◌, ◌<◌, ◌≤◌};
 ghost use Rattle.verity_plan.specs.Counts.{level_count, IsLevelCount};
 ghost use Rattle.verity_plan.specs.Places.{PlacesAreOnce};
-ghost use Rattle.verity_plan.specs.Settings.{Settings, IsValid, fan, slot_width};
+ghost use Rattle.verity_plan.specs.Settings.{Settings, IsValid, digest_len, fan, slot_width};
+ghost use Rattle.verity_hash.specs.declared.salting.SaltRule.TheVariants.{Before, PaddedBefore};
 
 /// A hash block has at least two slots, and room for all of them.
 pub fn slots_fit()
     ensures two { (s : Settings) → IsValid s → 2 ≤ fan s }
     ensures room { (s : Settings) → IsValid s → fan s * slot_width s ≤ s.hash_block }
+{}
+
+/// The fan-out is the greatest power of two of digests that a hash block has room for.
+pub fn fans_are_greatest()
+    ensures power { (s : Settings) → (k : ℕ) × (fan s ≡ 2 ^ k) }
+    ensures room { (s : Settings) → digest_len s ≤ s.hash_block → fan s * digest_len s ≤ s.hash_block }
+    ensures greatest { (s : Settings) → s.hash_block < 2 * fan s * digest_len s }
+{}
+
+/// In dm-verity's hash type 1 a slot is the least power of two that isn't below a digest: half of it is. In fs-verity it
+/// is a digest.
+pub fn slots_are_least()
+    ensures digest { (s : Settings) → digest_len s ≤ slot_width s }
+    ensures power { (s : Settings) → s.rule ≡ Before → (k : ℕ) × (slot_width s ≡ 2 ^ k) }
+    ensures least { (s : Settings) → s.rule ≡ Before → slot_width s < 2 * digest_len s }
+    ensures same { (s : Settings) → s.rule ≡ PaddedBefore → slot_width s ≡ digest_len s }
 {}
 
 /// The number of levels is the least whose power of the fan-out isn't below the number of data blocks.

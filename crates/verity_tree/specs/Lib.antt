@@ -6,3 +6,4 @@ pub mod Building
 pub mod Verdicts
 pub mod Comparing
 pub mod Steps
+pub mod Stores

@@ -43,7 +43,7 @@ pub fn build<S: Source, D: Device>(
     source: &mut S,
     device: &mut D,
 ) -> Result<Digest, BuildFault>
-    requires { store.old ≡ store_length_of plan.now }
+    requires { store.old.length ≡ store_length_of plan.now }
     ensures kept { store.new ≡ store.old }
     ensures size { IfOk result (λ root. length root ≡ digest_len plan.now.settings) }
     ensures source_told { S.tells source.old → S.tells source.new }
@@ -76,7 +76,7 @@ pub fn root_only<S: Source>(
     store: &mut Store,
     source: &mut S,
 ) -> Result<Digest, BuildFault>
-    requires { store.old ≡ store_length_of plan.now }
+    requires { store.old.length ≡ store_length_of plan.now }
     ensures kept { store.new ≡ store.old }
     ensures size { IfOk result (λ root. length root ≡ digest_len plan.now.settings) }
     ensures told { S.tells source.old → S.tells source.new }

@@ -55,7 +55,7 @@ pub fn compare<S: Source, D: Device>(
     device: &mut D,
     root: &Digest,
 ) -> Result<(), CompareFault>
-    requires { store.old ≡ store_length_of plan.now }
+    requires { store.old.length ≡ store_length_of plan.now }
     ensures kept { store.new ≡ store.old }
     ensures stands { D.tells device.old → D.content device.new ≡ D.content device.old }
     ensures source_told { S.tells source.old → S.tells source.new }

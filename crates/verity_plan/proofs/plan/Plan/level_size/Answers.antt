@@ -1,4 +1,4 @@
-use Rattle.std.proofs.Common.{◌≡◌, ℕ, ◌<◌, ◌≤◌, arith, ap, ◌∙◌, refl}
+use Rattle.std.proofs.Common.{ℕ, ◌<◌, arith, ap, ◌∙◌, refl}
 use Rattle.std.specs.Int.{div_ceil}
 use Rattle.verity_plan.specs.Plans.{size_under}
 use Rattle.verity_plan.specs.Settings.{fan}

@@ -1,4 +1,4 @@
-use Rattle.std.proofs.Common.{◌≡◌, ℕ, ◌<◌, arith, ◌∙◌, ap, subst}
+use Rattle.std.proofs.Common.{◌≡◌, ℕ, ◌<◌, arith, ◌∙◌, ap}
 use Rattle.std.specs.Int.{div_ceil}
 use Rattle.verity_plan.specs.Settings.{fan}
 use Rattle.verity_plan.proofs.PlanLemmas.{size-more}
