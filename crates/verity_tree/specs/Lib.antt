@@ -5,4 +5,5 @@ pub mod Reading
 pub mod Building
 pub mod Verdicts
 pub mod Comparing
+pub mod Paths
 pub mod Steps
