@@ -9,7 +9,7 @@ use Rattle.verity_tree.specs.Levels.{risen}
 use Rattle.verity_plan.specs.Counts.{level_count, level_size}
 use Rattle.verity_tree.specs.ClosingOrder.{closing, closes, closed_to}
 use Rattle.verity_plan.specs.Places.{place, byte_at}
-use Rattle.verity_tree.specs.Steps.OpenBlocks.{digests_under, open_block, filling, IsReached, IsCarrying, IsNext, IsClosed, IsKept, climb, arrival}
+use Rattle.verity_tree.specs.Steps.OpenBlocks.{digests_under, open_block, filling, IsReached, IsCarrying, IsNext, IsKept, climb, arrival}
 use Rattle.verity_io.specs.Writing.{put}
 use Rattle.verity_plan.specs.Plans.{Planned}
 use Rattle.verity_tree.specs.Verdicts.{NoneDiffers, StandsThere, stored}

@@ -4,7 +4,7 @@ use Rattle.std.proofs.lemmas.List.{drop_at, drop-map, get_or-drop, get_or-take, 
 use Rattle.std.proofs.lemmas.List.FromFn.{get_or-map-range_with_len}
 use Rattle.std.proofs.lemmas.Grind.{flat_map-append}
 use Rattle.std.proofs.lemmas.Nat.{div-add-mod', mod_below}
-use Rattle.std.proofs.Math.Nat.{div-eq_of_lt, mul-le-mul_right, one-le-pow}
+use Rattle.std.proofs.Math.Nat.{div-eq_of_lt, mul-le-mul_right}
 use Rattle.std.proofs.Math.Seq.{drop-cons}
 use Rattle.std.specs.Fork.{slice_chunk}
 use Rattle.std.specs.List.{flat_map}
@@ -20,7 +20,7 @@ use Rattle.verity_tree.proofs.PathSteps.{div-pow-zero}
 use Rattle.verity_tree.proofs.OpenBlockLemmas.{block-up, length-hash, length-slots}
 use Rattle.verity_tree.proofs.OpenBlockSteps.{carried-below}
 use Rattle.verity_tree.proofs.QuotientLemmas.{quotient-below, quotient-next}
-use Rattle.verity_tree.proofs.TreeLemmas.{height-level_count, length-risen}
+use Rattle.verity_tree.proofs.TreeLemmas.{height-level_count}
 
 -- the true chain, by levels up
 pub true_chain-risen : (s : Settings) (blocks : List (List ℕ)) (i l : ℕ) → true_chain s blocks i l ≡ get_or (risen s blocks l) (i / fan s ^ l) []
