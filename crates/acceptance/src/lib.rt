@@ -21,7 +21,13 @@ mod images;
 #[cfg(test)]
 mod laying;
 #[cfg(test)]
+mod path_changes;
+#[cfg(test)]
+mod paths;
+#[cfg(test)]
 mod setup_options;
+#[cfg(test)]
+mod shapes;
 #[cfg(test)]
 mod stating_opener;
 #[cfg(test)]
