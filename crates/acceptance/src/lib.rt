@@ -27,7 +27,13 @@ mod large_blocks;
 #[cfg(test)]
 mod plain_trees;
 #[cfg(test)]
+mod path_changes;
+#[cfg(test)]
+mod paths;
+#[cfg(test)]
 mod setup_options;
+#[cfg(test)]
+mod shapes;
 #[cfg(test)]
 mod stating_opener;
 #[cfg(test)]

@@ -4,19 +4,18 @@ use Rattle.std.proofs.lemmas.Bool.{cases_lt}
 use Rattle.std.proofs.lemmas.Bool.Decides.{eqb_tells}
 use Rattle.std.proofs.lemmas.Nat.{div-add-mod', div-mul-add}
 use Rattle.std.proofs.Math.Nat.{one-le-pow, pow-suc}
-use Rattle.std.specs.Int.{div_ceil}
 use Rattle.verity_plan.specs.Settings.{Settings, hash, fan}
 use Rattle.verity_tree.specs.Levels.{risen}
 use Rattle.verity_plan.specs.Counts.{level_count, level_size}
 use Rattle.verity_tree.specs.ClosingOrder.{closing, closes, closed_to}
 use Rattle.verity_plan.specs.Places.{place, byte_at}
-use Rattle.verity_tree.specs.Steps.OpenBlocks.{digests_under, open_block, filling, IsReached, IsCarrying, IsNext, IsClosed, IsKept, climb, arrival}
+use Rattle.verity_tree.specs.Steps.OpenBlocks.{digests_under, open_block, filling, IsReached, IsCarrying, IsNext, IsKept, climb, arrival}
 use Rattle.verity_io.specs.Writing.{put}
 use Rattle.verity_plan.specs.Plans.{Planned}
 use Rattle.verity_tree.specs.Verdicts.{NoneDiffers, StandsThere, stored}
 use Rattle.verity_tree.specs.Image.{tree_block, written}
-use Rattle.verity_plan.proofs.CountLemmas.{le-div_ceil, mul_le}
-use Rattle.verity_tree.proofs.QuotientLemmas.{quotient-next, IsReached-full}
+use Rattle.verity_plan.proofs.CountLemmas.{mul_le}
+use Rattle.verity_tree.proofs.QuotientLemmas.{quotient-below, quotient-next, IsReached-full}
 use Rattle.verity_tree.proofs.OpenBlockSteps.{carried-below, carried-next, carried-root}
 use Rattle.verity_tree.proofs.OrderSplit.{closing-prefix, closing-all, closes-reached, closes-last, closed_to-more, closes-none, written-more}
 use Rattle.std.proofs.lemmas.List.Elements.{All-append, All-cons, All-nil}
@@ -139,12 +138,7 @@ closing-done s blocks i levels count store digest two below all many h =
 
 -- the block that closes with data block i is one of its level
 pub closing-below : (f count m i : ℕ) → 0 < f → i < count → i / f ^ (m + 1) < level_size f count m
-closing-below f count m i some below =
-    let w = f ^ (m + 1) in
-    elim (cases_lt (i / w) (div_ceil count w)) [
-      | inl less ↦ less
-      | inr past ↦ absurd (omega (arith, div-add-mod' i w, below, le-div_ceil count w (i / w) (one-le-pow (m + 1) f some) past))
-    ]
+closing-below f count m i some below = quotient-below i count (f ^ (m + 1)) (one-le-pow (m + 1) f some) below
 
 -- its place in its level, from the place of its digest
 pub closing-place : (f i m at g : ℕ) → at ≡ i / f ^ m → g ≡ f → at / g ≡ i / f ^ (m + 1)

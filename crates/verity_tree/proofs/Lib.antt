@@ -15,3 +15,7 @@ pub mod Rows
 pub mod VerdictLemmas
 pub mod ClosedBlockLemmas
 pub mod JudgeLemmas
+pub mod PathSteps
+pub mod PieceLemmas
+pub mod ChainLemmas
+pub mod PathLemmas

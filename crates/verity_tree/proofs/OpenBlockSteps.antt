@@ -2,7 +2,7 @@
 use Rattle.std.proofs.Common.{◌≡◌, ℕ, ◌+◌, ◌-◌, ◌*◌, ◌/◌, ◌%◌, ◌^◌, ◌<◌, ◌≤◌, ◌⊎◌, Bool, true, false, eqb, List, [], ◌++◌, get_or, take, drop, length, map, replicate, arith, sym, ◌∙◌, ap, subst, inl, inr, length-drop}
 use Rattle.std.proofs.lemmas.Bool.{cases_lt}
 use Rattle.std.proofs.lemmas.Bool.Decides.{eqb_tells}
-use Rattle.std.proofs.lemmas.Nat.{div-add-mod', mod_below, div-mul-add}
+use Rattle.std.proofs.lemmas.Nat.{mod_below, div-mul-add}
 use Rattle.std.proofs.lemmas.List.{length-map, length-take-le, length-replicate}
 use Rattle.std.proofs.lemmas.Slice.{between_is, take-put_mid_below, drop-put_mid, between-put_mid}
 use borrow.Rule.Slice.PartMut.{put_mid}
@@ -13,9 +13,9 @@ use Rattle.verity_plan.specs.Settings.{Settings, hash, fan, slot_width, digest_l
 use Rattle.verity_tree.specs.Levels.{hash_block_of, risen, root}
 use Rattle.verity_plan.specs.Counts.{level_count}
 use Rattle.verity_tree.specs.Steps.OpenBlocks.{digests_under, open_block, filling, AreOpen, carried, IsCarrying, IsNext, IsClosed, IsKept, IsCarriedOn, climb, arrival}
-use Rattle.verity_plan.proofs.CountLemmas.{le-div_ceil, IsLevelCount-level_count, mul_le}
+use Rattle.verity_plan.proofs.CountLemmas.{IsLevelCount-level_count, mul_le}
 use Rattle.verity_tree.proofs.TreeLemmas.{length-risen, height-level_count}
-use Rattle.verity_tree.proofs.QuotientLemmas.{quotient-next, div_ceil-last, IsReached-zero, quotient-reached, IsReached-full, slots-full, slots-more, quotient-stays}
+use Rattle.verity_tree.proofs.QuotientLemmas.{quotient-next, quotient-below, div_ceil-last, IsReached-zero, quotient-reached, IsReached-full, slots-full, slots-more, quotient-stays}
 use Rattle.verity_tree.proofs.OpenBlockLemmas.{open-push, open-close, block-up}
 use Rattle.verity_plan.proofs.FitLemmas.{digest-slot}
 
@@ -55,12 +55,7 @@ chunk-same xs ys size m a k place len room =
 -- the place that a digest comes to is in its level
 pub carried-below : (s : Settings) (blocks : List (List ℕ)) (i m : ℕ) → 0 < fan s → i < length blocks → i / fan s ^ m < length (risen s blocks m)
 carried-below s blocks i m some below =
-    let wide : 0 < fan s ^ m = one-le-pow m (fan s) some in
-    let split = div-add-mod' i (fan s ^ m) in
-    elim (cases_lt (i / fan s ^ m) (div_ceil (length blocks) (fan s ^ m))) [
-      | inl less ↦ omega (arith, less, length-risen s blocks m some)
-      | inr past ↦ absurd (omega (arith, split, below, le-div_ceil (length blocks) (fan s ^ m) (i / fan s ^ m) wide past))
-    ]
+    omega (arith, quotient-below i (length blocks) (fan s ^ m) (one-le-pow m (fan s) some) below, length-risen s blocks m some)
 
 -- at the last data block the place is the last of each level
 pub carried-last : (s : Settings) (blocks : List (List ℕ)) (i m : ℕ) → 0 < fan s → i + 1 ≡ length blocks → i / fan s ^ m + 1 ≡ length (risen s blocks m)
@@ -79,11 +74,7 @@ carried-next s blocks i m some below ends =
     let digests = digests_under s blocks m in
     let many : length digests ≡ length (risen s blocks m) = length-map (risen s blocks m) (hash s) in
     let here : q < length (risen s blocks m) = carried-below s blocks i m some below in
-    let split : q / f * f + q % f ≡ q = div-add-mod' q f in
-    let run : q / f < div_ceil (length (risen s blocks m)) f = elim (cases_lt (q / f) (div_ceil (length (risen s blocks m)) f)) [
-      | inl less ↦ less
-      | inr past ↦ absurd (omega (arith, split, here, le-div_ceil (length (risen s blocks m)) f (q / f) some past))
-    ] in
+    let run : q / f < div_ceil (length (risen s blocks m)) f = quotient-below q (length (risen s blocks m)) f some here in
     let closes : (q % f + 1 ≡ f) ⊎ (q + 1 ≡ length digests) = elim ends [
       | inl full ↦ inl full
       | inr last ↦ inr (carried-last s blocks i m some last ∙ sym many)

@@ -13,6 +13,14 @@ quotient-next f i m =
     let e : m + 1 ≡ suc m = omega arith in
     ap (λ (k : ℕ). i / f ^ k) e ∙ ap (λ (k : ℕ). i / k) (pow-suc f m) ∙ sym (div-div-eq-div-mul i (f ^ m) f)
 
+-- the place above number i is below the count, rounded up
+pub quotient-below : (i n w : ℕ) → 0 < w → i < n → i / w < div_ceil n w
+quotient-below i n w some below =
+    elim (cases_lt (i / w) (div_ceil n w)) [
+      | inl less ↦ less
+      | inr most ↦ absurd (omega (arith, le-div_ceil n w (i / w) some most, div-add-mod' i w, below))
+    ]
+
 -- so many data blocks, rounded up, are one more than the place of the last
 pub div_ceil-last : (i w : ℕ) → 0 < w → div_ceil (i + 1) w ≡ i / w + 1
 div_ceil-last i w some =

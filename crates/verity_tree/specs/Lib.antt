@@ -5,5 +5,6 @@ pub mod Reading
 pub mod Building
 pub mod Verdicts
 pub mod Comparing
+pub mod Paths
 pub mod Steps
 pub mod Stores

@@ -1,11 +1,14 @@
 //! Laws of the definitions of trees: each holds for all settings and data. Those of slots, counts and places are
 //! `verity_plan`'s, and stand here too.
-ghost use Rattle.std.specs.Prelude.{◌≡◌, ℕ, ◌<◌, ◌≤◌, List, [], length, slice_index_or};
+ghost use Rattle.std.specs.Prelude.{◌≡◌, ◌⊎◌, ℕ, ◌<◌, ◌≤◌, List, [], length, slice_index_or, Result};
 ghost use Rattle.verity_plan.specs.Counts.{level_count, level_size};
+ghost use Rattle.verity_plan.specs.Plans.{Planned, IsPlanned, levels_of};
 ghost use Rattle.verity_plan.specs.Settings.{Settings, fan};
 ghost use Rattle.verity_tree.specs.ClosingOrder.{ClosesOnce, order, times};
 ghost use Rattle.verity_tree.specs.Image.{tree_block};
-ghost use Rattle.verity_tree.specs.Levels.{level, height};
+ghost use Rattle.verity_tree.specs.Levels.{data_blocks, level, height, root};
+ghost use Rattle.verity_tree.specs.Paths.{ChecksBlock, HasCollision, IsAccepted, true_path};
+ghost use Rattle.verity_tree.specs.declared.path.PathFault.{PathFault};
 
 pub use verity_plan::laws::{
     fans_are_greatest, level_counts_are_least, places_are_once, slots_are_least, slots_fit,
@@ -32,4 +35,25 @@ pub fn closed_blocks_stay()
     ensures { (s : Settings) (xs ys : List (List ℕ)) (i l j : ℕ) → length xs ≡ length ys → i ≤ length xs
         → ((k : ℕ) → k < i → slice_index_or xs k [] ≡ slice_index_or ys k []) → 0 < times l j (order (fan s) (length xs) i)
         → tree_block s xs l j ≡ tree_block s ys l j }
+{}
+
+/// A data block and its path have one answer: accepted exactly where the path holds at every level, else the first fault.
+pub fn one_answer_is_right()
+    ensures { (p : Planned) (i : ℕ) (block path root : List ℕ) (x y : Result Unit PathFault)
+        → ChecksBlock p i block path root x → ChecksBlock p i block path root y → x ≡ y }
+{}
+
+/// A data block that is accepted against the root hash of some data is the data's; or a level is named at which two
+/// different blocks have one salted hash.
+pub fn accepted_blocks_are_true()
+    ensures { (p : Planned) (bytes : List ℕ) (i : ℕ) (block path : List ℕ) → IsPlanned p
+        → IsAccepted p i block path (root p.settings (data_blocks p bytes))
+        → (block ≡ slice_index_or (data_blocks p bytes) i []) ⊎ HasCollision p (data_blocks p bytes) i block path }
+{}
+
+/// Each data block is accepted by its true path.
+pub fn true_paths_are_accepted()
+    ensures { (p : Planned) (bytes : List ℕ) (i : ℕ) → IsPlanned p → i < p.blocks
+        → IsAccepted p i (slice_index_or (data_blocks p bytes) i []) (true_path p.settings (data_blocks p bytes) i (levels_of p))
+        (root p.settings (data_blocks p bytes)) }
 {}

@@ -11,12 +11,14 @@ mod data_block;
 pub mod laws;
 mod one_pass;
 mod part;
+mod path;
 mod plain_root;
 mod store;
 
 pub use building::{BuildFault, build, root_only};
 pub use comparing::{CompareFault, compare};
 pub use part::Part;
+pub use path::{PathFault, check_block};
 pub use plain_root::root_by_levels;
 pub use store::Store;
 pub use verity_io::{

@@ -1,0 +1,14 @@
+use Rattle.std.proofs.Common.{ℕ, ◌*◌, arith, ap}
+use Rattle.verity_plan.specs.Plans.{levels_of}
+use Rattle.verity_plan.proofs.PlanLemmas.{store_few}
+use Rattle.read_one_block.proofs.image.path_length.Goals as goal
+
+pub overflow_mul-result : goal.overflow_mul-result
+overflow_mul-result c =
+    let p = c.args.plan.now in
+    omega (
+      arith,
+      store_few p c.blocks-blocks.ensures.planned,
+      ap (λ (n : ℕ). n * c.hash_block.result) c.levels.ensures,
+      ap (λ (n : ℕ). levels_of p * n) c.hash_block.ensures,
+    )

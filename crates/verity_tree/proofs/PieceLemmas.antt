@@ -1,0 +1,32 @@
+-- Pieces of one size, joined.
+use Rattle.std.proofs.Common.{◌≡◌, ℕ, zero, suc, ◌+◌, ◌*◌, ◌<◌, ◌≤◌, List, ◌++◌, take, drop, length, arith, ◌∙◌, ap, length-append}
+use Rattle.std.proofs.lemmas.List.{take_at}
+use Rattle.std.proofs.Math.Seq.{drop-append-add}
+use Rattle.std.specs.Fork.{slice_chunk}
+use Rattle.std.specs.List.{flat_map, range_with_len}
+
+-- so many pieces
+pub length-pieces : (f : ℕ → List ℕ) (size from n : ℕ) → ((m : ℕ) → from ≤ m → m < from + n → length (f m) ≡ size)
+    → length (flat_map f (range_with_len from n)) ≡ n * size
+length-pieces f size from zero each = let none : 0 ≡ 0 * size = omega arith in none
+length-pieces f size from (suc n) each =
+    let rest = length-pieces f size (from + 1) n (λ m a b. each m (omega (arith, a)) (omega (arith, b))) in
+    length-append (f from) (flat_map f (range_with_len (from + 1) n)) ∙ omega (arith, rest, each from (omega arith) (omega arith))
+
+-- one piece
+pub piece : (f : ℕ → List ℕ) (size from n l : ℕ) → l < n → ((m : ℕ) → from ≤ m → m < from + n → length (f m) ≡ size)
+    → slice_chunk (flat_map f (range_with_len from n)) size l ≡ f (from + l)
+piece f size from zero l below each = absurd (omega arith)
+piece f size from (suc n) zero below each =
+    let rest = flat_map f (range_with_len (from + 1) n) in
+    let start : 0 * size ≡ 0 = omega arith in
+    let same : from ≡ from + 0 = omega arith in
+    ap (λ (k : ℕ). take size (drop k (f from ++ rest))) start ∙ take_at (f from) rest size (each from (omega arith) (omega arith)) ∙ ap f same
+piece f size from (suc n) (suc l) below each =
+    let rest = flat_map f (range_with_len (from + 1) n) in
+    let past : suc l * size ≡ length (f from) + l * size = omega (arith, each from (omega arith) (omega arith)) in
+    let same : from + 1 + l ≡ from + suc l = omega arith in
+    ap (λ (k : ℕ). take size (drop k (f from ++ rest))) past
+    ∙ ap (take size) (drop-append-add (f from) rest (l * size))
+    ∙ piece f size (from + 1) n l (omega arith) (λ m a b. each m (omega (arith, a)) (omega (arith, b)))
+    ∙ ap f same
