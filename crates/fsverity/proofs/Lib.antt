@@ -1,4 +1,2 @@
-pub mod Fronts
 pub mod RunLemmas
 pub mod DigestLemmas
-pub mod Getters

@@ -3,6 +3,7 @@ use Rattle.std.proofs.Common.{◌≡◌, ℕ, zero, suc, ◌+◌, ◌<◌, ◌�
 use Rattle.std.specs.Prelude.{slice_get, slice_index_or}
 use Rattle.std.specs.List.{zip, flat_map, prefix_len}
 use Rattle.std.specs.Io.KnownBytes.{Appends}
+use Rattle.command_line.proofs.Fronts.{pieces_more}
 use Rattle.verity_format.proofs.KnownLemmas.{appends_twice}
 use Rattle.verity_plan.specs.Settings.{Settings}
 use Rattle.fsverity.specs.Runs.{StandsOf, HasReason, WritesLine, WritesPart, WritesUpTo, lines, file_line}
@@ -40,17 +41,6 @@ passes_to p (y ∷ ys) (suc i) x is fails le = go (passes_to p ys i x is fails) 
         let same : prefix_len p ys ≡ i = next (omega (arith, le')) in
         rw e (omega (arith, same))
     go next false e = let none : suc i ≤ 0 = rw e at le in absurd (omega (arith, none))
-
--- one more element in a list of pieces
-pub pieces_more : {A : Type 0} (f : A → List ℕ) (xs : List A) (i : ℕ) (x : A) → slice_get xs i ≡ Some x →
-    flat_map f (take (i + 1) xs) ≡ flat_map f (take i xs) ++ f x
-pieces_more f [] i x is = absurd cc
-pieces_more f (y ∷ ys) zero x is =
-    let same : y ≡ x = cc in
-    rw same (append-nil (f x))
-pieces_more f (y ∷ ys) (suc i) x is =
-    let next : flat_map f (take (i + 1) ys) ≡ flat_map f (take i ys) ++ f x = pieces_more f ys i x is in
-    rw add-one (ap (λ r. f y ++ r) (rw add-one at next) ∙ sym (append_assoc (f y) (flat_map f (take i ys)) (f x)))
 
 -- the pair at a place
 pub zip_at : {A B : Type 0} (xs : List A) (ys : List B) (i : ℕ) (x : A) (y : B) → slice_get xs i ≡ Some x → slice_get ys i ≡ Some y →

@@ -1,29 +1,17 @@
 -- The command line of `fsverity` (fsverity(1)), in the words of clap, and what a line of it holds.
-use Rattle.std.specs.Prelude.{◌≡◌, true, Option, Some, List, [], codes, map, option_map, unwrap_or, string_bytes}
-use Rattle.clap.specs.Words.{App, Row, Rule, Shape, Text, all_of, first_of, new_app, new_rule, with_rule, with_subcommand}
-use Rattle.clap.specs.Simple.{on_top}
-use Rattle.clap.specs.declared.builder.ArgAction.TheVariants.{Set, Append}
-use Rattle.fsverity.specs.declared.command_line.Line.{Line}
-
--- `--name VALUE`
-abbrev pub option_rule : Text → Rule
-option_rule name = record (new_rule name) { long = Some name; action = Some Set }
-
--- the positional words, one or more
-abbrev pub files_rule : Rule
-files_rule = record (new_rule (codes "files")) { action = Some Append; required = true }
+use Rattle.std.specs.Prelude.{◌≡◌, Option, Some, List, [], codes, map, option_map, unwrap_or, string_bytes}
+use Rattle.clap.specs.Words.{App, Row, Text, all_of, first_of, new_app, with_rule, with_subcommand}
+use Rattle.command_line.specs.Arguments.{option_rule, program_app, words_rule}
+use Rattle.fsverity.specs.declared.parsed_line.Line.{Line}
 
 -- the command `digest`
 unfoldable pub digest_app : App
 digest_app = with_rule (with_rule (with_rule (with_rule (new_app (codes "digest"))
-    (option_rule (codes "hash-alg"))) (option_rule (codes "block-size"))) (option_rule (codes "salt"))) files_rule
-
-abbrev pub without_help : Shape → Shape
-without_help s = record s { disable_help_flag = true; disable_help_subcommand = true; subcommand_required = true }
+    (option_rule (codes "hash-alg"))) (option_rule (codes "block-size"))) (option_rule (codes "salt"))) (words_rule (codes "files"))
 
 -- the program
 unfoldable pub fsverity_app : App
-fsverity_app = with_subcommand (on_top without_help (new_app (codes "fsverity"))) digest_app.top
+fsverity_app = with_subcommand (program_app (codes "fsverity")) digest_app.top
 
 -- the line holds what the rows hold, name by name
 pub record HoldsRows (rows : List Row) (line : Line) : Type 0 where

@@ -5,5 +5,4 @@ pub mod Opening
 pub mod Digests
 pub mod Runs
 pub mod CommandLines
-pub mod LineFaults
 pub mod FusedOpeners

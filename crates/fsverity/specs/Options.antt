@@ -1,20 +1,13 @@
 -- What the options of `fsverity digest` stand for (fsverity(1), "fsverity digest"; Linux kernel, fs-verity page,
 -- "FS_IOC_ENABLE_VERITY"): SHA-256, blocks of 4096 bytes and no salt where nothing is said.
 use Rattle.std.specs.Prelude.{ℕ, List, [], Option, Some, None, Result, Ok, Err, unwrap_or, option_and_then, if◌then◌else◌}
-use Rattle.verity_hash.specs.Algorithms.{digest_len_of, named}
+use Rattle.verity_hash.specs.Algorithms.{digest_len_of}
 use Rattle.verity_hash.specs.declared.algorithm.Algorithm.{Algorithm}
-use Rattle.verity_hash.specs.declared.algorithm.Algorithm.TheVariants.{Sha256}
 use Rattle.verity_hash.specs.declared.salting.SaltRule.TheVariants.{PaddedBefore}
 use Rattle.verity_plan.specs.Settings.{Settings, is_block_size, least_block, most_salt}
-use Rattle.option_texts.specs.Numbers.{number_of}
-use Rattle.option_texts.specs.Salts.{salt_of}
+use Rattle.command_line.specs.Options.{algorithm_or_default, number_of, or_fault, salt_of}
 use Rattle.fsverity.specs.declared.option_fault.FsOptionFault.{FsOptionFault}
 use Rattle.fsverity.specs.declared.option_fault.FsOptionFault.TheVariants.{UnknownHash, BadBlockSize, BadSalt}
-
--- the algorithm of a name
-abbrev pub algorithm_of : Option (List ℕ) → Option Algorithm
-algorithm_of None = Some Sha256
-algorithm_of (Some name) = named name
 
 -- a block size within the limits
 abbrev pub within_limits : Algorithm → ℕ → Option ℕ
@@ -29,15 +22,10 @@ block_size_of algorithm (Some digits) = option_and_then (within_limits algorithm
 abbrev pub salt_bytes_of : Option (List ℕ) → Option (List ℕ)
 salt_bytes_of text = salt_of (most_salt PaddedBefore) (unwrap_or text [])
 
--- the value goes on, or the fault stands
-abbrev pub or_fault : {X Y E : Type 0} → Option X → E → (X → Result Y E) → Result Y E
-or_fault None fault next = Err fault
-or_fault (Some x) fault next = next x
-
 -- the settings, or the first option that is refused
 abbrev pub fs_settings : Option (List ℕ) → Option (List ℕ) → Option (List ℕ) → Result Settings FsOptionFault
 fs_settings hash_alg block_size salt =
-    or_fault (algorithm_of hash_alg) UnknownHash (λ algorithm.
+    or_fault (algorithm_or_default hash_alg) UnknownHash (λ algorithm.
     or_fault (block_size_of algorithm block_size) BadBlockSize (λ block.
     or_fault (salt_bytes_of salt) BadSalt (λ bytes.
     Ok (record { algorithm = algorithm; rule = PaddedBefore; salt = bytes; data_block = block; hash_block = block }))))

@@ -3,6 +3,7 @@
 use Rattle.std.specs.Prelude.{◌≡◌, ◌⊎◌, ℕ, ◌+◌, ◌<◌, ◌≤◌, Bool, false, true, not, List, [], ◌∷◌, ◌++◌, length, take, codes, Option, Some, None, slice_get, slice_index_or}
 use Rattle.std.specs.List.{concat, zip, flat_map, prefix_len}
 use Rattle.std.specs.Io.KnownBytes.{Appends}
+use Rattle.command_line.specs.Printing.{AppendsFront}
 use Rattle.verity_io.specs.Counting.{Rose}
 use Rattle.verity_plan.specs.Settings.{Settings}
 use Rattle.fsverity.specs.Digests.{IsFileDigest, file_digest_of, is_too_large}
@@ -67,10 +68,6 @@ pub record WritesUpTo (s : Settings) (form : Form) (names : List (List ℕ)) (fi
   pub stands : StandsOf (file_line s form (slice_index_or names f []) file) part fault
   pub written : Appends old new (lines s form (take f (zip names files)) ++ part)
 
--- a text, or a front of it, was written
-abbrev pub WritesFront : Option (List ℕ) → Option (List ℕ) → List ℕ → Type 0
-WritesFront old new text = (k : ℕ) × Appends old new (take k text)
-
 -- a run ended at file f, the next place is behind it, and no file before it is absent or too large
 pub record EndsAt (tells : Type 0) (s : Settings) (form : Form) (names : List (List ℕ)) (files : List (Option (List ℕ)))
     (next before after : ℕ) (out out' msgs msgs' : Option (List ℕ)) : Type 0 where
@@ -80,7 +77,7 @@ pub record EndsAt (tells : Type 0) (s : Settings) (form : Form) (names : List (L
   pub is_next : next ≡ f + 1
   pub within : tells → f ≤ stop s files
   pub reason : HasReason tells (stop s files ≡ f) files f before after fault
-  pub message : WritesFront msgs msgs' (run_fault_text fault (slice_index_or names f []))
+  pub message : AppendsFront (run_fault_text fault (slice_index_or names f [])) msgs msgs'
   pub written : tells → WritesUpTo s form names files f fault out out'
 
 -- the digest of the file at a place, which has one

@@ -2,9 +2,7 @@
 ghost use Rattle.std.specs.Prelude.{◌≡◌, ◌≤◌, ◌+◌, ℕ, List, [], length};
 
 use crate::opener::Opener;
-use std::fs::File;
-use std::io;
-use std::io::{Seek, SeekFrom};
+use command_line::open_measured;
 use std::rt::Files;
 use verity_tree::{Failed, FileSource};
 
@@ -52,7 +50,7 @@ impl<'a, R: Files> Opener for FileOpener<'a, R> {
         let name = self.names[self.next];
         self.next += 1;
         match open_measured(self.rt, name) {
-            Ok((length, file)) => Ok((length, FileSource::new(file, length))),
+            Ok((file, length)) => Ok((length, FileSource::new(file, length))),
             Err(_) => {
                 self.failures = self.failures.saturating_add(1);
                 Err(Failed)
@@ -63,13 +61,4 @@ impl<'a, R: Files> Opener for FileOpener<'a, R> {
     fn end(&mut self, stream: FileSource<R::File>) {
         self.failures = self.failures.saturating_add(stream.failures());
     }
-}
-
-/// Opens a file for reading, and finds its length by seeking to its end. A file whose end can't be sought, as a pipe, is
-/// refused.
-fn open_measured<R: Files>(rt: &R, name: &str) -> io::Result<(u64, R::File)> {
-    let mut file = File::open(rt, name)?;
-    let length = file.seek(SeekFrom::End(0))?;
-    file.rewind()?;
-    Ok((length, file))
 }

@@ -1,33 +1,31 @@
 //! File digests of fs-verity, made without the kernel: the options, the digest of a file, its line, and a run over files.
 #![tactic(auto)]
 
-mod command_line;
 mod digest_lines;
 mod digesting;
 mod fault;
 mod file_opener;
 mod fused_opener;
-mod line_fault;
 mod memory_opener;
 mod opener;
 mod option_fault;
 mod options;
+mod parsed_line;
 mod run_fault;
 mod running;
-mod telling;
 mod words;
 
-pub use command_line::Line;
+pub use command_line::LineFault;
 pub use digest_lines::{Form, digest_line};
 pub use digesting::{FileDigest, digest_file};
 pub use fault::{DigestFault, digest_message};
 pub use file_opener::FileOpener;
 pub use fused_opener::FusedOpener;
-pub use line_fault::LineFault;
 pub use memory_opener::MemoryOpener;
 pub use opener::Opener;
 pub use option_fault::{FsOptionFault, option_message};
 pub use options::{DigestOptions, digest_settings};
+pub use parsed_line::Line;
 pub use run_fault::RunFault;
 pub use running::run_digest;
 pub use words::read_words;

@@ -1,10 +1,10 @@
 //! The options of `fsverity digest`.
 ghost use Rattle.std.specs.Prelude.{◌≡◌, IfOk, option_copied};
 ghost use Rattle.verity_hash.specs.declared.salting.SaltRule.TheVariants.{PaddedBefore};
-ghost use Rattle.fsverity.specs.Options.{algorithm_of, block_size_of, salt_bytes_of, fs_settings};
+ghost use Rattle.fsverity.specs.Options.{block_size_of, salt_bytes_of, fs_settings};
 
 use crate::FsOptionFault;
-use option_texts::{read_number, read_salt};
+use command_line::{algorithm_or_default, read_number, read_salt};
 use verity_hash::{Algorithm, ShortBytes};
 use verity_tree::TreeSettings;
 
@@ -26,21 +26,12 @@ pub fn digest_settings(options: &DigestOptions<'_>) -> Result<TreeSettings, FsOp
         (option_copied options.now.block_size) (option_copied options.now.salt) }
     ensures rule { IfOk result (λ settings. settings.rule ≡ PaddedBefore) }
 {
-    let algorithm = algorithm(options.hash_alg).ok_or(FsOptionFault::UnknownHash)?;
+    let algorithm = algorithm_or_default(options.hash_alg).ok_or(FsOptionFault::UnknownHash)?;
     let block = block_size(algorithm, options.block_size).ok_or(FsOptionFault::BadBlockSize)?;
     let salt = salt(options.salt).ok_or(FsOptionFault::BadSalt)?;
     match TreeSettings::fsverity(algorithm, salt.as_bytes(), block) {
         Ok(settings) => Ok(settings),
         Err(_) => unreachable!(),
-    }
-}
-
-fn algorithm(text: Option<&str>) -> Option<Algorithm>
-    ensures { result ≡ algorithm_of (option_copied text.entry) }
-{
-    match text {
-        None => Some(Algorithm::Sha256),
-        Some(name) => Algorithm::from_name(name.as_bytes()),
     }
 }
 

@@ -1,6 +1,12 @@
 //! Why a run over files ended at one of them.
+ghost use Rattle.std.specs.Prelude.{◌≡◌};
+ghost use Rattle.command_line.specs.Printing.{AppendsFront};
+ghost use Rattle.fsverity.specs.Runs.{run_fault_text};
 
-use crate::DigestFault;
+use crate::{DigestFault, digest_message};
+use command_line::{tell, tell_pieces, tell_text};
+use std::alloc::Global;
+use std::io::Write;
 
 /// Why a run over files ended at one of them.
 #[derive(Clone, Copy, Debug, PartialEq, Eq)]
@@ -11,4 +17,19 @@ pub enum RunFault {
     Digest(DigestFault),
     /// The line could not be written.
     NotWritten,
+}
+
+impl RunFault {
+    /// Writes the message of the fault at the file of this name, as far as memory and the writer take it. That a file can't
+    /// be opened is written without memory.
+    pub(crate) fn tell<W: Write>(&self, alloc: Global, name: &str, msgs: &mut W)
+        ensures { AppendsFront (run_fault_text self.now name.now) (W.contents msgs.old) (W.contents msgs.new) }
+    {
+        match self {
+            RunFault::NotOpened => tell_pieces(&["fsverity: cannot open ", name, ".\n"], msgs),
+            RunFault::NotWritten => tell_text("fsverity: cannot write output.\n", msgs),
+            RunFault::Digest(DigestFault::Memory) => tell_text("fsverity: out of memory.\n", msgs),
+            RunFault::Digest(fault) => tell(digest_message(alloc, fault, name), msgs),
+        }
+    }
 }

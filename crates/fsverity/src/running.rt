@@ -5,7 +5,6 @@ ghost use Rattle.std.specs.List.{zip};
 ghost use Rattle.verity_hash.specs.declared.salting.SaltRule.TheVariants.{PaddedBefore};
 ghost use Rattle.fsverity.specs.Runs.{stop, lines, run_fault_text, IsRefused, HasReason, IsDigestAt, WritesLine, WritesPart, EndsAt};
 
-use crate::telling::tell;
 use crate::{DigestFault, FileDigest, Form, Opener, RunFault, digest_file, digest_line};
 use std::alloc::Global;
 use std::io::Write;
@@ -114,7 +113,7 @@ pub fn run_digest<O: Opener, W: Write, M: Write>(
         match digest_next(alloc, settings, form, name, opener, out) {
             Ok(()) => {}
             Err(fault) => {
-                tell(alloc, fault, name, msgs);
+                fault.tell(alloc, name, msgs);
                 return 1;
             }
         }

@@ -1,26 +1,30 @@
 -- What format makes (veritysetup(8), "format"; cryptsetup's on-disk format page).
-use Rattle.std.specs.Prelude.{◌≡◌, ℕ, ◌*◌, List}
-use Rattle.std.specs.Int.{div_ceil}
-use Rattle.verity_plan.specs.Settings.{rule_of}
-use Rattle.verity_plan.specs.Plans.{Planned}
+use Rattle.std.specs.Prelude.{◌≡◌, ℕ, ◌*◌, ◌==◌, Bool, List, Option, Some, None, Result, Err, if◌then◌else◌}
+use Rattle.verity_plan.specs.Settings.{Settings, rule_of}
+use Rattle.verity_plan.specs.Plans.{Planned, base_of, plan_for_blocks}
 use Rattle.verity_plan.specs.declared.hash_type.HashType.{HashType}
+use Rattle.verity_plan.specs.declared.plan_fault.PlanFault.{PlanFault}
+use Rattle.verity_plan.specs.declared.plan_fault.PlanFault.TheVariants.{NoData, TooLarge}
 
--- the hash type, the UUID's bytes, and the plan of the tree
+-- the hash type, the UUID's bytes, the hash offset in bytes, whether a superblock stands there, and the tree's plan
 pub record Chosen : Type 0 where
   pub hash_type : HashType
   pub uuid : List ℕ
+  pub offset : ℕ
+  pub superblock : Bool
   pub plan : Planned
 
--- the length of a superblock in bytes, which stands at the start of the hash device
-abbrev pub superblock_size : ℕ
-superblock_size = 512
+-- the plan for so many data blocks where the tree begins at this hash block; without one the hash area is too large
+abbrev pub plan_from : Settings → ℕ → Option ℕ → Result Planned PlanFault
+plan_from tree blocks (Some base) = plan_for_blocks tree blocks base
+plan_from tree blocks None = if blocks == 0 then Err NoData else Err TooLarge
 
--- the first whole hash block behind the superblock
-abbrev pub base_behind : ℕ → ℕ
-base_behind hash_block = div_ceil superblock_size hash_block
+-- the plan for so many data blocks with this hash offset, after a superblock where there is one
+abbrev pub plan_at : Settings → ℕ → ℕ → Bool → Result Planned PlanFault
+plan_at tree blocks offset superblock = plan_from tree blocks (base_of offset superblock tree.hash_block)
 
--- the tree is of the hash type, over whole data blocks, and stands behind the superblock
+-- the tree is of the hash type, over whole data blocks, and begins at the offset, or after the superblock there
 pub record IsChosen (c : Chosen) : Type 0 where
   pub of_type : c.plan.settings.rule ≡ rule_of c.hash_type
   pub whole : c.plan.wanted ≡ c.plan.blocks * c.plan.settings.data_block
-  pub behind : c.plan.base ≡ base_behind c.plan.settings.hash_block
+  pub based : base_of c.offset c.superblock c.plan.settings.hash_block ≡ Some c.plan.base

@@ -1,5 +1,5 @@
-pub mod Drawn
-pub mod Roots
+pub mod RandomBytes
+pub mod RootHash
 pub mod Uuids
 pub mod Options
 pub mod Chosen
@@ -7,8 +7,10 @@ pub mod Choosing
 pub mod Messages
 pub mod Reports
 pub mod Printing
-pub mod Stored
-pub mod Dumping
+pub mod Outcomes
+pub mod StoredSuperblock
+pub mod DumpRun
 pub mod Images
-pub mod Formatting
-pub mod Verifying
+pub mod FormatRun
+pub mod VerifyRun
+pub mod VerifySteps

@@ -1,15 +1,10 @@
 -- What the texts of options stand for, one by one, with the defaults of veritysetup(8).
-use Rattle.std.specs.Prelude.{ℕ, ◌==◌, Bool, List, [], replicate, take, drop, codes, Option, Some, None, option_map, if◌then◌else◌}
+use Rattle.std.specs.Prelude.{ℕ, Bool, List, [], replicate, take, drop, codes, Option, Some, None, option_map, if◌then◌else◌}
 use Rattle.std.specs.Str.{bytes_eq}
 use Rattle.uuid.specs.Text.{parsed}
-use Rattle.verity_hash.specs.Algorithms.{named}
-use Rattle.verity_hash.specs.declared.algorithm.Algorithm.{Algorithm}
-use Rattle.verity_hash.specs.declared.algorithm.Algorithm.TheVariants.{Sha256}
-use Rattle.verity_plan.specs.Settings.{is_block_size}
-use Rattle.verity_plan.specs.declared.hash_type.HashType.{HashType}
-use Rattle.verity_plan.specs.declared.hash_type.HashType.TheVariants.{Current}
-use Rattle.option_texts.specs.Numbers.{number_of}
-use Rattle.option_texts.specs.Salts.{salt_of}
+use Rattle.verity_hash.specs.declared.salting.SaltRule.TheVariants.{Before}
+use Rattle.verity_plan.specs.Settings.{is_verity_block_size, most_salt}
+use Rattle.command_line.specs.Options.{salt_of}
 use Rattle.veritysetup.specs.Uuids.{random_uuid}
 use Rattle.veritysetup.specs.declared.options.RawOptions.{RawOptions}
 
@@ -34,31 +29,17 @@ texts_of raw = record {
   same_file = raw.same_file;
 }
 
--- a number, or its default
-abbrev pub number_or : ℕ → Option (List ℕ) → Option ℕ
-number_or default None = Some default
-number_or default (Some text) = number_of text
-
--- an algorithm's name; by default sha256
-abbrev pub algorithm_of : Option (List ℕ) → Option Algorithm
-algorithm_of None = Some Sha256
-algorithm_of (Some name) = named name
-
--- the hash type of a number
-abbrev pub hash_type_of : ℕ → Option HashType
-hash_type_of number = if number == 1 then Some Current else None
-
 -- a block size of dm-verity
 abbrev pub block_size_of : ℕ → Option ℕ
-block_size_of number = if is_block_size 512 number then Some number else None
+block_size_of number = if is_verity_block_size number then Some number else None
 
 -- a salt, where `-` is the empty one; by default the first 32 random bytes
 abbrev pub salt_or_random : Option (List ℕ) → Option (List ℕ) → Option (List ℕ)
-salt_or_random (Some text) random = if bytes_eq text (codes "-") then Some [] else salt_of 256 text
+salt_or_random (Some text) random = if bytes_eq text (codes "-") then Some [] else salt_of (most_salt Before) text
 salt_or_random None (Some random) = Some (take 32 random)
 salt_or_random None None = None
 
--- a UUID; by default that of the 16 random bytes behind those, and zeros where there are none
+-- a UUID; by default that of the 16 random bytes after those, and zeros where there are none
 abbrev pub uuid_or_random : Option (List ℕ) → Option (List ℕ) → Option (List ℕ)
 uuid_or_random (Some text) random = parsed text
 uuid_or_random None (Some random) = Some (random_uuid (take 16 (drop 32 random)))

@@ -1,4 +1,4 @@
--- What writing a text leaves in a writer, as far as the writer tells what it holds.
+-- What writing the report leaves in a writer, where the writer's content is known.
 use Rattle.std.specs.Prelude.{ℕ, ◌<◌, List, length, take, Option, Result, Ok, Err}
 use Rattle.std.specs.Io.KnownBytes.{Appends, Keeps}
 use Rattle.veritysetup.specs.declared.printing.PrintFault.{PrintFault}
@@ -9,7 +9,3 @@ abbrev pub Prints : Result (Unit {0}) PrintFault → List ℕ → Option (List �
 Prints (Ok done) text before after = Appends before after text
 Prints (Err Memory) text before after = Keeps before after
 Prints (Err (Output taken)) text before after = (taken < length text) × Appends before after (take taken text)
-
--- so many of the text's first bytes are added, perhaps all
-abbrev pub GainsPrefix : List ℕ → Option (List ℕ) → Option (List ℕ) → Type 0
-GainsPrefix text before after = (taken : ℕ) × Appends before after (take taken text)

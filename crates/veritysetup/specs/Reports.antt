@@ -21,10 +21,14 @@ abbrev pub salt_text : List ℕ → List ℕ
 salt_text [] = codes "-"
 salt_text (b ∷ rest) = encode_lower (b ∷ rest)
 
--- a text, and the lines on the device
-abbrev pub with_header : List ℕ → SuperblockFields → List ℕ
-with_header text v = text
-    ++ report_line (codes "UUID:") (hyphenated_text lower v.uuid)
+-- the text of a UUID: 32 lowercase digits in five groups (RFC 9562, section 4)
+abbrev pub uuid_text : List ℕ → List ℕ
+uuid_text uuid = hyphenated_text lower uuid
+
+-- a text, and the lines on the device, with this text of the UUID
+abbrev pub with_header : List ℕ → List ℕ → SuperblockFields → List ℕ
+with_header text uuid v = text
+    ++ report_line (codes "UUID:") uuid
     ++ report_line (codes "Hash type:") (decimal (type_number v.hash_type))
     ++ report_line (codes "Data blocks:") (decimal v.blocks)
 
@@ -45,7 +49,8 @@ abbrev pub root_line : Option (List ℕ) → List ℕ
 root_line None = []
 root_line (Some root) = report_line (codes "Root hash:") (encode_lower root)
 
--- the whole report
-unfoldable pub report_text : List ℕ → SuperblockFields → Option (List ℕ) → List ℕ
-report_text path v root =
-    with_hash (with_sizes (with_header (title path) v) v.tree) (name_of v.tree.algorithm) (salt_text v.tree.salt) ++ root_line root
+-- the whole report, with this text of the UUID
+unfoldable pub report_text : List ℕ → List ℕ → SuperblockFields → Option (List ℕ) → List ℕ
+report_text path uuid v root =
+    with_hash (with_sizes (with_header (title path) uuid v) v.tree) (name_of v.tree.algorithm) (salt_text v.tree.salt)
+    ++ root_line root

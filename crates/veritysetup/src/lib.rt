@@ -1,25 +1,30 @@
 //! What the program veritysetup does, without the kernel: options, the report, and the runs of format, dump and verify.
 #![tactic(auto)]
 
-mod drawing;
-mod dumping;
-mod formatting;
+mod dump_run;
+mod format_run;
+mod hash_area;
 mod messages;
 mod options;
 mod parameters;
 mod printing;
-mod reporting;
-mod roots;
+mod random_bytes;
+mod reports;
+mod root_hash;
 mod settings;
-mod stored;
+mod stored_superblock;
+mod trusted_tree;
 mod uuids;
-mod verifying;
+mod verify_fault;
+mod verify_input;
+mod verify_run;
 
-pub use drawing::draw;
-pub use dumping::run_dump;
-pub use formatting::run_format;
+pub use dump_run::run_dump;
+pub use format_run::run_format;
 pub use messages::{build_message, compare_message, option_message, super_message};
 pub use options::{OptionFault, OptionName, RawOptions};
-pub use reporting::report;
+pub use random_bytes::draw;
+pub use reports::report;
 pub use settings::{Settings, settings_of};
-pub use verifying::{VerifyInput, run_verify};
+pub use verify_input::VerifyInput;
+pub use verify_run::run_verify;

@@ -7,7 +7,7 @@ use std::alloc::{AllocError, Global};
 use verity_format::SuperFault;
 use verity_tree::{BuildFault, CompareFault, Part};
 
-/// The data holds no whole block, or a superblock tells of none.
+/// The data holds no whole block, or a superblock describes none.
 const NO_DATA: &str = "No data blocks.\n";
 
 /// The data area or the hash area is past its limit.

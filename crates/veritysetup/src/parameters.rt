@@ -1,23 +1,28 @@
 //! What the texts of options choose, before the data is looked at.
 ghost use Rattle.std.specs.Prelude.{◌≡◌, IfOk, option_map};
-ghost use Rattle.veritysetup.specs.Options.{texts_of, number_or, algorithm_of, hash_type_of, block_size_of, salt_or_random, uuid_or_random};
+ghost use Rattle.veritysetup.specs.Options.{texts_of, block_size_of, salt_or_random, uuid_or_random};
 ghost use Rattle.verity_plan.specs.Settings.{rule_of};
 ghost use Rattle.veritysetup.specs.Choosing.{parameters};
 
 use crate::options::{OptionFault, OptionName, RawOptions};
 use crate::uuids::{random_uuid, read_uuid};
-use option_texts::{read_number, read_salt};
+use command_line::{algorithm_or_default, number_or, read_salt};
 use uuid::Uuid;
-use verity_hash::{Algorithm, ShortBytes};
+use verity_hash::ShortBytes;
+use verity_plan::{MOST_SALT, is_verity_block_size};
 use verity_tree::{HashType, TreeSettings};
 
-/// What a tree is made by, and what the superblock tells of it.
+/// What a tree is made by, and where it goes on the hash device.
 #[derive(Clone, Copy)]
 pub struct Parameters {
     /// Where the salt goes.
     pub hash_type: HashType,
     /// The UUID of the hash device.
     pub uuid: Uuid,
+    /// The byte at which the hash area begins on the hash device.
+    pub offset: u64,
+    /// Whether the hash area begins with a superblock.
+    pub superblock: bool,
     /// Algorithm, salt and block sizes.
     pub tree: TreeSettings,
 }
@@ -35,8 +40,8 @@ impl Parameters {
         let hash_size = number_or(4096, raw.hash_block_size).ok_or(OptionFault::BadNumber(
             OptionName::HashBlockSize,
         ))?;
-        let algorithm = algorithm_of(raw.hash).ok_or(OptionFault::UnknownHash)?;
-        let hash_type = hash_type_of(format).ok_or(OptionFault::BadHashType)?;
+        let algorithm = algorithm_or_default(raw.hash).ok_or(OptionFault::UnknownHash)?;
+        let hash_type = HashType::from_number(format).ok_or(OptionFault::BadHashType)?;
         let data_block = block_size_of(data_size).ok_or(OptionFault::BadBlockSize(
             OptionName::DataBlockSize,
         ))?;
@@ -56,38 +61,10 @@ impl Parameters {
         Ok(Parameters {
             hash_type,
             uuid,
+            offset: 0,
+            superblock: true,
             tree,
         })
-    }
-}
-
-/// The number of an option, its default where it is not given, or `None` where it is no number.
-fn number_or(default: u64, text: Option<&str>) -> Option<u64>
-    ensures { result ≡ number_or default (option_map (λ t. t.now) text.entry) }
-{
-    match text {
-        Some(text) => read_number(text),
-        None => Some(default),
-    }
-}
-
-/// The algorithm of a name, by default SHA-256.
-fn algorithm_of(name: Option<&str>) -> Option<Algorithm>
-    ensures { result ≡ algorithm_of (option_map (λ t. t.now) name.entry) }
-{
-    match name {
-        Some(name) => Algorithm::from_name(name.as_bytes()),
-        None => Some(Algorithm::Sha256),
-    }
-}
-
-/// The hash type of a number.
-fn hash_type_of(number: u64) -> Option<HashType>
-    ensures { result ≡ hash_type_of number }
-{
-    match number {
-        1 => Some(HashType::Current),
-        _ => None,
     }
 }
 
@@ -95,7 +72,7 @@ fn hash_type_of(number: u64) -> Option<HashType>
 fn block_size_of(number: u64) -> Option<u32>
     ensures { result ≡ block_size_of number }
 {
-    if number.is_power_of_two() && 512 <= number && number <= 524288 {
+    if is_verity_block_size(number) {
         Some(number as u32)
     } else {
         None
@@ -103,7 +80,7 @@ fn block_size_of(number: u64) -> Option<u32>
 }
 
 /// The salt of a text, where `-` is no salt; without one the first 32 random bytes, where there are any.
-fn salt_or_random(text: Option<&str>, random: Option<&[u8; 48]>) -> Option<ShortBytes<256>>
+fn salt_or_random(text: Option<&str>, random: Option<&[u8; 48]>) -> Option<ShortBytes<MOST_SALT>>
     ensures { result ≡ salt_or_random (option_map (λ t. t.now) text.entry) (option_map (λ b. b.now) random.entry) }
 {
     match text {

@@ -1,10 +1,10 @@
-//! Writing the report and messages.
-ghost use Rattle.std.specs.Prelude.{◌≡◌, ℕ, List, IfOk, string_bytes, option_map};
-ghost use Rattle.veritysetup.specs.Printing.{Prints, GainsPrefix};
-ghost use Rattle.veritysetup.specs.Reports.{report_text};
+//! Writing the report.
+ghost use Rattle.std.specs.Prelude.{◌≡◌, option_map};
+ghost use Rattle.veritysetup.specs.Printing.{Prints};
+ghost use Rattle.veritysetup.specs.Reports.{report_text, uuid_text};
 
-use crate::reporting::report;
-use std::alloc::{AllocError, Global};
+use crate::reports::report;
+use std::alloc::Global;
 use std::io::Write;
 use verity_format::{PutFault, Superblock, put_all};
 use verity_hash::Digest;
@@ -26,7 +26,9 @@ pub fn print_report<W: Write>(
     path: &str,
     out: &mut W,
 ) -> Result<(), PrintFault>
-    ensures { Prints result (report_text path.now superblock.now (option_map (λ d. d.now) root.entry)) (W.contents out.old) (W.contents out.new) }
+    ensures { Prints result
+        (report_text path.now (uuid_text superblock.now.uuid) superblock.now (option_map (λ d. d.now) root.entry))
+        (W.contents out.old) (W.contents out.new) }
 {
     match report(alloc, superblock, root, path) {
         Ok(text) => match put_all(out, text.as_bytes()) {
@@ -34,21 +36,5 @@ pub fn print_report<W: Write>(
             Err(PutFault(taken)) => Err(PrintFault::Output(taken)),
         },
         Err(_) => Err(PrintFault::Memory),
-    }
-}
-
-/// Writes a fixed text as far as it goes.
-pub fn tell_text<W: Write>(text: &str, msgs: &mut W)
-    ensures { GainsPrefix text.now (W.contents msgs.old) (W.contents msgs.new) }
-{
-    let _cut = put_all(msgs, text.as_bytes());
-}
-
-/// Writes a message as far as it goes, and nothing where there was no memory for it.
-pub fn tell<W: Write>(message: Result<String, AllocError>, msgs: &mut W)
-    ensures { (text : List ℕ) → IfOk message (λ s. string_bytes s ≡ text) → GainsPrefix text (W.contents msgs.old) (W.contents msgs.new) }
-{
-    if let Ok(text) = message {
-        tell_text(text.as_str(), msgs);
     }
 }

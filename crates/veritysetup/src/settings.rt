@@ -1,10 +1,11 @@
-//! What format makes: hash type, UUID and the plan of the tree.
-ghost use Rattle.std.specs.Prelude.{◌≡◌, ◌<◌, option_map};
-ghost use Rattle.veritysetup.specs.Chosen.{IsChosen, base_behind};
+//! What format makes: hash type, UUID, where the hash area begins, and the plan of the tree.
+ghost use Rattle.std.specs.Prelude.{◌≡◌, option_map};
+ghost use Rattle.veritysetup.specs.Chosen.{IsChosen};
 ghost use Rattle.veritysetup.specs.Choosing.{settings};
 ghost use Rattle.veritysetup.specs.Images.{superblock_for};
 ghost use Rattle.veritysetup.specs.Options.{texts_of};
 
+use crate::hash_area::plan_at;
 use crate::options::{OptionFault, RawOptions};
 use crate::parameters::Parameters;
 use std::marker::Model;
@@ -13,11 +14,13 @@ use verity_format::Superblock;
 use verity_tree::{HashType, Plan, PlanFault};
 
 /// The settings of a hash device. Only `settings_of` makes them, so the parts agree: the plan's tree is of the hash
-/// type, and its hash blocks stand behind the superblock.
+/// type, and its hash blocks stand at the hash offset, or after the superblock there.
 #[derive(Clone, Copy)]
 pub struct Settings {
     hash_type: HashType,
     uuid: Uuid,
+    offset: u64,
+    superblock: bool,
     plan: Plan,
 }
 
@@ -26,11 +29,29 @@ impl Model for Settings {
 
     ghost Value = { Chosen };
 
-    ghost view = { λ s. record { hash_type = s.hash_type; uuid = s.uuid; plan = s.plan } };
+    ghost view = { λ s. record {
+      hash_type = s.hash_type;
+      uuid = s.uuid;
+      offset = s.offset;
+      superblock = s.superblock;
+      plan = s.plan;
+    } };
 
-    ghost invariant = { λ s. IsChosen (record { hash_type = s.hash_type; uuid = s.uuid; plan = s.plan }) };
+    ghost invariant = { λ s. IsChosen (record {
+      hash_type = s.hash_type;
+      uuid = s.uuid;
+      offset = s.offset;
+      superblock = s.superblock;
+      plan = s.plan;
+    }) };
 
-    ghost inverse = { λ c. record { hash_type = c.hash_type; uuid = c.uuid; plan = c.plan } };
+    ghost inverse = { λ c. record {
+      hash_type = c.hash_type;
+      uuid = c.uuid;
+      offset = c.offset;
+      superblock = c.superblock;
+      plan = c.plan;
+    } };
 }
 
 impl Settings {
@@ -48,6 +69,20 @@ impl Settings {
         self.uuid.into_bytes()
     }
 
+    /// The byte at which the hash area begins on the hash device (veritysetup(8), `--hash-offset`).
+    pub fn offset(&self) -> u64
+        ensures { result ≡ self.now.offset }
+    {
+        self.offset
+    }
+
+    /// Whether the hash area begins with a superblock (veritysetup(8), `--no-superblock`).
+    pub fn has_superblock(&self) -> bool
+        ensures { result ≡ self.now.superblock }
+    {
+        self.superblock
+    }
+
     /// What is read, and where each hash block goes.
     pub fn plan(&self) -> &Plan
         ensures value { result.now ≡ self.now.plan }
@@ -56,21 +91,13 @@ impl Settings {
         &self.plan
     }
 
-    /// The superblock that tells of them.
+    /// The superblock that describes them.
     pub fn superblock(&self) -> Superblock
         ensures { result ≡ superblock_for self.now }
     {
         let plan = &self.plan;
         Superblock::new(plan.settings(), self.uuid(), plan.blocks()).unwrap()
     }
-}
-
-/// The first whole hash block behind the superblock, which stands at the start of the hash device.
-pub fn base_behind(hash_block: u32) -> u64
-    requires { 0 < hash_block }
-    ensures { result ≡ base_behind hash_block }
-{
-    512_u64.div_ceil(u64::from(hash_block))
 }
 
 /// The settings that options choose for data of this length in bytes. Random bytes are for a salt or a UUID that is not
@@ -85,12 +112,13 @@ pub fn settings_of(
 {
     let chosen = Parameters::chosen(raw, random)?;
     let blocks = length / u64::from(chosen.tree.data_block());
-    let base = base_behind(chosen.tree.hash_block());
-    match Plan::for_blocks(&chosen.tree, blocks, base) {
+    match plan_at(&chosen.tree, blocks, chosen.offset, chosen.superblock) {
         Ok(_) if raw.same_file => Err(OptionFault::Overlap),
         Ok(plan) => Ok(Settings {
             hash_type: chosen.hash_type,
             uuid: chosen.uuid,
+            offset: chosen.offset,
+            superblock: chosen.superblock,
             plan,
         }),
         Err(PlanFault::NoData) => Err(OptionFault::NoData),

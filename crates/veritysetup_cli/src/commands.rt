@@ -1,5 +1,6 @@
 //! The commands and their options (veritysetup(8)).
-use clap::{Arg, ArgAction, ArgMatches, Command, Error};
+use clap::{ArgMatches, Command, Error};
+use command_line::{option, program, word};
 use std::alloc::{AllocError, Global};
 
 /// The id of the data file.
@@ -10,16 +11,6 @@ pub const HASH: &str = "HASH";
 
 /// The id of the root hash.
 pub const ROOT: &str = "ROOT";
-
-/// An option that takes a text.
-fn option<'a>(alloc: Global, name: &'a str) -> Arg<'a> {
-    Arg::new(alloc, name).long(name).action(ArgAction::Set)
-}
-
-/// A word that has to be given.
-fn word<'a>(alloc: Global, name: &'a str) -> Arg<'a> {
-    Arg::new(alloc, name).action(ArgAction::Set).required(true)
-}
 
 /// `format [options] DATA HASH`.
 fn format_command<'a>(alloc: Global) -> Result<Command<'a>, AllocError> {
@@ -49,10 +40,7 @@ fn verify_command<'a>(alloc: Global) -> Result<Command<'a>, AllocError> {
 
 /// All commands. Help flags and the command `help` are off.
 fn all_commands<'a>(alloc: Global) -> Result<Command<'a>, AllocError> {
-    Command::new(alloc, "veritysetup")
-        .disable_help_flag(true)
-        .disable_help_subcommand(true)
-        .subcommand_required(true)
+    program(alloc, "veritysetup")
         .subcommand(format_command(alloc)?)?
         .subcommand(dump_command(alloc)?)?
         .subcommand(verify_command(alloc)?)

@@ -1,8 +1,8 @@
 //! `veritysetup format`.
 use crate::commands::{DATA, HASH};
-use crate::files::{open_measured, open_writable};
 use crate::messages;
 use clap::ArgMatches;
+use command_line::{open_measured, open_writable, tell};
 use rand::rngs::StdRng;
 use std::io;
 use verity_tree::{FileDevice, FileSource};
@@ -26,7 +26,7 @@ pub fn run(rt: &HostRuntime, matches: &ArgMatches<'_>) -> u8 {
     match settings_of(&raw, length, random.as_ref()) {
         Ok(settings) => make(rt, &settings, FileSource::new(file, length), hash),
         Err(fault) => {
-            messages::tell(rt, option_message(rt.alloc(), &fault));
+            tell(option_message(rt.alloc(), &fault), &mut rt.stderr());
             1
         }
     }

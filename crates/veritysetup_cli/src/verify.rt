@@ -1,8 +1,8 @@
 //! `veritysetup verify`.
 use crate::commands::{DATA, HASH, ROOT};
-use crate::files::open_measured;
 use crate::messages;
 use clap::ArgMatches;
+use command_line::open_measured;
 use std::fs::File;
 use verity_tree::{FileDevice, FileSource};
 use veritysetup::{VerifyInput, run_verify};

@@ -1,5 +1,5 @@
 use Rattle.std.proofs.Common.{◌≡◌, ◌<◌, [], length, arith}
-use Rattle.fsverity.proofs.Fronts.{appends_nothing}
+use Rattle.command_line.proofs.Fronts.{appends_nothing}
 use Rattle.fsverity.proofs.RunLemmas.{element_at, stands_nothing, any_err}
 use Rattle.fsverity.proofs.running.digest_next.Goals as goal
 

@@ -2,7 +2,7 @@ use Rattle.std.proofs.Common.{◌≡◌, ◌+◌, ap, ◌∙◌, arith, rules, m
 use Rattle.std.proofs.lemmas.List.{length-map, take_all}
 use Rattle.fsverity.specs.Runs.{IsRefused, has_digest}
 use Rattle.std.specs.List.{zip}
-use Rattle.fsverity.proofs.Fronts.{appends_nothing}
+use Rattle.command_line.proofs.Fronts.{appends_nothing}
 use Rattle.fsverity.proofs.RunLemmas.{passes_more, passes_to, mapped_at, index_at, length-zip-most, prefix_len-most, line_more, part_more, reason_of}
 use Rattle.fsverity.proofs.running.run_digest.Goals as goal
 

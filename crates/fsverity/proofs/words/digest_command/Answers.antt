@@ -1,13 +1,16 @@
-use Rattle.std.proofs.Common.{rules, ap₂, ◌∙◌}
+use Rattle.std.proofs.Common.{codes}
 use Rattle.std.proofs.lemmas.Result.{IfOk-weaker}
-use Rattle.clap.specs.Words.{with_rule}
+use Rattle.clap.specs.Words.{new_app}
+use Rattle.command_line.specs.Arguments.{Defines}
+use Rattle.command_line.proofs.Chains.{arg_added}
 use Rattle.fsverity.specs.CommandLines.{digest_app}
 use Rattle.fsverity.proofs.words.digest_command.Goals as goal
 
-pub returns-clause-app : goal.returns-clause-app
+pub returns : goal.returns
 unfolding digest_app
-returns-clause-app c =
-    let one = c.in_ok-arg.ensures.shape (search rules) ∙ ap₂ with_rule c.new.ensures.app c.option.ensures.rule in
-    let two = c.in_ok-arg-2.ensures.shape (search rules) ∙ ap₂ with_rule one c.option-2.ensures.rule in
-    let three = c.in_ok-arg-3.ensures.shape (search rules) ∙ ap₂ with_rule two c.option-3.ensures.rule in
-    IfOk-weaker c.arg-4.result _ _ (λ r h. h.shape (search rules) ∙ ap₂ with_rule three c.files.ensures.rule) c.arg-4.ensures
+returns c =
+    let none : Defines (new_app (codes "digest")) c.new.result = record { app = c.new.ensures.app; local = c.new.ensures.local } in
+    let one = arg_added _ _ _ _ _ none c.option.ensures.rule c.option.ensures.local c.in_ok-arg.ensures in
+    let two = arg_added _ _ _ _ _ one c.option-2.ensures.rule c.option-2.ensures.local c.in_ok-arg-2.ensures in
+    let three = arg_added _ _ _ _ _ two c.option-3.ensures.rule c.option-3.ensures.local c.in_ok-arg-3.ensures in
+    IfOk-weaker c.arg-4.result _ _ (λ r h. arg_added _ r _ _ _ three c.words.ensures.rule c.words.ensures.local h) c.arg-4.ensures

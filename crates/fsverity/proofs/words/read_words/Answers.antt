@@ -1,8 +1,8 @@
 use Rattle.std.proofs.Common.{refl, ap, subst, ◌≡◌, ◌∙◌, true, map, sym, List}
 use Rattle.clap.specs.Words.{App, Row, is_simple, subcommand_of}
 use Rattle.clap.proofs.OnLiterals.{clap_on_literals}
+use Rattle.command_line.proofs.Values.{met_rows}
 use Rattle.fsverity.specs.CommandLines.{HoldsRows, fsverity_app, digest_app}
-use Rattle.fsverity.proofs.Getters.{met_rows}
 use Rattle.fsverity.proofs.words.read_words.Goals as goal
 
 simple : is_simple fsverity_app ≡ true
@@ -11,7 +11,7 @@ simple = refl
 
 pub returns-clause-holds : goal.returns-clause-holds
 returns-clause-holds c =
-    let app = c.in_ok-command.ensures.app in
+    let app = c.in_ok-command.ensures.defined.app in
     let matches = (c.in_ok-matches.ensures.matches (ap is_simple app ∙ simple)).1 in
     let met = met_rows _ _ (c.in-Some.ensures.rows) in (
       met.0,

@@ -1,0 +1,4 @@
+pub mod Fronts
+pub mod Chains
+pub mod Named
+pub mod Values

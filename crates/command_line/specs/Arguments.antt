@@ -1,0 +1,32 @@
+-- The arguments and the programs of both command lines, in the words of clap (veritysetup(8); fsverity(1)).
+use Rattle.std.specs.Prelude.{◌≡◌, true, false, Some}
+use Rattle.clap.specs.Words.{App, Rule, Shape, Text, app_of, new_app, new_rule}
+use Rattle.clap.specs.Simple.{on_top}
+use Rattle.clap.specs.declared.builder.command.Command.{Command}
+use Rattle.clap.specs.declared.builder.command.Command.TheViews.{out-Command as fields_of}
+use Rattle.clap.specs.declared.builder.ArgAction.TheVariants.{Set, Append}
+
+-- `--name VALUE`, at most once
+abbrev pub option_rule : Text → Rule
+option_rule name = record (new_rule name) { long = Some name; action = Some Set }
+
+-- a word that has to be given
+abbrev pub word_rule : Text → Rule
+word_rule name = record (new_rule name) { action = Some Set; required = true }
+
+-- the words beside the options, one or more
+abbrev pub words_rule : Text → Rule
+words_rule name = record (new_rule name) { action = Some Append; required = true }
+
+-- a command has to be given, and there is no help flag and no command `help`
+abbrev pub without_help : Shape → Shape
+without_help s = record s { disable_help_flag = true; disable_help_subcommand = true; subcommand_required = true }
+
+-- a program that has no command yet
+abbrev pub program_app : Text → App
+program_app name = on_top without_help (new_app name)
+
+-- the command is the one of this definition, and has no global argument
+pub record Defines (a : App) (c : Command) : Type 0 where
+  pub app : app_of c ≡ a
+  pub local : (fields_of c).has_globals ≡ false

@@ -1,0 +1,4 @@
+pub mod Options
+pub mod Arguments
+pub mod LineFaults
+pub mod Printing

@@ -1,0 +1,37 @@
+-- What the texts of options stand for, with the defaults of both programs (veritysetup(8); fsverity(1)). How a text writes
+-- a number is this project's own, since both pages leave it open.
+use Rattle.std.specs.Prelude.{ℕ, ◌+◌, ◌-◌, ◌*◌, ◌/◌, ◌^◌, ◌&&◌, List, [], ◌∷◌, length, Option, Some, None, Result, Err, if◌then◌else◌, nat_le, nat_lt}
+use Rattle.std.specs.Result.{result_ok}
+use Rattle.std.specs.Str.{all_ascii_digits}
+use Rattle.hex.specs.Hex.{decode_of}
+use Rattle.verity_hash.specs.Algorithms.{named}
+use Rattle.verity_hash.specs.declared.algorithm.Algorithm.{Algorithm}
+use Rattle.verity_hash.specs.declared.algorithm.Algorithm.TheVariants.{Sha256}
+
+-- the sum of the digits by powers of ten
+abbrev pub number : List ℕ → ℕ
+number [] = 0
+number (c ∷ cs) = (c - 48) * 10 ^ length cs + number cs
+
+-- one ASCII digit or more, leading zeros allowed, of a value below 2 ^ 64
+abbrev pub number_of : List ℕ → Option ℕ
+number_of text = if all_ascii_digits text && (nat_lt 0 (length text) && nat_lt (number text) (2 ^ 64)) then Some (number text) else None
+
+-- a number, or its default
+abbrev pub number_or : ℕ → Option (List ℕ) → Option ℕ
+number_or default None = Some default
+number_or default (Some text) = number_of text
+
+-- the bytes of a salt in hexadecimal digits of either case, two digits a byte, at most so many
+abbrev pub salt_of : ℕ → List ℕ → Option (List ℕ)
+salt_of most text = if nat_le (length text / 2) most then result_ok (decode_of text) else None
+
+-- the algorithm of a name; by default SHA-256
+abbrev pub algorithm_or_default : Option (List ℕ) → Option Algorithm
+algorithm_or_default None = Some Sha256
+algorithm_or_default (Some name) = named name
+
+-- what follows from a value that an option has to give, or the fault that it gives none
+abbrev pub or_fault : {X Y E : Type 0} → Option X → E → (X → Result Y E) → Result Y E
+or_fault None fault next = Err fault
+or_fault (Some x) fault next = next x

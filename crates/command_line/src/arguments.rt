@@ -1,0 +1,43 @@
+//! The arguments and the programs of clap that both command lines are made of.
+ghost use Rattle.std.specs.Prelude.{◌≡◌, false};
+ghost use Rattle.clap.specs.Words.{rule_of};
+ghost use Rattle.command_line.specs.Arguments.{Defines, option_rule, program_app, word_rule, words_rule};
+
+use clap::{Arg, ArgAction, Command};
+use std::alloc::Global;
+
+/// `--name VALUE`, at most once.
+pub fn option<'a>(alloc: Global, name: &'a str) -> Arg<'a>
+    ensures rule { rule_of result ≡ option_rule name.entry.now }
+    ensures local { result.global ≡ false }
+{
+    Arg::new(alloc, name).long(name).action(ArgAction::Set)
+}
+
+/// A word that has to be given, in its place among the words beside the options.
+pub fn word<'a>(alloc: Global, name: &'a str) -> Arg<'a>
+    ensures rule { rule_of result ≡ word_rule name.entry.now }
+    ensures local { result.global ≡ false }
+{
+    Arg::new(alloc, name).action(ArgAction::Set).required(true)
+}
+
+/// The words beside the options, one or more.
+pub fn words<'a>(alloc: Global, name: &'a str) -> Arg<'a>
+    ensures rule { rule_of result ≡ words_rule name.entry.now }
+    ensures local { result.global ≡ false }
+{
+    Arg::new(alloc, name)
+        .action(ArgAction::Append)
+        .required(true)
+}
+
+/// A program of this name, of which a command has to be given. Its help flags and its command `help` are switched off.
+pub fn program<'a>(alloc: Global, name: &'a str) -> Command<'a>
+    ensures { Defines (program_app name.entry.now) result }
+{
+    Command::new(alloc, name)
+        .disable_help_flag(true)
+        .disable_help_subcommand(true)
+        .subcommand_required(true)
+}

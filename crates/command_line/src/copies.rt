@@ -1,0 +1,44 @@
+//! Copies of the texts that clap met.
+ghost use Rattle.std.specs.Prelude.{◌≡◌, IfOk, [], map, option_map, unwrap_or, string_bytes};
+ghost use Rattle.clap.specs.Words.{all_of, first_of, found_of, rows_of};
+
+use clap::ArgMatches;
+use std::alloc::{AllocError, Global};
+
+/// A copy of the value that an argument has, or of its first one. The error is out of memory.
+pub fn copied_value(
+    alloc: Global,
+    matches: &ArgMatches<'_>,
+    name: &str,
+) -> Result<Option<String>, AllocError>
+    ensures { IfOk result (λ r. option_map string_bytes r ≡ first_of name.now (rows_of (found_of matches.now))) }
+{
+    match matches.get_str(name) {
+        Some(text) => Ok(Some(String::from_str(alloc, text)?)),
+        None => Ok(None),
+    }
+}
+
+/// Copies of all values that an argument has, in order. The error is out of memory.
+pub fn copied_values(
+    alloc: Global,
+    matches: &ArgMatches<'_>,
+    name: &str,
+) -> Result<Vec<String>, AllocError>
+    ensures { IfOk result (λ v. map string_bytes v.items ≡ unwrap_or (all_of name.now (rows_of (found_of matches.now))) []) }
+{
+    match matches.get_strs(name) {
+        Some(texts) => copies(alloc, texts),
+        None => Ok(Vec::new(alloc)),
+    }
+}
+
+fn copies(alloc: Global, texts: &[&str]) -> Result<Vec<String>, AllocError>
+    ensures { IfOk result (λ v. map string_bytes v.items ≡ map (λ s. s.now) texts.now) }
+{
+    let mut all = Vec::new(alloc);
+    for text in texts {
+        all.push(String::from_str(alloc, text)?)?;
+    }
+    Ok(all)
+}

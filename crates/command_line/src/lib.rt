@@ -1,0 +1,27 @@
+//! What the two programs share of their command lines: option texts and defaults, the words that the system gave, the
+//! arguments that clap reads, the printing of messages, and the opening of files.
+#![tactic(auto)]
+
+mod algorithms;
+mod arguments;
+mod copies;
+mod files;
+mod line_fault;
+mod null_files;
+mod numbers;
+mod printing;
+mod salts;
+mod system_words;
+mod texts;
+
+pub use algorithms::algorithm_or_default;
+pub use arguments::{option, program, word, words};
+pub use copies::{copied_value, copied_values};
+pub use files::{open_measured, open_writable};
+pub use line_fault::LineFault;
+pub use null_files::NullFiles;
+pub use numbers::{number_or, read_number};
+pub use printing::{tell, tell_pieces, tell_text};
+pub use salts::read_salt;
+pub use system_words::given_words;
+pub use texts::{text_of, texts_of};

@@ -1,0 +1,25 @@
+//! Numbers as the options give them.
+ghost use Rattle.std.specs.Prelude.{◌≡◌, option_copied};
+ghost use Rattle.command_line.specs.Options.{number_of, number_or};
+
+/// The number that a text of ASCII digits stands for, as of a block size in bytes (veritysetup(8), `--data-block-size`;
+/// fsverity(1), `--block-size`): one digit or more, leading zeros allowed, no sign. `None` where the text is anything
+/// else, or the number is 2 to the 64 or more.
+pub fn read_number(text: &str) -> Option<u64>
+    ensures { result ≡ number_of text.now }
+{
+    if text.starts_with('+') {
+        return None;
+    }
+    text.parse().ok()
+}
+
+/// The number of an option, its default where the option is not given. `None` where its text is no number.
+pub fn number_or(default: u64, text: Option<&str>) -> Option<u64>
+    ensures { result ≡ number_or default (option_copied text.entry) }
+{
+    match text {
+        Some(text) => read_number(text),
+        None => Some(default),
+    }
+}
