@@ -8,7 +8,7 @@ use Rattle.verity_hash.specs.Algorithms.{named}
 use Rattle.verity_plan.specs.Plans.{most_bytes}
 use Rattle.verity_plan.specs.Settings.{Settings, IsValid, digest_len, is_verity_block_size, least_block, most_salt, rule_of, type_of_number}
 use Rattle.verity_plan.specs.declared.hash_type.HashType.{HashType}
-use Rattle.verity_plan.specs.declared.hash_type.HashType.TheVariants.{Current}
+use Rattle.verity_plan.specs.declared.hash_type.HashType.TheVariants.{Original, Current}
 use Rattle.verity_format.specs.Fields.{field, number_at, until_zero}
 use Rattle.verity_format.specs.SuperblockFields.{SuperblockFields}
 use Rattle.verity_format.specs.Superblocks.{IsSuperblock, blocks_tests, cause, first_failed, header_tests, settings_tests, signature}
@@ -62,9 +62,11 @@ cause_none-says s none =
     )
 
 least_512 : (hash_type : HashType) (digest_len : ℕ) → least_block (rule_of hash_type) digest_len ≡ 512
+least_512 Original digest_len = refl
 least_512 Current digest_len = refl
 
 most_256 : (hash_type : HashType) → most_salt (rule_of hash_type) ≡ 256
+most_256 Original = refl
 most_256 Current = refl
 
 -- bytes that say a superblock pass every test

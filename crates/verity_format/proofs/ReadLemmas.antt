@@ -5,7 +5,7 @@ use Rattle.verity_hash.specs.declared.algorithm.Algorithm.{Algorithm}
 use Rattle.verity_plan.specs.Plans.{most_bytes}
 use Rattle.verity_plan.specs.Settings.{Settings, IsValid, is_verity_block_size, rule_of, verity_settings, type_of_number}
 use Rattle.verity_plan.specs.declared.hash_type.HashType.{HashType}
-use Rattle.verity_plan.specs.declared.hash_type.HashType.TheVariants.{Current}
+use Rattle.verity_plan.specs.declared.hash_type.HashType.TheVariants.{Original, Current}
 use Rattle.verity_format.specs.SuperblockFields.{SuperblockFields, superblock_of, superblock_of_type, type_of}
 use Rattle.verity_format.specs.Fields.{field, number_at}
 use Rattle.verity_format.specs.Superblocks.{AreSettings, IsSuperblock, blocks_tests, cause, first_failed, header_tests, settings_tests, signature}
@@ -42,6 +42,9 @@ pub verity_settings-ok : (algorithm : Algorithm) (hash_type : HashType) (salt : 
     → is_verity_block_size data_block ≡ true → is_verity_block_size hash_block ≡ true → length salt ≤ 256
     → verity_settings algorithm hash_type salt data_block hash_block
     ≡ Ok (record { algorithm = algorithm; rule = rule_of hash_type; salt = salt; data_block = data_block; hash_block = hash_block })
+verity_settings-ok algorithm Original salt data_block hash_block sized hash_sized short =
+    let fits : nat_lt 256 (length salt) ≡ false = grind (arith, nat_tests, short) in
+    rw (sized, hash_sized, fits) refl
 verity_settings-ok algorithm Current salt data_block hash_block sized hash_sized short =
     let fits : nat_lt 256 (length salt) ≡ false = grind (arith, nat_tests, short) in
     rw (sized, hash_sized, fits) refl
@@ -50,11 +53,14 @@ verity_settings-ok algorithm Current salt data_block hash_block sized hash_sized
 pub IsValid-verity : (algorithm : Algorithm) (hash_type : HashType) (salt : List ℕ) (data_block hash_block : ℕ)
     → is_verity_block_size data_block ≡ true → is_verity_block_size hash_block ≡ true → length salt ≤ 256
     → IsValid (record { algorithm = algorithm; rule = rule_of hash_type; salt = salt; data_block = data_block; hash_block = hash_block })
+IsValid-verity algorithm Original salt data_block hash_block sized hash_sized short =
+    record { data_size = sized; hash_size = hash_sized; salt_most = short; one_size = λ other. cc }
 IsValid-verity algorithm Current salt data_block hash_block sized hash_sized short =
     record { data_size = sized; hash_size = hash_sized; salt_most = short; one_size = λ other. cc }
 
 -- the type of a type's rule
 type_of-rule_of : (hash_type : HashType) → type_of (rule_of hash_type) ≡ Some hash_type
+type_of-rule_of Original = refl
 type_of-rule_of Current = refl
 
 choice-some : {A : Type 0} (test : Bool) (x y : A) → (if test then Some x else None) ≡ Some y → (test ≡ true) × (x ≡ y)

@@ -10,10 +10,10 @@ use Rattle.verity_hash.specs.Bytes.{filled}
 use Rattle.verity_hash.specs.declared.algorithm.Algorithm.{Algorithm}
 use Rattle.verity_hash.specs.declared.algorithm.Algorithm.TheVariants.{Sha256, Sha512}
 use Rattle.verity_hash.specs.declared.salting.SaltRule.{SaltRule}
-use Rattle.verity_hash.specs.declared.salting.SaltRule.TheVariants.{Before, PaddedBefore}
+use Rattle.verity_hash.specs.declared.salting.SaltRule.TheVariants.{Before, After, PaddedBefore}
 use Rattle.verity_plan.specs.Settings.{most_salt, type_number, type_of_number}
 use Rattle.verity_plan.specs.declared.hash_type.HashType.{HashType}
-use Rattle.verity_plan.specs.declared.hash_type.HashType.TheVariants.{Current}
+use Rattle.verity_plan.specs.declared.hash_type.HashType.TheVariants.{Original, Current}
 use Rattle.verity_plan.proofs.FanLemmas.{data_most, hash_most, some_data}
 use Rattle.verity_format.specs.Fields.{number_at, until_zero}
 use Rattle.verity_format.specs.SuperblockFields.{SuperblockFields, IsValidSuperblock}
@@ -63,13 +63,16 @@ name_long Sha256 = refl
 name_long Sha512 = refl
 
 type_read : (hash_type : HashType) → type_of_number (type_number hash_type) ≡ Some hash_type
+type_read Original = refl
 type_read Current = refl
 
 type_small : (hash_type : HashType) → type_number hash_type < 256
+type_small Original = omega arith
 type_small Current = omega arith
 
 salt_most : (rule : SaltRule) → most_salt rule ≤ 256
 salt_most Before = omega arith
+salt_most After = omega arith
 salt_most PaddedBefore = omega arith
 
 fields_say : (v : SuperblockFields) (z : List ℕ) → IsValidSuperblock v → 512 ≤ length (fields v z) → IsSuperblock (fields v z) v

@@ -1,11 +1,11 @@
 -- What a superblock says (cryptsetup's on-disk format page, "dm-verity header").
 use Rattle.std.specs.Prelude.{◌≡◌, ℕ, ◌*◌, ◌<◌, ◌≤◌, ◌&&◌, List, length, nat_le, nat_lt, Option, Some, None, if◌then◌else◌}
 use Rattle.verity_hash.specs.declared.salting.SaltRule.{SaltRule}
-use Rattle.verity_hash.specs.declared.salting.SaltRule.TheVariants.{Before, PaddedBefore}
+use Rattle.verity_hash.specs.declared.salting.SaltRule.TheVariants.{Before, After, PaddedBefore}
 use Rattle.verity_plan.specs.Plans.{most_bytes}
 use Rattle.verity_plan.specs.Settings.{Settings, IsValid, rule_of}
 use Rattle.verity_plan.specs.declared.hash_type.HashType.{HashType}
-use Rattle.verity_plan.specs.declared.hash_type.HashType.TheVariants.{Current}
+use Rattle.verity_plan.specs.declared.hash_type.HashType.TheVariants.{Original, Current}
 
 -- the hash type, what the tree is made by, the UUID's 16 bytes, and the number of data blocks
 pub record SuperblockFields : Type 0 where
@@ -25,6 +25,7 @@ pub record IsValidSuperblock (v : SuperblockFields) : Type 0 where
 -- the hash type that has its salt there; fs-verity's settings have none
 abbrev pub type_of : SaltRule → Option HashType
 type_of Before = Some Current
+type_of After = Some Original
 type_of PaddedBefore = None
 
 -- the superblock of a tree over so many data blocks, if there is one

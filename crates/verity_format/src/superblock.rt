@@ -34,6 +34,7 @@ fn hash_type_of(rule: SaltRule) -> Option<HashType>
 {
     match rule {
         SaltRule::Before => Some(HashType::Current),
+        SaltRule::After => Some(HashType::Original),
         SaltRule::PaddedBefore => None,
     }
 }

@@ -11,6 +11,8 @@ use sha2::{Sha256, Sha512};
 pub enum SaltRule {
     /// The salt, then the block: dm-verity's hash type 1 (Linux kernel, dm-verity page, "Construction Parameters").
     Before,
+    /// The block, then the salt: dm-verity's hash type 0 (the same page).
+    After,
     /// The salt, padded with zeros to whole input blocks of the hash function, then the block. An empty salt adds
     /// nothing (Linux kernel, fs-verity page, "Merkle tree").
     PaddedBefore,
@@ -28,6 +30,10 @@ fn fed<H: Hasher>(algorithm: Algorithm, rule: SaltRule, salt: &[u8], block: &[u8
         SaltRule::Before => {
             hasher.add(salt);
             hasher.add(block);
+        }
+        SaltRule::After => {
+            hasher.add(block);
+            hasher.add(salt);
         }
         SaltRule::PaddedBefore => {
             let input_block = algorithm.input_block();

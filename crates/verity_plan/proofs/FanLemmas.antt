@@ -10,7 +10,7 @@ use Rattle.verity_hash.specs.Algorithms.{digest_len_of}
 use Rattle.verity_hash.specs.declared.algorithm.Algorithm.{Algorithm}
 use Rattle.verity_hash.specs.declared.algorithm.Algorithm.TheVariants.{Sha256, Sha512}
 use Rattle.verity_hash.specs.declared.salting.SaltRule.{SaltRule}
-use Rattle.verity_hash.specs.declared.salting.SaltRule.TheVariants.{Before, PaddedBefore}
+use Rattle.verity_hash.specs.declared.salting.SaltRule.TheVariants.{Before, After, PaddedBefore}
 use Rattle.verity_plan.specs.Settings.{Settings, IsValid, fan, digest_len, is_block_size, least_block, greatest_fan, least_power, least_up_to}
 use Rattle.verity_plan.proofs.LeastLemmas.{IsLeast, IsLeast-same, IsLeast-least_from}
 use Rattle.verity_plan.proofs.CountLemmas.{lt-pow_self, mul_le}
@@ -92,6 +92,7 @@ block_most least size h = grind (arith, nat_tests, h)
 
 two_slots_by : (rule : SaltRule) (algorithm : Algorithm) (size : ℕ) → is_block_size (least_block rule (digest_len_of algorithm)) size ≡ true → 2 * digest_len_of algorithm ≤ size
 two_slots_by Before algorithm size h = omega (arith, block_least 512 size h, digest_len_of-most algorithm)
+two_slots_by After algorithm size h = omega (arith, block_least 512 size h, digest_len_of-most algorithm)
 two_slots_by PaddedBefore algorithm size h = block_least (2 * digest_len_of algorithm) size h
 
 some_block : (rule : SaltRule) (algorithm : Algorithm) (size : ℕ) → is_block_size (least_block rule (digest_len_of algorithm)) size ≡ true → 0 < size

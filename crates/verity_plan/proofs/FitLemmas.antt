@@ -7,7 +7,7 @@ use Rattle.std.proofs.Math.Nat.{mul-le-mul_left, pow-le-pow_right, pow-suc, pow-
 use Rattle.std.specs.Prelude.{nat_le, nat_lt, count_ones}
 use Rattle.std.specs.Int.{is_power_of_two}
 use Rattle.verity_hash.specs.declared.salting.SaltRule.{SaltRule}
-use Rattle.verity_hash.specs.declared.salting.SaltRule.TheVariants.{Before, PaddedBefore}
+use Rattle.verity_hash.specs.declared.salting.SaltRule.TheVariants.{Before, After, PaddedBefore}
 use Rattle.verity_plan.specs.Settings.{Settings, IsValid, fan, digest_len, least_block, slot_width, width_by, least_up_to, greatest_fan, least_power}
 use Rattle.verity_plan.proofs.LeastLemmas.{IsLeast, IsLeast-least_from}
 use Rattle.verity_plan.proofs.CountLemmas.{lt-pow_self, mul_le}
@@ -98,10 +98,12 @@ width_fits Before len size some one power =
     let exponent = power_of_two-is size (omega (arith, some, one)) power in
     subst (λ (n : ℕ). greatest_fan len n * least_power len ≤ n) (sym exponent.1)
     (power_fits len exponent.0 some (omega (arith, one, exponent.1)))
+width_fits After len size some one power = greatest_fan-fits len size some one
 width_fits PaddedBefore len size some one power = greatest_fan-fits len size some one
 
 width_above : (rule : SaltRule) (len : ℕ) → len ≤ width_by rule len
 width_above Before len = least_power-above len
+width_above After len = omega arith
 width_above PaddedBefore len = omega arith
 
 -- a digest fits into its slot

@@ -8,9 +8,9 @@ use Rattle.verity_hash.specs.Bytes.{filled}
 use Rattle.verity_hash.specs.Salted.{salted_hash}
 use Rattle.verity_hash.specs.declared.algorithm.Algorithm.{Algorithm}
 use Rattle.verity_hash.specs.declared.salting.SaltRule.{SaltRule}
-use Rattle.verity_hash.specs.declared.salting.SaltRule.TheVariants.{Before, PaddedBefore}
+use Rattle.verity_hash.specs.declared.salting.SaltRule.TheVariants.{Before, After, PaddedBefore}
 use Rattle.verity_plan.specs.declared.hash_type.HashType.{HashType}
-use Rattle.verity_plan.specs.declared.hash_type.HashType.TheVariants.{Current}
+use Rattle.verity_plan.specs.declared.hash_type.HashType.TheVariants.{Original, Current}
 use Rattle.verity_plan.specs.declared.setting_fault.SettingFault.{SettingFault}
 use Rattle.verity_plan.specs.declared.setting_fault.SettingFault.TheVariants.{DataBlockSize, HashBlockSize, SaltSize}
 
@@ -48,9 +48,10 @@ hash s block = salted_hash s.algorithm s.rule s.salt block
 abbrev pub digest_len : Settings → ℕ
 digest_len s = digest_len_of s.algorithm
 
--- the width of a slot: in dm-verity's hash type 1 the digest's length rounded up to a power of two
+-- the width of a slot: the digest's length, in dm-verity's hash type 1 rounded up to a power of two
 abbrev pub width_by : SaltRule → ℕ → ℕ
 width_by Before digest_len = least_power digest_len
+width_by After digest_len = digest_len
 width_by PaddedBefore digest_len = digest_len
 
 unfoldable pub slot_width : Settings → ℕ
@@ -70,10 +71,12 @@ most_block = 524288
 
 abbrev pub most_salt : SaltRule → ℕ
 most_salt Before = 256
+most_salt After = 256
 most_salt PaddedBefore = 32
 
 abbrev pub least_block : SaltRule → ℕ → ℕ
 least_block Before digest_len = 512
+least_block After digest_len = 512
 least_block PaddedBefore digest_len = 2 * digest_len
 
 -- a power of two within limits
@@ -93,14 +96,16 @@ pub record IsValid (s : Settings) : Type 0 where
 
 -- where a hash type has its salt
 abbrev pub rule_of : HashType → SaltRule
+rule_of Original = After
 rule_of Current = Before
 
 -- the number of a hash type, and the hash type of a number (cryptsetup's on-disk format page, "hash type")
 abbrev pub type_number : HashType → ℕ
+type_number Original = 0
 type_number Current = 1
 
 abbrev pub type_of_number : ℕ → Option HashType
-type_of_number number = if number == 1 then Some Current else None
+type_of_number number = if number == 0 then Some Original else (if number == 1 then Some Current else None)
 
 -- the settings, or the first parameter past its limits: those of dm-verity (block sizes 512 to 524288, salts of up to 256
 -- bytes; cryptsetup's on-disk format page) and of fs-verity (block sizes are powers of two that hold at least two digests,

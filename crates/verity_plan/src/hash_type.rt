@@ -7,6 +7,8 @@ use verity_hash::SaltRule;
 /// dm-verity's hash type (cryptsetup's on-disk format page, "hash type").
 #[derive(Clone, Copy, Debug, PartialEq, Eq)]
 pub enum HashType {
+    /// Type 0, of the first Chrome OS images: the salt comes after the block, and a slot is as wide as the digest.
+    Original,
     /// Type 1: the salt comes before the block, and slots are padded to a power of two.
     Current,
 }
@@ -17,6 +19,7 @@ impl HashType {
         ensures { result ≡ rule_of self }
     {
         match self {
+            HashType::Original => SaltRule::After,
             HashType::Current => SaltRule::Before,
         }
     }
@@ -26,6 +29,7 @@ impl HashType {
         ensures { result ≡ type_number self }
     {
         match self {
+            HashType::Original => 0,
             HashType::Current => 1,
         }
     }
@@ -35,6 +39,7 @@ impl HashType {
         ensures { result ≡ type_of_number number }
     {
         match number {
+            0 => Some(HashType::Original),
             1 => Some(HashType::Current),
             _ => None,
         }

@@ -150,7 +150,7 @@ impl TreeSettings {
         let len = self.algorithm.digest_len();
         match self.rule {
             SaltRule::Before => least_power(len),
-            SaltRule::PaddedBefore => len,
+            SaltRule::After | SaltRule::PaddedBefore => len,
         }
     }
 
@@ -168,7 +168,7 @@ fn least_block(rule: SaltRule, algorithm: Algorithm) -> u32
     ensures { result ≡ least_block rule (digest_len_of algorithm) }
 {
     match rule {
-        SaltRule::Before => 512,
+        SaltRule::Before | SaltRule::After => 512,
         SaltRule::PaddedBefore => 2 * algorithm.digest_len() as u32,
     }
 }
@@ -181,7 +181,7 @@ fn most_salt(rule: SaltRule) -> usize
     ensures { result ≡ most_salt rule }
 {
     match rule {
-        SaltRule::Before => MOST_SALT,
+        SaltRule::Before | SaltRule::After => MOST_SALT,
         SaltRule::PaddedBefore => 32,
     }
 }

@@ -12,7 +12,7 @@ use Rattle.verity_tree.specs.declared.part.Part.TheVariants.{Missing, Child, Spa
 use Rattle.verity_format.specs.declared.super_fault.SuperFault.{SuperFault}
 use Rattle.verity_format.specs.declared.super_fault.SuperFault.TheVariants as super
 use Rattle.veritysetup.specs.declared.options.OptionName.{OptionName}
-use Rattle.veritysetup.specs.declared.options.OptionName.TheVariants.{Format, DataBlockSize, HashBlockSize}
+use Rattle.veritysetup.specs.declared.options.OptionName.TheVariants.{Format, DataBlockSize, HashBlockSize, DataBlocks}
 use Rattle.veritysetup.specs.declared.options.OptionFault.{OptionFault}
 use Rattle.veritysetup.specs.declared.options.OptionFault.TheVariants.{BadNumber, UnknownHash, BadHashType, BadBlockSize, BadSalt, BadUuid, NoData, TooLarge, Overlap}
 
@@ -21,6 +21,7 @@ abbrev pub option_name : OptionName → List ℕ
 option_name Format = codes "format"
 option_name DataBlockSize = codes "data-block-size"
 option_name HashBlockSize = codes "hash-block-size"
+option_name DataBlocks = codes "data-blocks"
 
 abbrev pub no_data_text : List ℕ
 no_data_text = codes "No data blocks.\n"

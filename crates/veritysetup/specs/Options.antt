@@ -4,7 +4,7 @@ use Rattle.std.specs.Str.{bytes_eq}
 use Rattle.uuid.specs.Text.{parsed}
 use Rattle.verity_hash.specs.declared.salting.SaltRule.TheVariants.{Before}
 use Rattle.verity_plan.specs.Settings.{is_verity_block_size, most_salt}
-use Rattle.command_line.specs.Options.{salt_of}
+use Rattle.command_line.specs.Options.{number_of, salt_of}
 use Rattle.veritysetup.specs.Uuids.{random_uuid}
 use Rattle.veritysetup.specs.declared.options.RawOptions.{RawOptions}
 
@@ -14,6 +14,7 @@ pub record Texts : Type 0 where
   pub format : Option (List ℕ)
   pub data_block_size : Option (List ℕ)
   pub hash_block_size : Option (List ℕ)
+  pub data_blocks : Option (List ℕ)
   pub salt : Option (List ℕ)
   pub uuid : Option (List ℕ)
   pub same_file : Bool
@@ -24,10 +25,16 @@ texts_of raw = record {
   format = option_map (λ t. t.now) raw.format;
   data_block_size = option_map (λ t. t.now) raw.data_block_size;
   hash_block_size = option_map (λ t. t.now) raw.hash_block_size;
+  data_blocks = option_map (λ t. t.now) raw.data_blocks;
   salt = option_map (λ t. t.now) raw.salt;
   uuid = option_map (λ t. t.now) raw.uuid;
   same_file = raw.same_file;
 }
+
+-- a number that may be missing; none where the text is no number
+abbrev pub number_if_given : Option (List ℕ) → Option (Option ℕ)
+number_if_given None = Some None
+number_if_given (Some text) = option_map (λ number. Some number) (number_of text)
 
 -- a block size of dm-verity
 abbrev pub block_size_of : ℕ → Option ℕ

@@ -13,6 +13,8 @@ pub struct RawOptions<'a> {
     pub data_block_size: Option<&'a str>,
     /// `--hash-block-size`: in bytes, by default 4096.
     pub hash_block_size: Option<&'a str>,
+    /// `--data-blocks`: how many data blocks. By default as many whole blocks as the data has.
+    pub data_blocks: Option<&'a str>,
     /// `--salt`: hexadecimal digits, or `-` for no salt. By default random.
     pub salt: Option<&'a str>,
     /// `--uuid`: by default random.
@@ -30,6 +32,8 @@ pub enum OptionName {
     DataBlockSize,
     /// `--hash-block-size`.
     HashBlockSize,
+    /// `--data-blocks`.
+    DataBlocks,
 }
 
 impl OptionName {
@@ -41,6 +45,7 @@ impl OptionName {
             OptionName::Format => "format",
             OptionName::DataBlockSize => "data-block-size",
             OptionName::HashBlockSize => "hash-block-size",
+            OptionName::DataBlocks => "data-blocks",
         }
     }
 }
@@ -52,7 +57,7 @@ pub enum OptionFault {
     BadNumber(OptionName),
     /// No known hash algorithm has this name.
     UnknownHash,
-    /// The hash type is not 1.
+    /// The hash type is neither 0 nor 1.
     BadHashType,
     /// The block size is no power of two from 512 to 524288.
     BadBlockSize(OptionName),
@@ -60,7 +65,7 @@ pub enum OptionFault {
     BadSalt,
     /// The UUID is no text of a UUID.
     BadUuid,
-    /// The data holds no whole block.
+    /// The data holds no whole block, or none is wanted.
     NoData,
     /// The data area or the hash area is larger than 2^63 - 1 bytes.
     TooLarge,

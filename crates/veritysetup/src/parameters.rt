@@ -1,12 +1,12 @@
 //! What the texts of options choose, before the data is looked at.
 ghost use Rattle.std.specs.Prelude.{◌≡◌, IfOk, option_map};
-ghost use Rattle.veritysetup.specs.Options.{texts_of, block_size_of, salt_or_random, uuid_or_random};
+ghost use Rattle.veritysetup.specs.Options.{texts_of, block_size_of, number_if_given, salt_or_random, uuid_or_random};
 ghost use Rattle.verity_plan.specs.Settings.{rule_of};
 ghost use Rattle.veritysetup.specs.Choosing.{parameters};
 
 use crate::options::{OptionFault, OptionName, RawOptions};
 use crate::uuids::{random_uuid, read_uuid};
-use command_line::{algorithm_or_default, number_or, read_salt};
+use command_line::{algorithm_or_default, number_or, read_number, read_salt};
 use uuid::Uuid;
 use verity_hash::ShortBytes;
 use verity_plan::{MOST_SALT, is_verity_block_size};
@@ -23,6 +23,8 @@ pub struct Parameters {
     pub offset: u64,
     /// Whether the hash area begins with a superblock.
     pub superblock: bool,
+    /// How many data blocks there are to be, where that is said.
+    pub blocks: Option<u64>,
     /// Algorithm, salt and block sizes.
     pub tree: TreeSettings,
 }
@@ -39,6 +41,9 @@ impl Parameters {
         ))?;
         let hash_size = number_or(4096, raw.hash_block_size).ok_or(OptionFault::BadNumber(
             OptionName::HashBlockSize,
+        ))?;
+        let blocks = number_if_given(raw.data_blocks).ok_or(OptionFault::BadNumber(
+            OptionName::DataBlocks,
         ))?;
         let algorithm = algorithm_or_default(raw.hash).ok_or(OptionFault::UnknownHash)?;
         let hash_type = HashType::from_number(format).ok_or(OptionFault::BadHashType)?;
@@ -63,8 +68,22 @@ impl Parameters {
             uuid,
             offset: 0,
             superblock: true,
+            blocks,
             tree,
         })
+    }
+}
+
+/// The number of an option that may be missing, or `None` where the option is no number.
+fn number_if_given(text: Option<&str>) -> Option<Option<u64>>
+    ensures { result ≡ number_if_given (option_map (λ t. t.now) text.entry) }
+{
+    match text {
+        Some(text) => match read_number(text) {
+            Some(number) => Some(Some(number)),
+            None => None,
+        },
+        None => Some(None),
     }
 }
 

@@ -111,7 +111,8 @@ pub fn settings_of(
     ensures { result ≡ settings (texts_of raw.now) length (option_map (λ b. b.now) random.entry) }
 {
     let chosen = Parameters::chosen(raw, random)?;
-    let blocks = length / u64::from(chosen.tree.data_block());
+    let whole = length / u64::from(chosen.tree.data_block());
+    let blocks = chosen.blocks.unwrap_or(whole);
     match plan_at(&chosen.tree, blocks, chosen.offset, chosen.superblock) {
         Ok(_) if raw.same_file => Err(OptionFault::Overlap),
         Ok(plan) => Ok(Settings {

@@ -1,0 +1,25 @@
+-- The digests in a slot, as the code cuts them.
+use Rattle.std.proofs.Common.{◌≡◌, ℕ, ◌+◌, ◌-◌, ◌*◌, Bool, List, take, drop, arith, ◌∙◌, ap}
+use Rattle.std.specs.Prelude.{not}
+use Rattle.std.specs.Str.{bytes_eq}
+use Rattle.verity_plan.specs.Settings.{Settings, digest_len, slot_width}
+use Rattle.verity_tree.specs.Verdicts.{digest_in}
+use Rattle.verity_tree.proofs.part.slot_differs.Goals as goal
+
+cut_is : (s : Settings) (bytes : List ℕ) (slot width len : ℕ) → width ≡ slot_width s → len ≡ digest_len s
+    → take (slot * width + len - slot * width) (drop (slot * width) bytes) ≡ digest_in s bytes slot
+cut_is s bytes slot width len width_is len_is =
+    let count : slot * width + len - slot * width ≡ digest_len s = omega (arith, len_is) in
+    ap (λ (n : ℕ). take n (drop (slot * width) bytes)) count
+    ∙ ap (λ (n : ℕ). take (digest_len s) (drop (slot * n) bytes)) width_is
+
+pub returns : goal.returns
+returns c =
+    let s = c.args.plan.now.settings in
+    let slot = c.args.slot in
+    let computed = cut_is s c.args.computed.now slot c.slot_width.result c.digest_len-len.result c.slot_width.ensures c.digest_len-len.ensures in
+    let held = cut_is s c.args.held.now slot c.slot_width.result c.digest_len-len.result c.slot_width.ensures c.digest_len-len.ensures in
+    let cut = λ (bytes : List ℕ). take (slot * c.slot_width.result + c.digest_len-len.result - slot * c.slot_width.result) (drop (slot * c.slot_width.result) bytes) in
+    c.ne.ensures
+    ∙ ap (λ (xs : List ℕ). not (bytes_eq xs (cut c.args.computed.now))) held
+    ∙ ap (λ (xs : List ℕ). not (bytes_eq (digest_in s c.args.held.now slot) xs)) computed
