@@ -1,4 +1,5 @@
 pub mod Fronts
+pub mod Usages
 pub mod Chains
 pub mod Named
 pub mod Values
