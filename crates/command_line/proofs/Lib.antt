@@ -1,3 +1,4 @@
 pub mod Fronts
+pub mod Usages
 pub mod Chains
 pub mod Named

@@ -141,7 +141,11 @@ pub slot-least : (s : Settings) → s.rule ≡ Before → slot_width s < 2 * dig
 unfolding slot_width
 slot-least s before = rw before (least_power-half (digest_len s) (digest_len_of-pos s.algorithm))
 
--- fs-verity's slots
+-- slots of hash type 0, and of fs-verity
+pub slot-after : (s : Settings) → s.rule ≡ After → slot_width s ≡ digest_len s
+unfolding slot_width
+slot-after s after = rw after refl
+
 pub slot-same : (s : Settings) → s.rule ≡ PaddedBefore → slot_width s ≡ digest_len s
 unfolding slot_width
 slot-same s padded = rw padded refl

@@ -3,7 +3,7 @@ ghost use Rattle.std.specs.Prelude.{◌≡◌, ℕ, ◌*◌, ◌^◌, ◌<◌, �
 ghost use Rattle.verity_plan.specs.Counts.{level_count, IsLevelCount};
 ghost use Rattle.verity_plan.specs.Places.{PlacesAreOnce};
 ghost use Rattle.verity_plan.specs.Settings.{Settings, IsValid, digest_len, fan, slot_width};
-ghost use Rattle.verity_hash.specs.declared.salting.SaltRule.TheVariants.{Before, PaddedBefore};
+ghost use Rattle.verity_hash.specs.declared.salting.SaltRule.TheVariants.{Before, After, PaddedBefore};
 
 /// A hash block has at least two slots, and room for all of them.
 pub fn slots_fit()
@@ -18,12 +18,13 @@ pub fn fans_are_greatest()
     ensures greatest { (s : Settings) → s.hash_block < 2 * fan s * digest_len s }
 {}
 
-/// In dm-verity's hash type 1 a slot is the least power of two that isn't below a digest: half of it is. In fs-verity it
-/// is a digest.
+/// In dm-verity's hash type 1 a slot is the least power of two that isn't below a digest: half of it is. In hash type 0 and
+/// in fs-verity it is a digest.
 pub fn slots_are_least()
     ensures digest { (s : Settings) → digest_len s ≤ slot_width s }
     ensures power { (s : Settings) → s.rule ≡ Before → (k : ℕ) × (slot_width s ≡ 2 ^ k) }
     ensures least { (s : Settings) → s.rule ≡ Before → slot_width s < 2 * digest_len s }
+    ensures after { (s : Settings) → s.rule ≡ After → slot_width s ≡ digest_len s }
     ensures same { (s : Settings) → s.rule ≡ PaddedBefore → slot_width s ≡ digest_len s }
 {}
 

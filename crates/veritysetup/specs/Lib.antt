@@ -4,6 +4,7 @@ pub mod Uuids
 pub mod Options
 pub mod Chosen
 pub mod Choosing
+pub mod CommandLines
 pub mod Messages
 pub mod Reports
 pub mod ReportSteps

@@ -1,24 +1,19 @@
 //! `veritysetup format`.
-use crate::commands::{DATA, HASH};
 use crate::messages;
-use clap::ArgMatches;
 use command_line::{open_measured, open_writable, tell};
 use rand::rngs::StdRng;
 use std::io;
 use verity_tree::{FileDevice, FileSource};
-use veritysetup::{RawOptions, Settings, draw, option_message, run_format, settings_of};
+use veritysetup::{Line, RawOptions, Settings, draw, option_message, run_format, settings_of};
 
 /// Makes the hash device of a data file. HASH is opened only once the options are read, so a refused option leaves no
 /// new file.
-pub fn run(rt: &HostRuntime, matches: &ArgMatches<'_>) -> u8 {
-    let (Some(data), Some(hash)) = (matches.get_str(DATA), matches.get_str(HASH)) else {
-        return messages::incomplete_line(rt);
-    };
+pub fn run(rt: &HostRuntime, line: &Line, data: &str, hash: &str) -> u8 {
     let (file, length) = match open_measured(rt, data) {
         Ok(opened) => opened,
         Err(_) => return messages::cannot_open(rt, data),
     };
-    let raw = raw_options(matches, data == hash);
+    let raw = line.raw(data == hash);
     let random = match random_bytes(rt, &raw) {
         Ok(random) => random,
         Err(_) => return messages::no_random_bytes(rt),
@@ -29,19 +24,6 @@ pub fn run(rt: &HostRuntime, matches: &ArgMatches<'_>) -> u8 {
             tell(option_message(rt.alloc(), &fault), &mut rt.stderr());
             1
         }
-    }
-}
-
-/// The texts of the options.
-fn raw_options<'a>(matches: &ArgMatches<'a>, same_file: bool) -> RawOptions<'a> {
-    RawOptions {
-        hash: matches.get_str("hash"),
-        format: matches.get_str("format"),
-        data_block_size: matches.get_str("data-block-size"),
-        hash_block_size: matches.get_str("hash-block-size"),
-        salt: matches.get_str("salt"),
-        uuid: matches.get_str("uuid"),
-        same_file,
     }
 }
 

@@ -1,15 +1,14 @@
 //! The program veritysetup: format, dump and verify, without the kernel.
 #![tactic(auto)]
 
-mod commands;
 mod dump;
 mod format;
 mod messages;
 mod verify;
 
-use clap::ArgMatches;
 use command_line::{NullFiles, given_words, texts_of};
 use std::process::ExitCode;
+use veritysetup::{CommandName, Line, read_words};
 
 fn main(rt: HostRuntime) -> ExitCode {
     ExitCode::from(run(&rt))
@@ -24,23 +23,27 @@ fn run(rt: &HostRuntime) -> u8 {
     let Ok(texts) = texts_of(rt.alloc(), words.as_slice()) else {
         return messages::out_of_memory(rt);
     };
-    let matches = match commands::matches(rt.alloc(), texts.as_slice()) {
-        Ok(matches) => matches,
-        Err(error) => return messages::refused_line(rt, &error),
+    let line = match read_words(rt.alloc(), texts.as_slice()) {
+        Ok(line) => line,
+        Err(fault) => return messages::refused_line(rt, &fault),
     };
     let null_files = NullFiles::open(rt);
     if !null_files.are_open() {
         return messages::cannot_open(rt, "/dev/null");
     }
-    run_command(rt, &matches)
+    run_command(rt, &line)
 }
 
 /// Runs the command that was given.
-fn run_command(rt: &HostRuntime, matches: &ArgMatches<'_>) -> u8 {
-    match matches.subcommand() {
-        Some(("format", matches)) => format::run(rt, matches),
-        Some(("dump", matches)) => dump::run(rt, matches),
-        Some(("verify", matches)) => verify::run(rt, matches),
+fn run_command(rt: &HostRuntime, line: &Line) -> u8 {
+    match (line.command, line.files.as_slice()) {
+        (CommandName::Format, [data, hash]) => {
+            format::run(rt, line, data.as_str(), hash.as_str())
+        }
+        (CommandName::Dump, [hash]) => dump::run(rt, hash.as_str()),
+        (CommandName::Verify, [data, hash, root]) => {
+            verify::run(rt, data.as_str(), hash.as_str(), root.as_str())
+        }
         _ => messages::incomplete_line(rt),
     }
 }

@@ -2,6 +2,7 @@
 use command_line::{tell_pieces, tell_text};
 use std::io;
 use std::io::ErrorKind;
+use veritysetup::LineFault;
 
 /// The file could not be opened, or its length not be found.
 pub fn cannot_open(rt: &HostRuntime, path: &str) -> u8 {
@@ -33,7 +34,7 @@ pub fn refused_words(rt: &HostRuntime, error: &io::Error) -> u8 {
     1
 }
 
-/// The command line is accepted, but without a command or a word that it must have. `clap` lets no such line pass.
+/// The command line is accepted, but without a file that it must have. `clap` lets no such line pass.
 pub fn incomplete_line(rt: &HostRuntime) -> u8 {
     tell_text(
         "error: the command line is not complete\n",
@@ -42,8 +43,13 @@ pub fn incomplete_line(rt: &HostRuntime) -> u8 {
     1
 }
 
-/// The command line is refused, with `clap`'s text.
-pub fn refused_line(rt: &HostRuntime, error: &clap::Error) -> u8 {
-    let _ = error.print(rt);
-    1
+/// The command line is refused, with `clap`'s text, or there is no memory for it.
+pub fn refused_line(rt: &HostRuntime, fault: &LineFault) -> u8 {
+    match fault {
+        LineFault::Refused(error) => {
+            let _ = error.print(rt);
+            1
+        }
+        LineFault::Memory => out_of_memory(rt),
+    }
 }

@@ -1,22 +1,12 @@
 //! `veritysetup verify`.
-use crate::commands::{DATA, HASH, ROOT};
 use crate::messages;
-use clap::ArgMatches;
 use command_line::open_measured;
 use std::fs::File;
 use verity_tree::{FileDevice, FileSource};
 use veritysetup::{VerifyInput, run_verify};
 
 /// Verifies a hash device against a data file and a root hash.
-pub fn run(rt: &HostRuntime, matches: &ArgMatches<'_>) -> u8 {
-    let given = (
-        matches.get_str(DATA),
-        matches.get_str(HASH),
-        matches.get_str(ROOT),
-    );
-    let (Some(data), Some(hash), Some(root)) = given else {
-        return messages::incomplete_line(rt);
-    };
+pub fn run(rt: &HostRuntime, data: &str, hash: &str, root: &str) -> u8 {
     let (file, length) = match open_measured(rt, data) {
         Ok(opened) => opened,
         Err(_) => return messages::cannot_open(rt, data),

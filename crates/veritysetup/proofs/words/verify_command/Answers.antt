@@ -1,0 +1,19 @@
+use Rattle.std.proofs.Common.{codes}
+use Rattle.std.proofs.lemmas.Result.{IfOk-weaker}
+use Rattle.clap.specs.Words.{new_app}
+use Rattle.command_line.specs.Arguments.{Defines}
+use Rattle.command_line.proofs.Chains.{arg_added}
+use Rattle.command_line.proofs.Usages.{usage_replaced}
+use Rattle.veritysetup.specs.CommandLines.{verify_app}
+use Rattle.veritysetup.proofs.words.verify_command.Goals as goal
+
+pub returns : goal.returns
+unfolding verify_app
+returns c =
+    let new : Defines (new_app (codes "verify")) c.new.result
+    = record { app = c.new.ensures.app; local = c.new.ensures.local } in
+    let none = usage_replaced _ _ _ _ new c.override_usage.ensures in
+    let one = arg_added _ _ _ _ _ none c.word.ensures.rule c.word.ensures.local c.in_ok-arg.ensures in
+    let two = arg_added _ _ _ _ _ one c.word-2.ensures.rule c.word-2.ensures.local c.in_ok-arg-2.ensures in
+    IfOk-weaker c.arg-3.result _ _ (λ r h. arg_added _ r _ _ _ two c.word-3.ensures.rule c.word-3.ensures.local h)
+    c.arg-3.ensures

@@ -1,0 +1,132 @@
+//! The words of a command line, read by clap.
+ghost use Rattle.std.specs.Prelude.{◌≡◌, ◌++◌, IfOk, IfErr, map, string_bytes, true};
+ghost use Rattle.clap.specs.Words.{first_of, found_of, rows_of, subcommand_of, takes};
+ghost use Rattle.clap.specs.declared.Command.TheViews.{out-Command as fields_of};
+ghost use Rattle.command_line.specs.Arguments.{Defines};
+ghost use Rattle.command_line.specs.LineFaults.{IsMemory};
+ghost use Rattle.veritysetup.specs.CommandLines.{HoldsCommand, HoldsRows, dump_app, format_app, given_files, verify_app, veritysetup_app, word_list};
+
+use crate::{CommandName, Line};
+use clap::{ArgMatches, Command};
+use command_line::{LineFault, copied_value, option, program, word};
+use std::alloc::{AllocError, Global};
+
+/// What a refused command line without a known command is told.
+const USAGE: &str = "veritysetup format [options] DATA HASH
+       veritysetup dump HASH
+       veritysetup verify DATA HASH ROOT";
+
+/// What a refused command line of `format` is told.
+const FORMAT_USAGE: &str =
+    "veritysetup format [--hash NAME] [--format TYPE] [--data-block-size BYTES]
+           [--hash-block-size BYTES] [--data-blocks NUMBER] [--salt HEX] [--uuid UUID] DATA HASH";
+
+fn format_command<'a>(alloc: Global) -> Result<Command<'a>, AllocError>
+    ensures { IfOk result (Defines format_app) }
+{
+    Command::new(alloc, "format")
+        .override_usage(FORMAT_USAGE)
+        .arg(option(alloc, "hash"))?
+        .arg(option(alloc, "format"))?
+        .arg(option(alloc, "data-block-size"))?
+        .arg(option(alloc, "hash-block-size"))?
+        .arg(option(alloc, "data-blocks"))?
+        .arg(option(alloc, "salt"))?
+        .arg(option(alloc, "uuid"))?
+        .arg(word(alloc, "DATA"))?
+        .arg(word(alloc, "HASH"))
+}
+
+fn dump_command<'a>(alloc: Global) -> Result<Command<'a>, AllocError>
+    ensures { IfOk result (Defines dump_app) }
+{
+    Command::new(alloc, "dump")
+        .override_usage("veritysetup dump HASH")
+        .arg(word(alloc, "HASH"))
+}
+
+fn verify_command<'a>(alloc: Global) -> Result<Command<'a>, AllocError>
+    ensures { IfOk result (Defines verify_app) }
+{
+    Command::new(alloc, "verify")
+        .override_usage("veritysetup verify DATA HASH ROOT")
+        .arg(word(alloc, "DATA"))?
+        .arg(word(alloc, "HASH"))?
+        .arg(word(alloc, "ROOT"))
+}
+
+fn command<'a>(alloc: Global) -> Result<Command<'a>, AllocError>
+    ensures defined { IfOk result (Defines veritysetup_app) }
+    ensures required { IfOk result (λ c. (fields_of c).subcommand_required ≡ true) }
+{
+    program(alloc, "veritysetup")
+        .override_usage(USAGE)
+        .subcommand(format_command(alloc)?)?
+        .subcommand(dump_command(alloc)?)?
+        .subcommand(verify_command(alloc)?)
+}
+
+/// Adds a copy of the word that an argument has, where it is given.
+fn push_word(
+    alloc: Global,
+    matches: &ArgMatches<'_>,
+    name: &str,
+    files: &mut Vec<String>,
+) -> Result<(), AllocError>
+    ensures { IfOk result (λ _. map string_bytes files.new.items
+        ≡ map string_bytes files.old.items ++ word_list (first_of name.now (rows_of (found_of matches.now)))) }
+{
+    match copied_value(alloc, matches, name)? {
+        Some(word) => files.push(word)?,
+        None => {}
+    }
+    Ok(())
+}
+
+fn files_of(alloc: Global, matches: &ArgMatches<'_>) -> Result<Vec<String>, AllocError>
+    ensures { IfOk result (λ files. map string_bytes files.items ≡ given_files (rows_of (found_of matches.now))) }
+{
+    let mut files = Vec::new(alloc);
+    push_word(alloc, matches, "DATA", &mut files)?;
+    push_word(alloc, matches, "HASH", &mut files)?;
+    push_word(alloc, matches, "ROOT", &mut files)?;
+    Ok(files)
+}
+
+fn line_of(
+    alloc: Global,
+    command: CommandName,
+    matches: &ArgMatches<'_>,
+) -> Result<Line, AllocError>
+    ensures command { IfOk result (λ line. line.command ≡ command) }
+    ensures rows { IfOk result (HoldsRows (rows_of (found_of matches.now))) }
+{
+    Ok(Line {
+        command,
+        hash: copied_value(alloc, matches, "hash")?,
+        format: copied_value(alloc, matches, "format")?,
+        data_block_size: copied_value(alloc, matches, "data-block-size")?,
+        hash_block_size: copied_value(alloc, matches, "hash-block-size")?,
+        data_blocks: copied_value(alloc, matches, "data-blocks")?,
+        salt: copied_value(alloc, matches, "salt")?,
+        uuid: copied_value(alloc, matches, "uuid")?,
+        files: files_of(alloc, matches)?,
+    })
+}
+
+/// Reads the words of a command line, the program's name first: `veritysetup format`, `dump` or `verify`, its options, each
+/// once, and its files (veritysetup(8)). What clap refuses is `Refused`, with clap's text and the usage of the command; the
+/// help flags and the help command are switched off. `Memory` is out of memory for the copies.
+pub fn read_words(alloc: Global, words: &[&str]) -> Result<Line, LineFault>
+    ensures holds { IfOk result (HoldsCommand (subcommand_of veritysetup_app (map (λ w. w.now) words.now))) }
+    ensures taken { takes veritysetup_app (map (λ w. w.now) words.now) ≡ true → IfErr result IsMemory }
+{
+    let matches = command(alloc)?.try_get_matches_from(words)?;
+    match matches.subcommand() {
+        Some((name, inner)) => match CommandName::from_name(name) {
+            Some(command) => Ok(line_of(alloc, command, inner)?),
+            None => unreachable!(),
+        },
+        None => unreachable!(),
+    }
+}
