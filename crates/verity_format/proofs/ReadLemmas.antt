@@ -54,9 +54,9 @@ pub IsValid-verity : (algorithm : Algorithm) (hash_type : HashType) (salt : List
     → is_verity_block_size data_block ≡ true → is_verity_block_size hash_block ≡ true → length salt ≤ 256
     → IsValid (record { algorithm = algorithm; rule = rule_of hash_type; salt = salt; data_block = data_block; hash_block = hash_block })
 IsValid-verity algorithm Original salt data_block hash_block sized hash_sized short =
-    record { data_size = sized; hash_size = hash_sized; salt_most = short; one_size = λ other. cc }
+    record { data_size = sized; hash_size = hash_sized; salt_most = short; one_size = λ other. cc; known = λ other. cc }
 IsValid-verity algorithm Current salt data_block hash_block sized hash_sized short =
-    record { data_size = sized; hash_size = hash_sized; salt_most = short; one_size = λ other. cc }
+    record { data_size = sized; hash_size = hash_sized; salt_most = short; one_size = λ other. cc; known = λ other. cc }
 
 -- the type of a type's rule
 type_of-rule_of : (hash_type : HashType) → type_of (rule_of hash_type) ≡ Some hash_type

@@ -8,7 +8,7 @@ use Rattle.byteorder.specs.Numbers.{little_number-reads_back}
 use Rattle.verity_hash.specs.Algorithms.{name_of, named}
 use Rattle.verity_hash.specs.Bytes.{filled}
 use Rattle.verity_hash.specs.declared.algorithm.Algorithm.{Algorithm}
-use Rattle.verity_hash.specs.declared.algorithm.Algorithm.TheVariants.{Sha256, Sha512}
+use Rattle.verity_hash.specs.declared.algorithm.Algorithm.TheVariants.{Sha256, Sha512, Sha1, Sha224, Sha384}
 use Rattle.verity_hash.specs.declared.salting.SaltRule.{SaltRule}
 use Rattle.verity_hash.specs.declared.salting.SaltRule.TheVariants.{Before, After, PaddedBefore}
 use Rattle.verity_plan.specs.Settings.{most_salt, type_number, type_of_number}
@@ -57,10 +57,16 @@ past uuid name rest m sixteen long =
 name_read : (algorithm : Algorithm) (rest : List ℕ) → named (until_zero (take 32 (filled 32 (name_of algorithm) ++ rest))) ≡ Some algorithm
 name_read Sha256 rest = refl
 name_read Sha512 rest = refl
+name_read Sha1 rest = refl
+name_read Sha224 rest = refl
+name_read Sha384 rest = refl
 
 name_long : (algorithm : Algorithm) → length (filled 32 (name_of algorithm)) ≡ 32
 name_long Sha256 = refl
 name_long Sha512 = refl
+name_long Sha1 = refl
+name_long Sha224 = refl
+name_long Sha384 = refl
 
 type_read : (hash_type : HashType) → type_of_number (type_number hash_type) ≡ Some hash_type
 type_read Original = refl

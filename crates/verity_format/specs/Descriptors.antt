@@ -5,7 +5,7 @@ use Rattle.byteorder.specs.Endian.{little_bytes}
 use Rattle.verity_hash.specs.Algorithms.{hash_of}
 use Rattle.verity_hash.specs.Bytes.{filled}
 use Rattle.verity_hash.specs.declared.algorithm.Algorithm.{Algorithm}
-use Rattle.verity_hash.specs.declared.algorithm.Algorithm.TheVariants.{Sha256, Sha512}
+use Rattle.verity_hash.specs.declared.algorithm.Algorithm.TheVariants.{Sha256, Sha512, Sha1, Sha224, Sha384}
 use Rattle.verity_hash.specs.declared.salting.SaltRule.TheVariants.{PaddedBefore}
 use Rattle.verity_plan.specs.Settings.{least_up_to, Settings, IsValid, digest_len}
 
@@ -24,10 +24,13 @@ pub record IsValidDescriptor (v : DescriptorFields) : Type 0 where
   pub described : IsDescribed v.tree v.root
   pub size : v.size < 2 ^ 64
 
--- the number of an algorithm in the kernel's interface
+-- the number of an algorithm in the kernel's interface, 0 where it has none
 abbrev pub algorithm_number : Algorithm → ℕ
 algorithm_number Sha256 = 1
 algorithm_number Sha512 = 2
+algorithm_number Sha1 = 0
+algorithm_number Sha224 = 0
+algorithm_number Sha384 = 0
 
 -- the binary logarithm, rounded down: the least k for which n is below 2 ^ (k + 1)
 unfoldable pub log2 : ℕ → ℕ

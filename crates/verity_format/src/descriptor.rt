@@ -55,13 +55,14 @@ impl Descriptor {
     }
 }
 
-/// The number of an algorithm (Linux kernel, `FS_VERITY_HASH_ALG_*`).
+/// The number of an algorithm (Linux kernel, `FS_VERITY_HASH_ALG_*`), 0 where it has none.
 pub(crate) fn number_of(algorithm: Algorithm) -> u8
     ensures { result ≡ algorithm_number algorithm }
 {
     match algorithm {
         Algorithm::Sha256 => 1,
         Algorithm::Sha512 => 2,
+        Algorithm::Sha1 | Algorithm::Sha224 | Algorithm::Sha384 => 0,
     }
 }
 

@@ -1,6 +1,7 @@
 //! What is signed of a file digest.
-ghost use Rattle.std.specs.Prelude.{◌≡◌, ◌≤◌, length, SomeIff};
+ghost use Rattle.std.specs.Prelude.{◌≡◌, ◌<◌, ◌≤◌, length, SomeIff};
 ghost use Rattle.verity_hash.specs.Algorithms.{digest_len_of};
+ghost use Rattle.verity_format.specs.Descriptors.{algorithm_number};
 ghost use Rattle.verity_format.specs.FormattedDigests.{formatted};
 
 use crate::descriptor::number_of;
@@ -34,17 +35,19 @@ impl Formatted {
     }
 }
 
-/// The formatted digest, or `None` where the digest is not as long as the algorithm's digests.
+/// The formatted digest, or `None` where fs-verity has no number for the algorithm or the digest is not as long as the
+/// algorithm's digests.
 pub fn formatted_digest(algorithm: Algorithm, digest: &Digest) -> Option<Formatted>
-    ensures { SomeIff result (length digest.now ≡ digest_len_of algorithm) (formatted algorithm digest.now) }
+    ensures { SomeIff result ((0 < algorithm_number algorithm) × (length digest.now ≡ digest_len_of algorithm)) (formatted algorithm digest.now) }
 {
     let digest = digest.as_bytes();
-    if digest.len() != algorithm.digest_len() {
+    let number = number_of(algorithm);
+    if number == 0 || digest.len() != algorithm.digest_len() {
         return None;
     }
     let mut fields = FieldWriter::<76>::new();
     fields.put(b"FSVerity");
-    fields.put_u16(u16::from(number_of(algorithm)));
+    fields.put_u16(u16::from(number));
     fields.put_u16(digest.len() as u16);
     fields.put(digest);
     Some(Formatted {

@@ -1,11 +1,13 @@
 //! One trait for all hash functions, since the crates that compute them need not share one.
 ghost use Rattle.std.specs.Prelude.{◌≡◌, ◌<◌, ◌≤◌, ℕ, List, [], ◌++◌, length};
-ghost use Rattle.sha2.specs.Hashers.{Holds256, Holds512};
-ghost use Rattle.sha2.specs.Sha256.{sha256};
-ghost use Rattle.sha2.specs.Sha512.{sha512};
+ghost use Rattle.sha1.specs.Sha1.{Holds, sha1};
+ghost use Rattle.sha2.specs.Hashers.{Holds224, Holds256, Holds384, Holds512};
+ghost use Rattle.sha2.specs.Sha256.{sha224, sha256};
+ghost use Rattle.sha2.specs.Sha512.{sha384, sha512};
 
 use crate::Digest;
-use sha2::{Digest as Sha2, Sha256, Sha512};
+use sha1::Sha1;
+use sha2::{Digest as Sha2, Sha224, Sha256, Sha384, Sha512};
 
 /// A hash function at work: it takes a message piece by piece, however the message is cut, and ends with its digest.
 pub(crate) trait Hasher: Drop {
@@ -28,6 +30,44 @@ pub(crate) trait Hasher: Drop {
         ensures { (message : List ℕ) → holds self message → result ≡ hash message };
 }
 
+/// SHA-1 (FIPS 180-4, section 6.1).
+impl Hasher for Sha1 {
+    ghost holds = { λ hasher message. Holds hasher message };
+
+    ghost hash = { sha1 };
+
+    fn begin() -> Sha1 {
+        Sha1::new()
+    }
+
+    fn add(&mut self, bytes: &[u8]) {
+        self.update(bytes);
+    }
+
+    fn end(self) -> Digest {
+        digest_of(&self.finalize())
+    }
+}
+
+/// SHA-224 (FIPS 180-4, section 6.3).
+impl Hasher for Sha224 {
+    ghost holds = { λ hasher message. Holds224 hasher message };
+
+    ghost hash = { sha224 };
+
+    fn begin() -> Sha224 {
+        <Sha224 as Sha2>::new()
+    }
+
+    fn add(&mut self, bytes: &[u8]) {
+        self.update(bytes);
+    }
+
+    fn end(self) -> Digest {
+        digest_of(&self.finalize())
+    }
+}
+
 /// SHA-256 (FIPS 180-4, section 6.2).
 impl Hasher for Sha256 {
     ghost holds = { λ hasher message. Holds256 hasher message };
@@ -36,6 +76,25 @@ impl Hasher for Sha256 {
 
     fn begin() -> Sha256 {
         <Sha256 as Sha2>::new()
+    }
+
+    fn add(&mut self, bytes: &[u8]) {
+        self.update(bytes);
+    }
+
+    fn end(self) -> Digest {
+        digest_of(&self.finalize())
+    }
+}
+
+/// SHA-384 (FIPS 180-4, section 6.5).
+impl Hasher for Sha384 {
+    ghost holds = { λ hasher message. Holds384 hasher message };
+
+    ghost hash = { sha384 };
+
+    fn begin() -> Sha384 {
+        <Sha384 as Sha2>::new()
     }
 
     fn add(&mut self, bytes: &[u8]) {

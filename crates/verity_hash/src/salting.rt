@@ -4,7 +4,8 @@ ghost use Rattle.verity_hash.specs.Salted.{salted_input, salted_hash};
 
 use crate::hasher::Hasher;
 use crate::{Algorithm, Digest};
-use sha2::{Sha256, Sha512};
+use sha1::Sha1;
+use sha2::{Sha224, Sha256, Sha384, Sha512};
 
 /// Where the salt of a tree goes.
 #[derive(Clone, Copy, Debug, PartialEq, Eq)]
@@ -63,5 +64,8 @@ pub fn salted(algorithm: Algorithm, rule: SaltRule, salt: &[u8], block: &[u8]) -
     match algorithm {
         Algorithm::Sha256 => salted_by::<Sha256>(algorithm, rule, salt, block),
         Algorithm::Sha512 => salted_by::<Sha512>(algorithm, rule, salt, block),
+        Algorithm::Sha1 => salted_by::<Sha1>(algorithm, rule, salt, block),
+        Algorithm::Sha224 => salted_by::<Sha224>(algorithm, rule, salt, block),
+        Algorithm::Sha384 => salted_by::<Sha384>(algorithm, rule, salt, block),
     }
 }

@@ -8,7 +8,7 @@ use Rattle.std.specs.Prelude.{nat_le, nat_lt}
 use Rattle.std.specs.Int.{is_power_of_two}
 use Rattle.verity_hash.specs.Algorithms.{digest_len_of}
 use Rattle.verity_hash.specs.declared.algorithm.Algorithm.{Algorithm}
-use Rattle.verity_hash.specs.declared.algorithm.Algorithm.TheVariants.{Sha256, Sha512}
+use Rattle.verity_hash.specs.declared.algorithm.Algorithm.TheVariants.{Sha256, Sha512, Sha1, Sha224, Sha384}
 use Rattle.verity_hash.specs.declared.salting.SaltRule.{SaltRule}
 use Rattle.verity_hash.specs.declared.salting.SaltRule.TheVariants.{Before, After, PaddedBefore}
 use Rattle.verity_plan.specs.Settings.{Settings, IsValid, fan, digest_len, is_block_size, least_block, greatest_fan, least_power, least_up_to}
@@ -74,11 +74,17 @@ greatest_fan-quotient len size k some low high =
 pub digest_len_of-pos : (algorithm : Algorithm) → 0 < digest_len_of algorithm
 digest_len_of-pos Sha256 = omega arith
 digest_len_of-pos Sha512 = omega arith
+digest_len_of-pos Sha1 = omega arith
+digest_len_of-pos Sha224 = omega arith
+digest_len_of-pos Sha384 = omega arith
 
 -- and at most 64
 pub digest_len_of-most : (algorithm : Algorithm) → digest_len_of algorithm ≤ 64
 digest_len_of-most Sha256 = omega arith
 digest_len_of-most Sha512 = omega arith
+digest_len_of-most Sha1 = omega arith
+digest_len_of-most Sha224 = omega arith
+digest_len_of-most Sha384 = omega arith
 
 -- what a block size is
 block_least : (least size : ℕ) → is_block_size least size ≡ true → least ≤ size

@@ -20,6 +20,22 @@ width_48 : least_power 48 ≡ 64
 unfolding least_from least_power
 width_48 = refl
 
+width_20 : least_power 20 ≡ 32
+unfolding least_from least_power
+width_20 = refl
+
+width_28 : least_power 28 ≡ 32
+unfolding least_from least_power
+width_28 = refl
+
+fan_28 : greatest_fan 28 4096 ≡ 128
+unfolding least_from greatest_fan
+fan_28 = refl
+
+fan_48 : greatest_fan 48 4096 ≡ 64
+unfolding least_from greatest_fan
+fan_48 = refl
+
 levels_1 : level_count 16 1 ≡ 0
 unfolding least_from level_count
 levels_1 = refl

@@ -7,12 +7,13 @@ use Rattle.verity_hash.specs.Algorithms.{digest_len_of}
 use Rattle.verity_hash.specs.Bytes.{filled}
 use Rattle.verity_hash.specs.Salted.{salted_hash}
 use Rattle.verity_hash.specs.declared.algorithm.Algorithm.{Algorithm}
+use Rattle.verity_hash.specs.declared.algorithm.Algorithm.TheVariants.{Sha256, Sha512, Sha1, Sha224, Sha384}
 use Rattle.verity_hash.specs.declared.salting.SaltRule.{SaltRule}
 use Rattle.verity_hash.specs.declared.salting.SaltRule.TheVariants.{Before, After, PaddedBefore}
 use Rattle.verity_plan.specs.declared.hash_type.HashType.{HashType}
 use Rattle.verity_plan.specs.declared.hash_type.HashType.TheVariants.{Original, Current}
 use Rattle.verity_plan.specs.declared.setting_fault.SettingFault.{SettingFault}
-use Rattle.verity_plan.specs.declared.setting_fault.SettingFault.TheVariants.{DataBlockSize, HashBlockSize, SaltSize}
+use Rattle.verity_plan.specs.declared.setting_fault.SettingFault.TheVariants.{Algorithm as OtherAlgorithm, DataBlockSize, HashBlockSize, SaltSize}
 
 -- the first of least, least + 1, .. that passes a test; least + fuel if none before it does
 unfoldable pub least_from : (ℕ → Bool) → ℕ → ℕ → ℕ
@@ -87,12 +88,21 @@ is_block_size least size = is_power_of_two size && (nat_le least size && nat_le 
 abbrev pub is_verity_block_size : ℕ → Bool
 is_verity_block_size size = is_block_size 512 size
 
+-- fs-verity knows the algorithm (Linux kernel, fs-verity page, "fs-verity descriptor")
+abbrev pub is_of_fsverity : Algorithm → Bool
+is_of_fsverity Sha256 = true
+is_of_fsverity Sha512 = true
+is_of_fsverity Sha1 = false
+is_of_fsverity Sha224 = false
+is_of_fsverity Sha384 = false
+
 -- settings that a tree can be made by
 pub record IsValid (s : Settings) : Type 0 where
   pub data_size : is_block_size (least_block s.rule (digest_len s)) s.data_block ≡ true
   pub hash_size : is_block_size (least_block s.rule (digest_len s)) s.hash_block ≡ true
   pub salt_most : length s.salt ≤ most_salt s.rule
   pub one_size : s.rule ≡ PaddedBefore → s.data_block ≡ s.hash_block
+  pub known : s.rule ≡ PaddedBefore → is_of_fsverity s.algorithm ≡ true
 
 -- where a hash type has its salt
 abbrev pub rule_of : HashType → SaltRule
@@ -126,12 +136,12 @@ verity_settings algorithm hash_type salt data_block hash_block = checked (record
   hash_block = hash_block;
 })
 
--- settings of fs-verity: data and tree blocks have one size
+-- settings of fs-verity: data and tree blocks have one size, and the algorithm is one that fs-verity knows
 abbrev pub fsverity_settings : Algorithm → List ℕ → ℕ → Result Settings SettingFault
-fsverity_settings algorithm salt block = checked (record {
+fsverity_settings algorithm salt block = if not (is_of_fsverity algorithm) then Err OtherAlgorithm else (checked (record {
   algorithm = algorithm;
   rule = PaddedBefore;
   salt = salt;
   data_block = block;
   hash_block = block;
-})
+}))

@@ -1,6 +1,6 @@
 //! What a tree is made by.
-ghost use Rattle.std.specs.Prelude.{◌≡◌, ◌*◌, ◌≤◌, ◌<◌, length};
-ghost use Rattle.verity_plan.specs.Settings.{Settings, IsValid, hash, fan, slot_width, digest_len, least_block, is_block_size, is_verity_block_size, most_salt, least_power, rule_of, checked, verity_settings, fsverity_settings};
+ghost use Rattle.std.specs.Prelude.{true, ◌≡◌, ◌*◌, ◌≤◌, ◌<◌, length};
+ghost use Rattle.verity_plan.specs.Settings.{Settings, IsValid, hash, fan, slot_width, digest_len, least_block, is_block_size, is_verity_block_size, is_of_fsverity, most_salt, least_power, rule_of, checked, verity_settings, fsverity_settings};
 ghost use Rattle.verity_hash.specs.Algorithms.{digest_len_of};
 
 use crate::{HashType, SettingFault};
@@ -48,8 +48,9 @@ impl TreeSettings {
 
     /// Settings of fs-verity: data and tree blocks have one size, a power of two of at least twice the digest's length
     /// (fsverity(1), `--block-size`; Linux kernel, fs-verity page, "FS_IOC_ENABLE_VERITY"), and at most 524288, a limit of
-    /// this project's own; the salt has up to 32 bytes (the kernel's page again). The first parameter past its limits is
-    /// the fault: a bad block size is always `DataBlockSize`, never `HashBlockSize`.
+    /// this project's own; the salt has up to 32 bytes (the kernel's page again). The hash function is SHA-256 or SHA-512,
+    /// else the fault is `Algorithm`; then the first parameter past its limits is the fault: a bad block size is always
+    /// `DataBlockSize`, never `HashBlockSize`.
     pub fn fsverity(
         algorithm: Algorithm,
         salt: &[u8],
@@ -57,6 +58,9 @@ impl TreeSettings {
     ) -> Result<TreeSettings, SettingFault>
         ensures { result ≡ fsverity_settings algorithm salt.now block }
     {
+        if !is_of_fsverity(algorithm) {
+            return Err(SettingFault::Algorithm);
+        }
         TreeSettings::checked(algorithm, SaltRule::PaddedBefore, salt, block, block)
     }
 
@@ -67,7 +71,8 @@ impl TreeSettings {
         data_block: u32,
         hash_block: u32,
     ) -> Result<TreeSettings, SettingFault>
-        requires { rule ≡ PaddedBefore → data_block ≡ hash_block }
+        requires one_size { rule ≡ PaddedBefore → data_block ≡ hash_block }
+        requires known { rule ≡ PaddedBefore → is_of_fsverity algorithm ≡ true }
         ensures { result ≡ checked (record { algorithm = algorithm; rule = rule; salt = salt.now; data_block = data_block; hash_block = hash_block }) }
     {
         let least = least_block(rule, algorithm);
@@ -161,6 +166,13 @@ impl TreeSettings {
     {
         salted(self.algorithm, self.rule, self.salt.as_bytes(), block)
     }
+}
+
+/// Whether fs-verity knows the algorithm (Linux kernel, fs-verity page, "fs-verity descriptor").
+fn is_of_fsverity(algorithm: Algorithm) -> bool
+    ensures { result ≡ is_of_fsverity algorithm }
+{
+    matches!(algorithm, Algorithm::Sha256 | Algorithm::Sha512)
 }
 
 /// The smallest block size.

@@ -173,4 +173,3 @@ failed-within p planned i want b bytes rest after e below w read_before stop =
         rest = stop.rest ∙ ap (drop stop.count) read_before.rest ∙ drop-drop stop.count (bytes_of p i) bytes;
       };
     }
-
