@@ -4,10 +4,18 @@ use Rattle.std.specs.Prelude.{ℕ, List, [], Option, Some, None, Result, Ok, unw
 use Rattle.verity_hash.specs.Algorithms.{digest_len_of}
 use Rattle.verity_hash.specs.declared.algorithm.Algorithm.{Algorithm}
 use Rattle.verity_hash.specs.declared.salting.SaltRule.TheVariants.{PaddedBefore}
-use Rattle.verity_plan.specs.Settings.{Settings, is_block_size, least_block, most_salt}
+use Rattle.verity_plan.specs.Settings.{Settings, is_block_size, is_of_fsverity, least_block, most_salt}
 use Rattle.command_line.specs.Options.{algorithm_or_default, number_of, or_fault, salt_of}
 use Rattle.fsverity.specs.declared.option_fault.FsOptionFault.{FsOptionFault}
 use Rattle.fsverity.specs.declared.option_fault.FsOptionFault.TheVariants.{UnknownHash, BadBlockSize, BadSalt}
+
+-- an algorithm that fs-verity knows
+abbrev pub known : Algorithm → Option Algorithm
+known algorithm = if is_of_fsverity algorithm then Some algorithm else None
+
+-- the algorithm of a name; by default SHA-256
+abbrev pub algorithm_of : Option (List ℕ) → Option Algorithm
+algorithm_of name = option_and_then known (algorithm_or_default name)
 
 -- a block size within the limits
 abbrev pub within_limits : Algorithm → ℕ → Option ℕ
@@ -26,7 +34,7 @@ salt_bytes_of text = salt_of (most_salt PaddedBefore) (unwrap_or text [])
 -- the settings, or the first option that is refused
 abbrev pub fs_settings : Option (List ℕ) → Option (List ℕ) → Option (List ℕ) → Result Settings FsOptionFault
 fs_settings hash_alg block_size salt =
-    or_fault (algorithm_or_default hash_alg) UnknownHash (λ algorithm.
+    or_fault (algorithm_of hash_alg) UnknownHash (λ algorithm.
     or_fault (block_size_of algorithm block_size) BadBlockSize (λ block.
     or_fault (salt_bytes_of salt) BadSalt (λ bytes.
     Ok (record { algorithm = algorithm; rule = PaddedBefore; salt = bytes; data_block = block; hash_block = block }))))

@@ -1,11 +1,13 @@
 //! The options of `fsverity digest`.
-ghost use Rattle.std.specs.Prelude.{◌≡◌, IfOk, option_copied};
+ghost use Rattle.std.specs.Prelude.{◌≡◌, IfOk, IfSome, option_copied, true};
 ghost use Rattle.verity_hash.specs.declared.salting.SaltRule.TheVariants.{PaddedBefore};
-ghost use Rattle.fsverity.specs.Options.{block_size_of, salt_bytes_of, fs_settings};
+ghost use Rattle.verity_plan.specs.Settings.{is_of_fsverity};
+ghost use Rattle.fsverity.specs.Options.{algorithm_of, block_size_of, salt_bytes_of, fs_settings};
 
 use crate::FsOptionFault;
 use command_line::{algorithm_or_default, read_number, read_salt};
 use verity_hash::{Algorithm, ShortBytes};
+use verity_plan::is_of_fsverity;
 use verity_tree::TreeSettings;
 
 /// The texts of the options, as they are given (fsverity(1), "fsverity digest").
@@ -26,7 +28,7 @@ pub fn digest_settings(options: &DigestOptions<'_>) -> Result<TreeSettings, FsOp
         (option_copied options.now.block_size) (option_copied options.now.salt) }
     ensures rule { IfOk result (λ settings. settings.rule ≡ PaddedBefore) }
 {
-    let algorithm = algorithm_or_default(options.hash_alg).ok_or(FsOptionFault::UnknownHash)?;
+    let algorithm = algorithm(options.hash_alg).ok_or(FsOptionFault::UnknownHash)?;
     let block = block_size(algorithm, options.block_size).ok_or(FsOptionFault::BadBlockSize)?;
     let salt = salt(options.salt).ok_or(FsOptionFault::BadSalt)?;
     match TreeSettings::fsverity(algorithm, salt.as_bytes(), block) {
@@ -35,8 +37,22 @@ pub fn digest_settings(options: &DigestOptions<'_>) -> Result<TreeSettings, FsOp
     }
 }
 
+/// The algorithm of a name, by default SHA-256; `None` where fs-verity knows none of this name.
+fn algorithm(name: Option<&str>) -> Option<Algorithm>
+    ensures value { result ≡ algorithm_of (option_copied name.entry) }
+    ensures known { IfSome result (λ algorithm. is_of_fsverity algorithm ≡ true) }
+{
+    let algorithm = algorithm_or_default(name)?;
+    if is_of_fsverity(algorithm) {
+        Some(algorithm)
+    } else {
+        None
+    }
+}
+
 /// A block size that a tree can be made with.
 fn block_size(algorithm: Algorithm, text: Option<&str>) -> Option<u32>
+    requires { is_of_fsverity algorithm ≡ true }
     ensures { result ≡ block_size_of algorithm (option_copied text.entry) }
 {
     let size = match text {

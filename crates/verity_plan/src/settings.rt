@@ -168,8 +168,8 @@ impl TreeSettings {
     }
 }
 
-/// Whether fs-verity knows the algorithm (Linux kernel, fs-verity page, "fs-verity descriptor").
-fn is_of_fsverity(algorithm: Algorithm) -> bool
+/// Whether fs-verity knows the algorithm: SHA-256 and SHA-512 (Linux kernel, fs-verity page, "fs-verity descriptor").
+pub fn is_of_fsverity(algorithm: Algorithm) -> bool
     ensures { result ≡ is_of_fsverity algorithm }
 {
     matches!(algorithm, Algorithm::Sha256 | Algorithm::Sha512)
