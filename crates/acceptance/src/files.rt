@@ -12,8 +12,8 @@ const FAR: u64 = 5_000_000_000;
 /// How often a call is interrupted before it goes through.
 const INTERRUPTS: u32 = 1000;
 
-/// A file with a hole at its start: nothing below `first` can be read or written. A call gives or takes `piece` bytes at
-/// most, and goes through after so many interrupts.
+/// A file with a hole at its start: nothing below `first` can be read or written. A call gives or takes `piece` bytes
+/// at most, and goes through after so many interrupts.
 #[derive(Drop)]
 struct Sparse {
     first: u64,
@@ -106,6 +106,7 @@ fn long_blocks_stand_at_far_places(rt: HostRuntime) -> Result<(), Fail> {
     let alloc = rt.alloc();
     for piece in [usize::MAX, 70_000, 1_000] {
         let block = counted(alloc, 70_000)?;
+        assert!(rt; block.len() == 70_000);
         let mut device = FileDevice::new(Sparse::new(FAR, Vec::new(alloc), piece, 0));
         assert_eq!(rt;
             device.write_at(FAR + 100, block.as_slice()),
@@ -160,6 +161,7 @@ fn long_reads_of_a_source_are_whole(rt: HostRuntime) -> Result<(), Fail> {
 fn each_interrupt_is_tried_again(rt: HostRuntime) -> Result<(), Fail> {
     let alloc = rt.alloc();
     let text = counted(alloc, 65_536)?;
+    assert!(rt; text.len() == 65_536);
     let mut buf = vec![in alloc; 7u8; 65_536]?;
 
     let file = Sparse::new(0, text.as_slice().to_vec(alloc)?, 10_000, INTERRUPTS);

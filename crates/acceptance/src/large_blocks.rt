@@ -64,6 +64,7 @@ fn the_longest_store_is_made(rt: HostRuntime) -> Result<(), Fail> {
 fn a_device_grows_past_its_largest_block(rt: HostRuntime) -> Result<(), Fail> {
     let alloc = rt.alloc();
     let block = data(alloc, LARGEST as usize)?;
+    assert!(rt; block.len() == 524_288);
     let mut device = MemoryDevice::new(Vec::new(alloc));
     assert_eq!(rt; device.write_at(1_048_576, block.as_slice()), Ok(()));
     let mut stored = vec![in alloc; 7u8; LARGEST as usize]?;

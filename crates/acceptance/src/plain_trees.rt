@@ -193,14 +193,14 @@ fn trees_of_all_shapes_are_built(rt: HostRuntime) -> Result<(), Fail> {
     let alloc = rt.alloc();
     for (case, size, levels) in cases(alloc)? {
         let bytes = data(alloc, size)?;
-        let hash_block = case.shape.hash_block;
-        let expected = case.shape.tree(alloc, bytes.as_slice(), 3 * hash_block)?;
+        let gap = case.shape.hash_block.saturating_mul(3);
+        let expected = case.shape.tree(alloc, bytes.as_slice(), gap)?;
         assert_eq!(rt; expected.levels, levels, "at {size}");
         let plan = Plan::for_bytes(&case.settings, size as u64, 3)?;
         let mut store = Store::new(alloc, &plan)?;
         assert!(rt; store.fits(&plan));
         let mut source = MemorySource::new(bytes.as_slice());
-        let mut device = MemoryDevice::new(vec![in alloc; 0u8; 3 * hash_block]?);
+        let mut device = MemoryDevice::new(vec![in alloc; 0u8; gap]?);
         let root = build(&plan, &mut store, &mut source, &mut device)?;
         assert_eq!(rt; root.as_bytes(), expected.root.as_slice(), "at {size}");
         assert_eq!(rt; device.bytes(), expected.image.as_slice(), "at {size}");
@@ -225,7 +225,8 @@ fn trees_of_all_shapes_are_built(rt: HostRuntime) -> Result<(), Fail> {
 /// A hash block as it closes: its level, its number in the level, and how many data blocks were read by then.
 type Closed = (usize, u64, usize);
 
-/// The hash blocks of a tree in closing order: after each data block those that are then full, or last, from level 0 up.
+/// The hash blocks of a tree in closing order: after each data block those that are then full, or last, from level 0
+/// up.
 fn closing_order(
     alloc: Global,
     fan: usize,
@@ -246,11 +247,24 @@ fn closing_order(
     Ok(order)
 }
 
-/// Some bytes of an image, or zeros where it ends.
-fn stands(image: &[u8], at: usize, expected: &[u8]) -> bool {
-    for (i, byte) in expected.iter().enumerate() {
-        if image.get(at.saturating_add(i)).copied().unwrap_or(0) != *byte {
+/// A byte, or zero past the end.
+fn byte_at(bytes: &[u8], at: usize) -> u8 {
+    bytes.get(at).copied().unwrap_or(0)
+}
+
+/// Whether the first blocks of an order, so many, stand on a device as in the tree, and zeros at the others' places.
+fn these_stand(plan: &Plan, order: &[Closed], closed: usize, tree: &[u8], device: &[u8]) -> bool {
+    let size = plan.settings().hash_block() as usize;
+    for (done, (level, index, _)) in order.iter().enumerate() {
+        if *level >= plan.levels() || *index >= plan.level_size(*level) {
             return false;
+        }
+        let at = (plan.place(*level, *index) as usize).saturating_mul(size);
+        for i in at..at.saturating_add(size) {
+            let expected = if done < closed { byte_at(tree, i) } else { 0 };
+            if byte_at(device, i) != expected {
+                return false;
+            }
         }
     }
     true
@@ -261,16 +275,16 @@ fn each_write_fails_in_turn(rt: HostRuntime) -> Result<(), Fail> {
     let alloc = rt.alloc();
     for (case, size, levels) in cases(alloc)? {
         let bytes = data(alloc, size)?;
-        let block = case.shape.hash_block;
-        let expected = case.shape.tree(alloc, bytes.as_slice(), 0)?;
+        let tree = case.shape.tree(alloc, bytes.as_slice(), 0)?;
         let plan = Plan::for_bytes(&case.settings, size as u64, 0)?;
         let n = size.div_ceil(case.shape.data_block.max(1));
         let order = closing_order(alloc, case.shape.fan, n, levels)?;
-        assert_eq!(rt; order.len().saturating_mul(block), expected.image.len());
         let mut store = Store::new(alloc, &plan)?;
-        for (failing, (level, index, read)) in order.iter().enumerate() {
+        for (closed, (level, index, read)) in order.iter().enumerate() {
+            let failing = (closed as u64).saturating_add(1);
+            assert!(rt; store.fits(&plan));
             let mut source = MemorySource::new(bytes.as_slice());
-            let mut device = Fused::new(MemoryDevice::new(Vec::new(alloc)), failing as u64 + 1);
+            let mut device = Fused::new(MemoryDevice::new(Vec::new(alloc)), failing);
             let fault = BuildFault::DeviceFailed {
                 level: *level,
                 block: *index,
@@ -279,36 +293,19 @@ fn each_write_fails_in_turn(rt: HostRuntime) -> Result<(), Fail> {
             assert_eq!(rt; answer, Err(fault), "at {size} {failing}");
             let left = size.saturating_sub(read.saturating_mul(case.shape.data_block));
             assert_eq!(rt; source.rest().len(), left, "at {size} {failing}");
-            assert_eq!(rt; device.calls(), failing as u64 + 1);
-            let zeros = vec![in alloc; 0u8; block]?;
-            for (done, (level, index, _)) in order.iter().enumerate() {
-                assert!(rt; *level < plan.levels());
-                assert!(rt; *index < plan.level_size(*level));
-                let at = (plan.place(*level, *index) as usize).saturating_mul(block);
-                let tree = expected
-                    .image
-                    .get(at..at.saturating_add(block))
-                    .unwrap_or(&[]);
-                let whole = if done < failing {
-                    tree
-                } else {
-                    zeros.as_slice()
-                };
-                assert!(rt;
-                    stands(device.inner().bytes(), at, whole),
-                    "at {size} {failing} {done}"
-                );
-            }
+            assert_eq!(rt; device.calls(), failing);
+            let left = device.into_inner();
+            let stand = these_stand(&plan, &order, closed, tree.image.as_slice(), left.bytes());
+            assert!(rt; stand, "at {size} {failing}");
         }
+        let last = order.len() as u64;
+        assert!(rt; store.fits(&plan));
         let mut source = MemorySource::new(bytes.as_slice());
-        let mut device = Fused::new(MemoryDevice::new(Vec::new(alloc)), order.len() as u64 + 1);
+        let mut device = Fused::new(MemoryDevice::new(Vec::new(alloc)), last.saturating_add(1));
         let root = build(&plan, &mut store, &mut source, &mut device)?;
-        assert_eq!(rt; root.as_bytes(), expected.root.as_slice(), "at {size}");
-        assert_eq!(rt;
-            device.inner().bytes(),
-            expected.image.as_slice(),
-            "at {size}"
-        );
+        assert_eq!(rt; device.calls(), last, "at {size}");
+        assert_eq!(rt; root.as_bytes(), tree.root.as_slice(), "at {size}");
+        assert_eq!(rt; device.inner().bytes(), tree.image.as_slice(), "at {size}");
     }
     Ok(())
 }
