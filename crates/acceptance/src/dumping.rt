@@ -1,7 +1,7 @@
 //! What dump prints of a superblock, and what it says of bytes that are none.
+use crate::fixtures::{Field, lay};
 use crate::formats::one_block;
 use crate::images::image_17;
-use crate::fixtures::{Field, lay};
 use std::alloc::{AllocError, Global};
 use std::test::Fail;
 use verity_format::read_superblock;

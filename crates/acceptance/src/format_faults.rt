@@ -1,6 +1,6 @@
 //! What format leaves where a read or a write fails, or the data ends too soon.
-use crate::images::{SMALL, formatted, image_17, image_of};
 use crate::fixtures::{data, lay};
+use crate::images::{SMALL, formatted, image_17, image_of};
 use std::test::Fail;
 use verity_tree::{Fused, MemoryDevice, MemorySource, Store, build};
 use veritysetup::settings_of;

@@ -90,7 +90,7 @@ const REFUSED: [(&[Field<'static>], SuperFault); 17] = [
         SuperFault::DataBlockSize(768),
     ),
     (&[(80, &[0x01, 0x01])], SuperFault::SaltSize(257)),
-    (&[(12, &[0])], SuperFault::HashType(0)),
+    (&[(13, &[1])], SuperFault::HashType(257)),
     (&[(66, &[0x10])], SuperFault::DataBlockSize(0x0010_1000)),
     (
         &[(64, &[0x00, 0x00, 0x10])],
@@ -119,7 +119,7 @@ const REFUSED: [(&[Field<'static>], SuperFault); 17] = [
         SuperFault::Algorithm,
     ),
     (&[(32, b"SHA256")], SuperFault::Algorithm),
-    (&[(32, b"sha1\0\0")], SuperFault::Algorithm),
+    (&[(32, b"sha3\0\0")], SuperFault::Algorithm),
     (
         &[(64, &[0x00, 0x02]), (72, &[0, 0, 0, 0, 0, 0, 0x40, 0])],
         SuperFault::TooLarge,

@@ -1,6 +1,6 @@
 //! Images that format makes, against trees of lists by `sha2`, and what it leaves after a fault.
-use crate::images::{SMALL, formatted, image_17, image_of};
 use crate::fixtures::{filled, lay};
+use crate::images::{SMALL, formatted, image_17, image_of};
 use std::alloc::{AllocError, Global};
 use std::test::Fail;
 use verity_tree::{MemoryDevice, MemorySource};

@@ -1,6 +1,6 @@
 //! Images of hash devices, made by format, and made of lists of digests by `sha2`.
-use crate::formats::UUID;
 use crate::fixtures::{block, data, filled};
+use crate::formats::UUID;
 use sha2::{Digest as Hasher, Sha256};
 use std::alloc::{AllocError, Global};
 use verity_tree::{Device, Source};
@@ -12,6 +12,7 @@ pub const SMALL: RawOptions<'static> = RawOptions {
     format: None,
     data_block_size: Some("512"),
     hash_block_size: Some("512"),
+    data_blocks: None,
     salt: Some("-"),
     uuid: Some("00112233-4455-4677-8899-aabbccddeeff"),
     same_file: false,

@@ -21,19 +21,23 @@ mod formats;
 #[cfg(test)]
 mod formatting;
 #[cfg(test)]
+mod hash_types;
+#[cfg(test)]
 mod images;
 #[cfg(test)]
 mod large_blocks;
-#[cfg(test)]
-mod plain_trees;
 #[cfg(test)]
 mod path_changes;
 #[cfg(test)]
 mod paths;
 #[cfg(test)]
+mod plain_trees;
+#[cfg(test)]
 mod setup_options;
 #[cfg(test)]
 mod shapes;
+#[cfg(test)]
+mod slots;
 #[cfg(test)]
 mod stating_opener;
 #[cfg(test)]

@@ -1,6 +1,6 @@
 //! Changed bits of data blocks, paths and root hashes, over several settings: each block is accepted by its path, and each
 //! change is refused at the lowest level that it reaches.
-use crate::laying::filled;
+use crate::fixtures::filled;
 use crate::shapes::Shape;
 use std::alloc::Global;
 use std::test::Fail;
@@ -88,6 +88,7 @@ fn shape<'a>(algorithm: Algorithm, before: &'a [u8], numbers: &Numbers) -> Shape
     Shape {
         algorithm,
         before,
+        after: &[],
         data_block: sizes.0,
         hash_block: sizes.1,
         slots: slots.0,
@@ -130,6 +131,39 @@ fn changes_under_dm_verity_are_refused(rt: HostRuntime) -> Result<(), Fail> {
             sizes.1 as u32,
         )?;
         let shape = shape(algorithm, salt, &numbers);
+        assert_eq!(rt;
+            wrong_at(rt.alloc(), &settings, &shape, strides)?,
+            None,
+            "at {shape:?}"
+        );
+    }
+    Ok(())
+}
+
+#[test]
+fn changes_under_hash_type_0_are_refused(rt: HostRuntime) -> Result<(), Fail> {
+    let cases: [(Algorithm, Numbers); 3] = [
+        (
+            Algorithm::Sha256,
+            [(512, 512), (16, 32), (257, 3), (4001, 31)],
+        ),
+        (Algorithm::Sha1, [(512, 512), (16, 20), (17, 2), (4001, 13)]),
+        (
+            Algorithm::Sha384,
+            [(512, 1024), (16, 48), (17, 2), (4001, 61)],
+        ),
+    ];
+    for (algorithm, numbers) in cases {
+        let [sizes, _, _, strides] = numbers;
+        let settings = TreeSettings::verity(
+            algorithm,
+            HashType::Original,
+            b"salt",
+            sizes.0 as u32,
+            sizes.1 as u32,
+        )?;
+        let mut shape = shape(algorithm, b"", &numbers);
+        shape.after = b"salt";
         assert_eq!(rt;
             wrong_at(rt.alloc(), &settings, &shape, strides)?,
             None,

@@ -18,6 +18,7 @@ const DEFAULTS: RawOptions<'static> = RawOptions {
     format: None,
     data_block_size: None,
     hash_block_size: None,
+    data_blocks: None,
     salt: None,
     uuid: None,
     same_file: false,
@@ -187,6 +188,7 @@ fn options_are_refused(rt: HostRuntime) {
             format,
             data_block_size,
             hash_block_size,
+            data_blocks: None,
             salt,
             uuid,
             same_file: false,
@@ -196,7 +198,7 @@ fn options_are_refused(rt: HostRuntime) {
     }
 }
 
-const OPTION_TEXTS: [(OptionFault, &str); 12] = [
+const OPTION_TEXTS: [(OptionFault, &str); 13] = [
     (
         OptionFault::BadNumber(OptionName::Format),
         "Option --format is not a number.\n",
@@ -208,6 +210,10 @@ const OPTION_TEXTS: [(OptionFault, &str); 12] = [
     (
         OptionFault::BadNumber(OptionName::HashBlockSize),
         "Option --hash-block-size is not a number.\n",
+    ),
+    (
+        OptionFault::BadNumber(OptionName::DataBlocks),
+        "Option --data-blocks is not a number.\n",
     ),
     (OptionFault::UnknownHash, "Unknown hash algorithm.\n"),
     (OptionFault::BadHashType, "Hash type must be 0 or 1.\n"),
@@ -232,8 +238,8 @@ const SUPER_TEXTS: [(SuperFault, &str); 3] = [
         "Superblock version 4294967295 is not supported.\n",
     ),
     (
-        SuperFault::HashType(0),
-        "Superblock hash type 0 is not supported.\n",
+        SuperFault::HashType(2),
+        "Superblock hash type 2 is not supported.\n",
     ),
     (
         SuperFault::SaltSize(65_280),

@@ -1,6 +1,7 @@
-//! Trees of several settings, made block by block with `sha2`.
-use crate::laying::data;
-use sha2::{Digest as Hasher, Sha256, Sha512};
+//! Trees of several settings, made block by block with `sha1` and `sha2`.
+use crate::fixtures::data;
+use sha1::Sha1;
+use sha2::{Digest as Hasher, Sha224, Sha256, Sha384, Sha512};
 use std::alloc::{AllocError, Global};
 use verity_hash::Algorithm;
 
@@ -10,6 +11,8 @@ pub struct Shape<'a> {
     pub algorithm: Algorithm,
     /// What is hashed before each block: the salt, and what fills it.
     pub before: &'a [u8],
+    /// What is hashed after each block: the salt of hash type 0.
+    pub after: &'a [u8],
     pub data_block: usize,
     pub hash_block: usize,
     /// The number of slots of a hash block, and the width of one.
@@ -32,21 +35,18 @@ fn run(bytes: &[u8], size: usize, number: usize) -> &[u8] {
 }
 
 impl Shape<'_> {
-    /// The hash of a block, with what goes before it.
+    /// The hash of a block, with what goes before and after it.
     fn hash(&self, alloc: Global, block: &[u8]) -> Result<Vec<u8>, AllocError> {
+        let mut message = Vec::from_slice(alloc, self.before)?;
+        message.extend_from_slice(block)?;
+        message.extend_from_slice(self.after)?;
+        let message = message.as_slice();
         match self.algorithm {
-            Algorithm::Sha256 => {
-                let mut hasher = Sha256::new();
-                hasher.update(self.before);
-                hasher.update(block);
-                Vec::from_slice(alloc, &hasher.finalize())
-            }
-            Algorithm::Sha512 => {
-                let mut hasher = Sha512::new();
-                hasher.update(self.before);
-                hasher.update(block);
-                Vec::from_slice(alloc, &hasher.finalize())
-            }
+            Algorithm::Sha256 => Vec::from_slice(alloc, &Sha256::digest(message)),
+            Algorithm::Sha512 => Vec::from_slice(alloc, &Sha512::digest(message)),
+            Algorithm::Sha1 => Vec::from_slice(alloc, &Sha1::digest(message)),
+            Algorithm::Sha224 => Vec::from_slice(alloc, &Sha224::digest(message)),
+            Algorithm::Sha384 => Vec::from_slice(alloc, &Sha384::digest(message)),
         }
     }
 
