@@ -1,5 +1,5 @@
-//! Changed bits of data blocks, paths and root hashes, over several settings: each block is accepted by its path, and each
-//! change is refused at the lowest level that it reaches.
+//! Changed bits of data blocks, paths and root hashes, over several settings: each block is accepted by its path, and
+//! each change is refused at the lowest level that it reaches.
 use crate::laying::filled;
 use crate::shapes::Shape;
 use std::alloc::Global;
@@ -79,8 +79,8 @@ fn wrong_at(
     Ok(None)
 }
 
-/// Block sizes of data and tree; slots of a hash block and their width; data blocks and levels; and of how many bits one
-/// is changed, in each data block's row and in the last one's.
+/// Block sizes of data and tree; slots of a hash block and their width; data blocks and levels; and of how many bits
+/// one is changed, in each data block's row and in the last one's.
 type Numbers = [(usize, usize); 4];
 
 fn shape<'a>(algorithm: Algorithm, before: &'a [u8], numbers: &Numbers) -> Shape<'a> {

@@ -1,5 +1,5 @@
-//! Data blocks that are checked by their paths: 257 data blocks, all blocks of 512 bytes, so level 2 stands at byte 512 of
-//! the image, level 1 at 1024 and level 0 at 2048. Expected images are made with `sha2`.
+//! Data blocks that are checked by their paths: 257 data blocks, all blocks of 512 bytes, so level 2 stands at byte 512
+//! of the image, level 1 at 1024 and level 0 at 2048. Expected images are made with `sha2`.
 use crate::laying::{data, filled};
 use crate::path_changes::flip;
 use crate::trees::{Tree, small, tree_above};
