@@ -101,8 +101,8 @@ impl Shape<'_> {
         number
     }
 
-    /// The level at which a path no longer holds when this byte of data block `i`, its path and the root hash, in a row,
-    /// is another.
+    /// The level at which a path no longer holds when this byte of data block `i`, its path and the root hash, in a
+    /// row, is another.
     pub fn level_of(&self, i: usize, byte: usize) -> usize {
         let Some(past) = byte.checked_sub(self.data_block) else {
             return 0;

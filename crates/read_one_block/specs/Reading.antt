@@ -19,9 +19,11 @@ pub record IsPathOn (p : Planned) (i : ℕ) (device path : List ℕ) : Type 0 wh
   pub whole : length path ≡ levels_of p * p.settings.hash_block
   pub each : (l : ℕ) → l < levels_of p → slice_chunk path p.settings.hash_block l ≡ stored_above p i device l
 
--- the block is data block i of these bytes; or at some level the path has another block than the tree, with one salted hash
+-- the block is data block i of these bytes; or at some level the path and the tree have different blocks with one
+-- salted hash
 abbrev pub IsRight : Planned → List ℕ → ℕ → List ℕ → List ℕ → Type 0
-IsRight p bytes i block path = (block ≡ slice_index_or (data_blocks p bytes) i []) ⊎ HasCollision p (data_blocks p bytes) i block path
+IsRight p bytes i block path =
+    (block ≡ slice_index_or (data_blocks p bytes) i []) ⊎ HasCollision p (data_blocks p bytes) i block path
 
 -- the answer is that of the check, or a read failed
 abbrev pub Answers : Planned → ℕ → List ℕ → List ℕ → List ℕ → Result Unit ReadFault → Type 0

@@ -63,7 +63,8 @@ impl<A: Device, B: Device> Image<A, B> {
         requires path { length path.old ≡ levels_of self.old.plan * self.old.plan.settings.hash_block }
         ensures plan { self.new.plan ≡ self.old.plan }
         ensures root { self.new.root ≡ self.old.root }
-        ensures right { OnOk result ((bytes : List ℕ) → self.old.root ≡ root self.old.plan.settings (data_blocks self.old.plan bytes)
+        ensures right { OnOk result ((bytes : List ℕ)
+            → self.old.root ≡ root self.old.plan.settings (data_blocks self.old.plan bytes)
             → IsRight self.old.plan bytes i block.new path.new) }
 
         // The answer is that of the check, on what the devices hold.

@@ -13,8 +13,8 @@ use std::process::ExitCode;
 use verity_hash::{Algorithm, Digest};
 use verity_tree::{Device, HashType, MemoryDevice, MemorySource, Plan, Store, TreeSettings, build};
 
-/// An image of 257 data blocks of 512 bytes, in which byte k is the remainder of k by 251, with hash blocks of 512 bytes,
-/// SHA-256 and no salt. None where there is no memory.
+/// An image of 257 data blocks of 512 bytes, in which byte k is the remainder of k by 251, with hash blocks of 512
+/// bytes, SHA-256 and no salt. None where there is no memory.
 fn example(alloc: Global) -> Option<Image<MemoryDevice, MemoryDevice>> {
     let mut data = vec![in alloc; 0u8; 131_584].ok()?;
     for (k, byte) in data.iter_mut().enumerate() {

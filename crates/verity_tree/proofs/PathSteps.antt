@@ -47,7 +47,7 @@ read-is p i path root above l slot at f below above_is f_is at_is slot_is =
 
 -- a level's block of a whole path has a digest's room in each slot
 pub slot-in-block : (p : Planned) (path above : List ℕ) (l at f : ℕ) → fan p.settings * slot_width p.settings ≤ p.settings.hash_block
-    → l < levels_of p → length path ≡ levels_of p * p.settings.hash_block → above ≡ slice_chunk path p.settings.hash_block l
+    → l < levels_of p → levels_of p * p.settings.hash_block ≤ length path → above ≡ slice_chunk path p.settings.hash_block l
     → f ≡ fan p.settings → 2 ≤ f
     → at % f * slot_width p.settings + digest_len p.settings ≤ length above
 slot-in-block p path above l at f fits below whole above_is f_is two =

@@ -1,4 +1,4 @@
-use Rattle.std.proofs.Common.{◌≡◌, ℕ, ◌*◌, ◌/◌, ◌%◌, ◌^◌, ◌<◌, ◌≤◌, below_more, arith, ap, sym, ◌∙◌, refl}
+use Rattle.std.proofs.Common.{◌≡◌, ℕ, ◌*◌, ◌/◌, ◌%◌, ◌^◌, ◌<◌, ◌≤◌, below_more, length, arith, ap, sym, ◌∙◌, refl}
 use Rattle.std.proofs.lemmas.Slice.Eq.{bytes_eq-Decides}
 use Rattle.verity_tree.specs.Paths.{HoldsAt, chain}
 use Rattle.verity_plan.specs.Plans.{levels_of}
@@ -22,9 +22,13 @@ pub has_digest-requires : goal.has_digest-requires
 has_digest-requires c =
     let p = c.args.plan.now in
     let below : c.loop-level.level < levels_of p = omega (arith, c.loop-level-test.true, c.levels-levels.ensures) in
-    let lengths = HasLengths-read p c.args.block.now c.args.path.now _ _ _ c.data_block.ensures c.levels-levels.ensures c.hash_block-size.ensures
-    c.if-block-data_block.false c.if-path-levels.false in
-    slot-in-block p c.args.path.now _ c.loop-level.level c.loop-level.index c.fan-fan.result c.fan-fan.ensures.fits below lengths.of_path
+    let long : levels_of p * p.settings.hash_block ≤ length c.args.path.now = omega (
+      arith,
+      c.if-path-levels.false,
+      ap (λ (n : ℕ). n * c.hash_block-size.result) c.levels-levels.ensures,
+      ap (λ (n : ℕ). levels_of p * n) c.hash_block-size.ensures,
+    ) in
+    slot-in-block p c.args.path.now _ c.loop-level.level _ c.fan-fan.result c.fan-fan.ensures.fits below long
     (range-block c.args.path.now c.loop-level.level c.hash_block-size.result p.settings.hash_block c.hash_block-size.ensures) c.fan-fan.ensures.value c.fan-fan.ensures.two
 
 pub loop-level-preserved : goal.loop-level-preserved
