@@ -23,6 +23,8 @@ mod images;
 #[cfg(test)]
 mod setup_options;
 #[cfg(test)]
+mod setup_words;
+#[cfg(test)]
 mod stating_opener;
 #[cfg(test)]
 mod trees;
