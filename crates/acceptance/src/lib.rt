@@ -35,6 +35,8 @@ mod plain_trees;
 #[cfg(test)]
 mod setup_options;
 #[cfg(test)]
+mod setup_words;
+#[cfg(test)]
 mod shapes;
 #[cfg(test)]
 mod slots;

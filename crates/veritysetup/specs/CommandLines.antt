@@ -8,8 +8,8 @@ use Rattle.veritysetup.specs.declared.parsed_line.Line.{Line}
 
 -- `format [options] DATA HASH`
 unfoldable pub format_app : App
-format_app = with_rule (with_rule (with_rule (with_rule (with_rule (with_rule (with_rule (with_rule (with_rule (new_app (codes "format"))
-    (option_rule (codes "hash"))) (option_rule (codes "format"))) (option_rule (codes "data-block-size")))
+format_app = with_rule (with_rule (with_rule (with_rule (with_rule (with_rule (with_rule (with_rule (with_rule
+    (new_app (codes "format")) (option_rule (codes "hash"))) (option_rule (codes "format"))) (option_rule (codes "data-block-size")))
     (option_rule (codes "hash-block-size"))) (option_rule (codes "data-blocks"))) (option_rule (codes "salt")))
     (option_rule (codes "uuid"))) (word_rule (codes "DATA"))) (word_rule (codes "HASH"))
 
@@ -40,7 +40,9 @@ word_list (Some word) = word ∷ []
 
 -- DATA, HASH and ROOT, those that are given
 abbrev pub given_files : List Row → List Text
-given_files rows = (word_list (first_of (codes "DATA") rows) ++ word_list (first_of (codes "HASH") rows)) ++ word_list (first_of (codes "ROOT") rows)
+given_files rows =
+    (word_list (first_of (codes "DATA") rows) ++ word_list (first_of (codes "HASH") rows))
+    ++ word_list (first_of (codes "ROOT") rows)
 
 -- the line holds what the rows hold, name by name
 pub record HoldsRows (rows : List Row) (line : Line) : Type 0 where

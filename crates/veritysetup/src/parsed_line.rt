@@ -32,8 +32,10 @@ impl Line {
     pub fn raw(&self, same_file: bool) -> RawOptions<'_>
         ensures hash { option_copied result.hash ≡ option_map string_bytes self.now.hash }
         ensures format { option_copied result.format ≡ option_map string_bytes self.now.format }
-        ensures data_block_size { option_copied result.data_block_size ≡ option_map string_bytes self.now.data_block_size }
-        ensures hash_block_size { option_copied result.hash_block_size ≡ option_map string_bytes self.now.hash_block_size }
+        ensures data_block_size { option_copied result.data_block_size
+            ≡ option_map string_bytes self.now.data_block_size }
+        ensures hash_block_size { option_copied result.hash_block_size
+            ≡ option_map string_bytes self.now.hash_block_size }
         ensures data_blocks { option_copied result.data_blocks ≡ option_map string_bytes self.now.data_blocks }
         ensures salt { option_copied result.salt ≡ option_map string_bytes self.now.salt }
         ensures uuid { option_copied result.uuid ≡ option_map string_bytes self.now.uuid }

@@ -4,19 +4,20 @@ ghost use Rattle.clap.specs.Words.{first_of, found_of, rows_of, subcommand_of, t
 ghost use Rattle.clap.specs.declared.Command.TheViews.{out-Command as fields_of};
 ghost use Rattle.command_line.specs.Arguments.{Defines};
 ghost use Rattle.command_line.specs.LineFaults.{IsMemory};
-ghost use Rattle.veritysetup.specs.CommandLines.{HoldsCommand, HoldsRows, dump_app, format_app, given_files, verify_app, veritysetup_app, word_list};
+ghost use Rattle.veritysetup.specs.CommandLines.{HoldsCommand, HoldsRows, given_files, word_list};
+ghost use Rattle.veritysetup.specs.CommandLines.{dump_app, format_app, verify_app, veritysetup_app};
 
 use crate::{CommandName, Line};
 use clap::{ArgMatches, Command};
 use command_line::{LineFault, copied_value, option, program, word};
 use std::alloc::{AllocError, Global};
 
-/// What a refused command line without a known command is told.
+/// The usage text where no command is known.
 const USAGE: &str = "veritysetup format [options] DATA HASH
        veritysetup dump HASH
        veritysetup verify DATA HASH ROOT";
 
-/// What a refused command line of `format` is told.
+/// The usage text of `format`.
 const FORMAT_USAGE: &str =
     "veritysetup format [--hash NAME] [--format TYPE] [--data-block-size BYTES]
            [--hash-block-size BYTES] [--data-blocks NUMBER] [--salt HEX] [--uuid UUID] DATA HASH";
@@ -114,9 +115,9 @@ fn line_of(
     })
 }
 
-/// Reads the words of a command line, the program's name first: `veritysetup format`, `dump` or `verify`, its options, each
-/// once, and its files (veritysetup(8)). What clap refuses is `Refused`, with clap's text and the usage of the command; the
-/// help flags and the help command are switched off. `Memory` is out of memory for the copies.
+/// Reads the words of a command line, the program's name first: `veritysetup format`, `dump` or `verify`, its options,
+/// each once, and its files (veritysetup(8)). What clap refuses is `Refused`, with clap's text and the usage of the
+/// command; the help flags and the help command are switched off. `Memory` is out of memory for the copies.
 pub fn read_words(alloc: Global, words: &[&str]) -> Result<Line, LineFault>
     ensures holds { IfOk result (HoldsCommand (subcommand_of veritysetup_app (map (λ w. w.now) words.now))) }
     ensures taken { takes veritysetup_app (map (λ w. w.now) words.now) ≡ true → IfErr result IsMemory }

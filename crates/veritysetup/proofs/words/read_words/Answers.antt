@@ -1,5 +1,6 @@
 use Rattle.std.proofs.Common.{refl, ap, subst, ◌≡◌, ◌∙◌, true, List, [], ◌∷◌, map, sym, Some, option_map}
-use Rattle.clap.specs.Words.{App, HasMatchesOf, Row, Text, app_of, found_of, is_simple, rows_of, subcommand_name_of, subcommand_of, subcommand_rows_of}
+use Rattle.clap.specs.Words.{App, HasMatchesOf, Row, Text, app_of, found_of, is_simple, rows_of}
+use Rattle.clap.specs.Words.{subcommand_name_of, subcommand_of, subcommand_rows_of}
 use Rattle.clap.specs.declared.builder.command.Command.{Command}
 use Rattle.clap.specs.declared.parser.matches.ArgMatches.{ArgMatches}
 use Rattle.clap.proofs.OnLiterals.{clap_on_literals}

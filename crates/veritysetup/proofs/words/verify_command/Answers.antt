@@ -14,6 +14,7 @@ returns c =
     = record { app = c.new.ensures.app; local = c.new.ensures.local } in
     let none = usage_replaced _ _ _ _ new c.override_usage.ensures in
     let one = arg_added _ _ _ _ _ none c.word.ensures.rule c.word.ensures.local c.in_ok-arg.ensures in
-    let two = arg_added _ _ _ _ _ one c.word-2.ensures.rule c.word-2.ensures.local c.in_ok-arg-2.ensures in
+    let two = arg_added _ _ c.word-2.result _ _ one c.word-2.ensures.rule c.word-2.ensures.local
+    c.in_ok-arg-2.ensures in
     IfOk-weaker c.arg-3.result _ _ (λ r h. arg_added _ r _ _ _ two c.word-3.ensures.rule c.word-3.ensures.local h)
     c.arg-3.ensures
