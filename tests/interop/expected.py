@@ -3,8 +3,7 @@
 
 expected.py DATA HASH ROOT CHANGE.. prints a line for each change, `data OFFSET MASK` or `hash OFFSET MASK`: what is to
 be said where the bits of the mask are turned in that byte of DATA or HASH. This is `right`, or the message of the first
-block in closing order that differs. The superblock of HASH is read as the on-disk format page of cryptsetup has it, hash
-type 1.
+block in closing order that differs. The superblock of HASH is read as the on-disk format page of cryptsetup has it.
 """
 
 import hashlib
@@ -26,9 +25,13 @@ class Tree:
         name = superblock[32:64].split(b"\0")[0].decode()
         self.data_block, self.hash_block, count, salt_size = struct.unpack("<IIQH", superblock[64:82])
         salt = superblock[88 : 88 + salt_size]
-        self.hash = lambda block: hashlib.new(name, salt + block).digest()
         self.length = hashlib.new(name).digest_size
-        self.width = least_power(self.length)
+        if superblock[12] == 0:
+            self.hash = lambda block: hashlib.new(name, block + salt).digest()
+            self.width = self.length
+        else:
+            self.hash = lambda block: hashlib.new(name, salt + block).digest()
+            self.width = least_power(self.length)
         self.fan = least_power(self.hash_block // self.length + 1) // 2
         self.base = -(-512 // self.hash_block)
 

@@ -40,7 +40,7 @@ refused() {
 # made_by_peer OPTION..: the other program's image of the data, and its root hash; in `root`.
 made_by_peer() {
     rm -f "$image"
-    veritysetup format --format 1 --uuid "$UUID" "$@" "$data" "$image" >"$scratch/peer.txt"
+    veritysetup format --uuid "$UUID" "$@" "$data" "$image" >"$scratch/peer.txt"
     root=$(sed -n 's/^Root hash:[[:space:]]*//p' "$scratch/peer.txt")
 }
 
@@ -48,7 +48,7 @@ compare() {
     local name="$*" size=$(($2 * $5)) base=$((($3 > 512 ? $3 : 512)))
     local changes=() hashes
     head -c "$size" "$scratch/all" >"$data"
-    made_by_peer --hash "$1" --data-block-size "$2" --hash-block-size "$3" --salt="$4"
+    made_by_peer --hash "$1" --format "$6" --data-block-size "$2" --hash-block-size "$3" --salt="$4"
     runs "$name: accepted" 0 '' '' "$BIN/veritysetup" verify "$data" "$image" "$root"
 
     below "$size"

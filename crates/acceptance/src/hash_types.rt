@@ -36,7 +36,7 @@ fn type_0_hashes_one_block_before_the_salt(rt: HostRuntime) -> Result<(), Fail> 
     assert_eq!(rt; device.bytes().len(), 512);
     assert_eq!(rt; device.bytes().get(12).copied(), Some(0));
     assert_eq!(rt; device.bytes().get(80).copied(), Some(2));
-    let text = core::str::from_utf8(said.out.as_slice())?;
+    let text = std::str::from_utf8(said.out.as_slice())?;
     assert!(rt; text.contains("Hash type:       \t0\n"));
     assert!(rt; text.ends_with(line.as_str()));
     Ok(())

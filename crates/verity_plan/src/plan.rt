@@ -153,31 +153,35 @@ impl Plan {
         self.place(level, block) * u64::from(self.settings.hash_block())
     }
 
-    // The parts of the settings that a pass over the data uses.
+    /// The width of a slot, in bytes.
     pub fn slot_width(&self) -> usize
         ensures { result ≡ slot_width self.now.settings }
     {
         self.settings.slot_width()
     }
 
+    /// The length of a digest, in bytes.
     pub fn digest_len(&self) -> usize
         ensures { result ≡ digest_len self.now.settings }
     {
         self.settings.algorithm().digest_len()
     }
 
+    /// The size of a data block, in bytes.
     pub fn data_block(&self) -> usize
         ensures { result ≡ self.now.settings.data_block }
     {
         self.settings.data_block() as usize
     }
 
+    /// The size of a hash block, in bytes.
     pub fn hash_block(&self) -> usize
         ensures { result ≡ self.now.settings.hash_block }
     {
         self.settings.hash_block() as usize
     }
 
+    /// The salted hash of a block.
     pub fn hash(&self, block: &[u8]) -> Digest
         ensures { result ≡ hash self.now.settings block.now }
     {

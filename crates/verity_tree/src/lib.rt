@@ -24,4 +24,4 @@ pub use store::Store;
 pub use verity_io::{
     Device, Failed, FileDevice, FileSource, Fused, MemoryDevice, MemorySource, Nowhere, Source,
 };
-pub use verity_plan::{HashType, Plan, PlanFault, SettingFault, TreeSettings};
+pub use verity_plan::{HashType, Plan, PlanFault, SettingFault, TreeSettings, base_of};
