@@ -55,8 +55,8 @@ pub met_both : {Z : Type 0} (o : Option (Box SubCommand Z)) (name : Text) (rows 
     → Some name ≡ option_map (λ b. (out-SubCommand (box_value b)).name.now) o
     → Some rows ≡ option_map (λ p. p.1) (subcommand_rows o)
     → subcommand_rows o ≡ Some (name, rows)
-met_both None name rows e f = cc
-met_both (Some b) name rows e f =
+met_both None name rows p q = cc
+met_both (Some b) name rows p q =
     let named : name ≡ (out-SubCommand (box_value b)).name.now = cc in
     let held : rows ≡ _ = cc in
     ap₂ (λ (n : Text) (r : List Row). Some (n, r)) (sym named) (sym held)
