@@ -35,8 +35,8 @@ const TAKEN: [(&str, &str); 25] = [
     ),
     ("format --uuid u data hash", "Format uuid=u: data hash"),
     (
-        "format --uuid=g data --salt f --data-blocks e --hash-block-size=d hash --data-block-size c --format b --hash a",
-        "Format hash=a format=b data-block-size=c hash-block-size=d data-blocks=e salt=f uuid=g: data hash",
+        "format --uuid=g data --salt f --data-blocks e --hash-block-size=d h --data-block-size c --format b --hash a",
+        "Format hash=a format=b data-block-size=c hash-block-size=d data-blocks=e salt=f uuid=g: data h",
     ),
     ("format -- --salt hash", "Format: --salt hash"),
     ("format - hash", "Format: - hash"),
