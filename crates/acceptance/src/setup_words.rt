@@ -35,8 +35,8 @@ const TAKEN: [(&str, &str); 25] = [
     ),
     ("format --uuid u data hash", "Format uuid=u: data hash"),
     (
-        "format --uuid=g data --salt f --data-blocks e --hash-block-size=d hash --data-block-size c --format b --hash a",
-        "Format hash=a format=b data-block-size=c hash-block-size=d data-blocks=e salt=f uuid=g: data hash",
+        "format --uuid=g data --salt f --data-blocks e --hash-block-size=d h --data-block-size c --format b --hash a",
+        "Format hash=a format=b data-block-size=c hash-block-size=d data-blocks=e salt=f uuid=g: data h",
     ),
     ("format -- --salt hash", "Format: --salt hash"),
     ("format - hash", "Format: - hash"),
@@ -166,9 +166,10 @@ fn lines_are_refused(rt: HostRuntime) -> Result<(), Fail> {
         );
         assert!(rt; refused, "at {text}");
     }
-    for words in [[].as_slice(), ["veritysetup"].as_slice()] {
-        assert!(rt; matches!(read_words(alloc, words), Err(LineFault::Refused(_))));
-    }
+    let refused = matches!(read_words(alloc, &[]), Err(LineFault::Refused(_)));
+    assert!(rt; refused, "with no word at all");
+    let name_alone = read_words(alloc, &["veritysetup"]);
+    assert!(rt; matches!(name_alone, Err(LineFault::Refused(_))));
     Ok(())
 }
 

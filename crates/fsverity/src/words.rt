@@ -11,10 +11,14 @@ use clap::{ArgMatches, Command};
 use command_line::{copied_value, copied_values, option, program, words};
 use std::alloc::{AllocError, Global};
 
+/// The usage text of the program and of its command.
+const USAGE: &str = "fsverity digest [--hash-alg NAME] [--block-size BYTES] [--salt HEX] FILE...";
+
 fn digest_command<'a>(alloc: Global) -> Result<Command<'a>, AllocError>
     ensures { IfOk result (Defines digest_app) }
 {
     Command::new(alloc, "digest")
+        .override_usage(USAGE)
         .arg(option(alloc, "hash-alg"))?
         .arg(option(alloc, "block-size"))?
         .arg(option(alloc, "salt"))?
@@ -25,7 +29,9 @@ fn command<'a>(alloc: Global) -> Result<Command<'a>, AllocError>
     ensures defined { IfOk result (Defines fsverity_app) }
     ensures required { IfOk result (λ c. (fields_of c).subcommand_required ≡ true) }
 {
-    program(alloc, "fsverity").subcommand(digest_command(alloc)?)
+    program(alloc, "fsverity")
+        .override_usage(USAGE)
+        .subcommand(digest_command(alloc)?)
 }
 
 fn line_of(alloc: Global, matches: &ArgMatches<'_>) -> Result<Line, AllocError>

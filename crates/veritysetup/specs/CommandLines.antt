@@ -9,9 +9,10 @@ use Rattle.veritysetup.specs.declared.parsed_line.Line.{Line}
 -- `format [options] DATA HASH`
 unfoldable pub format_app : App
 format_app = with_rule (with_rule (with_rule (with_rule (with_rule (with_rule (with_rule (with_rule (with_rule
-    (new_app (codes "format")) (option_rule (codes "hash"))) (option_rule (codes "format"))) (option_rule (codes "data-block-size")))
-    (option_rule (codes "hash-block-size"))) (option_rule (codes "data-blocks"))) (option_rule (codes "salt")))
-    (option_rule (codes "uuid"))) (word_rule (codes "DATA"))) (word_rule (codes "HASH"))
+    (new_app (codes "format")) (option_rule (codes "hash"))) (option_rule (codes "format")))
+    (option_rule (codes "data-block-size"))) (option_rule (codes "hash-block-size")))
+    (option_rule (codes "data-blocks"))) (option_rule (codes "salt"))) (option_rule (codes "uuid")))
+    (word_rule (codes "DATA"))) (word_rule (codes "HASH"))
 
 -- `dump HASH`
 unfoldable pub dump_app : App

@@ -38,9 +38,9 @@ unreachable-requires c =
 
 pub returns-clause-holds : goal.returns-clause-holds
 returns-clause-holds c =
-    let found : List Row = rows_of (found_of c.in-Some.inner.now) in
-    let given = met _ _ _ _ found c.in_ok-command.ensures.defined c.in_ok-matches.ensures.matches
+    let held : List Row = rows_of (found_of c.in-Some.inner.now) in
+    let given = met _ _ _ _ held c.in_ok-command.ensures.defined c.in_ok-matches.ensures.matches
     c.in-Some.ensures.name c.in-Some.ensures.rows in
     let command = ap command_text c.in_ok-line_of-in-Some-from_name.ensures.command
     ∙ c.in-Some-from_name.ensures.named in
-    (found, given ∙ ap (λ (n : Text). Some (n, found)) (sym command), c.in_ok-line_of-in-Some-from_name.ensures.rows)
+    (held, given ∙ ap (λ (n : Text). Some (n, held)) (sym command), c.in_ok-line_of-in-Some-from_name.ensures.rows)
