@@ -189,7 +189,7 @@ fn refusals_end_with_the_usage(rt: HostRuntime) -> Result<(), Fail> {
 fn the_options_are_given_by_name(rt: HostRuntime) -> Result<(), Fail> {
     let alloc = rt.alloc();
     let text =
-        "format --hash a --format b --data-block-size c --hash-block-size d --salt e --uuid f data hash";
+        "format --hash a --format b --data-block-size c --hash-block-size d --data-blocks 9 --salt e --uuid f data hash";
     let words = words_of(alloc, text)?;
     let line = read_words(alloc, words.as_slice())?;
     for same_file in [false, true] {
@@ -198,6 +198,7 @@ fn the_options_are_given_by_name(rt: HostRuntime) -> Result<(), Fail> {
         assert_eq!(rt; raw.format, Some("b"));
         assert_eq!(rt; raw.data_block_size, Some("c"));
         assert_eq!(rt; raw.hash_block_size, Some("d"));
+        assert_eq!(rt; raw.data_blocks, Some("9"));
         assert_eq!(rt; raw.salt, Some("e"));
         assert_eq!(rt; raw.uuid, Some("f"));
         assert_eq!(rt; raw.same_file, same_file);
