@@ -1,5 +1,5 @@
 //! Five hash functions, and slots that are wider than digests. Expected digests come from `sha1` and from published vectors.
-use crate::fixtures::data;
+use crate::fixtures::{data, filled};
 use sha1::Sha1;
 use std::alloc::{AllocError, Global};
 use std::test::Fail;
@@ -76,17 +76,21 @@ fn slots_have_widths(rt: HostRuntime) -> Result<(), Fail> {
     Ok(())
 }
 
-/// One level up: the digests of the blocks, each with zeros to a width, and zeros to whole blocks.
+/// The hash block of some blocks: their digests, each with zeros to a width, and zeros to the block's end.
+fn hash_block(alloc: Global, blocks: &[u8], width: usize) -> Result<Vec<u8>, AllocError> {
+    let mut block = Vec::new(alloc);
+    for child in blocks.chunks(512) {
+        let slot = filled(alloc, &[&Sha1::digest(child)], width)?;
+        block.extend_from_slice(slot.as_slice())?;
+    }
+    filled(alloc, &[block.as_slice()], 512)
+}
+
+/// One level up: the hash blocks of the blocks' runs.
 fn level_up(alloc: Global, blocks: &[u8], width: usize) -> Result<Vec<u8>, AllocError> {
     let mut level = Vec::new(alloc);
-    for run in blocks.chunks(512 * 16) {
-        let mut block = Vec::new(alloc);
-        for child in run.chunks(512) {
-            block.extend_from_slice(&Sha1::digest(child))?;
-            let filled = block.len().div_ceil(width).saturating_mul(width);
-            block.resize(filled, 0)?;
-        }
-        block.resize(512, 0)?;
+    for run in blocks.chunks(8192) {
+        let block = hash_block(alloc, run, width)?;
         level.extend_from_slice(block.as_slice())?;
     }
     Ok(level)
