@@ -24,6 +24,10 @@ abbrev pub number_or : ℕ → Option (List ℕ) → Option ℕ
 number_or default None = Some default
 number_or default (Some text) = number_of text
 
+-- the size of a block in bytes where none is given
+abbrev pub default_block_size : ℕ
+default_block_size = 4096
+
 -- the bytes of a salt in hexadecimal digits of either case, two digits a byte, at most so many
 abbrev pub salt_of : ℕ → List ℕ → Option (List ℕ)
 salt_of most text = if nat_le (length text / 2) most then result_ok (decode_of text) else None

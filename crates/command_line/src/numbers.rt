@@ -2,6 +2,9 @@
 ghost use Rattle.std.specs.Prelude.{◌≡◌, option_copied};
 ghost use Rattle.command_line.specs.Options.{number_of, number_or};
 
+/// The size of a block in bytes where none is given (veritysetup(8), `--data-block-size`; fsverity(1), `--block-size`).
+pub const DEFAULT_BLOCK_SIZE: u64 = 4096;
+
 /// The number that a text of ASCII digits stands for, as of a block size in bytes (veritysetup(8), `--data-block-size`;
 /// fsverity(1), `--block-size`): one digit or more, leading zeros allowed, no sign. `None` where the text is anything
 /// else, or the number is 2 to the 64 or more.

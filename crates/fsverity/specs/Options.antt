@@ -5,7 +5,7 @@ use Rattle.verity_hash.specs.Algorithms.{digest_len_of}
 use Rattle.verity_hash.specs.declared.algorithm.Algorithm.{Algorithm}
 use Rattle.verity_hash.specs.declared.salting.SaltRule.TheVariants.{PaddedBefore}
 use Rattle.verity_plan.specs.Settings.{Settings, is_block_size, is_of_fsverity, least_block, most_salt}
-use Rattle.command_line.specs.Options.{algorithm_or_default, number_of, or_fault, salt_of}
+use Rattle.command_line.specs.Options.{algorithm_or_default, default_block_size, number_of, or_fault, salt_of}
 use Rattle.fsverity.specs.declared.option_fault.FsOptionFault.{FsOptionFault}
 use Rattle.fsverity.specs.declared.option_fault.FsOptionFault.TheVariants.{UnknownHash, BadBlockSize, BadSalt}
 
@@ -24,7 +24,7 @@ within_limits algorithm size =
 
 -- the block size of a number
 abbrev pub block_size_of : Algorithm → Option (List ℕ) → Option ℕ
-block_size_of algorithm None = within_limits algorithm 4096
+block_size_of algorithm None = within_limits algorithm default_block_size
 block_size_of algorithm (Some digits) = option_and_then (within_limits algorithm) (number_of digits)
 
 -- the salt of its digits

@@ -4,6 +4,9 @@ ghost use Rattle.fsverity.specs.Messages.{fault_text};
 
 use std::alloc::{AllocError, Global};
 
+/// The message of out of memory. The text is fixed, so that it takes none.
+pub const OUT_OF_MEMORY: &str = "fsverity: out of memory.\n";
+
 /// Why a file has no digest.
 #[derive(Clone, Copy, Debug, PartialEq, Eq)]
 pub enum DigestFault {
@@ -29,6 +32,6 @@ pub fn digest_message(alloc: Global, fault: &DigestFault, name: &str) -> Result<
         DigestFault::SourceFailed(block) => {
             format!(in alloc; "fsverity: cannot read block {block}: {name}.\n")
         }
-        DigestFault::Memory => String::from_str(alloc, "fsverity: out of memory.\n"),
+        DigestFault::Memory => String::from_str(alloc, OUT_OF_MEMORY),
     }
 }

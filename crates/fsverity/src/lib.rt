@@ -17,7 +17,7 @@ mod running;
 mod words;
 
 pub use command_line::LineFault;
-pub use digest_fault::{DigestFault, digest_message};
+pub use digest_fault::{DigestFault, OUT_OF_MEMORY, digest_message};
 pub use digest_lines::{Form, digest_line};
 pub use digesting::{FileDigest, digest_file};
 pub use file_opener::FileOpener;

@@ -5,7 +5,7 @@ ghost use Rattle.verity_plan.specs.Settings.{is_of_fsverity};
 ghost use Rattle.fsverity.specs.Options.{algorithm_of, block_size_of, salt_bytes_of, fs_settings};
 
 use crate::FsOptionFault;
-use command_line::{algorithm_or_default, read_number, read_salt};
+use command_line::{DEFAULT_BLOCK_SIZE, algorithm_or_default, read_number, read_salt};
 use verity_hash::{Algorithm, ShortBytes};
 use verity_plan::is_of_fsverity;
 use verity_tree::TreeSettings;
@@ -56,7 +56,7 @@ fn block_size(algorithm: Algorithm, text: Option<&str>) -> Option<u32>
     ensures { result ≡ block_size_of algorithm (option_copied text.entry) }
 {
     let size = match text {
-        None => 4096,
+        None => DEFAULT_BLOCK_SIZE as u32,
         Some(digits) => u32::try_from(read_number(digits)?).ok()?,
     };
     match TreeSettings::fsverity(algorithm, &[], size) {

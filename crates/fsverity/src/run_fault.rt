@@ -3,7 +3,7 @@ ghost use Rattle.std.specs.Prelude.{◌≡◌};
 ghost use Rattle.command_line.specs.Printing.{AppendsFront};
 ghost use Rattle.fsverity.specs.Runs.{run_fault_text};
 
-use crate::{DigestFault, digest_message};
+use crate::{DigestFault, OUT_OF_MEMORY, digest_message};
 use command_line::{tell, tell_pieces, tell_text};
 use std::alloc::Global;
 use std::io::Write;
@@ -28,7 +28,7 @@ impl RunFault {
         match self {
             RunFault::NotOpened => tell_pieces(&["fsverity: cannot open ", name, ".\n"], msgs),
             RunFault::NotWritten => tell_text("fsverity: cannot write output.\n", msgs),
-            RunFault::Digest(DigestFault::Memory) => tell_text("fsverity: out of memory.\n", msgs),
+            RunFault::Digest(DigestFault::Memory) => tell_text(OUT_OF_MEMORY, msgs),
             RunFault::Digest(fault) => tell(digest_message(alloc, fault, name), msgs),
         }
     }

@@ -1,9 +1,10 @@
 //! The program `fsverity`: file digests without the kernel (fsverity(1)).
 #![tactic(auto)]
 
-use command_line::{NullFiles, given_words, tell_text, texts_of};
+use command_line::{NOT_TEXT, NullFiles, given_words, tell_text, texts_of};
 use fsverity::{
-    FileOpener, Form, Line, LineFault, digest_settings, option_message, read_words, run_digest,
+    FileOpener, Form, Line, LineFault, OUT_OF_MEMORY, digest_settings, option_message, read_words,
+    run_digest,
 };
 use std::io::ErrorKind;
 use std::process::ExitCode;
@@ -19,10 +20,7 @@ fn main(rt: HostRuntime) -> ExitCode {
         Ok(words) => run(&rt, words.as_slice()),
         Err(error) if error.kind() == ErrorKind::OutOfMemory => out_of_memory(&rt),
         Err(_) => {
-            say(
-                &rt,
-                "error: invalid UTF-8 was detected in one or more arguments\n",
-            );
+            say(&rt, NOT_TEXT);
             REFUSED
         }
     };
@@ -72,7 +70,7 @@ fn digest(rt: &HostRuntime, line: &Line) -> u8 {
 
 /// Writes that there is no memory.
 fn out_of_memory(rt: &HostRuntime) -> u8 {
-    say(rt, "fsverity: out of memory.\n");
+    say(rt, OUT_OF_MEMORY);
     FAILED
 }
 

@@ -18,8 +18,9 @@ use Rattle.std.specs.Str.{bytes_eq}
 use Rattle.byteorder.specs.Endian.{little_bytes}
 use Rattle.verity_hash.specs.Algorithms.{name_of, named}
 use Rattle.verity_hash.specs.Bytes.{filled}
+use Rattle.verity_hash.specs.declared.salting.SaltRule.TheVariants.{Before}
 use Rattle.verity_plan.specs.Plans.{most_bytes, superblock_size}
-use Rattle.verity_plan.specs.Settings.{Settings, is_verity_block_size, type_number, type_of_number}
+use Rattle.verity_plan.specs.Settings.{Settings, is_verity_block_size, most_salt, type_number, type_of_number}
 use Rattle.verity_format.specs.Fields.{field, number_at, until_zero}
 use Rattle.verity_format.specs.SuperblockFields.{SuperblockFields, IsValidSuperblock}
 use Rattle.verity_format.specs.declared.super_fault.SuperFault.{SuperFault}
@@ -72,7 +73,7 @@ abbrev pub settings_tests : List ℕ → List (Bool × SuperFault)
 settings_tests s = (is_verity_block_size (number_at 64 4 s), fault.DataBlockSize (number_at 64 4 s))
     ∷ (is_verity_block_size (number_at 68 4 s), fault.HashBlockSize (number_at 68 4 s))
     ∷ (is_some (named (until_zero (field 32 32 s))), fault.Algorithm)
-    ∷ (nat_le (number_at 80 2 s) 256, fault.SaltSize (number_at 80 2 s)) ∷ []
+    ∷ (nat_le (number_at 80 2 s) (most_salt Before), fault.SaltSize (number_at 80 2 s)) ∷ []
 
 abbrev pub blocks_tests : List ℕ → List (Bool × SuperFault)
 blocks_tests s = (nat_lt 0 (number_at 72 8 s), fault.NoData)

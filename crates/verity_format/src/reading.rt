@@ -1,6 +1,8 @@
 //! What bytes say as a superblock.
 ghost use Rattle.std.specs.Prelude.{◌≡◌, ◌≤◌, ◌+◌, ◌==◌, length, position, IfOk, IfErr, Some, None, nat_le, true};
-ghost use Rattle.verity_plan.specs.Settings.{is_verity_block_size, IsValid, rule_of};
+ghost use Rattle.verity_hash.specs.declared.salting.SaltRule.TheVariants.{Before};
+ghost use Rattle.verity_plan.specs.Plans.{superblock_size};
+ghost use Rattle.verity_plan.specs.Settings.{most_salt, is_verity_block_size, IsValid, rule_of};
 ghost use Rattle.verity_format.specs.Fields.{number_at, until_zero};
 ghost use Rattle.verity_format.specs.Superblocks.{AreSettings, IsSuperblock, cause, first_failed, settings_tests};
 
@@ -46,7 +48,7 @@ pub fn read_superblock(bytes: &[u8]) -> Result<Superblock, SuperFault>
 
 /// The settings that a superblock's bytes say.
 fn read_settings(bytes: &[u8], hash_type: HashType) -> Result<TreeSettings, SuperFault>
-    requires { 512 ≤ length bytes.now }
+    requires { superblock_size ≤ length bytes.now }
     ensures value { IfOk result (λ tree. AreSettings bytes.now tree) }
     ensures valid { IfOk result (λ tree. IsValid tree) }
     ensures of_type { IfOk result (λ tree. tree.rule ≡ rule_of hash_type) }
@@ -82,7 +84,7 @@ fn settings_within_limits(
 ) -> TreeSettings
     requires data_size { is_verity_block_size data_block ≡ true }
     requires hash_size { is_verity_block_size hash_block ≡ true }
-    requires salt_size { length salt.now ≤ 256 }
+    requires salt_size { length salt.now ≤ most_salt Before }
     ensures value { result ≡ record { algorithm = algorithm; rule = rule_of hash_type; salt = salt.now; data_block = data_block; hash_block = hash_block } }
     ensures valid { IsValid result }
 {

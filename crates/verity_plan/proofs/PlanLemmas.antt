@@ -1,13 +1,13 @@
 -- Sizes and places computed level by level.
-use Rattle.std.proofs.Common.{◌≡◌, ℕ, zero, suc, ◌+◌, ◌-◌, ◌*◌, ◌/◌, ◌^◌, ◌<◌, ◌≤◌, arith, sym, ◌∙◌, ap, refl, inl, inr}
+use Rattle.std.proofs.Common.{◌≡◌, ℕ, cond, zero, suc, ◌+◌, ◌-◌, ◌*◌, ◌/◌, ◌^◌, ◌<◌, ◌≤◌, arith, sym, ◌∙◌, ap, refl, inl, inr}
 use Rattle.std.proofs.lemmas.Bool.{cases_lt}
 use Rattle.std.proofs.Math.Nat.{pow-zero, pow-suc, pow-le-pow_left, pow-le-pow_right, one-le-pow, mul-le-mul_left, mul-le-mul_right, mul-le-mul, div-mul-le_self, zero-div}
 use Rattle.std.proofs.Math.Bool.{and-false}
 use Rattle.std.proofs.lemmas.Bool.Decides.{nat_tests}
 use Rattle.std.proofs.lemmas.Nat.{div-add-mod', mod_below}
-use Rattle.std.specs.Prelude.{nat_le, nat_eq, true, false, Ok, Err}
+use Rattle.std.specs.Prelude.{◌==◌, Bool, nat_le, nat_eq, true, false, Ok, Err}
 use Rattle.verity_plan.specs.Plans.{planned, Planned, IsPlanned, HasBlock, byte_of, place_of, levels_of, end_of, store_length_of, has_room, most_bytes}
-use Rattle.verity_plan.specs.declared.plan_fault.PlanFault.TheVariants.{TooLarge}
+use Rattle.verity_plan.specs.declared.plan_fault.PlanFault.TheVariants.{NoData, TooLarge}
 use Rattle.std.specs.Int.{div_ceil}
 use Rattle.verity_plan.specs.Counts.{level_count, level_size}
 use Rattle.verity_plan.specs.Settings.{fan}
@@ -120,3 +120,12 @@ byte-room p h l j here =
     let within = (PlacesAreOnce-all (fan p.settings) p.blocks p.base).within l j here in
     let step : place_of p l j + 1 ≤ end_of p = omega (arith, within.1) in
     omega (arith, mul-le-mul_right p.settings.hash_block step, h.hash_most)
+
+-- a plan that is made is the one that was asked for
+pub planned_is : (asked plan : Planned) → Ok plan ≡ planned asked → plan ≡ asked
+planned_is asked plan is = by_tests (asked.blocks == 0) (has_room asked) is
+  where
+    by_tests : (none room : Bool) → Ok plan ≡ cond none (Err NoData) (cond room (Ok asked) (Err TooLarge)) → plan ≡ asked
+    by_tests true room e = absurd cc
+    by_tests false true e = cc
+    by_tests false false e = absurd cc

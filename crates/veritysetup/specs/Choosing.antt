@@ -2,7 +2,7 @@
 -- UUID, and then whether the data makes a plan. The order is this project's own.
 use Rattle.std.specs.Prelude.{ℕ, ◌/◌, Bool, true, List, Option, Some, None, Result, Ok, Err, unwrap_or, if◌then◌else◌}
 use Rattle.verity_plan.specs.Settings.{rule_of, type_of_number}
-use Rattle.command_line.specs.Options.{algorithm_or_default, number_or, or_fault}
+use Rattle.command_line.specs.Options.{algorithm_or_default, default_block_size, number_or, or_fault}
 use Rattle.veritysetup.specs.Options.{Texts, block_size_of, number_if_given, salt_or_random, uuid_or_random}
 use Rattle.veritysetup.specs.declared.options.OptionName.TheVariants.{Format, DataBlockSize, HashBlockSize, DataBlocks}
 use Rattle.veritysetup.specs.declared.options.OptionFault.{OptionFault}
@@ -17,8 +17,8 @@ use Rattle.veritysetup.specs.declared.parameters.Parameters.{Parameters}
 abbrev pub parameters : Texts → Option (List ℕ) → Result Parameters OptionFault
 parameters texts random =
     or_fault (number_or 1 texts.format) (BadNumber Format) (λ format.
-    or_fault (number_or 4096 texts.data_block_size) (BadNumber DataBlockSize) (λ data_size.
-    or_fault (number_or 4096 texts.hash_block_size) (BadNumber HashBlockSize) (λ hash_size.
+    or_fault (number_or default_block_size texts.data_block_size) (BadNumber DataBlockSize) (λ data_size.
+    or_fault (number_or default_block_size texts.hash_block_size) (BadNumber HashBlockSize) (λ hash_size.
     or_fault (number_if_given texts.data_blocks) (BadNumber DataBlocks) (λ blocks.
     or_fault (algorithm_or_default texts.hash) UnknownHash (λ algorithm.
     or_fault (type_of_number format) BadHashType (λ hash_type.

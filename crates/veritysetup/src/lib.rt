@@ -26,7 +26,7 @@ pub use command_line::LineFault;
 pub use command_name::CommandName;
 pub use dump_run::run_dump;
 pub use format_run::run_format;
-pub use messages::{build_message, compare_message, option_message, super_message};
+pub use messages::{OUT_OF_MEMORY, build_message, compare_message, option_message, super_message};
 pub use options::{OptionFault, OptionName, RawOptions};
 pub use parsed_line::Line;
 pub use random_bytes::draw;

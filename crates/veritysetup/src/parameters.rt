@@ -6,7 +6,7 @@ ghost use Rattle.veritysetup.specs.Choosing.{parameters};
 
 use crate::options::{OptionFault, OptionName, RawOptions};
 use crate::uuids::{random_uuid, read_uuid};
-use command_line::{algorithm_or_default, number_or, read_number, read_salt};
+use command_line::{DEFAULT_BLOCK_SIZE, algorithm_or_default, number_or, read_number, read_salt};
 use uuid::Uuid;
 use verity_hash::ShortBytes;
 use verity_plan::{MOST_SALT, is_verity_block_size};
@@ -36,12 +36,12 @@ impl Parameters {
         ensures of_type { IfOk result (λ chosen. chosen.tree.rule ≡ rule_of chosen.hash_type) }
     {
         let format = number_or(1, raw.format).ok_or(OptionFault::BadNumber(OptionName::Format))?;
-        let data_size = number_or(4096, raw.data_block_size).ok_or(OptionFault::BadNumber(
-            OptionName::DataBlockSize,
-        ))?;
-        let hash_size = number_or(4096, raw.hash_block_size).ok_or(OptionFault::BadNumber(
-            OptionName::HashBlockSize,
-        ))?;
+        let data_size = number_or(DEFAULT_BLOCK_SIZE, raw.data_block_size).ok_or(
+            OptionFault::BadNumber(OptionName::DataBlockSize),
+        )?;
+        let hash_size = number_or(DEFAULT_BLOCK_SIZE, raw.hash_block_size).ok_or(
+            OptionFault::BadNumber(OptionName::HashBlockSize),
+        )?;
         let blocks = number_if_given(raw.data_blocks).ok_or(OptionFault::BadNumber(
             OptionName::DataBlocks,
         ))?;

@@ -1,8 +1,8 @@
 //! Messages of the program's own, on standard error. The answer is the status that goes with each.
-use command_line::{tell_pieces, tell_text};
+use command_line::{NOT_TEXT, tell_pieces, tell_text};
 use std::io;
 use std::io::ErrorKind;
-use veritysetup::LineFault;
+use veritysetup::{LineFault, OUT_OF_MEMORY};
 
 /// The file could not be opened, or its length not be found.
 pub fn cannot_open(rt: &HostRuntime, path: &str) -> u8 {
@@ -18,7 +18,7 @@ pub fn no_random_bytes(rt: &HostRuntime) -> u8 {
 
 /// There is no memory for the command line.
 pub fn out_of_memory(rt: &HostRuntime) -> u8 {
-    tell_text("Out of memory.\n", &mut rt.stderr());
+    tell_text(OUT_OF_MEMORY, &mut rt.stderr());
     3
 }
 
@@ -27,10 +27,7 @@ pub fn refused_words(rt: &HostRuntime, error: &io::Error) -> u8 {
     if error.kind() == ErrorKind::OutOfMemory {
         return out_of_memory(rt);
     }
-    tell_text(
-        "error: invalid UTF-8 was detected in one or more arguments\n",
-        &mut rt.stderr(),
-    );
+    tell_text(NOT_TEXT, &mut rt.stderr());
     1
 }
 

@@ -1,4 +1,5 @@
-use Rattle.fsverity.proofs.DigestLemmas.{planned_is, ends_short}
+use Rattle.verity_plan.proofs.PlanLemmas.{planned_is}
+use Rattle.fsverity.proofs.DigestLemmas.{ends_short}
 use Rattle.fsverity.proofs.digesting.root_of.Goals as goal
 
 pub returns-in-Err-SourceShort-clause-bytes : goal.returns-in-Err-SourceShort-clause-bytes

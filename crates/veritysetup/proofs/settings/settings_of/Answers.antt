@@ -1,18 +1,10 @@
 use Rattle.std.proofs.Common.{◌≡◌, ◌∙◌, ◌*◌, ◌/◌, ℕ, ap, sym, refl, Bool, true, false, cond, Option, Some, None, Ok, Err}
-use Rattle.verity_plan.specs.Plans.{Planned, planned}
+use Rattle.verity_plan.specs.Plans.{Planned}
 use Rattle.verity_plan.specs.Settings.{Settings}
+use Rattle.verity_plan.proofs.PlanLemmas.{planned_is}
 use Rattle.verity_plan.specs.declared.plan_fault.PlanFault.TheVariants.{NoData, TooLarge}
 use Rattle.veritysetup.specs.Chosen.{plan_from}
 use Rattle.veritysetup.proofs.settings.settings_of.Goals as goal
-
--- a plan that is made is the one that was asked for
-planned_is : (p q : Planned) → Ok q ≡ planned p → q ≡ p
-planned_is p q e = by_tests _ _ e
-  where
-    by_tests : (none room : Bool) → Ok q ≡ cond none (Err NoData) (cond room (Ok p) (Err TooLarge)) → q ≡ p
-    by_tests true room e = cc
-    by_tests false true e = cc
-    by_tests false false e = cc
 
 -- the plan that whole data blocks have from this hash block on
 record IsPlan (s : Settings) (count : ℕ) (from : Option ℕ) (q : Planned) : Type 0 where
