@@ -70,7 +70,7 @@ impl Compared {
         }
     }
 
-    /// The answer, and how many bytes have not left the source.
+    /// The answer, and how many bytes remain in the source.
     fn answer(self, alloc: Global) -> Result<(Result<(), CompareFault>, usize), Fail> {
         let Compared {
             data,

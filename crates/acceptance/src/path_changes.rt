@@ -142,7 +142,7 @@ fn changes_under_dm_verity_are_refused(rt: HostRuntime) -> Result<(), Fail> {
 
 #[test]
 fn changes_under_hash_type_0_are_refused(rt: HostRuntime) -> Result<(), Fail> {
-    let cases: [(Algorithm, Numbers); 3] = [
+    let cases: [(Algorithm, Numbers); 4] = [
         (
             Algorithm::Sha256,
             [(512, 512), (16, 32), (257, 3), (4001, 31)],
@@ -151,6 +151,10 @@ fn changes_under_hash_type_0_are_refused(rt: HostRuntime) -> Result<(), Fail> {
         (
             Algorithm::Sha384,
             [(512, 1024), (16, 48), (17, 2), (4001, 61)],
+        ),
+        (
+            Algorithm::Sha512,
+            [(512, 512), (8, 64), (65, 3), (4001, 61)],
         ),
     ];
     for (algorithm, numbers) in cases {

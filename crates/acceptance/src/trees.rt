@@ -76,7 +76,7 @@ fn salts_go_before(rt: HostRuntime) -> Result<(), Fail> {
     Ok(())
 }
 
-/// What a plan answers: fan-out, levels, place behind the last hash block, length of a store.
+/// What a plan answers: fan-out, levels, place after the last hash block, length of a store.
 fn numbers(plan: &Plan) -> (usize, usize, u64, usize) {
     (plan.fan(), plan.levels(), plan.end(), plan.store_length())
 }

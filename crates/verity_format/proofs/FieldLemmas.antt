@@ -20,7 +20,7 @@ zeros_after n at block held =
     let long = front_long n at block held in
     ap (drop at) held.zeros ∙ drop_at (take at block) (replicate (n - length (take at block)) 0) at long ∙ ap (λ m. replicate (n - m) 0) long
 
--- the block, with bytes put behind its fields
+-- the block, with bytes put after its fields
 put_mid-filled : (n at k : ℕ) (block xs : List ℕ) → IsHeld n block at → k ≡ length xs
     → put_mid at k block xs ≡ filled n (take at block ++ xs)
 put_mid-filled n at k block xs held same =

@@ -19,6 +19,6 @@ TakesBlock result buf before after = MatchResult result
     (λ k. (before ≡ take k buf ++ after) × (k < length buf → after ≡ []))
     (λ _. (taken : List ℕ) × (length taken < length buf) × (before ≡ taken ++ after))
 
--- the buffer begins with the bytes from a place, fewer than its length only where the device ends
+-- the buffer begins with the bytes from an offset, fewer than its length only where the device ends
 abbrev pub ReadsAt : Result ℕ Failed → ℕ → List ℕ → List ℕ → Type 0
 ReadsAt result at bytes buf = IfOk result (λ k. take k buf ≡ take (length buf) (drop at bytes))

@@ -2,11 +2,11 @@
 -- empty write past the end lengthens this list, which pwrite(2) doesn't do; no hash block is empty.
 use Rattle.std.specs.Prelude.{◌≡◌, ◌⊎◌, ℕ, ◌+◌, ◌-◌, ◌<◌, ◌≤◌, max, List, ◌++◌, length, take, drop, replicate, slice_index}
 
--- the bytes with others put at a place, and zeros in a gap
+-- the bytes with others put at an offset, and zeros in a gap
 abbrev pub put : List ℕ → ℕ → List ℕ → List ℕ
 put bytes at others = take at bytes ++ replicate (at - length bytes) 0 ++ others ++ drop (at + length others) bytes
 
--- after a failed write of c bytes at a place
+-- after a failed write of c bytes at an offset
 pub record Spoiled (before : List ℕ) (at c : ℕ) (after : List ℕ) : Type 0 where
   pub no_shorter : length before ≤ length after
   pub no_longer : length after ≤ max (length before) (at + c)

@@ -1,4 +1,4 @@
-//! Devices of bytes, which are read and written at any place.
+//! Devices of bytes, which are read and written at any offset.
 ghost use Rattle.std.specs.Prelude.{◌≡◌, ◌≤◌, ◌+◌, ◌^◌, ◌-◌, ℕ, List, length, IfOk, OnOk, OnErr};
 ghost use Rattle.verity_io.specs.Counting.{CountsFailure};
 ghost use Rattle.verity_io.specs.Reading.{ReadsAt};
@@ -18,7 +18,7 @@ pub trait Device {
     /// How many calls have failed, up to the last value of a u64.
     ghost failures: { Self → ℕ };
 
-    /// Reads from a place on, counted in bytes, into the start of the buffer. The answer is how many bytes, fewer than the
+    /// Reads from an offset on, in bytes, into the start of the buffer. The answer is how many bytes, fewer than the
     /// buffer's length only where the device ends. `Failed` where it can't be read: the buffer holds anything then.
     fn read_at(&mut self, at: u64, buf: &mut [u8]) -> Result<usize, Failed>
         ensures bound { IfOk result (λ k. k ≤ length buf.new) }
@@ -27,8 +27,8 @@ pub trait Device {
         ensures bytes { tells self.old → ReadsAt result at (content self.old) buf.new }
         ensures count { CountsFailure (failures self.old) (failures self.new) result };
 
-    /// Writes at a place, counted in bytes, with zeros in a gap past the old end. The place plus the number of bytes is at
-    /// most 2^63 - 1. `Failed` where it can't be written: then what stands there, from the place on for as many bytes as were
+    /// Writes at an offset in bytes, with zeros in a gap past the old end. The offset plus the number of bytes is at
+    /// most 2^63 - 1. `Failed` where it can't be written: then what stands there, from the offset on for as many bytes as were
     /// to be written, is unknown, every other byte stays, and the device is no shorter than before and no longer than the
     /// write would have made it; a gap that has come is zeros.
     fn write_at(&mut self, at: u64, bytes: &[u8]) -> Result<(), Failed>

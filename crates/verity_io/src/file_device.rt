@@ -11,7 +11,7 @@ use crate::file_source::read_some;
 use std::fs::File;
 use std::io::{Read, Seek, SeekFrom, Write};
 
-/// An opened file that is read and written at any place. It doesn't tell its bytes. Interrupted reads and writes are
+/// An opened file that is read and written at any offset. It doesn't tell its bytes. Interrupted reads and writes are
 /// tried again.
 #[derive(Drop)]
 pub struct FileDevice<F = File> {
@@ -29,7 +29,7 @@ impl<F: Read + Write + Seek> FileDevice<F> {
     }
 }
 
-/// A read or a write moves the file to its place and then reads or writes there, as far as the file says where it stands
+/// A read or a write moves the file to its offset and then reads or writes there, as far as the file says where it stands
 /// and what bytes it has.
 impl<F: Read + Write + Seek> Device for FileDevice<F> {
     ghost tells = { λ _. ⊥ };
@@ -99,7 +99,7 @@ fn fill<R: Read>(reader: &mut R, buf: &mut [u8]) -> Result<usize, Failed>
     Ok(filled)
 }
 
-// A file system refuses a place beyond what it can hold, and the file ends before such a place.
+// A file system refuses an offset beyond what it can hold, and the file ends before such an offset.
 fn read_refused<F: Seek>(file: &mut F, at: u64) -> Result<usize, Failed>
     ensures bound { IfOk result (λ k. k ≡ 0) }
     ensures beyond { IfOk result (EndsBefore (F.stream_position file.old) (F.stream_bytes file.old) at) }

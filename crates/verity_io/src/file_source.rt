@@ -10,7 +10,7 @@ use std::fs::File;
 use std::io;
 use std::io::{ErrorKind, Read, Take};
 
-/// The bytes of an opened file from its place on, up to a length. The length is the one found at opening: a file that
+/// The bytes of an opened file from where it stands on, up to a length. The length is the one found at opening: a file that
 /// grows while it is read, since the hash blocks are written into it, gives no more. Over a file of the system it doesn't
 /// tell its bytes; over a reader whose bytes are known it does.
 #[derive(Drop)]
