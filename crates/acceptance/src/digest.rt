@@ -107,6 +107,8 @@ fn options_are_refused(rt: HostRuntime) {
             Some(FsOptionFault::UnknownHash),
         ),
         (Some("SHA256"), None, None, Some(FsOptionFault::UnknownHash)),
+        (Some("sha1"), None, None, Some(FsOptionFault::UnknownHash)),
+        (Some("sha384"), None, None, Some(FsOptionFault::UnknownHash)),
         (
             sha512,
             Some("64"),
