@@ -1,14 +1,32 @@
 #!/usr/bin/env python3
 """What veritysetup verify has to say of an image: a plain computation of its own, over whole levels.
 
-expected.py DATA HASH ROOT CHANGE.. prints a line for each change, `data OFFSET MASK` or `hash OFFSET MASK`: what is to
-be said where the bits of the mask are turned in that byte of DATA or HASH. This is `right`, or the message of the first
-block in closing order that differs. The superblock of HASH is read as the on-disk format page of cryptsetup has it.
+expected.py [--hash-offset N] [--bare "ALGORITHM DATA-BLOCK HASH-BLOCK SALT BLOCKS HASH-TYPE"] DATA HASH ROOT CHANGE..
+prints a line for each change, `data OFFSET MASK` or `hash OFFSET MASK`: what is to be said where the bits of the mask are
+turned in that byte of DATA or HASH. This is `right`, or the message of the first block in closing order that differs. The
+superblock of HASH is read as the on-disk format page of cryptsetup has it; --bare is for a hash area without one.
 """
 
+import argparse
 import hashlib
 import struct
-import sys
+from collections import namedtuple
+
+Settings = namedtuple("Settings", "name data_block hash_block salt count hash_type")
+
+
+def of_superblock(superblock):
+    """The settings that a superblock describes."""
+    name = superblock[32:64].split(b"\0")[0].decode()
+    data_block, hash_block, count, salt_size = struct.unpack("<IIQH", superblock[64:82])
+    return Settings(name, data_block, hash_block, superblock[88 : 88 + salt_size], count, superblock[12])
+
+
+def of_text(text):
+    """The settings of a hash area without a superblock."""
+    name, data_block, hash_block, salt, count, hash_type = text.split()
+    salt = b"" if salt == "-" else bytes.fromhex(salt)
+    return Settings(name, int(data_block), int(hash_block), salt, int(count), int(hash_type))
 
 
 def least_power(least):
@@ -19,21 +37,20 @@ def least_power(least):
 
 
 class Tree:
-    """The tree that a superblock's settings give for some data."""
+    """The tree that settings give for some data, from a hash block on."""
 
-    def __init__(self, superblock, data):
-        name = superblock[32:64].split(b"\0")[0].decode()
-        self.data_block, self.hash_block, count, salt_size = struct.unpack("<IIQH", superblock[64:82])
-        salt = superblock[88 : 88 + salt_size]
+    def __init__(self, settings, base, data):
+        name, salt = settings.name, settings.salt
+        self.data_block, self.hash_block, count = settings.data_block, settings.hash_block, settings.count
         self.length = hashlib.new(name).digest_size
-        if superblock[12] == 0:
+        if settings.hash_type == 0:
             self.hash = lambda block: hashlib.new(name, block + salt).digest()
             self.width = self.length
         else:
             self.hash = lambda block: hashlib.new(name, salt + block).digest()
             self.width = least_power(self.length)
         self.fan = least_power(self.hash_block // self.length + 1) // 2
-        self.base = -(-512 // self.hash_block)
+        self.base = base
 
         blocks = [data[i * self.data_block : (i + 1) * self.data_block] for i in range(count)]
         self.levels = []
@@ -71,8 +88,15 @@ class Tree:
         return "spare bytes"
 
 
-def verdict(device, data, root):
-    tree = Tree(device[:512], data)
+def tree_of(options, device, data):
+    if options.bare:
+        settings = of_text(options.bare)
+        return Tree(settings, options.hash_offset // settings.hash_block, data)
+    settings = of_superblock(device[options.hash_offset : options.hash_offset + 512])
+    return Tree(settings, -(-(options.hash_offset + 512) // settings.hash_block), data)
+
+
+def verdict(tree, device, root):
     for level, block in tree.closing_order():
         at = tree.place(level, block) * tree.hash_block
         stored = device[at : at + tree.hash_block]
@@ -86,13 +110,21 @@ def verdict(device, data, root):
 
 
 def main():
-    data, device = (bytearray(open(name, "rb").read()) for name in sys.argv[1:3])
-    root = bytes.fromhex(sys.argv[3])
-    for change in sys.argv[4:]:
+    parser = argparse.ArgumentParser()
+    parser.add_argument("--hash-offset", type=int, default=0)
+    parser.add_argument("--bare")
+    parser.add_argument("data")
+    parser.add_argument("hash")
+    parser.add_argument("root", type=bytes.fromhex)
+    parser.add_argument("changes", nargs="*")
+    options = parser.parse_args()
+    data, device = (bytearray(open(name, "rb").read()) for name in (options.data, options.hash))
+    for change in options.changes:
         name, offset, mask = change.split()
         changed = data if name == "data" else device
         changed[int(offset)] ^= int(mask)
-        print(verdict(bytes(device), bytes(data), root))
+        tree = tree_of(options, bytes(device), bytes(data))
+        print(verdict(tree, bytes(device), options.root))
         changed[int(offset)] ^= int(mask)
 
 

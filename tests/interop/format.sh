@@ -1,7 +1,8 @@
 #!/bin/bash
 # Compares bin/veritysetup format with the veritysetup of Debian's package cryptsetup-bin: both make the same image, the
 # other program's verify accepts ours, and the report's values are those of its dump. Over algorithms, block sizes,
-# salts, numbers of blocks and hash types, and with a given number of blocks; some minutes.
+# salts, numbers of blocks and hash types, with a given number of blocks, at hash offsets, without a superblock, and with
+# data and hash area in one file; some minutes.
 set -u
 cd "$(dirname "$0")/../.."
 . tests/checks.sh
@@ -59,6 +60,55 @@ covers() {
         "$(sed -n 's/^Root hash:[[:space:]]*//p' "$scratch/own.txt")"
 }
 
+# at_area AREA OFFSET ALGORITHM DATA-BLOCK HASH-BLOCK SALT BLOCKS HASH-TYPE: both programs make the same image there, the
+# bytes before it stay, and the other verify accepts ours.
+at_area() {
+    local name="$*" data=$scratch/data place=(--hash-offset "$2") root
+    local options=(--hash "$3" --format "$8" --data-block-size "$4" --hash-block-size "$5" --salt="$6")
+    if [ "$1" = bare ]; then place+=(--no-superblock); else place+=(--uuid "$UUID"); fi
+    head -c $(($4 * $7)) "$scratch/all" >"$data"
+    sample 700 >"$own"
+    sample 700 >"$peer"
+    if ! veritysetup format "${options[@]}" "${place[@]}" "$data" "$peer" >"$scratch/peer.txt" 2>&1; then
+        fail "$name" "the other veritysetup refuses these options: $(cat "$scratch/peer.txt")"
+        return
+    fi
+    if ! "$BIN/veritysetup" format "${options[@]}" "${place[@]}" "$data" "$own" >"$scratch/own.txt" 2>&1; then
+        fail "$name" "bin/veritysetup ends with $?: $(cat "$scratch/own.txt")"
+        return
+    fi
+    # The other program pads the superblock of a single data block to a whole block.
+    if [ "$7" -eq 1 ] && [ "$1" = superblock ]; then truncate -s "$(stat -c %s "$own")" "$peer"; fi
+    same_bytes "$name: image" "$peer" "$own"
+    root=$(sed -n 's/^Root hash:[[:space:]]*//p' "$scratch/own.txt")
+    same "$name: root hash" "$(sed -n 's/^Root hash:[[:space:]]*//p' "$scratch/peer.txt")" "$root"
+    if [ "$1" = bare ]; then place+=("${options[@]}"); else place=(--hash-offset "$2"); fi
+    if veritysetup verify "${place[@]}" "$data" "$own" "$root" >"$scratch/verify.txt" 2>&1; then
+        pass
+    else
+        fail "$name: the other verify" "$(cat "$scratch/verify.txt")"
+    fi
+    runs "$name: verify" 0 '' '' "$BIN/veritysetup" verify "${place[@]}" "$data" "$own" "$root"
+}
+
+# one_file BLOCKS HASH-BLOCK: both programs put the hash area into the data's own file, after the data.
+one_file() {
+    local name="one file, $*" offset=$(($1 * 4096))
+    local options=(--format 1 --data-block-size 4096 --hash-block-size "$2" --salt=ab --uuid "$UUID"
+        --data-blocks "$1" --hash-offset "$offset")
+    head -c "$offset" "$scratch/all" >"$own"
+    cp "$own" "$peer"
+    veritysetup format "${options[@]}" "$peer" "$peer" >"$scratch/peer.txt" 2>&1
+    "$BIN/veritysetup" format "${options[@]}" "$own" "$own" >"$scratch/own.txt" 2>&1
+    same_bytes "$name: image" "$peer" "$own"
+    root=$(sed -n 's/^Root hash:[[:space:]]*//p' "$scratch/own.txt")
+    runs "$name: verify" 0 '' '' "$BIN/veritysetup" verify --hash-offset "$offset" "$own" "$own" "$root"
+}
+
 each_setting compare
+each_area at_area
+for blocks in 2 17 129; do
+    for size in "${block_sizes[@]}"; do one_file "$blocks" "$size"; done
+done
 for blocks in 1 2 16 17 256 299 300; do covers "$blocks"; done
 finish

@@ -34,3 +34,27 @@ each_setting() {
         done
     done
 }
+
+# The hash areas over which they are compared, with `superblock` or `bare` before the hash offset. Without a superblock the
+# other program rounds an offset down that is no multiple of the hash block size; here it is refused. And it can't write a
+# superblock alone, which is that of a single data block, at an offset that is no multiple of 4096.
+areas=('superblock 512' 'superblock 4096' 'superblock 1049088' 'bare 0' 'bare 4096' 'bare 1048576')
+
+# each_area FUNCTION: calls it with AREA OFFSET ALGORITHM DATA-BLOCK HASH-BLOCK SALT BLOCKS HASH-TYPE for each area and some
+# settings.
+each_area() {
+    local area algorithm hash_block blocks hash_type
+    for area in "${areas[@]}"; do
+        for algorithm in sha256 sha1; do
+            for hash_block in "${block_sizes[@]}"; do
+                for blocks in 1 2 17 257; do
+                    for hash_type in "${hash_types[@]}"; do
+                        if [ "$blocks" -eq 1 ] && [ $((${area#* } % 4096)) -ne 0 ]; then continue; fi
+                        # shellcheck disable=SC2086
+                        "$1" $area "$algorithm" 1024 "$hash_block" "${salts[2]}" "$blocks" "$hash_type"
+                    done
+                done
+            done
+        done
+    done
+}

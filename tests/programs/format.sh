@@ -127,18 +127,77 @@ files() {
         runs "$size bytes of data" 1 '' 'No data blocks.' "$veritysetup" format --salt=- --uuid "$UUID" "$short" "$hash"
         absent "$size bytes of data" "$hash"
     done
-    cp "$data" "$scratch/same"
-    runs 'data and hash in one file' 1 '' 'Data area and hash area overlap.' \
-        "$veritysetup" format "${image_17_options[@]}" "$scratch/same" "$scratch/same"
-    same_bytes 'data and hash in one file: the file stays' "$data" "$scratch/same"
     runs 'an empty file as data and hash' 1 '' 'No data blocks.' "$veritysetup" format "$scratch/short.0" "$scratch/short.0"
     runs 'missing data' 4 '' "Cannot open $scratch/missing." "$veritysetup" format "$scratch/missing" "$hash"
     absent 'missing data' "$hash"
     runs 'a hash file in a missing folder' 4 '' "Cannot open $scratch/none/hash." \
         "$veritysetup" format "$data" "$scratch/none/hash"
     runs 'a folder as the hash file' 4 '' "Cannot open $scratch." "$veritysetup" format "$data" "$scratch"
+    runs 'a device that keeps nothing as the hash file' 0 any '' \
+        "$veritysetup" format "${image_17_options[@]}" "$data" /dev/null
     runs 'a full device as the hash file' 4 '' 'Cannot write hash block 0 of level 0.' \
         "$veritysetup" format "${image_17_options[@]}" "$data" /dev/full
+}
+
+# Hash areas elsewhere than at the start of HASH, and without a superblock.
+areas() {
+    local tree=$scratch/tree
+    tail -c +513 "$image" >"$tree"
+    rm -f "$hash"
+    runs 'no superblock' 0 "$(report "$hash" 512 512 17 - "$root" | bare)" '' \
+        "$veritysetup" format --no-superblock "${image_17_options[@]}" "$data" "$hash"
+    same_bytes 'no superblock: the tree alone' "$tree" "$hash"
+
+    sample 8192 >"$hash"
+    { head -c 8192 "$hash" && cat "$tree"; } >"$scratch/expected"
+    runs 'no superblock at an offset' 0 any '' \
+        "$veritysetup" format --no-superblock --hash-offset 8192 "${image_17_options[@]}" "$data" "$hash"
+    same_bytes 'no superblock at an offset: the bytes before stay' "$scratch/expected" "$hash"
+
+    rm "$hash"
+    { zeros 1024 && cat "$image"; } >"$scratch/expected"
+    runs 'an offset' 0 any '' "$veritysetup" format --hash-offset 1024 "${image_17_options[@]}" "$data" "$hash"
+    same_bytes 'an offset: zeros before it' "$scratch/expected" "$hash"
+
+    refuses 'an offset that is no number' 'Option --hash-offset is not a number.' --hash-offset 0x200
+    refuses 'an offset that is no multiple of 512' 'Hash offset is not valid.' --hash-offset 100
+    refuses 'a UUID before an offset' 'UUID is not valid.' --hash-offset 100 --uuid x
+    refuses 'an offset within a hash block, without a superblock' 'Hash offset is not valid.' \
+        --no-superblock --hash-offset 512
+    refuses 'an offset of which the superblock passes the limit' 'Data or hash area is too large.' \
+        --hash-offset 9223372036854775296
+    refuses 'an offset past the limit' 'Data or hash area is too large.' --hash-offset 18446744073709551104
+    refuses 'an offset of which the tree passes the limit' 'Data or hash area is too large.' \
+        --hash-offset 9223372036854774784 "${image_17_options[@]}"
+}
+
+# Data and hash area in one file, by whichever names: the hash area has to stand after the covered data.
+one_file() {
+    local both=$scratch/both name overlap='Data area and hash area overlap.'
+    cp "$data" "$both"
+    ln -s both "$scratch/link"
+    ln "$both" "$scratch/hard"
+    for name in "$both" "$scratch/./both" "$scratch/link" "$scratch/hard" "$(cd "$scratch" && pwd -P)/both"; do
+        runs "one file: $name" 1 '' "$overlap" "$veritysetup" format "${image_17_options[@]}" "$both" "$name"
+        runs "one file: $name within the data" 1 '' "$overlap" \
+            "$veritysetup" format --data-blocks 17 --hash-offset 8192 "${image_17_options[@]}" "$both" "$name"
+        same_bytes "one file: $name: it stays" "$data" "$both"
+    done
+    runs 'one file: by a relative path' 1 '' "$overlap" \
+        bash -c 'cd "$1"; shift; "$@"' - "$scratch" "$(realpath "$veritysetup")" format "${image_17_options[@]}" "$both" both
+    same_bytes 'one file: by a relative path: it stays' "$data" "$both"
+
+    { cat "$data" && cat "$image"; } >"$scratch/expected"
+    for name in "$both" "$scratch/./both" "$scratch/link" "$scratch/hard"; do
+        head -c 8704 "$data" >"$both"
+        runs "one file: $name after the data" 0 "$(report "$name" 512 512 17 - "$root")" '' \
+            "$veritysetup" format --data-blocks 17 --hash-offset 8704 "${image_17_options[@]}" "$both" "$name"
+        same_bytes "one file: $name after the data: image" "$scratch/expected" "$both"
+    done
+    runs 'one file: made again with all blocks' 1 '' "$overlap" \
+        "$veritysetup" format --hash-offset 8704 "${image_17_options[@]}" "$both" "$both"
+    same_bytes 'one file: made again with all blocks: it stays' "$scratch/expected" "$both"
+    runs 'one file: verify' 0 '' '' "$veritysetup" verify --hash-offset 8704 "$both" "$both" "$root"
 }
 
 # Where the report cannot be written the image is whole all the same.
@@ -200,6 +259,8 @@ command_lines() {
 images
 drawn
 options
+areas
+one_file
 files
 outputs
 memory

@@ -156,6 +156,106 @@ salted_example() {
         "$fsverity" digest "$scratch/one" --salt ABcd --block-size 1024
 }
 
+# Forms of the line: the digest alone, and the formatted digest, which a signature signs.
+forms() {
+    local digest signed
+    : >"$scratch/empty"
+    digest=$(digest "$(printf '%064d' 0)" 0)
+    signed=465356657269747901002000$digest
+    runs 'a compact line' 0 "$digest" '' "$fsverity" digest --compact "$scratch/empty"
+    runs 'a formatted digest' 0 "$signed $scratch/empty" '' "$fsverity" digest --for-builtin-sig "$scratch/empty"
+    runs 'a compact formatted digest' 0 "$signed" '' "$fsverity" digest --compact "$scratch/empty" --for-builtin-sig
+    runs 'a compact line of each of two files' 0 "$digest
+$digest" '' "$fsverity" digest "$scratch/empty" --compact /dev/null
+}
+
+# The tree and the descriptor of a file, as sha256sum makes them.
+output_files() {
+    local file=$scratch/two line
+    sample 4097 >"$file"
+    line="sha256:$(digest "$(root "$file")" 4097) $file"
+    cp "$file" "$scratch/whole"
+    truncate -s %4096 "$scratch/whole"
+    {
+        digests "$scratch/whole" 4096
+        zeros 4032
+    } >"$scratch/expected"
+    sample 100000 >"$scratch/tree"
+    runs 'a tree file and a descriptor file' 0 "$line" '' \
+        "$fsverity" digest --out-merkle-tree "$scratch/tree" --out-descriptor="$scratch/made" "$file"
+    same_bytes 'two digests in a tree file that was longer' "$scratch/expected" "$scratch/tree"
+    digest "$(root "$file")" 4097 >/dev/null
+    same_bytes 'the descriptor of 4097 bytes' "$scratch/descriptor" "$scratch/made"
+
+    : >"$scratch/empty"
+    runs 'output files of an empty file' 0 "sha256:$(digest "$(printf '%064d' 0)" 0) $scratch/empty" '' \
+        "$fsverity" digest --out-merkle-tree "$scratch/tree" --out-descriptor="$scratch/made" "$scratch/empty"
+    same_bytes 'an empty tree file' "$scratch/empty" "$scratch/tree"
+    same_bytes 'the descriptor of an empty file' "$scratch/descriptor" "$scratch/made"
+    runs 'the null device for both output files' 0 "$line" '' \
+        "$fsverity" digest --out-merkle-tree /dev/null --out-descriptor /dev/null "$file"
+}
+
+# An output file that fails ends the run: nothing that comes later is written.
+output_files_that_fail() {
+    local file=$scratch/two
+    sample 4097 >"$file"
+    rm -f "$scratch/made"
+    runs 'a missing input file' 1 '' "fsverity: cannot open $scratch/missing." \
+        "$fsverity" digest --out-descriptor "$scratch/made" "$scratch/missing"
+    absent 'no descriptor file for a missing input file' "$scratch/made"
+    runs 'a tree file that cannot be made' 1 '' "fsverity: cannot open $scratch/no/tree." \
+        "$fsverity" digest --out-merkle-tree "$scratch/no/tree" --out-descriptor "$scratch/made" "$file"
+    absent 'no descriptor file after a tree file that cannot be made' "$scratch/made"
+    runs 'a descriptor file that cannot be made' 1 '' "fsverity: cannot open $scratch/no/made." \
+        "$fsverity" digest --out-descriptor "$scratch/no/made" "$file"
+    runs 'a full device as the tree file' 1 '' 'fsverity: cannot write tree block 0 of level 0.' \
+        "$fsverity" digest --out-merkle-tree /dev/full --out-descriptor "$scratch/made" "$file"
+    is_text 'no descriptor after a tree that is not written' '' "$scratch/made"
+    runs 'a full device as the descriptor file' 1 '' 'fsverity: cannot write descriptor.' \
+        "$fsverity" digest --out-descriptor /dev/full "$file"
+    runs 'output files of two input files' 2 '' 'fsverity: output files need exactly one input file.' \
+        "$fsverity" digest --out-descriptor "$scratch/unmade" "$file" "$file"
+    absent 'no output file after a refused option' "$scratch/unmade"
+}
+
+# loses_nothing NAME REFUSED WORD..: a file that is named twice is refused under its second name, and stays.
+loses_nothing() {
+    local name=$1 refused=$2
+    shift 2
+    runs "$name" 1 '' "fsverity: cannot open $refused." "$fsverity" digest "$@"
+    same_bytes "$name: the input file" "$scratch/copy" "$scratch/input"
+    same_bytes "$name: the other file" "$scratch/copy" "$scratch/other"
+}
+
+named_twice() {
+    local input=$scratch/input other=$scratch/other
+    sample 9000 >"$input"
+    cp "$input" "$other"
+    cp "$input" "$scratch/copy"
+    ln "$input" "$scratch/hard"
+    ln -s input "$scratch/soft"
+    ln "$other" "$scratch/other_hard"
+    ln -s other "$scratch/other_soft"
+    loses_nothing 'the input file as the tree file' "$input" --out-merkle-tree "$input" "$input"
+    loses_nothing 'the input file as the descriptor file' "$input" --out-descriptor "$input" "$input"
+    loses_nothing 'the input file by another path' "$scratch/./input" --out-merkle-tree "$scratch/./input" "$input"
+    loses_nothing 'a hard link to the input file' "$scratch/hard" --out-descriptor "$scratch/hard" "$input"
+    loses_nothing 'a symbolic link to the input file' "$scratch/soft" \
+        --out-merkle-tree "$other" --out-descriptor "$scratch/soft" "$input"
+    loses_nothing 'one file for both' "$other" --out-merkle-tree "$other" --out-descriptor "$other" "$input"
+    loses_nothing 'a hard link to the tree file' "$scratch/other_hard" \
+        --out-merkle-tree "$other" --out-descriptor "$scratch/other_hard" "$input"
+    loses_nothing 'a symbolic link to the descriptor file' "$other" \
+        --out-merkle-tree "$scratch/other_soft" --out-descriptor "$other" "$input"
+    loses_nothing 'one file for both that is not there yet' "$scratch/new" \
+        --out-merkle-tree "$scratch/new" --out-descriptor "$scratch/new" "$input"
+    is_text 'the file that was made for both' '' "$scratch/new"
+    ln -s unmade "$scratch/dangling"
+    loses_nothing 'a symbolic link to a file that is not there yet' "$scratch/unmade" \
+        --out-merkle-tree "$scratch/dangling" --out-descriptor "$scratch/unmade" "$input"
+}
+
 # command_line NAME WORD..: the words are refused, with some text on standard error alone.
 command_line() {
     local name=$1
@@ -171,6 +271,8 @@ command_lines() {
     command_line 'an unknown option' digest --sloth "$scratch/empty"
     command_line 'an option without its value' digest "$scratch/empty" --salt
     command_line 'an option given twice' digest --salt ab --salt ab "$scratch/empty"
+    command_line 'a flag given twice' digest --compact --compact "$scratch/empty"
+    command_line 'a flag with a value' digest --compact=yes "$scratch/empty"
     command_line 'a help option' --help
     command_line 'a short help option' -h
     command_line 'a help command' help
@@ -186,5 +288,9 @@ files_that_fail
 outputs
 memory
 options
+forms
+output_files
+output_files_that_fail
+named_twice
 command_lines
 finish

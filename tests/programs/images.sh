@@ -51,5 +51,10 @@ image_17() {
     root=$(sha256 "$scratch/level1")
 }
 
+# bare: the report on standard input as it is without a superblock.
+bare() {
+    sed "s/^\(UUID: *$TAB\).*/\1-/"
+}
+
 # The options with which format makes that image.
 image_17_options=(--data-block-size 512 --hash-block-size=512 --salt=- --uuid "$UUID")

@@ -47,6 +47,42 @@ superblocks() {
     spoilt 'too many data blocks' 'Data or hash area is too large.' 79 80
 }
 
+# Superblocks and trees elsewhere than at the start of HASH, and trees without a superblock.
+areas() {
+    local tree=$scratch/tree options=(--no-superblock --data-block-size 512 --hash-block-size 512)
+    runs 'dump at an offset past the end' 1 '' 'Superblock is too short.' "$veritysetup" dump --hash-offset 2048 "$image"
+    runs 'dump at an offset with other bytes' 1 '' 'No verity superblock.' "$veritysetup" dump --hash-offset 512 "$image"
+    { sample 1024 && cat "$image"; } >"$hash"
+    runs 'dump at an offset' 0 "$(report "$hash" 512 512 17 -)" '' "$veritysetup" dump --hash-offset 1024 "$hash"
+    runs 'verify at an offset' 0 '' '' "$veritysetup" verify --hash-offset 1024 "$data" "$hash" "$root"
+    flip "$hash" 2048 1
+    runs 'verify at an offset: a changed byte' 2 '' 'Verification failed: level 0 block 0, child 0.' \
+        "$veritysetup" verify --hash-offset 1024 "$data" "$hash" "$root"
+    for command in "dump $scratch/missing" "verify $scratch/missing $scratch/missing $root"; do
+        # shellcheck disable=SC2086
+        set -- $command
+        runs "$1: an offset that is no number" 1 '' 'Option --hash-offset is not a number.' \
+            "$veritysetup" "$1" --hash-offset x "${@:2}"
+        runs "$1: an offset that is no multiple of 512" 1 '' 'Hash offset is not valid.' \
+            "$veritysetup" "$1" --hash-offset 511 "${@:2}"
+    done
+    runs 'verify with a superblock reads no other option' 0 '' '' \
+        "$veritysetup" verify --hash md5 --salt x --data-blocks 0 "$data" "$image" "$root"
+
+    tail -c +513 "$image" >"$tree"
+    runs 'verify without a superblock' 0 '' '' "$veritysetup" verify "${options[@]}" --salt=- "$data" "$tree" "$root"
+    runs 'verify without a superblock and salt' 1 '' 'Salt is not valid.' \
+        "$veritysetup" verify "${options[@]}" "$data" "$tree" "$root"
+    runs 'verify without a superblock: a bad root hash before HASH is opened' 1 '' 'Root hash is not valid.' \
+        "$veritysetup" verify "${options[@]}" --salt=- "$data" "$scratch/missing" "${root:1}"
+    runs 'verify without a superblock: another root hash' 2 '' "Verification failed: root hash is $root." \
+        "$veritysetup" verify "${options[@]}" --salt=- "$data" "$tree" "$(printf '%064d' 0)"
+    runs 'verify without a superblock: a superblock is no tree' 2 '' 'Verification failed: level 0 block 0, child 0.' \
+        "$veritysetup" verify "${options[@]}" --salt=- "$data" "$image" "$root"
+    runs 'verify without a superblock: missing data' 4 '' "Cannot open $scratch/missing." \
+        "$veritysetup" verify "${options[@]}" --salt x "$scratch/missing" "$tree" "$root"
+}
+
 # names NAME TEXT STATUS DATA HASH [ROOT]: verify ends with a message.
 names() {
     runs "verify: $1" "$3" '' "$2" "$veritysetup" verify "$4" "$5" "${6:-$root}"
@@ -154,12 +190,15 @@ command_lines() {
     command_line 'dump: two files' dump "$image" "$image"
     command_line 'verify: no root hash' verify "$data" "$image"
     command_line 'verify: four words' verify "$data" "$image" "$root" "$root"
+    command_line 'dump: no superblock' dump --no-superblock "$image"
+    command_line 'verify: a UUID' verify --uuid "$UUID" "$data" "$image" "$root"
     command_line 'dump: help' dump --help
     command_line 'verify: help' verify -h
     command_line 'verify: a root hash that is no text' verify "$data" "$image" $'\xff'
 }
 
 superblocks
+areas
 trees
 lengths
 files

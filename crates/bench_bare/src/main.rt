@@ -1,32 +1,60 @@
-//! The measure that the programs are held against: SHA-256 of each block of 4096 bytes of a file, and nothing else. It
-//! prints the last block's digest.
+//! The measure that the programs are held against: the hash of each block of a file, each after a salt of 32 bytes, by
+//! the crate `sha2`, and nothing else. It prints the exclusive or of the digests' first bytes.
+//!
+//! Words: sha256 or sha512, the size of a block (512, 1024 or 4096), and the file.
 #![tactic(auto)]
 
-use sha2::{Digest, Sha256};
+use sha2::{Digest, Sha256, Sha512};
 use std::fs::File;
 use std::io::Read;
 use std::{env, io};
 
-/// The digest of the last block that a reader gives, or zeros where it gives none. The blocks of a file have 4096 bytes
-/// but for the last, which may have fewer.
-fn last_digest<R: Read>(reader: &mut R) -> io::Result<[u8; 32]> {
-    let mut block = [0; 4096];
-    let mut last = [0; 32];
+const SALT: [u8; 32] = [7; 32];
+
+/// The first byte of a block's hash.
+fn first_byte(long: bool, block: &[u8]) -> u8 {
+    if long {
+        let mut hasher = Sha512::new();
+        hasher.update(&SALT);
+        hasher.update(block);
+        hasher.finalize()[0]
+    } else {
+        let mut hasher = Sha256::new();
+        hasher.update(&SALT);
+        hasher.update(block);
+        hasher.finalize()[0]
+    }
+}
+
+/// Hashes what a reader gives, as many bytes at a time as the buffer has.
+fn hash_all<R: Read>(reader: &mut R, long: bool, buffer: &mut [u8]) -> io::Result<u8> {
+    let mut joined = 0;
     for _ in 0..u64::MAX {
-        let count = reader.read(&mut block)?;
+        let count = reader.read(buffer)?;
         if count == 0 {
             break;
         }
-        last = Sha256::digest(&block[..count]);
+        joined ^= first_byte(long, &buffer[..count]);
     }
-    Ok(last)
+    Ok(joined)
 }
 
 fn main(rt: HostRuntime) -> io::Result<()> {
-    for name in env::args(&rt)?.skip(1) {
-        let mut file = File::open(&rt, name.as_str())?;
-        let digits = hex::encode(rt.alloc(), &last_digest(&mut file)?)?;
-        println!(rt; "{digits}")?;
-    }
-    Ok(())
+    let mut words = env::args(&rt)?.skip(1);
+    let (Some(function), Some(size), Some(name)) = (words.next(), words.next(), words.next()) else {
+        return println!(rt; "sha256|sha512 SIZE FILE");
+    };
+    let size = match size.as_str() {
+        "512" => 512,
+        "1024" => 1024,
+        _ => 4096,
+    };
+    let mut file = File::open(&rt, name.as_str())?;
+    let mut buffer = [0; 4096];
+    let joined = hash_all(
+        &mut file,
+        function.as_str() == "sha512",
+        &mut buffer[..size],
+    )?;
+    println!(rt; "{joined:02x}")
 }

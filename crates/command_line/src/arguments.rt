@@ -1,7 +1,7 @@
 //! The arguments and the programs of clap that both command lines are made of.
 ghost use Rattle.std.specs.Prelude.{◌≡◌, false};
 ghost use Rattle.clap.specs.Words.{rule_of};
-ghost use Rattle.command_line.specs.Arguments.{Defines, option_rule, program_app, word_rule, words_rule};
+ghost use Rattle.command_line.specs.Arguments.{Defines, flag_rule, option_rule, program_app, word_rule, words_rule};
 
 use clap::{Arg, ArgAction, Command};
 use std::alloc::Global;
@@ -12,6 +12,14 @@ pub fn option<'a>(alloc: Global, name: &'a str) -> Arg<'a>
     ensures local { result.global ≡ false }
 {
     Arg::new(alloc, name).long(name).action(ArgAction::Set)
+}
+
+/// `--name`, at most once.
+pub fn flag<'a>(alloc: Global, name: &'a str) -> Arg<'a>
+    ensures rule { rule_of result ≡ flag_rule name.entry.now }
+    ensures local { result.global ≡ false }
+{
+    Arg::new(alloc, name).long(name).action(ArgAction::SetTrue)
 }
 
 /// A word that has to be given, in order among the words beside the options.

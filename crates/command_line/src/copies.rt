@@ -1,6 +1,7 @@
-//! Copies of the texts that clap met.
+//! Copies of the texts that clap met, and the flags.
 ghost use Rattle.std.specs.Prelude.{◌≡◌, IfOk, [], map, option_map, unwrap_or, string_bytes};
 ghost use Rattle.clap.specs.Words.{all_of, first_of, found_of, rows_of};
+ghost use Rattle.command_line.specs.Arguments.{flag_of};
 
 use clap::ArgMatches;
 use std::alloc::{AllocError, Global};
@@ -31,6 +32,16 @@ pub fn copied_values(
     match matches.get_strs(name) {
         Some(texts) => copies(alloc, texts),
         None => Ok(Vec::new(alloc)),
+    }
+}
+
+/// Whether a flag is given.
+pub fn is_given(matches: &ArgMatches<'_>, name: &str) -> bool
+    ensures { result ≡ flag_of (first_of name.now (rows_of (found_of matches.now))) }
+{
+    match matches.get_str(name) {
+        Some(text) => text == "true",
+        None => false,
     }
 }
 

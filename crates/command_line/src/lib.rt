@@ -5,6 +5,7 @@
 mod algorithms;
 mod arguments;
 mod copies;
+mod file_identity;
 mod files;
 mod line_fault;
 mod null_files;
@@ -15,11 +16,12 @@ mod system_words;
 mod texts;
 
 pub use algorithms::algorithm_or_default;
-pub use arguments::{option, program, word, words};
-pub use copies::{copied_value, copied_values};
+pub use arguments::{flag, option, program, word, words};
+pub use copies::{copied_value, copied_values, is_given};
+pub use file_identity::{FileIdentity, Identities, is_same_file};
 pub use files::{open_measured, open_writable};
 pub use line_fault::LineFault;
-pub use null_files::NullFiles;
+pub use null_files::{NULL_DEVICE, NullFiles};
 pub use numbers::{DEFAULT_BLOCK_SIZE, number_or, read_number};
 pub use printing::{tell, tell_pieces, tell_text};
 pub use salts::read_salt;

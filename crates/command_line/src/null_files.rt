@@ -1,12 +1,17 @@
-//! The null device, opened for standard streams that may be closed.
+//! Files that are held open in the place of standard streams that may be closed.
 ghost use Rattle.std.specs.Prelude.{◌↔◌, IsTrue};
 ghost use Rattle.command_line.specs.NullFiles.{AreOpen};
 
 use std::fs::File;
 use std::rt::Files;
 
-/// The null device, opened once for each standard stream. A standard stream that is closed would else lend its number
-/// to a file that is opened later, and a message would be written into that file.
+/// The null device, which takes and gives nothing (null(4)).
+pub const NULL_DEVICE: &str = "/dev/null";
+
+/// The null device, opened once for each standard stream, or the root folder where there is no such device, as in a
+/// container without device files. A standard stream that is closed would else lend its number to a file that is
+/// opened later, and a message would be written into that file. Both are opened for reading alone, so what is written
+/// to such a number is refused.
 #[derive(Drop)]
 pub struct NullFiles<F> {
     first: Option<F>,
@@ -15,12 +20,12 @@ pub struct NullFiles<F> {
 }
 
 impl<F> NullFiles<F> {
-    /// Opens the null device three times. Keep the value for as long as other files are opened.
+    /// Opens the three files. Keep the value for as long as other files are opened.
     pub fn open<R: Files<File = F>>(rt: &R) -> Self {
         NullFiles {
-            first: File::open(rt, "/dev/null").ok(),
-            second: File::open(rt, "/dev/null").ok(),
-            third: File::open(rt, "/dev/null").ok(),
+            first: open_null(rt),
+            second: open_null(rt),
+            third: open_null(rt),
         }
     }
 
@@ -29,5 +34,13 @@ impl<F> NullFiles<F> {
         ensures { IsTrue result ↔ AreOpen self.now }
     {
         self.first.is_some() && self.second.is_some() && self.third.is_some()
+    }
+}
+
+/// The null device or the root folder, opened for reading.
+fn open_null<R: Files>(rt: &R) -> Option<R::File> {
+    match File::open(rt, NULL_DEVICE) {
+        Ok(file) => Some(file),
+        Err(_) => File::open(rt, "/").ok(),
     }
 }

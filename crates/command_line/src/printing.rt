@@ -1,36 +1,49 @@
 //! Writing messages, as far as the writer takes them.
-ghost use Rattle.std.specs.Prelude.{◌≡◌, ℕ, List, IfOk, flat_map, string_bytes};
+ghost use Rattle.std.specs.Prelude.{◌≡◌, ℕ, List, IfOk, IsTrue, flat_map, string_bytes};
+ghost use Rattle.std.specs.Io.KnownBytes.{Appends};
 ghost use Rattle.command_line.specs.Printing.{AppendsFront};
 
 use std::alloc::AllocError;
 use std::io::Write;
 use verity_format::put_all;
 
-/// Writes a text as far as the writer takes it.
-pub fn tell_text<W: Write>(text: &str, msgs: &mut W)
-    ensures { AppendsFront text.now (W.contents msgs.old) (W.contents msgs.new) }
+/// Writes a text as far as the writer takes it. The answer says whether it took all of it.
+pub fn tell_text<W: Write>(text: &str, msgs: &mut W) -> bool
+    ensures whole { IsTrue result → Appends (W.contents msgs.old) (W.contents msgs.new) text.now }
+    ensures front { AppendsFront text.now (W.contents msgs.old) (W.contents msgs.new) }
 {
-    let _ = put_all(msgs, text.as_bytes());
-}
-
-/// Writes a message as far as the writer takes it, and nothing where there was no memory for it.
-pub fn tell<W: Write>(message: Result<String, AllocError>, msgs: &mut W)
-    ensures { (text : List ℕ) → IfOk message (λ s. string_bytes s ≡ text)
-        → AppendsFront text (W.contents msgs.old) (W.contents msgs.new) }
-{
-    if let Ok(text) = message {
-        tell_text(text.as_str(), msgs);
+    match put_all(msgs, text.as_bytes()) {
+        Ok(()) => true,
+        Err(_) => false,
     }
 }
 
-/// Writes the pieces of a text one after another, as far as the writer takes them. It takes no memory.
-pub fn tell_pieces<W: Write>(pieces: &[&str], msgs: &mut W)
-    ensures { AppendsFront (flat_map (λ p. p.now) pieces.now) (W.contents msgs.old) (W.contents msgs.new) }
+/// Writes a message as far as the writer takes it, and nothing where there was no memory for it. The answer says
+/// whether the writer took all of it.
+pub fn tell<W: Write>(message: Result<String, AllocError>, msgs: &mut W) -> bool
+    ensures whole { (text : List ℕ) → IfOk message (λ s. string_bytes s ≡ text)
+        → IsTrue result → Appends (W.contents msgs.old) (W.contents msgs.new) text }
+    ensures front { (text : List ℕ) → IfOk message (λ s. string_bytes s ≡ text)
+        → AppendsFront text (W.contents msgs.old) (W.contents msgs.new) }
+{
+    match message {
+        Ok(text) => tell_text(text.as_str(), msgs),
+        Err(_) => false,
+    }
+}
+
+/// Writes the pieces of a text one after another, as far as the writer takes them. It takes no memory. The answer says
+/// whether the writer took all of them.
+pub fn tell_pieces<W: Write>(pieces: &[&str], msgs: &mut W) -> bool
+    ensures whole { IsTrue result
+        → Appends (W.contents msgs.old) (W.contents msgs.new) (flat_map (λ p. p.now) pieces.now) }
+    ensures front { AppendsFront (flat_map (λ p. p.now) pieces.now) (W.contents msgs.old) (W.contents msgs.new) }
 {
     for piece in pieces {
         match put_all(msgs, piece.as_bytes()) {
             Ok(()) => {}
-            Err(_) => return,
+            Err(_) => return false,
         }
     }
+    true
 }

@@ -1,2 +1,3 @@
 pub mod RunLemmas
 pub mod DigestLemmas
+pub mod FormLemmas

@@ -1,5 +1,5 @@
 -- A run over files, file after file.
-use Rattle.std.proofs.Common.{◌≡◌, ℕ, zero, suc, ◌+◌, ◌<◌, ◌≤◌, List, [], ◌∷◌, length, take, Bool, true, false, inl, inr, Option, Some, Result, Ok, Err, refl, sym, subst, arith}
+use Rattle.std.proofs.Common.{◌≡◌, ℕ, zero, suc, ◌+◌, ◌<◌, ◌≤◌, List, [], ◌∷◌, length, take, Bool, true, false, inl, inr, Option, Some, None, Result, Ok, Err, refl, ap, sym, subst, not, arith, ◌∙◌}
 use Rattle.std.specs.Prelude.{◌↔◌, IsErr, slice_get}
 use Rattle.std.proofs.lemmas.Option.{get_or_from_slice_get}
 use Rattle.std.specs.List.{zip, prefix_len}
@@ -7,10 +7,14 @@ use Rattle.std.specs.Io.KnownBytes.{Appends}
 use Rattle.command_line.proofs.Fronts.{appends_nothing, pieces_more}
 use Rattle.verity_format.proofs.KnownLemmas.{appends_twice}
 use Rattle.verity_plan.specs.Settings.{Settings}
+use Rattle.fsverity.specs.Digests.{file_digest_of, is_too_large}
+use Rattle.fsverity.specs.Lines.{line}
 use Rattle.fsverity.specs.Opening.{OpenerChange}
-use Rattle.fsverity.specs.Runs.{HasReason, Run, StandsOf, WritesUpTo, file_line, has_digest, lines, stop}
-use Rattle.fsverity.specs.RunSteps.{IsRefused, Step, StopsStep, WritesLine, WritesPart, WritesStep}
-use Rattle.fsverity.specs.declared.digest_fault.DigestFault.TheVariants.{TooLarge, SourceShort, SourceFailed, Memory}
+use Rattle.fsverity.specs.Runs.{HasReason, IsLargeAt, Run, StandsOf, WritesUpTo, file_line, has_digest, lines, stop}
+use Rattle.fsverity.specs.RunSteps.{HasOneAt, IsDigestAt, Step, StopsStep, WritesLine, WritesPart, WritesStep}
+use Rattle.fsverity.specs.declared.digest_lines.Form.{Form}
+use Rattle.fsverity.specs.declared.digesting.FileDigest.{FileDigest}
+use Rattle.fsverity.specs.declared.digest_fault.DigestFault.TheVariants.{TooLarge, SourceShort, SourceFailed, DeviceFailed, Memory}
 use Rattle.fsverity.specs.declared.run_fault.RunFault.{RunFault}
 use Rattle.fsverity.specs.declared.run_fault.RunFault.TheVariants.{NotOpened, Digest, NotWritten}
 
@@ -112,28 +116,32 @@ part_more run files i fault name old mid new named so_far part = record {
       so_far part.written;
 }
 
--- a reason in one step is one in the whole run
-reason_of : (refused refused' : Type 0) (run step : OpenerChange) (f : ℕ) (fault : RunFault) →
-    (run.told ↔ step.told) → (run.told → refused' → refused) → step.files ≡ run.files → step.next_before ≡ f →
-    run.failures_before ≤ step.failures_before → run.failures_after ≡ step.failures_after →
-    HasReason refused' step step.next_before fault → HasReason refused run f fault
-reason_of r r' run step f NotOpened told gives same index le after (inl absent) =
-    inl (told.1 absent.0, rw (same, index) at absent.1, gives (told.1 absent.0) absent.2)
-reason_of r r' run step f NotOpened told gives same index le after (inr rose) = inr (omega (arith, le, after, rose))
-reason_of r r' run step f (Digest TooLarge) told gives same index le after reason = λ t. gives t (reason (told.0 t))
-reason_of r r' run step f (Digest (SourceShort i)) told gives same index le after reason = λ t. reason (told.0 t)
-reason_of r r' run step f (Digest (SourceFailed i)) told gives same index le after reason = omega (arith, le, after, reason)
-reason_of r r' run step f (Digest Memory) told gives same index le after reason = tt
-reason_of r r' run step f NotWritten told gives same index le after reason = tt
+-- a file that has a digest is before the stop, where none before it is absent or too large
+before_stop : (s : Settings) (files : List (Option (List ℕ))) (f : ℕ) → HasOneAt s files f → f ≤ stop s files →
+    f < stop s files
+before_stop s files f one within =
+    let more : f + 1 ≤ stop s files = passes_more (has_digest s) files f (Some one.0) one.1 one.2 within in
+    omega (arith, more)
 
 -- a step that stops ends the run, where no file before its own is absent or too large
 pub stops_run : (s : Settings) (run step : OpenerChange) (f : ℕ) (fault : RunFault) →
     (run.told ↔ step.told) → step.files ≡ run.files → step.next_before ≡ f → (run.told → f ≤ stop s run.files) →
     run.failures_before ≤ step.failures_before → run.failures_after ≡ step.failures_after →
-    StopsStep s step fault → HasReason (stop s run.files ≡ f) run f fault
-stops_run s run step f fault told same index within le after reason =
-    reason_of (stop s run.files ≡ f) (IsRefused s step.files step.next_before) run step f fault told
-    (λ t (refused : IsRefused s step.files step.next_before).
-    let is : slice_get run.files f ≡ Some refused.0 = rw (same, index) at refused.1 in
-    passes_to (has_digest s) run.files f refused.0 is refused.2 (within t))
-    same index le after reason
+    StopsStep s step fault → HasReason s run f fault
+stops_run s run step f NotOpened told same index within le after (inl absent) =
+    let is : slice_get run.files f ≡ Some None = rw (same, index) at absent.1 in
+    inl (told.1 absent.0, is, passes_to (has_digest s) run.files f None is refl (within (told.1 absent.0)))
+stops_run s run step f NotOpened told same index within le after (inr rose) = inr (omega (arith, le, after, rose))
+stops_run s run step f (Digest TooLarge) told same index within le after large = λ t.
+    let large' : IsLargeAt s run.files f = rw (same, index) at (large (told.0 t)) in
+    (large', passes_to (has_digest s) run.files f (Some large'.0) large'.1 (ap not large'.2) (within t))
+stops_run s run step f (Digest (SourceShort i)) told same index within le after reason = λ t. reason (told.0 t)
+stops_run s run step f (Digest (SourceFailed i)) told same index within le after reason = (
+  λ t. before_stop s run.files f (rw (same, index) at (reason.0 (told.0 t))) (within t),
+  omega (arith, le, after, reason.1),
+)
+stops_run s run step f (Digest (DeviceFailed level block)) told same index within le after reason = reason
+stops_run s run step f (Digest Memory) told same index within le after one =
+    λ t. before_stop s run.files f (rw (same, index) at (one (told.0 t))) (within t)
+stops_run s run step f NotWritten told same index within le after one =
+    λ t. before_stop s run.files f (rw (same, index) at (one (told.0 t))) (within t)

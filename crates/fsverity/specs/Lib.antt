@@ -1,9 +1,12 @@
 pub mod Options
 pub mod Lines
 pub mod Messages
+pub mod Printing
 pub mod Opening
 pub mod Digests
 pub mod Runs
+pub mod OutputRuns
+pub mod OutputSteps
 pub mod RunSteps
 pub mod CommandLines
 pub mod FusedOpeners

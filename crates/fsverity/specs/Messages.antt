@@ -4,9 +4,9 @@ use Rattle.std.specs.Prelude.{ℕ, List, [], ◌∷◌, codes}
 use Rattle.std.specs.List.{concat}
 use Rattle.std.specs.Fmt.{decimal}
 use Rattle.fsverity.specs.declared.digest_fault.DigestFault.{DigestFault}
-use Rattle.fsverity.specs.declared.digest_fault.DigestFault.TheVariants.{TooLarge, SourceShort, SourceFailed, Memory}
+use Rattle.fsverity.specs.declared.digest_fault.DigestFault.TheVariants.{TooLarge, SourceShort, SourceFailed, DeviceFailed, Memory}
 use Rattle.fsverity.specs.declared.option_fault.FsOptionFault.{FsOptionFault}
-use Rattle.fsverity.specs.declared.option_fault.FsOptionFault.TheVariants.{UnknownHash, BadBlockSize, BadSalt}
+use Rattle.fsverity.specs.declared.option_fault.FsOptionFault.TheVariants.{UnknownHash, BadBlockSize, BadSalt, OneFileOnly}
 
 -- why a file of this name has no digest
 abbrev pub fault_text : DigestFault → List ℕ → List ℕ
@@ -15,6 +15,8 @@ fault_text (SourceShort i) name =
     concat (codes "fsverity: file ends before the end of block " ∷ decimal i ∷ codes ": " ∷ name ∷ codes ".\n" ∷ [])
 fault_text (SourceFailed i) name =
     concat (codes "fsverity: cannot read block " ∷ decimal i ∷ codes ": " ∷ name ∷ codes ".\n" ∷ [])
+fault_text (DeviceFailed level block) name = concat
+    (codes "fsverity: cannot write tree block " ∷ decimal block ∷ codes " of level " ∷ decimal level ∷ codes ".\n" ∷ [])
 fault_text Memory name = codes "fsverity: out of memory.\n"
 
 -- why the options are refused
@@ -22,3 +24,4 @@ abbrev pub option_text : FsOptionFault → List ℕ
 option_text UnknownHash = codes "fsverity: unknown hash algorithm.\n"
 option_text BadBlockSize = codes "fsverity: block size is not valid.\n"
 option_text BadSalt = codes "fsverity: salt is not valid.\n"
+option_text OneFileOnly = codes "fsverity: output files need exactly one input file.\n"

@@ -1,30 +1,42 @@
 -- The steps of a run: the digest of one file, and its line.
 -- For the private steps; not needed to read a public contract.
-use Rattle.std.specs.Prelude.{◌≡◌, ℕ, true, false, List, length, Option, Some, slice_get, Result, MatchResult}
+use Rattle.std.specs.Prelude.{◌≡◌, ◌⊎◌, ℕ, true, List, length, Option, Some, None, slice_get, Result, MatchResult}
 use Rattle.std.specs.Io.KnownBytes.{Appends}
 use Rattle.verity_hash.specs.declared.digest.Digest.{Digest}
+use Rattle.verity_io.specs.Counting.{Rose}
 use Rattle.verity_io.specs.Reading.{HasRead}
 use Rattle.verity_plan.specs.Settings.{Settings}
 use Rattle.fsverity.specs.Digests.{FaultsIn, IsFileDigest, root_of_file}
 use Rattle.fsverity.specs.Opening.{OpenerChange}
-use Rattle.fsverity.specs.Runs.{HasReason, StandsOf, file_line, has_digest}
+use Rattle.fsverity.specs.Runs.{IsLargeAt, StandsOf, file_line, has_digest}
 use Rattle.fsverity.specs.declared.digesting.FileDigest.{FileDigest}
 use Rattle.fsverity.specs.declared.digest_lines.Form.{Form}
 use Rattle.fsverity.specs.declared.digest_fault.DigestFault.{DigestFault}
+use Rattle.fsverity.specs.declared.digest_fault.DigestFault.TheVariants.{TooLarge, SourceShort, SourceFailed, DeviceFailed, Memory}
 use Rattle.fsverity.specs.declared.run_fault.RunFault.{RunFault}
+use Rattle.fsverity.specs.declared.run_fault.RunFault.TheVariants as fault
 
 -- the root hash for the first size bytes of a source, and how much was read
 abbrev pub Roots : Settings → ℕ → Result Digest DigestFault → List ℕ → List ℕ → Type 0
 Roots s size result before after = MatchResult result
     (λ root. (root ≡ root_of_file s size before) × HasRead size before after) (FaultsIn s size before after)
 
--- the file has no digest
-abbrev pub IsRefused : Settings → List (Option (List ℕ)) → ℕ → Type 0
-IsRefused s files f = (file : Option (List ℕ)) × (slice_get files f ≡ Some file) × (has_digest s file ≡ false)
+-- the file of this index is there, and not too large
+abbrev pub HasOneAt : Settings → List (Option (List ℕ)) → ℕ → Type 0
+HasOneAt s files f = (bytes : List ℕ) × (slice_get files f ≡ Some (Some bytes)) × (has_digest s (Some bytes) ≡ true)
 
 -- why a step ends the run at the file that was next
 abbrev pub StopsStep : Settings → OpenerChange → RunFault → Type 0
-StopsStep s opener fault = HasReason (IsRefused s opener.files opener.next_before) opener opener.next_before fault
+StopsStep s opener fault.NotOpened =
+    (opener.told × (slice_get opener.files opener.next_before ≡ Some None))
+    ⊎ Rose opener.failures_before opener.failures_after
+StopsStep s opener (fault.Digest TooLarge) = opener.told → IsLargeAt s opener.files opener.next_before
+StopsStep s opener (fault.Digest (SourceShort i)) = opener.told → ⊥
+StopsStep s opener (fault.Digest (SourceFailed i)) =
+    (opener.told → HasOneAt s opener.files opener.next_before) × Rose opener.failures_before opener.failures_after
+StopsStep s opener (fault.Digest (DeviceFailed level block)) = ⊥
+StopsStep s opener (fault.Digest Memory) = opener.told → HasOneAt s opener.files opener.next_before
+StopsStep s opener fault.NotWritten = opener.told → HasOneAt s opener.files opener.next_before
 
 -- the digest of the file of this index, which has one
 pub record IsDigestAt (s : Settings) (files : List (Option (List ℕ))) (i : ℕ) (made : FileDigest) : Type 0 where

@@ -1,6 +1,6 @@
 -- A run of `fsverity digest` over files, one after another (fsverity(1), "fsverity digest"): a line for each, up to the
 -- first that fails.
-use Rattle.std.specs.Prelude.{◌≡◌, ◌⊎◌, ℕ, ◌+◌, ◌<◌, ◌≤◌, Bool, false, not, List, [], ◌∷◌, ◌++◌, length, take, codes, Option, Some, None, slice_get, slice_index_or}
+use Rattle.std.specs.Prelude.{◌≡◌, ◌⊎◌, ℕ, ◌+◌, ◌<◌, ◌≤◌, Bool, true, false, not, List, [], ◌∷◌, ◌++◌, length, take, codes, Option, Some, None, slice_get, slice_index_or, if◌then◌else◌}
 use Rattle.std.specs.List.{concat, zip, flat_map, prefix_len}
 use Rattle.std.specs.Io.KnownBytes.{Appends}
 use Rattle.command_line.specs.Printing.{AppendsFront}
@@ -10,7 +10,7 @@ use Rattle.fsverity.specs.Digests.{file_digest_of, is_too_large}
 use Rattle.fsverity.specs.Lines.{line}
 use Rattle.fsverity.specs.Messages.{fault_text}
 use Rattle.fsverity.specs.Opening.{OpenerChange}
-use Rattle.fsverity.specs.declared.digest_fault.DigestFault.TheVariants.{TooLarge, SourceShort, SourceFailed, Memory}
+use Rattle.fsverity.specs.declared.digest_fault.DigestFault.TheVariants.{TooLarge, SourceShort, SourceFailed, DeviceFailed, Memory}
 use Rattle.fsverity.specs.declared.digest_lines.Form.{Form}
 use Rattle.fsverity.specs.declared.run_fault.RunFault.{RunFault}
 use Rattle.fsverity.specs.declared.run_fault.RunFault.TheVariants.{NotOpened, Digest, NotWritten}
@@ -24,10 +24,11 @@ has_digest s (Some bytes) = not (is_too_large s (length bytes))
 abbrev pub stop : Settings → List (Option (List ℕ)) → ℕ
 stop s files = prefix_len (has_digest s) files
 
--- a file's line, and nothing for an absent one
+-- a file's line, and nothing for one that is absent or too large
 abbrev pub file_line : Settings → Form → List ℕ → Option (List ℕ) → List ℕ
 file_line s form name None = []
-file_line s form name (Some bytes) = line form s.algorithm (file_digest_of s (length bytes) bytes) name
+file_line s form name (Some bytes) = if is_too_large s (length bytes) then []
+    else line form s.algorithm (file_digest_of s (length bytes) bytes) name
 
 -- the lines of the files, each with its name, in order
 abbrev pub lines : Settings → Form → List (List ℕ × Option (List ℕ)) → List ℕ
@@ -39,16 +40,24 @@ run_fault_text NotOpened name = concat (codes "fsverity: cannot open " ∷ name 
 run_fault_text (Digest fault) name = fault_text fault name
 run_fault_text NotWritten name = codes "fsverity: cannot write output.\n"
 
--- why a run ends at file f: it is absent, or a count rose; it is too large; it was short, which a told file isn't; out
--- of memory, or the writer failed
-abbrev pub HasReason : Type 0 → OpenerChange → ℕ → RunFault → Type 0
-HasReason refused opener f NotOpened =
-    (opener.told × (slice_get opener.files f ≡ Some None) × refused) ⊎ Rose opener.failures_before opener.failures_after
-HasReason refused opener f (Digest TooLarge) = opener.told → refused
-HasReason refused opener f (Digest (SourceShort i)) = opener.told → ⊥
-HasReason refused opener f (Digest (SourceFailed i)) = Rose opener.failures_before opener.failures_after
-HasReason refused opener f (Digest Memory) = Unit {0}
-HasReason refused opener f NotWritten = Unit {0}
+-- the file of this index is there, and too large
+abbrev pub IsLargeAt : Settings → List (Option (List ℕ)) → ℕ → Type 0
+IsLargeAt s files f = (bytes : List ℕ) × (slice_get files f ≡ Some (Some bytes)) × (is_too_large s (length bytes) ≡ true)
+
+-- why a run ends at file f: it is absent and nothing before it was, or a count rose; it is there and too large; it was
+-- short, which a told file isn't; or memory, a read or the writer failed, which is said only of a file that is there and
+-- not too large. There is no device
+abbrev pub HasReason : Settings → OpenerChange → ℕ → RunFault → Type 0
+HasReason s opener f NotOpened =
+    (opener.told × (slice_get opener.files f ≡ Some None) × (stop s opener.files ≡ f))
+    ⊎ Rose opener.failures_before opener.failures_after
+HasReason s opener f (Digest TooLarge) = opener.told → IsLargeAt s opener.files f × (stop s opener.files ≡ f)
+HasReason s opener f (Digest (SourceShort i)) = opener.told → ⊥
+HasReason s opener f (Digest (SourceFailed i)) =
+    (opener.told → f < stop s opener.files) × Rose opener.failures_before opener.failures_after
+HasReason s opener f (Digest (DeviceFailed level block)) = ⊥
+HasReason s opener f (Digest Memory) = opener.told → f < stop s opener.files
+HasReason s opener f NotWritten = opener.told → f < stop s opener.files
 
 -- what stands of the file's line: its first bytes where it could not be written, and else nothing
 abbrev pub StandsOf : List ℕ → List ℕ → RunFault → Type 0
@@ -78,6 +87,6 @@ pub record EndsAt (run : Run) (opener : OpenerChange) (out out' msgs msgs' : Opt
   pub has_name : f < length run.names
   pub is_next : opener.next_after ≡ f + 1
   pub within : opener.told → f ≤ stop run.settings opener.files
-  pub reason : HasReason (stop run.settings opener.files ≡ f) opener f fault
+  pub reason : HasReason run.settings opener f fault
   pub message : AppendsFront (run_fault_text fault (slice_index_or run.names f [])) msgs msgs'
   pub written : opener.told → WritesUpTo run opener.files f fault out out'

@@ -16,6 +16,13 @@ pub enum DigestFault {
     SourceShort(u64),
     /// The file could not be read within this block, counted from 0.
     SourceFailed(u64),
+    /// This hash block could not be written to the tree's device; both are counted from 0, level 0 next to the data.
+    DeviceFailed {
+        /// The level.
+        level: usize,
+        /// The block of the level.
+        block: u64,
+    },
     /// There was not enough memory.
     Memory,
 }
@@ -31,6 +38,9 @@ pub fn digest_message(alloc: Global, fault: &DigestFault, name: &str) -> Result<
         }
         DigestFault::SourceFailed(block) => {
             format!(in alloc; "fsverity: cannot read block {block}: {name}.\n")
+        }
+        DigestFault::DeviceFailed { level, block } => {
+            format!(in alloc; "fsverity: cannot write tree block {block} of level {level}.\n")
         }
         DigestFault::Memory => String::from_str(alloc, OUT_OF_MEMORY),
     }

@@ -2,7 +2,7 @@
 ghost use Rattle.std.specs.Prelude.{◌≡◌, ◌≤◌, ◌+◌, ◌<◌, min, IfOk, OnErr};
 ghost use Rattle.verity_io.specs.Counting.{last_count};
 ghost use Rattle.verity_io.specs.Fusing.{fused_failures, fused_inner};
-ghost use Rattle.fsverity.specs.FusedOpeners.{fused_call, opener_failures, opener_within, StartsFused};
+ghost use Rattle.fsverity.specs.FusedOpeners.{opener_call, opener_failures, opener_within, StartsFused};
 ghost use Rattle.fsverity.specs.Opening.{CountsOpening, FailsFor, IsSuch, SameFiles};
 
 use crate::opener::Opener;
@@ -20,7 +20,7 @@ impl<O: Opener> FusedOpener<O> {
     /// Fails the call of this number of each source, counted from 1, and none for 0.
     pub fn new(inner: O, call: u64) -> Self
         ensures within { opener_within result ≡ inner }
-        ensures call { fused_call result ≡ call }
+        ensures call { opener_call result ≡ call }
         ensures failures { opener_failures result ≡ 0 }
     {
         FusedOpener {
@@ -53,14 +53,14 @@ impl<O: Opener> Opener for FusedOpener<O> {
         ensures fresh { IfOk result (λ opened. fused_failures opened.1 ≡ 0) }
         ensures ok { O.tells (opener_within self.old) → IfOk result (λ opened.
             O.Stream.tells (fused_inner opened.1) × IsSuch (O.files (opener_within self.old))
-            (O.next (opener_within self.old)) opened.0 (O.Stream.to_come (fused_inner opened.1))) }
+            (O.next (opener_within self.old)) opened.0 (O.Stream.remaining (fused_inner opened.1))) }
         ensures failures { CountsOpening (opener_failures self.old) (opener_failures self.new) result }
         ensures failed { OnErr result (FailsFor (O.tells (opener_within self.old)) (O.files (opener_within self.old))
             (O.next (opener_within self.old)) (opener_failures self.old) (opener_failures self.new)) }
 
         // Each source has its fuse, and was not called yet.
-        ensures fused { IfOk result (λ opened. StartsFused (fused_call self.old) opened.1) }
-        ensures call { fused_call self.new ≡ fused_call self.old }
+        ensures fused { IfOk result (λ opened. StartsFused (opener_call self.old) opened.1) }
+        ensures call { opener_call self.new ≡ opener_call self.old }
     {
         match self.inner.start() {
             Ok((length, stream)) => Ok((length, Fused::new(stream, self.call))),
@@ -77,7 +77,7 @@ impl<O: Opener> Opener for FusedOpener<O> {
         ensures failures { opener_failures self.new
             ≡ min (opener_failures self.old + fused_failures stream) last_count }
         ensures kept { opener_failures self.old ≤ opener_failures self.new }
-        ensures call { fused_call self.new ≡ fused_call self.old }
+        ensures call { opener_call self.new ≡ opener_call self.old }
     {
         let failures = stream.failures();
         self.inner.end(stream.into_inner());

@@ -11,6 +11,8 @@ pub enum FsOptionFault {
     BadBlockSize,
     /// The salt is no even number of hexadecimal digits, or longer than 32 bytes.
     BadSalt,
+    /// An output file is named, and more than one input file.
+    OneFileOnly,
 }
 
 /// The message of a refused option: one line, with its newline.
@@ -21,5 +23,6 @@ pub fn option_message(fault: &FsOptionFault) -> &'static str
         FsOptionFault::UnknownHash => "fsverity: unknown hash algorithm.\n",
         FsOptionFault::BadBlockSize => "fsverity: block size is not valid.\n",
         FsOptionFault::BadSalt => "fsverity: salt is not valid.\n",
+        FsOptionFault::OneFileOnly => "fsverity: output files need exactly one input file.\n",
     }
 }

@@ -19,18 +19,25 @@ pub struct DigestOptions<'a> {
     pub block_size: Option<&'a str>,
     /// The salt in hexadecimal, empty where there is none.
     pub salt: Option<&'a str>,
+    /// How many input files there are.
+    pub files: usize,
+    /// Whether an output file is named, for the tree or for the descriptor.
+    pub out_files: bool,
 }
 
 /// The settings that the options stand for, or the first option that is refused: the algorithm, then the block size,
-/// then the salt (Linux kernel, fs-verity page, "FS_IOC_ENABLE_VERITY").
+/// then the salt (Linux kernel, fs-verity page, "FS_IOC_ENABLE_VERITY"), then an output file with more than one input.
 pub fn digest_settings(options: &DigestOptions<'_>) -> Result<TreeSettings, FsOptionFault>
     ensures value { result ≡ fs_settings (option_copied options.now.hash_alg)
-        (option_copied options.now.block_size) (option_copied options.now.salt) }
+        (option_copied options.now.block_size) (option_copied options.now.salt) options.now.files options.now.out_files }
     ensures rule { IfOk result (λ settings. settings.rule ≡ PaddedBefore) }
 {
     let algorithm = algorithm(options.hash_alg).ok_or(FsOptionFault::UnknownHash)?;
     let block = block_size(algorithm, options.block_size).ok_or(FsOptionFault::BadBlockSize)?;
     let salt = salt(options.salt).ok_or(FsOptionFault::BadSalt)?;
+    if options.out_files && options.files > 1 {
+        return Err(FsOptionFault::OneFileOnly);
+    }
     match TreeSettings::fsverity(algorithm, salt.as_bytes(), block) {
         Ok(settings) => Ok(settings),
         Err(_) => unreachable!(),

@@ -1,5 +1,6 @@
 //! Why a run over files ended at one of them.
-ghost use Rattle.std.specs.Prelude.{◌≡◌};
+ghost use Rattle.std.specs.Prelude.{◌≡◌, IsTrue};
+ghost use Rattle.std.specs.Io.KnownBytes.{Appends};
 ghost use Rattle.command_line.specs.Printing.{AppendsFront};
 ghost use Rattle.fsverity.specs.Runs.{run_fault_text};
 
@@ -7,6 +8,9 @@ use crate::{DigestFault, OUT_OF_MEMORY, digest_message};
 use command_line::{tell, tell_pieces, tell_text};
 use std::alloc::Global;
 use std::io::Write;
+
+/// The message of a line that is not printed whole.
+pub(crate) const OUTPUT_UNWRITTEN: &str = "fsverity: cannot write output.\n";
 
 /// Why a run over files ended at one of them.
 #[derive(Clone, Copy, Debug, PartialEq, Eq)]
@@ -21,13 +25,14 @@ pub enum RunFault {
 
 impl RunFault {
     /// Writes the message of the fault at the file of this name, as far as memory and the writer take it. That a file
-    /// can't be opened is written without memory.
-    pub(crate) fn tell<W: Write>(&self, alloc: Global, name: &str, msgs: &mut W)
-        ensures { AppendsFront (run_fault_text self.now name.now) (W.contents msgs.old) (W.contents msgs.new) }
+    /// can't be opened is written without memory. The answer says whether the writer took all of it.
+    pub(crate) fn tell<W: Write>(&self, alloc: Global, name: &str, msgs: &mut W) -> bool
+        ensures whole { IsTrue result → Appends (W.contents msgs.old) (W.contents msgs.new) (run_fault_text self.now name.now) }
+        ensures front { AppendsFront (run_fault_text self.now name.now) (W.contents msgs.old) (W.contents msgs.new) }
     {
         match self {
             RunFault::NotOpened => tell_pieces(&["fsverity: cannot open ", name, ".\n"], msgs),
-            RunFault::NotWritten => tell_text("fsverity: cannot write output.\n", msgs),
+            RunFault::NotWritten => tell_text(OUTPUT_UNWRITTEN, msgs),
             RunFault::Digest(DigestFault::Memory) => tell_text(OUT_OF_MEMORY, msgs),
             RunFault::Digest(fault) => tell(digest_message(alloc, fault, name), msgs),
         }

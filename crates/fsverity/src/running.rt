@@ -3,14 +3,15 @@ ghost use Rattle.std.specs.Prelude.{◌≡◌, ◌⊎◌, ◌+◌, ◌<◌, ◌�
 ghost use Rattle.std.specs.Io.KnownBytes.{Appends};
 ghost use Rattle.std.specs.List.{zip};
 ghost use Rattle.verity_hash.specs.declared.salting.SaltRule.TheVariants.{PaddedBefore};
+ghost use Rattle.verity_plan.specs.Settings.{digest_len};
 ghost use Rattle.fsverity.specs.Opening.{SameFiles, opener_change};
 ghost use Rattle.fsverity.specs.Runs.{EndsAt, lines, stop};
 ghost use Rattle.fsverity.specs.RunSteps.{IsDigestAt, StopsStep, WritesStep};
 
-use crate::{DigestFault, FileDigest, Form, Opener, RunFault, digest_file, digest_line};
+use crate::line_printing::print_line;
+use crate::{DigestFault, FileDigest, Form, Opener, PrintFault, RunFault, digest_file};
 use std::alloc::Global;
 use std::io::Write;
-use verity_format::put_all;
 use verity_tree::TreeSettings;
 
 /// The digest of the opener's next file.
@@ -26,6 +27,7 @@ fn digest_opened<O: Opener>(
     ensures failures { O.failures opener.old ≤ O.failures opener.new }
     ensures reason { IfErr result (StopsStep settings.now
         (opener_change O.tells O.files O.next O.failures opener.old opener.new)) }
+    ensures length { IfOk result (λ made. length made.digest ≡ digest_len settings.now) }
     ensures digest { O.tells opener.old
         → IfOk result (IsDigestAt settings.now (O.files opener.old) (O.next opener.old)) }
 {
@@ -67,12 +69,10 @@ fn digest_next<O: Opener, W: Write>(
     }) result (W.contents out.old) (W.contents out.new) }
 {
     let made = digest_opened(alloc, settings, opener)?;
-    match digest_line(alloc, form, settings.algorithm(), &made.digest, name) {
-        Err(_) => Err(RunFault::Digest(DigestFault::Memory)),
-        Ok(line) => match put_all(out, line.as_bytes()) {
-            Ok(()) => Ok(()),
-            Err(_) => Err(RunFault::NotWritten),
-        },
+    match print_line(alloc, settings, form, name, &made, out) {
+        Ok(()) => Ok(()),
+        Err(PrintFault::Memory) => Err(RunFault::Digest(DigestFault::Memory)),
+        Err(PrintFault::Output(_)) => Err(RunFault::NotWritten),
     }
 }
 

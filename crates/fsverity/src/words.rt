@@ -8,11 +8,13 @@ ghost use Rattle.fsverity.specs.CommandLines.{HoldsCommand, HoldsRows, digest_ap
 
 use crate::{Line, LineFault};
 use clap::{ArgMatches, Command};
-use command_line::{copied_value, copied_values, option, program, words};
+use command_line::{copied_value, copied_values, flag, is_given, option, program, words};
 use std::alloc::{AllocError, Global};
 
 /// The usage text of the program and of its command.
-const USAGE: &str = "fsverity digest [--hash-alg NAME] [--block-size BYTES] [--salt HEX] FILE...";
+const USAGE: &str =
+    "fsverity digest [--hash-alg NAME] [--block-size BYTES] [--salt HEX] [--compact] [--for-builtin-sig] \
+    [--out-merkle-tree FILE] [--out-descriptor FILE] FILE...";
 
 fn digest_command<'a>(alloc: Global) -> Result<Command<'a>, AllocError>
     ensures { IfOk result (Defines digest_app) }
@@ -22,6 +24,10 @@ fn digest_command<'a>(alloc: Global) -> Result<Command<'a>, AllocError>
         .arg(option(alloc, "hash-alg"))?
         .arg(option(alloc, "block-size"))?
         .arg(option(alloc, "salt"))?
+        .arg(flag(alloc, "compact"))?
+        .arg(flag(alloc, "for-builtin-sig"))?
+        .arg(option(alloc, "out-merkle-tree"))?
+        .arg(option(alloc, "out-descriptor"))?
         .arg(words(alloc, "files"))
 }
 
@@ -41,6 +47,10 @@ fn line_of(alloc: Global, matches: &ArgMatches<'_>) -> Result<Line, AllocError>
         hash_alg: copied_value(alloc, matches, "hash-alg")?,
         block_size: copied_value(alloc, matches, "block-size")?,
         salt: copied_value(alloc, matches, "salt")?,
+        compact: is_given(matches, "compact"),
+        for_builtin_sig: is_given(matches, "for-builtin-sig"),
+        out_merkle_tree: copied_value(alloc, matches, "out-merkle-tree")?,
+        out_descriptor: copied_value(alloc, matches, "out-descriptor")?,
         files: copied_values(alloc, matches, "files")?,
     })
 }

@@ -1,5 +1,6 @@
 -- What a read at a hash block's place gives.
-use Rattle.std.proofs.Common.{◌≡◌, ℕ, ◌+◌, ◌*◌, ◌-◌, ◌/◌, ◌^◌, ◌<◌, ◌≤◌, List, length, take, drop, arith, ap, sym, ◌∙◌, refl, inl, inr, length-drop}
+use Rattle.std.proofs.Common.{◌≡◌, ℕ, ◌+◌, ◌*◌, ◌-◌, ◌/◌, ◌^◌, ◌<◌, ◌≤◌, List, length, take, drop, arith, ap, sym, ◌∙◌}
+use Rattle.std.proofs.Common.{refl, inl, inr, length-drop}
 use Rattle.std.proofs.lemmas.Bool.{cases_lt}
 use Rattle.std.proofs.lemmas.List.{length-take-le}
 use Rattle.std.proofs.Math.Nat.{mul-le-mul_right}
@@ -12,30 +13,39 @@ use Rattle.verity_tree.proofs.OpenBlockSteps.{chunk-other, chunk-same}
 use Rattle.read_one_block.specs.Reading.{stored_above}
 
 -- the bytes that were read are those stored above the data block
-pub read-stored : (p : Planned) (i l at n j : ℕ) (device before : List ℕ) → n ≡ p.settings.hash_block → at ≡ byte_of p l j → j ≡ i / fan p.settings ^ (l + 1)
+pub read-stored : (p : Planned) (i l at n j : ℕ) (device before : List ℕ) → n ≡ p.settings.hash_block
+    → at ≡ byte_of p l j → j ≡ i / fan p.settings ^ (l + 1)
     → before ≡ device → filled n (take n (drop at before)) ≡ stored_above p i device l
 read-stored p i l at n j device before size place index same =
     ap (λ (k : ℕ). filled k (take k (drop at before))) size
-    ∙ ap (λ (k : ℕ). filled p.settings.hash_block (take p.settings.hash_block (drop k before))) (place ∙ ap (byte_of p l) index)
-    ∙ ap (λ (xs : List ℕ). filled p.settings.hash_block (take p.settings.hash_block (drop (byte_of p l (i / fan p.settings ^ (l + 1))) xs))) same
+    ∙ ap (λ (k : ℕ). filled p.settings.hash_block (take p.settings.hash_block (drop k before)))
+    (place ∙ ap (byte_of p l) index)
+    ∙ ap (λ (xs : List ℕ). filled p.settings.hash_block
+    (take p.settings.hash_block (drop (byte_of p l (i / fan p.settings ^ (l + 1))) xs))) same
 
 -- a level's run of a path is within it
-pub run-within : (path : List ℕ) (l levels size : ℕ) → l < levels → length path ≡ levels * size → l * size + size ≤ length path
+pub run-within : (path : List ℕ) (l levels size : ℕ) → l < levels → length path ≡ levels * size
+    → l * size + size ≤ length path
 run-within path l levels size below whole =
     let next : l + 1 ≤ levels = omega arith in
     omega (arith, whole, mul-le-mul_right size next)
 
 -- and has its length
-pub length-run : (path : List ℕ) (l size : ℕ) → l * size + size ≤ length path → length (take (l * size + size - l * size) (drop (l * size) path)) ≡ size
+pub length-run : (path : List ℕ) (l size : ℕ) → l * size + size ≤ length path
+    → length (take (l * size + size - l * size) (drop (l * size) path)) ≡ size
 length-run path l size within =
     let wide : l * size + size - l * size ≡ size = omega arith in
-    length-take-le (l * size + size - l * size) (drop (l * size) path) (omega (arith, wide, length-drop (l * size) path, within)) ∙ wide
+    length-take-le (l * size + size - l * size) (drop (l * size) path)
+    (omega (arith, wide, length-drop (l * size) path, within)) ∙ wide
 
 -- one level more of a path is read
-pub path-more : (p : Planned) (i l size : ℕ) (path block device : List ℕ) → size ≡ p.settings.hash_block → length block ≡ size → l * size + size ≤ length path
+pub path-more : (p : Planned) (i l size : ℕ) (path block device : List ℕ) → size ≡ p.settings.hash_block
+    → length block ≡ size → l * size + size ≤ length path
     → block ≡ stored_above p i device l
     → ((m : ℕ) → m < l → slice_chunk path p.settings.hash_block m ≡ stored_above p i device m)
-    → (m : ℕ) → m < l + 1 → slice_chunk (put_mid (l * size) (l * size + size - l * size) path block) p.settings.hash_block m ≡ stored_above p i device m
+    → (m : ℕ) → m < l + 1
+    → slice_chunk (put_mid (l * size) (l * size + size - l * size) path block) p.settings.hash_block m
+    ≡ stored_above p i device m
 path-more p i l size path block device is len within stored below m less =
     let k = l * size + size - l * size in
     let after = put_mid (l * size) k path block in

@@ -1,7 +1,9 @@
 -- A block that is written field by field.
-use Rattle.std.proofs.Common.{◌≡◌, ℕ, ◌+◌, ◌-◌, ◌≤◌, List, ◌++◌, length, take, drop, replicate, arith, sym, ap, ◌∙◌, append_assoc, length-append}
+use Rattle.std.proofs.Common.{◌≡◌, ℕ, ◌+◌, ◌-◌, ◌≤◌, List, ◌++◌, length, take, drop, replicate, arith, sym, ap, ◌∙◌}
+use Rattle.std.proofs.Common.{append_assoc, length-append}
 use Rattle.std.proofs.Math.Seq.{take-add}
-use Rattle.std.proofs.lemmas.List.{drop-replicate, drop_at, length-replicate, length-take-le, replicate-append-replicate, take-replicate, take_at}
+use Rattle.std.proofs.lemmas.List.{drop-replicate, drop_at, length-replicate, length-take-le}
+use Rattle.std.proofs.lemmas.List.{replicate-append-replicate, take-replicate, take_at}
 use borrow.Rule.Slice.PartMut.{put_mid}
 use Rattle.verity_hash.specs.Bytes.{filled, IsHeld}
 
@@ -10,7 +12,8 @@ front_long : (n at : ℕ) (block : List ℕ) → IsHeld n block at → length (t
 front_long n at block held = length-take-le at block (omega (arith, held.whole, held.most))
 
 -- what has room after the fields has room after their offset
-pub room_after : (n at count : ℕ) (block fields : List ℕ) → IsHeld n block at → take at block ≡ fields → length fields + count ≤ n
+pub room_after : (n at count : ℕ) (block fields : List ℕ) → IsHeld n block at → take at block ≡ fields
+    → length fields + count ≤ n
     → at + count ≤ n
 room_after n at count block fields held same room = omega (arith, front_long n at block held, ap length same, room)
 
@@ -18,7 +21,8 @@ room_after n at count block fields held same room = omega (arith, front_long n a
 zeros_after : (n at : ℕ) (block : List ℕ) → IsHeld n block at → drop at block ≡ replicate (n - at) 0
 zeros_after n at block held =
     let long = front_long n at block held in
-    ap (drop at) held.zeros ∙ drop_at (take at block) (replicate (n - length (take at block)) 0) at long ∙ ap (λ m. replicate (n - m) 0) long
+    ap (drop at) held.zeros ∙ drop_at (take at block) (replicate (n - length (take at block)) 0) at long
+    ∙ ap (λ m. replicate (n - m) 0) long
 
 -- the block, with bytes put after its fields
 put_mid-filled : (n at k : ℕ) (block xs : List ℕ) → IsHeld n block at → k ≡ length xs
@@ -37,18 +41,26 @@ pub take-put_mid : (n at k end : ℕ) (block xs : List ℕ) → IsHeld n block a
 take-put_mid n at k end block xs held ends same =
     let long = front_long n at block held in
     ap (take end) (put_mid-filled n at k block xs held same)
-    ∙ take_at (take at block ++ xs) (replicate (n - length (take at block ++ xs)) 0) end (omega (arith, length-append (take at block) xs, long))
+    ∙ take_at (take at block ++ xs) (replicate (n - length (take at block ++ xs)) 0) end
+    (omega (arith, length-append (take at block) xs, long))
 
 -- a block that is its first bytes and zeros is held
-held_from : (n end : ℕ) (block front : List ℕ) → block ≡ filled n front → take end block ≡ front → length front ≤ n → end ≤ n → IsHeld n block end
+held_from : (n end : ℕ) (block front : List ℕ) → block ≡ filled n front → take end block ≡ front → length front ≤ n
+    → end ≤ n → IsHeld n block end
 held_from n end block front whole taken short most = record {
-  whole = ap length whole ∙ omega (arith, length-append front (replicate (n - length front) 0), length-replicate {A = ℕ} (n - length front) 0);
+  whole = ap length whole
+      ∙ omega (
+        arith,
+        length-append front (replicate (n - length front) 0),
+        length-replicate {A = ℕ} (n - length front) 0,
+      );
   most = most;
   zeros = whole ∙ ap (filled n) (sym taken);
 }
 
 -- the rest of the block is still zeros
-pub IsHeld-put_mid : (n at k end : ℕ) (block xs : List ℕ) → IsHeld n block at → end ≡ at + length xs → k ≡ length xs → end ≤ n
+pub IsHeld-put_mid : (n at k end : ℕ) (block xs : List ℕ) → IsHeld n block at → end ≡ at + length xs → k ≡ length xs
+    → end ≤ n
     → IsHeld n (put_mid at k block xs) end
 IsHeld-put_mid n at k end block xs held ends same room =
     let long = front_long n at block held in
@@ -60,7 +72,8 @@ pub take-zeros : (n at count : ℕ) (block : List ℕ) → IsHeld n block at →
     → take (at + count) block ≡ take at block ++ replicate count 0
 take-zeros n at count block held room =
     let less : count ≤ n - at = omega arith in
-    let zeros : take count (drop at block) ≡ replicate count 0 = ap (take count) (zeros_after n at block held) ∙ take-replicate count (n - at) 0 less in
+    let zeros : take count (drop at block) ≡ replicate count 0 =
+    ap (take count) (zeros_after n at block held) ∙ take-replicate count (n - at) 0 less in
     take-add at count block ∙ ap (λ (r : List ℕ). take at block ++ r) zeros
 
 pub IsHeld-zeros : (n at count : ℕ) (block : List ℕ) → IsHeld n block at → at + count ≤ n → IsHeld n block (at + count)
@@ -69,9 +82,11 @@ IsHeld-zeros n at count block held room =
     let put = replicate count 0 in
     let rest = n - length (front ++ put) in
     let long = front_long n at block held in
-    let size : length (front ++ put) ≡ at + count = omega (arith, length-append front put, length-replicate {A = ℕ} count 0, long) in
+    let size : length (front ++ put) ≡ at + count =
+    omega (arith, length-append front put, length-replicate {A = ℕ} count 0, long) in
     let all : count + rest ≡ n - length front = omega (arith, size, long) in
-    let same : put ++ replicate rest 0 ≡ replicate (n - length front) 0 = replicate-append-replicate count rest 0 ∙ ap (λ m. replicate m 0) all in
+    let same : put ++ replicate rest 0 ≡ replicate (n - length front) 0 =
+    replicate-append-replicate count rest 0 ∙ ap (λ m. replicate m 0) all in
     held_from n (at + count) block (front ++ put)
     (held.zeros ∙ ap (λ (r : List ℕ). front ++ r) (sym same) ∙ sym (append_assoc front put (replicate rest 0)))
     (take-zeros n at count block held room) (omega (arith, size)) room

@@ -1,17 +1,20 @@
 -- Bytes say a superblock exactly where they pass every test, and then just one.
-use Rattle.std.proofs.Common.{◌≡◌, ℕ, ◌*◌, ◌<◌, ◌≤◌, Bool, true, false, List, [], ◌∷◌, ◌++◌, length, take, drop, Option, Some, None, is_some, nat_le, nat_lt, arith, refl, ap, sym, ◌∙◌, length-drop}
+use Rattle.std.proofs.Common.{◌≡◌, ℕ, ◌*◌, ◌<◌, ◌≤◌, Bool, true, false, List, [], ◌∷◌, ◌++◌, length, take, drop, Option}
+use Rattle.std.proofs.Common.{Some, None, is_some, nat_le, nat_lt, arith, refl, ap, sym, ◌∙◌, length-drop}
 use Rattle.std.specs.Cmp.Lexicographic.{bytes_decides}
 use Rattle.std.proofs.lemmas.Bool.{eqb-true, le-leb, leb-true}
 use Rattle.std.proofs.lemmas.Bool.Decides.{nat_tests}
 use Rattle.std.proofs.lemmas.List.{length-take-le}
 use Rattle.verity_hash.specs.Algorithms.{named}
-use Rattle.verity_plan.specs.Plans.{most_bytes}
-use Rattle.verity_plan.specs.Settings.{Settings, IsValid, digest_len, is_verity_block_size, least_block, most_salt, rule_of, type_of_number}
+use Rattle.verity_io.specs.Writing.{most_bytes}
+use Rattle.verity_plan.specs.Settings.{Settings, IsValid, digest_len, is_verity_block_size, least_block, most_salt}
+use Rattle.verity_plan.specs.Settings.{rule_of, type_of_number}
 use Rattle.verity_plan.specs.declared.hash_type.HashType.{HashType}
 use Rattle.verity_plan.specs.declared.hash_type.HashType.TheVariants.{Original, Current}
 use Rattle.verity_format.specs.Fields.{field, number_at, until_zero}
 use Rattle.verity_format.specs.SuperblockFields.{SuperblockFields}
-use Rattle.verity_format.specs.Superblocks.{IsSuperblock, blocks_tests, cause, first_failed, header_tests, settings_tests, signature}
+use Rattle.verity_format.specs.Superblocks.{IsSuperblock, blocks_tests, cause, first_failed, header_tests}
+use Rattle.verity_format.specs.Superblocks.{settings_tests, signature}
 use Rattle.verity_format.specs.declared.super_fault.SuperFault.{SuperFault}
 use Rattle.verity_format.proofs.ReadLemmas.{IsValid-verity}
 
@@ -44,10 +47,18 @@ cause_none-says s none =
     let some : 0 < number_at 72 8 s = grind (arith, nat_tests, counted) in
     let within : number_at 72 8 s * number_at 64 4 s ≤ most_bytes = grind (arith, nat_tests, counted) in
     let salt = field 88 (number_at 80 2 s) s in
-    let held : length salt ≡ number_at 80 2 s = length-take-le (number_at 80 2 s) (drop 88 s) (omega (arith, length-drop 88 s)) in
+    let held : length salt ≡ number_at 80 2 s =
+    length-take-le (number_at 80 2 s) (drop 88 s) (omega (arith, length-drop 88 s)) in
     let sixteen : length (field 16 16 s) ≡ 16 = length-take-le 16 (drop 16 s) (omega (arith, length-drop 16 s)) in
-    let tree : Settings = record { algorithm = known.0; rule = rule_of typed.0; salt = salt; data_block = number_at 64 4 s; hash_block = number_at 68 4 s } in
-    let valid : IsValid tree = IsValid-verity known.0 typed.0 salt (number_at 64 4 s) (number_at 68 4 s) rest.0 rest.1.0 (omega arith) in (
+    let tree : Settings = record {
+      algorithm = known.0;
+      rule = rule_of typed.0;
+      salt = salt;
+      data_block = number_at 64 4 s;
+      hash_block = number_at 68 4 s;
+    } in
+    let valid : IsValid tree =
+    IsValid-verity known.0 typed.0 salt (number_at 64 4 s) (number_at 68 4 s) rest.0 rest.1.0 (omega arith) in (
       record { hash_type = typed.0; tree = tree; uuid = field 16 16 s; blocks = number_at 72 8 s },
       record {
         long = long;
@@ -56,7 +67,13 @@ cause_none-says s none =
         hash_type = typed.1;
         uuid = refl;
         blocks = refl;
-        tree = record { name = known.1; data_block = refl; hash_block = refl; salt_size = sym held; salt = ap (λ n. field 88 n s) held };
+        tree = record {
+          name = known.1;
+          data_block = refl;
+          hash_block = refl;
+          salt_size = sym held;
+          salt = ap (λ n. field 88 n s) held;
+        };
         valid = record { tree = valid; of_type = refl; uuid = sixteen; some = some; within = within };
       },
     )
@@ -74,12 +91,30 @@ pub says-cause_none : (s : List ℕ) (v : SuperblockFields) → IsSuperblock s v
 says-cause_none s v a =
     let rule = a.valid.of_type in
     let limits = a.valid.tree in
-    let least : least_block v.tree.rule (digest_len v.tree) ≡ 512 = ap (λ r. least_block r (digest_len v.tree)) rule ∙ least_512 v.hash_type (digest_len v.tree) in
+    let least : least_block v.tree.rule (digest_len v.tree) ≡ 512 =
+    ap (λ r. least_block r (digest_len v.tree)) rule ∙ least_512 v.hash_type (digest_len v.tree) in
     let most : most_salt v.tree.rule ≡ 256 = ap most_salt rule ∙ most_256 v.hash_type in
     let sized : is_verity_block_size v.tree.data_block ≡ true = rw least at limits.data_size in
     let hash_sized : is_verity_block_size v.tree.hash_block ≡ true = rw least at limits.hash_size in
     let long : nat_le 512 (length s) ≡ true = le-leb 512 (length s) a.long in
-    let short : nat_le (length v.tree.salt) 256 ≡ true = le-leb (length v.tree.salt) 256 (omega (arith, most, limits.salt_most)) in
+    let short : nat_le (length v.tree.salt) 256 ≡ true =
+    le-leb (length v.tree.salt) 256 (omega (arith, most, limits.salt_most)) in
     let some : nat_lt 0 v.blocks ≡ true = (let h = a.valid.some in grind (arith, nat_tests, h)) in
-    let within : nat_le (v.blocks * v.tree.data_block) most_bytes ≡ true = le-leb (v.blocks * v.tree.data_block) most_bytes a.valid.within in
-    rw (long, a.signed, a.version, a.hash_type, a.tree.data_block, sized, a.tree.hash_block, hash_sized, a.tree.name, a.tree.salt_size, short, a.blocks, some, within) refl
+    let within : nat_le (v.blocks * v.tree.data_block) most_bytes ≡ true =
+    le-leb (v.blocks * v.tree.data_block) most_bytes a.valid.within in
+    rw (
+      long,
+      a.signed,
+      a.version,
+      a.hash_type,
+      a.tree.data_block,
+      sized,
+      a.tree.hash_block,
+      hash_sized,
+      a.tree.name,
+      a.tree.salt_size,
+      short,
+      a.blocks,
+      some,
+      within,
+    ) refl

@@ -1,30 +1,36 @@
 -- Reading a superblock: which test fails first, and what the parts that pass make.
-use Rattle.std.proofs.Common.{◌≡◌, ℕ, ◌*◌, ◌<◌, ◌≤◌, ◌&&◌, Bool, true, false, List, [], ◌∷◌, ◌++◌, length, Option, Some, None, Ok, if◌then◌else◌, nat_le, nat_lt, take, arith, sym, ap, ◌∙◌, refl, subst}
+use Rattle.std.proofs.Common.{◌≡◌, ℕ, ◌*◌, ◌<◌, ◌≤◌, ◌&&◌, Bool, true, false, List, [], ◌∷◌, ◌++◌, length, Option, Some}
+use Rattle.std.proofs.Common.{None, Ok, if◌then◌else◌, nat_le, nat_lt, take, arith, sym, ap, ◌∙◌, refl, subst}
 use Rattle.std.proofs.lemmas.Bool.Decides.{nat_tests}
 use Rattle.verity_hash.specs.declared.algorithm.Algorithm.{Algorithm}
-use Rattle.verity_plan.specs.Plans.{most_bytes}
-use Rattle.verity_plan.specs.Settings.{Settings, IsValid, is_verity_block_size, rule_of, verity_settings, type_of_number}
+use Rattle.verity_io.specs.Writing.{most_bytes}
+use Rattle.verity_plan.specs.Settings.{Settings, IsValid, is_verity_block_size, rule_of, verity_settings}
+use Rattle.verity_plan.specs.Settings.{type_of_number}
 use Rattle.verity_plan.specs.declared.hash_type.HashType.{HashType}
 use Rattle.verity_plan.specs.declared.hash_type.HashType.TheVariants.{Original, Current}
 use Rattle.verity_format.specs.SuperblockFields.{SuperblockFields, superblock_of, superblock_of_type, type_of}
 use Rattle.verity_format.specs.Fields.{field, number_at}
-use Rattle.verity_format.specs.Superblocks.{AreSettings, IsSuperblock, blocks_tests, cause, first_failed, header_tests, settings_tests, signature}
+use Rattle.verity_format.specs.Superblocks.{AreSettings, IsSuperblock, blocks_tests, cause, first_failed, header_tests}
+use Rattle.verity_format.specs.Superblocks.{settings_tests, signature}
 use Rattle.verity_format.specs.declared.super_fault.SuperFault.{SuperFault}
 
 -- tests that pass leave it to those after them
-first_failed-passed : (xs ys : List (Bool × SuperFault)) → first_failed xs ≡ None → first_failed (xs ++ ys) ≡ first_failed ys
+first_failed-passed : (xs ys : List (Bool × SuperFault)) → first_failed xs ≡ None
+    → first_failed (xs ++ ys) ≡ first_failed ys
 first_failed-passed [] ys passed = refl
 first_failed-passed ((true, fault) ∷ xs) ys passed = first_failed-passed xs ys passed
 first_failed-passed ((false, fault) ∷ xs) ys passed = cc
 
 -- a test that fails decides
-first_failed-found : (xs ys : List (Bool × SuperFault)) (fault : SuperFault) → first_failed xs ≡ Some fault → first_failed (xs ++ ys) ≡ Some fault
+first_failed-found : (xs ys : List (Bool × SuperFault)) (fault : SuperFault) → first_failed xs ≡ Some fault
+    → first_failed (xs ++ ys) ≡ Some fault
 first_failed-found [] ys fault found = cc
 first_failed-found ((true, other) ∷ xs) ys fault found = first_failed-found xs ys fault found
 first_failed-found ((false, other) ∷ xs) ys fault found = found
 
 -- the header passes, and the settings do not
-pub cause-settings : (s : List ℕ) (fault : SuperFault) → first_failed (header_tests s) ≡ None → first_failed (settings_tests s) ≡ Some fault
+pub cause-settings : (s : List ℕ) (fault : SuperFault) → first_failed (header_tests s) ≡ None
+    → first_failed (settings_tests s) ≡ Some fault
     → cause s ≡ Some fault
 cause-settings s fault header found =
     first_failed-found (header_tests s ++ settings_tests s) (blocks_tests s) fault
@@ -41,7 +47,13 @@ cause-blocks s header settings =
 pub verity_settings-ok : (algorithm : Algorithm) (hash_type : HashType) (salt : List ℕ) (data_block hash_block : ℕ)
     → is_verity_block_size data_block ≡ true → is_verity_block_size hash_block ≡ true → length salt ≤ 256
     → verity_settings algorithm hash_type salt data_block hash_block
-    ≡ Ok (record { algorithm = algorithm; rule = rule_of hash_type; salt = salt; data_block = data_block; hash_block = hash_block })
+    ≡ Ok (record {
+      algorithm = algorithm;
+      rule = rule_of hash_type;
+      salt = salt;
+      data_block = data_block;
+      hash_block = hash_block;
+    })
 verity_settings-ok algorithm Original salt data_block hash_block sized hash_sized short =
     let fits : nat_lt 256 (length salt) ≡ false = grind (arith, nat_tests, short) in
     rw (sized, hash_sized, fits) refl
@@ -52,7 +64,13 @@ verity_settings-ok algorithm Current salt data_block hash_block sized hash_sized
 -- such settings are valid
 pub IsValid-verity : (algorithm : Algorithm) (hash_type : HashType) (salt : List ℕ) (data_block hash_block : ℕ)
     → is_verity_block_size data_block ≡ true → is_verity_block_size hash_block ≡ true → length salt ≤ 256
-    → IsValid (record { algorithm = algorithm; rule = rule_of hash_type; salt = salt; data_block = data_block; hash_block = hash_block })
+    → IsValid (record {
+      algorithm = algorithm;
+      rule = rule_of hash_type;
+      salt = salt;
+      data_block = data_block;
+      hash_block = hash_block;
+    })
 IsValid-verity algorithm Original salt data_block hash_block sized hash_sized short =
     record { data_size = sized; hash_size = hash_sized; salt_most = short; one_size = λ other. cc; known = λ other. cc }
 IsValid-verity algorithm Current salt data_block hash_block sized hash_sized short =
@@ -79,18 +97,22 @@ typed hash_type tree uuid blocks rule =
 -- what a new superblock is
 pub superblock_of-some : (hash_type : HashType) (tree : Settings) (uuid : List ℕ) (blocks : ℕ) (v : SuperblockFields)
     → tree.rule ≡ rule_of hash_type → superblock_of tree uuid blocks ≡ Some v
-    → (record { hash_type = hash_type; tree = tree; uuid = uuid; blocks = blocks } ≡ v) × (0 < blocks) × (blocks * tree.data_block ≤ most_bytes)
+    → (record { hash_type = hash_type; tree = tree; uuid = uuid; blocks = blocks } ≡ v) × (0 < blocks)
+    × (blocks * tree.data_block ≤ most_bytes)
 superblock_of-some hash_type tree uuid blocks v rule made =
-    let both = choice-some (nat_lt 0 blocks && nat_le (blocks * tree.data_block) most_bytes) _ v (sym (typed hash_type tree uuid blocks rule) ∙ made) in
+    let both = choice-some (nat_lt 0 blocks && nat_le (blocks * tree.data_block) most_bytes) _ v
+    (sym (typed hash_type tree uuid blocks rule) ∙ made) in
     let test = both.0 in
     (both.1, grind (arith, nat_tests, test), grind (arith, nat_tests, test))
 
 -- bytes whose parts make a superblock say it
-pub IsSuperblock-made : (s : List ℕ) (hash_type : HashType) (tree : Settings) (uuid : List ℕ) (blocks : ℕ) (v : SuperblockFields)
+pub IsSuperblock-made : (s : List ℕ) (hash_type : HashType) (tree : Settings) (uuid : List ℕ) (blocks : ℕ)
+    (v : SuperblockFields)
     → IsValid tree → tree.rule ≡ rule_of hash_type → length uuid ≡ 16 → superblock_of tree uuid blocks ≡ Some v
     → 512 ≤ length s → take 8 s ≡ signature → number_at 8 4 s ≡ 1 → type_of_number (number_at 12 4 s) ≡ Some hash_type
     → field 16 16 s ≡ uuid → AreSettings s tree → number_at 72 8 s ≡ blocks → IsSuperblock s v
-IsSuperblock-made s hash_type tree uuid blocks v valid rule sixteen made long signed version typed_as identity settings counted =
+IsSuperblock-made s hash_type tree uuid blocks v valid rule sixteen made long signed version typed_as identity settings
+    counted =
     let all = superblock_of-some hash_type tree uuid blocks v rule made in
     let P : SuperblockFields → Type 0 = λ w. IsSuperblock s w in
     subst P all.0 (record {
@@ -109,6 +131,7 @@ pub superblock_of-none : (hash_type : HashType) (tree : Settings) (uuid : List �
     → tree.rule ≡ rule_of hash_type → 0 < blocks → superblock_of tree uuid blocks ≡ None
     → nat_le (blocks * tree.data_block) most_bytes ≡ false
 superblock_of-none hash_type tree uuid blocks rule some made =
-    let test = choice-none (nat_lt 0 blocks && nat_le (blocks * tree.data_block) most_bytes) _ (sym (typed hash_type tree uuid blocks rule) ∙ made) in
+    let test = choice-none (nat_lt 0 blocks && nat_le (blocks * tree.data_block) most_bytes) _
+    (sym (typed hash_type tree uuid blocks rule) ∙ made) in
     let first : nat_lt 0 blocks ≡ true = grind (arith, nat_tests, some) in
     rw first at test

@@ -1,5 +1,6 @@
 -- The bytes of a superblock say it.
-use Rattle.std.proofs.Common.{◌≡◌, ℕ, ◌+◌, ◌-◌, ◌*◌, ◌<◌, ◌≤◌, List, ◌++◌, length, take, drop, replicate, Some, arith, refl, ap, sym, ◌∙◌, append_assoc, length-append}
+use Rattle.std.proofs.Common.{◌≡◌, ℕ, ◌+◌, ◌-◌, ◌*◌, ◌<◌, ◌≤◌, List, ◌++◌, length, take, drop, replicate, Some, arith}
+use Rattle.std.proofs.Common.{refl, ap, sym, ◌∙◌, append_assoc, length-append}
 use Rattle.std.proofs.Math.Nat.{le-mul_of_pos_right}
 use Rattle.std.proofs.Math.Seq.{drop-append-add}
 use Rattle.std.proofs.lemmas.List.{drop_at, length-replicate, take_at}
@@ -29,32 +30,37 @@ fields : SuperblockFields → List ℕ → List ℕ
 fields v z = signature ++ (little_bytes 4 1 ++ (little_bytes 4 (type_number v.hash_type) ++ (v.uuid
     ++ (filled 32 (name_of v.tree.algorithm) ++ tail v z))))
 
-grouped : (a b c d e f g h i j k z : List ℕ) → ((((((((((a ++ b) ++ c) ++ d) ++ e) ++ f) ++ g) ++ h) ++ i) ++ j) ++ k) ++ z
+grouped : (a b c d e f g h i j k z : List ℕ)
+    → ((((((((((a ++ b) ++ c) ++ d) ++ e) ++ f) ++ g) ++ h) ++ i) ++ j) ++ k) ++ z
     ≡ a ++ (b ++ (c ++ (d ++ (e ++ (f ++ (g ++ (h ++ (i ++ (j ++ (k ++ z))))))))))
 grouped a b c d e f g h i j k z = simp append_assoc
 
 text_is : (v : SuperblockFields) → (z : List ℕ) × (superblock_text v ≡ fields v z) × (512 ≤ length (superblock_text v))
 unfolding superblock_text fields tail
 text_is v =
-    let all = signature ++ little_bytes 4 1 ++ little_bytes 4 (type_number v.hash_type) ++ v.uuid ++ filled 32 (name_of v.tree.algorithm)
+    let all = signature ++ little_bytes 4 1 ++ little_bytes 4 (type_number v.hash_type) ++ v.uuid
+    ++ filled 32 (name_of v.tree.algorithm)
     ++ little_bytes 4 v.tree.data_block ++ little_bytes 4 v.tree.hash_block ++ little_bytes 8 v.blocks
     ++ little_bytes 2 (length v.tree.salt) ++ replicate 6 0 ++ v.tree.salt in
     let z = replicate (512 - length all) 0 in (
       z,
-      grouped signature (little_bytes 4 1) (little_bytes 4 (type_number v.hash_type)) v.uuid (filled 32 (name_of v.tree.algorithm))
+      grouped signature (little_bytes 4 1) (little_bytes 4 (type_number v.hash_type)) v.uuid
+          (filled 32 (name_of v.tree.algorithm))
           (little_bytes 4 v.tree.data_block) (little_bytes 4 v.tree.hash_block) (little_bytes 8 v.blocks)
           (little_bytes 2 (length v.tree.salt)) (replicate 6 0) v.tree.salt z,
       omega (arith, length-append all z, length-replicate {A = ℕ} (512 - length all) 0),
     )
 
 -- what stands after a UUID and a name
-past : (uuid name rest : List ℕ) (m : ℕ) → length uuid ≡ 16 → length name ≡ 32 → drop (48 + m) (uuid ++ (name ++ rest)) ≡ drop m rest
+past : (uuid name rest : List ℕ) (m : ℕ) → length uuid ≡ 16 → length name ≡ 32
+    → drop (48 + m) (uuid ++ (name ++ rest)) ≡ drop m rest
 past uuid name rest m sixteen long =
     let both : length (uuid ++ name) + m ≡ 48 + m = omega (arith, length-append uuid name) in
     ap (drop (48 + m)) (sym (append_assoc uuid name rest))
     ∙ ap (λ (n : ℕ). drop n ((uuid ++ name) ++ rest)) (sym both) ∙ drop-append-add (uuid ++ name) rest m
 
-name_read : (algorithm : Algorithm) (rest : List ℕ) → named (until_zero (take 32 (filled 32 (name_of algorithm) ++ rest))) ≡ Some algorithm
+name_read : (algorithm : Algorithm) (rest : List ℕ)
+    → named (until_zero (take 32 (filled 32 (name_of algorithm) ++ rest))) ≡ Some algorithm
 name_read Sha256 rest = refl
 name_read Sha512 rest = refl
 name_read Sha1 rest = refl
@@ -81,7 +87,8 @@ salt_most Before = omega arith
 salt_most After = omega arith
 salt_most PaddedBefore = omega arith
 
-fields_say : (v : SuperblockFields) (z : List ℕ) → IsValidSuperblock v → 512 ≤ length (fields v z) → IsSuperblock (fields v z) v
+fields_say : (v : SuperblockFields) (z : List ℕ) → IsValidSuperblock v → 512 ≤ length (fields v z)
+    → IsSuperblock (fields v z) v
 unfolding fields tail number_at
 fields_say v z valid long =
     let name = filled 32 (name_of v.tree.algorithm) in
@@ -92,22 +99,30 @@ fields_say v z valid long =
     let after_blocks = little_bytes 2 (length v.tree.salt) ++ (replicate 6 0 ++ (v.tree.salt ++ z)) in
     let after_hash_block = little_bytes 8 v.blocks ++ after_blocks in
     let after_data_block = little_bytes 4 v.tree.hash_block ++ after_hash_block in
-    let size : number_at 80 2 (fields v z) ≡ length v.tree.salt = ap (little_number 2) (past v.uuid name (tail v z) 16 valid.uuid ln)
-    ∙ little_number-reads_back 2 (length v.tree.salt) (replicate 6 0 ++ (v.tree.salt ++ z)) (omega (arith, salt_most v.tree.rule, most)) in
+    let size : number_at 80 2 (fields v z) ≡ length v.tree.salt =
+    ap (little_number 2) (past v.uuid name (tail v z) 16 valid.uuid ln)
+    ∙ little_number-reads_back 2 (length v.tree.salt) (replicate 6 0 ++ (v.tree.salt ++ z))
+    (omega (arith, salt_most v.tree.rule, most)) in
     record {
       long = long;
       signed = refl;
       version = refl;
-      hash_type = ap type_of_number (little_number-reads_back 4 (type_number v.hash_type) (v.uuid ++ (name ++ tail v z)) (omega (arith, small))) ∙ type_read v.hash_type;
+      hash_type = ap type_of_number
+          (little_number-reads_back 4 (type_number v.hash_type) (v.uuid ++ (name ++ tail v z)) (omega (arith, small)))
+          ∙ type_read v.hash_type;
       uuid = take_at v.uuid (name ++ tail v z) 16 valid.uuid;
       tree = record {
-        name = ap (λ (t : List ℕ). named (until_zero (take 32 t))) (drop_at v.uuid (name ++ tail v z) 16 valid.uuid) ∙ name_read v.tree.algorithm (tail v z);
+        name = ap (λ (t : List ℕ). named (until_zero (take 32 t))) (drop_at v.uuid (name ++ tail v z) 16 valid.uuid)
+            ∙ name_read v.tree.algorithm (tail v z);
         data_block = ap (little_number 4) (past v.uuid name (tail v z) 0 valid.uuid ln)
-            ∙ little_number-reads_back 4 v.tree.data_block after_data_block (omega (arith, data_most v.tree valid.tree));
+            ∙ little_number-reads_back 4 v.tree.data_block after_data_block
+            (omega (arith, data_most v.tree valid.tree));
         hash_block = ap (little_number 4) (past v.uuid name (tail v z) 4 valid.uuid ln)
-            ∙ little_number-reads_back 4 v.tree.hash_block after_hash_block (omega (arith, hash_most v.tree valid.tree));
+            ∙ little_number-reads_back 4 v.tree.hash_block after_hash_block
+            (omega (arith, hash_most v.tree valid.tree));
         salt_size = size;
-        salt = ap (take (length v.tree.salt)) (past v.uuid name (tail v z) 24 valid.uuid ln) ∙ take_at v.tree.salt z (length v.tree.salt) refl;
+        salt = ap (take (length v.tree.salt)) (past v.uuid name (tail v z) 24 valid.uuid ln)
+            ∙ take_at v.tree.salt z (length v.tree.salt) refl;
       };
       blocks = ap (little_number 8) (past v.uuid name (tail v z) 8 valid.uuid ln)
           ∙ little_number-reads_back 8 v.blocks after_blocks (omega (arith, blocks, valid.within));

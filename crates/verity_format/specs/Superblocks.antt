@@ -1,25 +1,27 @@
 -- The superblock's bytes, and what bytes say as a superblock (cryptsetup's on-disk format page, "dm-verity header").
 --
---   offset  length  field                  written                     read
---        0       8  signature              "verity" and two zeros      must be these bytes
---        8       4  version                1                           must be 1
---       12       4  hash type              its number                  must be a type's number
---       16      16  UUID                   its bytes                   any
---       32      32  algorithm              name, then zeros            a known name, then a zero unless it fills the field
---       64       4  data block size        in bytes                    a power of two, 512 to 524288
---       68       4  hash block size        in bytes                    a power of two, 512 to 524288
---       72       8  number of data blocks                              at least 1, and at most 2 ^ 63 - 1 bytes of data
---       80       2  salt size              0 to 256                    0 to 256
---       82       6  pad                    zeros                       ignored
---       88     256  salt                   salt, then zeros            the first salt size bytes
---      344     168  pad                    zeros                       ignored
-use Rattle.std.specs.Prelude.{◌≡◌, ℕ, ◌*◌, ◌≤◌, ◌==◌, Bool, List, [], ◌∷◌, ◌++◌, length, take, replicate, codes, Option, Some, None, is_some, if◌then◌else◌, nat_le, nat_lt}
+--   offset  length  field                  written                 read
+--        0       8  signature              "verity" and two zeros  must be these bytes
+--        8       4  version                1                       must be 1
+--       12       4  hash type              its number              must be a type's number
+--       16      16  UUID                   its bytes               any
+--       32      32  algorithm              name, then zeros        a known name, then a zero unless it fills the field
+--       64       4  data block size        in bytes                a power of two, 512 to 524288
+--       68       4  hash block size        in bytes                a power of two, 512 to 524288
+--       72       8  number of data blocks                          at least 1, and at most 2 ^ 63 - 1 bytes of data
+--       80       2  salt size              0 to 256                0 to 256
+--       82       6  pad                    zeros                   ignored
+--       88     256  salt                   salt, then zeros        the first salt size bytes
+--      344     168  pad                    zeros                   ignored
+use Rattle.std.specs.Prelude.{◌≡◌, ℕ, ◌*◌, ◌≤◌, ◌==◌, Bool, List, [], ◌∷◌, ◌++◌, length, take, replicate, codes, Option}
+use Rattle.std.specs.Prelude.{Some, None, is_some, if◌then◌else◌, nat_le, nat_lt}
 use Rattle.std.specs.Str.{bytes_eq}
 use Rattle.byteorder.specs.Endian.{little_bytes}
 use Rattle.verity_hash.specs.Algorithms.{name_of, named}
 use Rattle.verity_hash.specs.Bytes.{filled}
 use Rattle.verity_hash.specs.declared.salting.SaltRule.TheVariants.{Before}
-use Rattle.verity_plan.specs.Plans.{most_bytes, superblock_size}
+use Rattle.verity_io.specs.Writing.{most_bytes}
+use Rattle.verity_plan.specs.Plans.{superblock_size}
 use Rattle.verity_plan.specs.Settings.{Settings, is_verity_block_size, most_salt, type_number, type_of_number}
 use Rattle.verity_format.specs.Fields.{field, number_at, until_zero}
 use Rattle.verity_format.specs.SuperblockFields.{SuperblockFields, IsValidSuperblock}

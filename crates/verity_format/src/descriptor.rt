@@ -1,6 +1,7 @@
 //! The fs-verity descriptor and the file digest.
 ghost use Rattle.std.specs.Prelude.{◌≡◌, ◌≤◌, ◌<◌, SomeIff};
-ghost use Rattle.verity_format.specs.Descriptors.{IsDescribed, IsValidDescriptor, algorithm_number, descriptor_text, digest_of_file, log2};
+ghost use Rattle.verity_format.specs.Descriptors.{IsDescribed, IsValidDescriptor, algorithm_number, descriptor_text};
+ghost use Rattle.verity_format.specs.Descriptors.{digest_of_file, log2};
 
 use crate::field_writer::FieldWriter;
 use std::marker::Model;
@@ -32,7 +33,8 @@ impl Descriptor {
     /// The descriptor of a file of so many bytes with this root hash. `None` where the settings are not fs-verity's or
     /// the root hash is not as long as the algorithm's digests.
     pub fn of(tree: &TreeSettings, size: u64, root: &Digest) -> Option<Descriptor>
-        ensures { SomeIff result (IsDescribed tree.now root.now) (record { tree = tree.now; size = size; root = root.now }) }
+        ensures { SomeIff result (IsDescribed tree.now root.now)
+            (record { tree = tree.now; size = size; root = root.now }) }
     {
         let _valid = tree.data_block();
         match tree.rule() {

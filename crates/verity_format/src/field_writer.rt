@@ -6,7 +6,8 @@ ghost use Rattle.verity_hash.specs.Bytes.{filled};
 use byteorder::{ByteOrder, LittleEndian};
 use std::marker::Model;
 
-/// The first fields of a block of `N` bytes, which contracts see as the bytes put so far. The rest of the block is zeros.
+/// The first fields of a block of `N` bytes, which contracts see as the bytes put so far. The rest of the block is
+/// zeros.
 #[derive(Drop)]
 pub(crate) struct FieldWriter<const N: usize> {
     bytes: [u8; N],

@@ -38,7 +38,8 @@ impl Formatted {
 /// The formatted digest, or `None` where fs-verity has no number for the algorithm or the digest is not as long as the
 /// algorithm's digests.
 pub fn formatted_digest(algorithm: Algorithm, digest: &Digest) -> Option<Formatted>
-    ensures { SomeIff result ((0 < algorithm_number algorithm) × (length digest.now ≡ digest_len_of algorithm)) (formatted algorithm digest.now) }
+    ensures { SomeIff result ((0 < algorithm_number algorithm) × (length digest.now ≡ digest_len_of algorithm))
+        (formatted algorithm digest.now) }
 {
     let digest = digest.as_bytes();
     let number = number_of(algorithm);

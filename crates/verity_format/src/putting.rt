@@ -16,7 +16,8 @@ pub struct PutFault(pub usize);
 pub fn put_all<W: Write>(writer: &mut W, text: &[u8]) -> Result<(), PutFault>
     ensures whole { OnOk result (Appends (W.contents writer.old) (W.contents writer.new) text.now) }
     ensures fewer { IfErr result (λ fault. taken fault < length text.now) }
-    ensures front { IfErr result (λ fault. Appends (W.contents writer.old) (W.contents writer.new) (take (taken fault) text.now)) }
+    ensures front { IfErr result
+        (λ fault. Appends (W.contents writer.old) (W.contents writer.new) (take (taken fault) text.now)) }
 {
     let mut taken = 0;
     while taken < text.len() {
@@ -33,8 +34,8 @@ pub fn put_all<W: Write>(writer: &mut W, text: &[u8]) -> Result<(), PutFault>
     Ok(())
 }
 
-/// One write, tried again where a signal interrupts it: how many bytes were taken. The error is never an interrupt: it is
-/// the writer's, or that all tries were interrupted.
+/// One write, tried again where a signal interrupts it: how many bytes were taken. The error is never an interrupt: it
+/// is the writer's, or that all tries were interrupted.
 fn write_retrying<W: Write>(writer: &mut W, text: &[u8]) -> io::Result<usize>
     ensures bound { IfOk result (λ count. count ≤ length text.now) }
     ensures front { WriteAppends (W.contents writer.old) (W.contents writer.new) result text.now }

@@ -10,7 +10,7 @@ use crate::writing::VERSION;
 use crate::{SuperFault, Superblock};
 use byteorder::{ByteOrder, LittleEndian};
 use verity_hash::Algorithm;
-use verity_plan::{HashType, MOST_SALT, TreeSettings, is_verity_block_size};
+use verity_plan::{HashType, MOST_SALT, SUPERBLOCK_SIZE, TreeSettings, is_verity_block_size};
 
 /// The superblock that the first 512 bytes say, or the first test that they fail (cryptsetup's on-disk format page,
 /// "dm-verity header"). Pads, what follows the name's first zero, what follows the salt, and bytes after the 512th are
@@ -19,7 +19,7 @@ pub fn read_superblock(bytes: &[u8]) -> Result<Superblock, SuperFault>
     ensures value { IfOk result (λ superblock. IsSuperblock bytes.now superblock) }
     ensures fault { IfErr result (λ fault. cause bytes.now ≡ Some fault) }
 {
-    if bytes.len() < 512 {
+    if bytes.len() < SUPERBLOCK_SIZE {
         return Err(SuperFault::Short);
     }
     if &bytes[..8] != b"verity\0\0".as_slice() {
@@ -85,7 +85,13 @@ fn settings_within_limits(
     requires data_size { is_verity_block_size data_block ≡ true }
     requires hash_size { is_verity_block_size hash_block ≡ true }
     requires salt_size { length salt.now ≤ most_salt Before }
-    ensures value { result ≡ record { algorithm = algorithm; rule = rule_of hash_type; salt = salt.now; data_block = data_block; hash_block = hash_block } }
+    ensures value { result ≡ record {
+      algorithm = algorithm;
+      rule = rule_of hash_type;
+      salt = salt.now;
+      data_block = data_block;
+      hash_block = hash_block;
+    } }
     ensures valid { IsValid result }
 {
     TreeSettings::verity(algorithm, hash_type, salt, data_block, hash_block).unwrap()

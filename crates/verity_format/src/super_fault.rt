@@ -1,6 +1,7 @@
 //! Why bytes are no superblock.
 
-/// The first test that bytes fail as a superblock, in this order (cryptsetup's on-disk format page, "dm-verity header").
+/// The first test that bytes fail as a superblock, in this order (cryptsetup's on-disk format page, "dm-verity
+/// header").
 #[derive(Clone, Copy, Debug, PartialEq, Eq)]
 pub enum SuperFault {
     /// There are fewer than 512 bytes.

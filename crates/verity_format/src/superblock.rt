@@ -4,7 +4,8 @@ ghost use Rattle.verity_format.specs.SuperblockFields.{IsValidSuperblock, superb
 
 use std::marker::Model;
 use verity_hash::SaltRule;
-use verity_plan::{HashType, MOST_BYTES, TreeSettings};
+use verity_io::MOST_BYTES;
+use verity_plan::{HashType, TreeSettings};
 
 /// A superblock of dm-verity, version 1: what a tree on a device was made by (cryptsetup's on-disk format page,
 /// "dm-verity header"). Valid by its type, so that it can be written.
@@ -23,7 +24,8 @@ impl Model for Superblock {
 
     ghost view = { λ s. record { hash_type = s.hash_type; tree = s.tree; uuid = s.uuid; blocks = s.blocks } };
 
-    ghost invariant = { λ s. IsValidSuperblock (record { hash_type = s.hash_type; tree = s.tree; uuid = s.uuid; blocks = s.blocks }) };
+    ghost invariant = { λ s. IsValidSuperblock
+        (record { hash_type = s.hash_type; tree = s.tree; uuid = s.uuid; blocks = s.blocks }) };
 
     ghost inverse = { λ v. record { hash_type = v.hash_type; tree = v.tree; uuid = v.uuid; blocks = v.blocks } };
 }

@@ -4,13 +4,14 @@ ghost use Rattle.verity_format.specs.Superblocks.{superblock_text};
 
 use crate::Superblock;
 use crate::field_writer::FieldWriter;
+use verity_plan::SUPERBLOCK_SIZE;
 
 /// The version that is written and read.
 pub(crate) const VERSION: u32 = 1;
 
 /// The 512 bytes of a superblock (cryptsetup's on-disk format page, "dm-verity header"): numbers are little-endian, and
 /// what no field covers is zero.
-pub fn write_superblock(superblock: &Superblock) -> [u8; 512]
+pub fn write_superblock(superblock: &Superblock) -> [u8; SUPERBLOCK_SIZE]
     ensures { result ≡ superblock_text superblock.now }
 {
     let tree = superblock.tree();

@@ -126,7 +126,7 @@ impl Hasher for Sha512 {
 }
 
 /// The digest of these bytes, of which there are 1 to 64.
-fn digest_of(bytes: &[u8]) -> Digest
+pub(crate) fn digest_of(bytes: &[u8]) -> Digest
     requires some { 0 < length bytes.now }
     requires most { length bytes.now ≤ 64 }
     ensures { result ≡ bytes.now }

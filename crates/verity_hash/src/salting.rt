@@ -20,7 +20,7 @@ pub enum SaltRule {
 }
 
 /// Zeros to pad a salt with, as many as the longest input block has bytes.
-const ZEROS: [u8; 128] = [0; 128];
+pub(crate) const ZEROS: [u8; 128] = [0; 128];
 
 /// A hasher that has taken all that is hashed for a block.
 fn fed<H: Hasher>(algorithm: Algorithm, rule: SaltRule, salt: &[u8], block: &[u8]) -> H

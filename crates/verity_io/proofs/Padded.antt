@@ -1,5 +1,6 @@
 -- A list that is filled up with zeros.
-use Rattle.std.proofs.Common.{◌≡◌, ℕ, ◌+◌, ◌-◌, ◌≤◌, inl, inr, List, ◌++◌, length, take, drop, replicate, sym, ◌∙◌, ap, arith, append-nil, length-append}
+use Rattle.std.proofs.Common.{◌≡◌, ℕ, ◌+◌, ◌-◌, ◌≤◌, inl, inr, List, ◌++◌, length, take, drop, replicate, sym, ◌∙◌, ap}
+use Rattle.std.proofs.Common.{arith, append-nil, length-append}
 use Rattle.std.proofs.lemmas.List.{take-append-le, take_all, take-replicate, drop_all, length-replicate}
 use Rattle.std.proofs.Math.Seq.{take-append-add}
 use Rattle.std.proofs.lemmas.Bool.{cases_lt}
@@ -12,12 +13,14 @@ take_padded xs at n le =
     elim (cases_lt at (length xs)) [
       | inl short ↦
           let none : at - length xs ≡ 0 = omega arith in
-          let front : take at (xs ++ replicate (n - length xs) 0) ≡ take at xs = take-append-le at xs (replicate (n - length xs) 0) (omega arith) in
+          let front : take at (xs ++ replicate (n - length xs) 0) ≡ take at xs =
+          take-append-le at xs (replicate (n - length xs) 0) (omega arith) in
           rw none (front ∙ sym (append-nil (take at xs)))
       | inr long ↦
           let split : length xs + (at - length xs) ≡ at = omega arith in
           let all : take at xs ≡ xs = take_all at xs long in
-          let seam : take (length xs + (at - length xs)) (xs ++ replicate (n - length xs) 0) ≡ xs ++ take (at - length xs) (replicate (n - length xs) 0)
+          let seam : take (length xs + (at - length xs)) (xs ++ replicate (n - length xs) 0) ≡ xs
+          ++ take (at - length xs) (replicate (n - length xs) 0)
           = take-append-add xs (replicate (n - length xs) 0) (at - length xs) in
           let zeros : take (at - length xs) (replicate (n - length xs) 0) ≡ replicate (at - length xs) 0
           = take-replicate (at - length xs) (n - length xs) 0 (omega arith) in

@@ -1,5 +1,5 @@
--- Counts of failures, this project's own: a source and a device keep one, which stops at the last value of a u64. And what
--- contracts see of a source or a device round a call.
+-- Counts of failures, this project's own: a source and a device keep one, which stops at the last value of a u64. And
+-- what contracts see of a source or a device round a call.
 use Rattle.std.specs.Prelude.{◌≡◌, ℕ, ◌+◌, ◌-◌, ◌^◌, ◌≤◌, min, Bool, true, false, List, Result, MatchResult}
 use Rattle.verity_io.specs.declared.failed.Failed.{Failed}
 

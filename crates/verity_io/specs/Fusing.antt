@@ -9,8 +9,8 @@ abbrev pub fused_inner : {T : Type 0} → Fused T → T
 fused_inner f = f.inner
 
 -- the number of the call that fails, from 1
-abbrev pub fused_at : {T : Type 0} → Fused T → ℕ
-fused_at f = f.at
+abbrev pub fused_call : {T : Type 0} → Fused T → ℕ
+fused_call f = f.call
 
 -- how often it was called
 abbrev pub fused_calls : {T : Type 0} → Fused T → ℕ
@@ -22,12 +22,12 @@ fused_failures f = f.failures
 
 -- its next call is the one to fail
 abbrev pub BlowsNext : {T : Type 0} → Fused T → Type 0
-BlowsNext f = fused_calls f + 1 ≡ fused_at f
+BlowsNext f = fused_calls f + 1 ≡ fused_call f
 
 -- a call is counted, up to the last count, and the number of the call that fails stays
 abbrev pub CountsCall : {T : Type 0} → Fused T → Fused T → Type 0
 CountsCall before after =
-    (fused_calls after ≡ min (fused_calls before + 1) last_count) × (fused_at after ≡ fused_at before)
+    (fused_calls after ≡ min (fused_calls before + 1) last_count) × (fused_call after ≡ fused_call before)
 
 -- the call that fails leaves the value within
 abbrev pub IsBlown : {T X : Type 0} → Fused T → Fused T → Result X Failed → Type 0

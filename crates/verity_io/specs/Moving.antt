@@ -1,5 +1,5 @@
--- What a read or a write at an offset of a file is: lseek(2), and then read(2) or write(2) of POSIX, as far as the file says
--- where it stands and what bytes it has.
+-- What a read or a write at an offset of a file is: lseek(2), and then read(2) or write(2) of POSIX, as far as the file
+-- says where it stands and what bytes it has.
 use Rattle.std.specs.Prelude.{◌≡◌, ℕ, ◌<◌, ◌≤◌, List, length, take, Option, Some, IfSome}
 use Rattle.std.specs.Io.KnownBytes.{Consumes, IsAtEnd}
 use Rattle.verity_io.specs.declared.file_device.FileDevice.{FileDevice}

@@ -1,4 +1,5 @@
--- What reads of a source and of a device give: read(2) and pread(2) of POSIX over lists of bytes, with a failed read that takes nothing.
+-- What reads of a source and of a device give: read(2) and pread(2) of POSIX over lists of bytes, with a failed read
+-- that takes nothing.
 use Rattle.std.specs.Prelude.{IfOk, ◌≡◌, ◌≤◌, ℕ, ◌<◌, List, [], ◌++◌, length, take, drop, Result, MatchResult}
 use Rattle.verity_io.specs.declared.failed.Failed.{Failed}
 
@@ -7,13 +8,15 @@ pub record HasRead (n : ℕ) (before after : List ℕ) : Type 0 where
   pub enough : n ≤ length before
   pub rest : after ≡ drop n before
 
--- the first k bytes of the buffer were the next of the source, none only at its end or with no room; all stay at a failure
+-- the first k bytes of the buffer were the next of the source, none only at its end or with no room; all stay at a
+-- failure
 abbrev pub TakesNext : Result ℕ Failed → List ℕ → List ℕ → List ℕ → Type 0
 TakesNext result buf before after = MatchResult result
     (λ k. (before ≡ take k buf ++ after) × (k ≡ 0 → 0 < length buf → after ≡ []))
     (λ _. after ≡ before)
 
--- the buffer has the next bytes of the source, less than its length only at the end; at a failure less than that was read
+-- the buffer has the next bytes of the source, less than its length only at the end; at a failure less than that was
+-- read
 abbrev pub TakesBlock : Result ℕ Failed → List ℕ → List ℕ → List ℕ → Type 0
 TakesBlock result buf before after = MatchResult result
     (λ k. (before ≡ take k buf ++ after) × (k < length buf → after ≡ []))

@@ -1,6 +1,11 @@
--- What a write leaves on a device: pwrite(2) of POSIX over a list of bytes, where a gap past the old end reads as zeros. An
--- empty write past the end lengthens this list, which pwrite(2) doesn't do; no hash block is empty.
-use Rattle.std.specs.Prelude.{◌≡◌, ◌⊎◌, ℕ, ◌+◌, ◌-◌, ◌<◌, ◌≤◌, max, List, ◌++◌, length, take, drop, replicate, slice_index}
+-- What a write leaves on a device: pwrite(2) of POSIX over a list of bytes, where a gap past the old end reads as
+-- zeros. An empty write past the end lengthens this list, which pwrite(2) doesn't do; no hash block is empty.
+use Rattle.std.specs.Prelude.{◌≡◌, ◌⊎◌, ℕ, ◌+◌, ◌-◌, ◌^◌, ◌<◌, ◌≤◌, max, List, ◌++◌, length, take, drop, replicate}
+use Rattle.std.specs.Prelude.{slice_index}
+
+-- the most bytes of a device: the largest offset of a file (`off_t` of POSIX's <sys/types.h>, of 64 bits)
+abbrev pub most_bytes : ℕ
+most_bytes = 2 ^ 63 - 1
 
 -- the bytes with others put at an offset, and zeros in a gap
 abbrev pub put : List ℕ → ℕ → List ℕ → List ℕ

@@ -1,13 +1,16 @@
 //! Devices of bytes, which are read and written at any offset.
-ghost use Rattle.std.specs.Prelude.{◌≡◌, ◌≤◌, ◌+◌, ◌^◌, ◌-◌, ℕ, List, length, IfOk, OnOk, OnErr};
+ghost use Rattle.std.specs.Prelude.{◌≡◌, ◌≤◌, ◌+◌, ℕ, List, length, IfOk, OnOk, OnErr};
 ghost use Rattle.verity_io.specs.Counting.{CountsFailure};
 ghost use Rattle.verity_io.specs.Reading.{ReadsAt};
-ghost use Rattle.verity_io.specs.Writing.{put, Spoiled};
+ghost use Rattle.verity_io.specs.Writing.{most_bytes, put, Spoiled};
 
 use crate::failed::Failed;
 
-/// What holds a tree of hash blocks. Laws on bytes hold where the device tells its bytes, as one over memory does and one
-/// over a file doesn't.
+/// The most bytes of a device, 2^63 - 1: the largest offset of a file (`off_t` of POSIX's `<sys/types.h>`, of 64 bits).
+pub const MOST_BYTES: u64 = (1 << 63) - 1;
+
+/// What holds a tree of hash blocks. Laws on bytes hold where the device tells its bytes, as one over memory does and
+/// one over a file doesn't.
 pub trait Device {
     /// Whether the value tells its bytes.
     ghost tells: { Self → Type 0 };
@@ -28,13 +31,14 @@ pub trait Device {
         ensures count { CountsFailure (failures self.old) (failures self.new) result };
 
     /// Writes at an offset in bytes, with zeros in a gap past the old end. The offset plus the number of bytes is at
-    /// most 2^63 - 1. `Failed` where it can't be written: then what stands there, from the offset on for as many bytes as were
-    /// to be written, is unknown, every other byte stays, and the device is no shorter than before and no longer than the
-    /// write would have made it; a gap that has come is zeros.
+    /// most `MOST_BYTES`. `Failed` where it can't be written: then what stands there, from the offset on for as many
+    /// bytes as were to be written, is unknown, every other byte stays, and the device is no shorter than before and no
+    /// longer than the write would have made it; a gap that has come is zeros.
     fn write_at(&mut self, at: u64, bytes: &[u8]) -> Result<(), Failed>
-        requires { at + length bytes.now ≤ 2 ^ 63 - 1 }
+        requires { at + length bytes.now ≤ most_bytes }
         ensures told { tells self.old → tells self.new }
         ensures ok { tells self.old → OnOk result (content self.new ≡ put (content self.old) at bytes.now) }
-        ensures failed { tells self.old → OnErr result (Spoiled (content self.old) at (length bytes.now) (content self.new)) }
+        ensures failed { tells self.old
+            → OnErr result (Spoiled (content self.old) at (length bytes.now) (content self.new)) }
         ensures count { CountsFailure (failures self.old) (failures self.new) result };
 }

@@ -1,15 +1,16 @@
 //! A device over an opened file.
-ghost use Rattle.std.specs.Prelude.{◌≡◌, ◌⊎◌, ◌≤◌, ◌+◌, ◌-◌, ◌^◌, [], length, IfOk, IfSome, OnOk};
+ghost use Rattle.std.specs.Prelude.{◌≡◌, ◌⊎◌, ◌≤◌, ◌+◌, [], length, IfOk, IfSome, OnOk};
 ghost use Rattle.std.specs.Io.KnownBytes.{Appends, Keeps};
 ghost use Rattle.std.specs.Io.Seek.{MovesTo};
 ghost use Rattle.verity_io.specs.Counting.{CountsFailure};
 ghost use Rattle.verity_io.specs.Moving.{file_of, EndsBefore, Fills, From};
+ghost use Rattle.verity_io.specs.Writing.{most_bytes};
 
 use crate::device::Device;
 use crate::failed::{Failed, counted};
 use crate::file_source::read_some;
-use std::fs::File;
-use std::io::{Read, Seek, SeekFrom, Write};
+use std::fs::{File, OpenFile};
+use std::io::{ErrorKind, Read, Seek, SeekFrom, Write};
 
 /// An opened file that is read and written at any offset. It doesn't tell its bytes. Interrupted reads and writes are
 /// tried again.
@@ -29,8 +30,28 @@ impl<F: Read + Write + Seek> FileDevice<F> {
     }
 }
 
-/// A read or a write moves the file to its offset and then reads or writes there, as far as the file says where it stands
-/// and what bytes it has.
+impl<F: OpenFile> FileDevice<F> {
+    /// Asks the system to keep on the disk what was written (fsync(2)), and fails where it refuses. A kind of file that
+    /// can't be synced, as the null device, is let pass.
+    pub fn sync(&self) -> Result<(), Failed> {
+        match self.file.sync_all() {
+            Ok(()) => Ok(()),
+            Err(error) if is_unsyncable(error.kind()) => Ok(()),
+            Err(_) => Err(Failed),
+        }
+    }
+}
+
+/// Whether the error says that this kind of file can't be synced (fsync(2), `EINVAL` and `EROFS`).
+fn is_unsyncable(kind: ErrorKind) -> bool {
+    matches!(
+        kind,
+        ErrorKind::InvalidInput | ErrorKind::Unsupported | ErrorKind::ReadOnlyFilesystem
+    )
+}
+
+/// A read or a write moves the file to its offset and then reads or writes there, as far as the file says where it
+/// stands and what bytes it has.
 impl<F: Read + Write + Seek> Device for FileDevice<F> {
     ghost tells = { λ _. ⊥ };
 
@@ -40,7 +61,8 @@ impl<F: Read + Write + Seek> Device for FileDevice<F> {
 
     fn read_at(&mut self, at: u64, buf: &mut [u8]) -> Result<usize, Failed>
         ensures bound { IfOk result (λ k. k ≤ length buf.new) }
-        ensures count { CountsFailure (⟦<FileDevice<F> as Device>⟧.failures self.old) (⟦<FileDevice<F> as Device>⟧.failures self.new) result }
+        ensures count { CountsFailure (⟦<FileDevice<F> as Device>⟧.failures self.old)
+            (⟦<FileDevice<F> as Device>⟧.failures self.new) result }
         ensures bytes { IfOk result (λ k.
             EndsBefore (F.stream_position (file_of self.old)) (F.stream_bytes (file_of self.old)) at k
             ⊎ From F.stream_position (file_of self.old) at (λ moved.
@@ -51,8 +73,9 @@ impl<F: Read + Write + Seek> Device for FileDevice<F> {
     }
 
     fn write_at(&mut self, at: u64, bytes: &[u8]) -> Result<(), Failed>
-        requires { at + length bytes.now ≤ 2 ^ 63 - 1 }
-        ensures count { CountsFailure (⟦<FileDevice<F> as Device>⟧.failures self.old) (⟦<FileDevice<F> as Device>⟧.failures self.new) result }
+        requires { at + length bytes.now ≤ most_bytes }
+        ensures count { CountsFailure (⟦<FileDevice<F> as Device>⟧.failures self.old)
+            (⟦<FileDevice<F> as Device>⟧.failures self.new) result }
         ensures bytes { OnOk result (From F.stream_position (file_of self.old) at (λ moved.
             Appends (F.contents moved) (F.contents (file_of self.new)) bytes.now)) }
     {

@@ -10,9 +10,9 @@ use std::fs::File;
 use std::io;
 use std::io::{ErrorKind, Read, Take};
 
-/// The bytes of an opened file from where it stands on, up to a length. The length is the one found at opening: a file that
-/// grows while it is read, since the hash blocks are written into it, gives no more. Over a file of the system it doesn't
-/// tell its bytes; over a reader whose bytes are known it does.
+/// The bytes of an opened file from where it stands on, up to a length. The length is the one found at opening: a file
+/// that grows while it is read, since the hash blocks are written into it, gives no more. Over a file of the system it
+/// doesn't tell its bytes; over a reader whose bytes are known it does.
 #[derive(Drop)]
 pub struct FileSource<F = File> {
     file: Take<F>,
@@ -23,7 +23,7 @@ impl<F: Read> FileSource<F> {
     /// A source of the next bytes of the file, `length` of them or as many as there are.
     pub fn new(file: F, length: u64) -> Self
         ensures told { IsSome (F.remaining file) → ⟦<FileSource<F> as Source>⟧.tells result }
-        ensures bytes { ⟦<FileSource<F> as Source>⟧.to_come result ≡ take length (unwrap_or (F.remaining file) []) }
+        ensures bytes { ⟦<FileSource<F> as Source>⟧.remaining result ≡ take length (unwrap_or (F.remaining file) []) }
         ensures failures { ⟦<FileSource<F> as Source>⟧.failures result ≡ 0 }
     {
         FileSource {
@@ -44,7 +44,7 @@ impl<F: Read> Source for FileSource<F> {
     // As far as the reader says: one over memory does, and a file of the system doesn't.
     ghost tells = { λ s. IsSome (take_remaining F.remaining s.file) };
 
-    ghost to_come = { λ s. unwrap_or (take_remaining F.remaining s.file) [] };
+    ghost remaining = { λ s. unwrap_or (take_remaining F.remaining s.file) [] };
 
     ghost failures = { λ s. s.failures };
 

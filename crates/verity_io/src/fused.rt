@@ -1,9 +1,10 @@
 //! A source or device that fails one call.
-ghost use Rattle.std.specs.Prelude.{◌≡◌, ◌≤◌, ◌+◌, ◌-◌, ◌^◌, ◌↔◌, length, IfOk, OnOk, OnErr, IsTrue};
+ghost use Rattle.std.specs.Prelude.{◌≡◌, ◌≤◌, ◌+◌, ◌↔◌, length, IfOk, OnOk, OnErr, IsTrue};
 ghost use Rattle.verity_io.specs.Counting.{CountsFailure};
-ghost use Rattle.verity_io.specs.Fusing.{fused_inner, fused_at, fused_calls, fused_failures, BlowsNext, CountsCall, IsBlown, IsPassed};
+ghost use Rattle.verity_io.specs.Fusing.{fused_inner, fused_call, fused_calls, fused_failures, BlowsNext, CountsCall};
+ghost use Rattle.verity_io.specs.Fusing.{IsBlown, IsPassed};
 ghost use Rattle.verity_io.specs.Reading.{ReadsAt, TakesNext};
-ghost use Rattle.verity_io.specs.Writing.{put, Spoiled};
+ghost use Rattle.verity_io.specs.Writing.{most_bytes, put, Spoiled};
 
 use crate::device::Device;
 use crate::failed::{Failed, counted};
@@ -14,22 +15,22 @@ use crate::source::Source;
 #[derive(Drop)]
 pub struct Fused<T> {
     inner: T,
-    at: u64,
+    call: u64,
     calls: u64,
     failures: u64,
 }
 
 impl<T> Fused<T> {
     /// Fails the call of this number, counted from 1, and none for 0.
-    pub fn new(inner: T, at: u64) -> Self
+    pub fn new(inner: T, call: u64) -> Self
         ensures inner { fused_inner result ≡ inner }
-        ensures at { fused_at result ≡ at }
+        ensures call { fused_call result ≡ call }
         ensures calls { fused_calls result ≡ 0 }
         ensures failures { fused_failures result ≡ 0 }
     {
         Fused {
             inner,
-            at,
+            call,
             calls: 0,
             failures: 0,
         }
@@ -75,14 +76,14 @@ impl<T> Fused<T> {
             return false;
         }
         self.calls += 1;
-        self.calls == self.at
+        self.calls == self.call
     }
 }
 
 impl<S: Source> Source for Fused<S> {
     ghost tells = { λ f. S.tells f.inner };
 
-    ghost to_come = { λ f. S.to_come f.inner };
+    ghost remaining = { λ f. S.remaining f.inner };
 
     ghost failures = { λ f. f.failures };
 
@@ -90,7 +91,7 @@ impl<S: Source> Source for Fused<S> {
         ensures bound { IfOk result (λ k. k ≤ length buf.new) }
         ensures told { S.tells (fused_inner self.old) → S.tells (fused_inner self.new) }
         ensures bytes { S.tells (fused_inner self.old) →
-            TakesNext result buf.new (S.to_come (fused_inner self.old)) (S.to_come (fused_inner self.new)) }
+            TakesNext result buf.new (S.remaining (fused_inner self.old)) (S.remaining (fused_inner self.new)) }
         ensures count { CountsFailure (fused_failures self.old) (fused_failures self.new) result }
         ensures calls { CountsCall self.old self.new }
         ensures blown { IsBlown self.old self.new result }
@@ -133,7 +134,7 @@ impl<D: Device> Device for Fused<D> {
     }
 
     fn write_at(&mut self, at: u64, bytes: &[u8]) -> Result<(), Failed>
-        requires { at + length bytes.now ≤ 2 ^ 63 - 1 }
+        requires { at + length bytes.now ≤ most_bytes }
         ensures told { D.tells (fused_inner self.old) → D.tells (fused_inner self.new) }
         ensures ok { D.tells (fused_inner self.old) →
             OnOk result (D.content (fused_inner self.new) ≡ put (D.content (fused_inner self.old)) at bytes.now) }

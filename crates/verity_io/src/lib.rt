@@ -12,7 +12,7 @@ mod memory_source;
 mod nowhere;
 mod source;
 
-pub use device::Device;
+pub use device::{Device, MOST_BYTES};
 pub use failed::Failed;
 pub use file_device::FileDevice;
 pub use file_source::FileSource;

@@ -1,8 +1,9 @@
 //! A device in memory.
-ghost use Rattle.std.specs.Prelude.{◌≡◌, ◌≤◌, ◌<◌, ◌+◌, ◌-◌, ◌^◌, ◌++◌, length, take, drop, replicate, IfOk, IsErr, IsOk, OnOk, OnErr};
+ghost use Rattle.std.specs.Prelude.{◌≡◌, ◌≤◌, ◌<◌, ◌+◌, ◌-◌, ◌++◌, length, take, drop, replicate, IfOk, IsErr, IsOk};
+ghost use Rattle.std.specs.Prelude.{OnOk, OnErr};
 ghost use Rattle.verity_io.specs.Counting.{CountsFailure};
 ghost use Rattle.verity_io.specs.Reading.{ReadsAt};
-ghost use Rattle.verity_io.specs.Writing.{put, Spoiled};
+ghost use Rattle.verity_io.specs.Writing.{most_bytes, put, Spoiled};
 
 use crate::device::Device;
 use crate::failed::{Failed, counted};
@@ -50,7 +51,8 @@ impl Device for MemoryDevice {
             ⟦<MemoryDevice as Device>⟧.content self.new ≡ ⟦<MemoryDevice as Device>⟧.content self.old }
         ensures bytes { ⟦<MemoryDevice as Device>⟧.tells self.old →
             ReadsAt result at (⟦<MemoryDevice as Device>⟧.content self.old) buf.new }
-        ensures count { CountsFailure (⟦<MemoryDevice as Device>⟧.failures self.old) (⟦<MemoryDevice as Device>⟧.failures self.new) result }
+        ensures count { CountsFailure (⟦<MemoryDevice as Device>⟧.failures self.old)
+            (⟦<MemoryDevice as Device>⟧.failures self.new) result }
     {
         let at = at as usize;
         if at >= self.bytes.len() {
@@ -62,15 +64,19 @@ impl Device for MemoryDevice {
     }
 
     fn write_at(&mut self, at: u64, bytes: &[u8]) -> Result<(), Failed>
-        requires { at + length bytes.now ≤ 2 ^ 63 - 1 }
+        requires { at + length bytes.now ≤ most_bytes }
         ensures grows { IsErr result → length (⟦<MemoryDevice as Device>⟧.content self.old) < at + length bytes.now }
-        ensures left { OnErr result (⟦<MemoryDevice as Device>⟧.content self.new ≡ ⟦<MemoryDevice as Device>⟧.content self.old) }
+        ensures left { OnErr result
+            (⟦<MemoryDevice as Device>⟧.content self.new ≡ ⟦<MemoryDevice as Device>⟧.content self.old) }
         ensures told { ⟦<MemoryDevice as Device>⟧.tells self.old → ⟦<MemoryDevice as Device>⟧.tells self.new }
         ensures ok { ⟦<MemoryDevice as Device>⟧.tells self.old →
-            OnOk result (⟦<MemoryDevice as Device>⟧.content self.new ≡ put (⟦<MemoryDevice as Device>⟧.content self.old) at bytes.now) }
+            OnOk result (⟦<MemoryDevice as Device>⟧.content self.new
+            ≡ put (⟦<MemoryDevice as Device>⟧.content self.old) at bytes.now) }
         ensures failed { ⟦<MemoryDevice as Device>⟧.tells self.old → OnErr result
-            (Spoiled (⟦<MemoryDevice as Device>⟧.content self.old) at (length bytes.now) (⟦<MemoryDevice as Device>⟧.content self.new)) }
-        ensures count { CountsFailure (⟦<MemoryDevice as Device>⟧.failures self.old) (⟦<MemoryDevice as Device>⟧.failures self.new) result }
+            (Spoiled (⟦<MemoryDevice as Device>⟧.content self.old) at (length bytes.now)
+            (⟦<MemoryDevice as Device>⟧.content self.new)) }
+        ensures count { CountsFailure (⟦<MemoryDevice as Device>⟧.failures self.old)
+            (⟦<MemoryDevice as Device>⟧.failures self.new) result }
     {
         let outcome = put_at(&mut self.bytes, at as usize, bytes);
         counted(&mut self.failures, outcome)
@@ -78,7 +84,7 @@ impl Device for MemoryDevice {
 }
 
 fn put_at(bytes: &mut Vec<u8>, at: usize, others: &[u8]) -> Result<(), Failed>
-    requires { at + length others.now ≤ 2 ^ 63 - 1 }
+    requires { at + length others.now ≤ most_bytes }
     ensures ok { OnOk result (bytes.new.items ≡ put bytes.old.items at others.now) }
     ensures err { OnErr result (bytes.new.items ≡ bytes.old.items) }
     ensures grows { IsErr result → length bytes.old.items < at + length others.now }

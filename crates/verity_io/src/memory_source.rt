@@ -39,7 +39,7 @@ impl<'a> MemorySource<'a> {
 impl<'a> Source for MemorySource<'a> {
     ghost tells = { λ _. Unit {0} };
 
-    ghost to_come = { λ s. s };
+    ghost remaining = { λ s. s };
 
     ghost failures = { λ _. 0 };
 

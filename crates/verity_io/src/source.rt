@@ -12,17 +12,17 @@ pub trait Source {
     ghost tells: { Self → Type 0 };
 
     /// The remaining bytes, where it tells them.
-    ghost to_come: { Self → List ℕ };
+    ghost remaining: { Self → List ℕ };
 
     /// How many calls have failed, up to the last value of a u64.
     ghost failures: { Self → ℕ };
 
-    /// Reads some of the next bytes into the start of the buffer, and none only at the end or with no room. The answer is
-    /// how many. `Failed` where the source can't be read: no byte is used up then, and the buffer holds anything.
+    /// Reads some of the next bytes into the start of the buffer, and none only at the end or with no room. The answer
+    /// is how many. `Failed` where the source can't be read: no byte is used up then, and the buffer holds anything.
     fn read(&mut self, buf: &mut [u8]) -> Result<usize, Failed>
         ensures bound { IfOk result (λ k. k ≤ length buf.new) }
         ensures told { tells self.old → tells self.new }
-        ensures bytes { tells self.old → TakesNext result buf.new (to_come self.old) (to_come self.new) }
+        ensures bytes { tells self.old → TakesNext result buf.new (remaining self.old) (remaining self.new) }
         ensures count { CountsFailure (failures self.old) (failures self.new) result };
 }
 
@@ -32,7 +32,7 @@ pub trait Source {
 pub fn read_block<S: Source>(source: &mut S, buf: &mut [u8]) -> Result<usize, Failed>
     ensures bound { IfOk result (λ k. k ≤ length buf.new) }
     ensures told { S.tells source.old → S.tells source.new }
-    ensures bytes { S.tells source.old → TakesBlock result buf.new (S.to_come source.old) (S.to_come source.new) }
+    ensures bytes { S.tells source.old → TakesBlock result buf.new (S.remaining source.old) (S.remaining source.new) }
     ensures count { CountsFailure (S.failures source.old) (S.failures source.new) result }
 {
     let mut filled = 0;

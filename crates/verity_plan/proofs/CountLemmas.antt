@@ -1,5 +1,6 @@
 -- Quotients rounded up.
-use Rattle.std.proofs.Common.{◌≡◌, ℕ, zero, suc, ◌+◌, ◌-◌, ◌*◌, ◌^◌, ◌<◌, ◌≤◌, true, false, leb, arith, sym, ◌∙◌, inl, inr}
+use Rattle.std.proofs.Common.{◌≡◌, ℕ, zero, suc, ◌+◌, ◌-◌, ◌*◌, ◌^◌, ◌<◌, ◌≤◌, true, false, leb, arith, sym, ◌∙◌, inl}
+use Rattle.std.proofs.Common.{inr}
 use Rattle.std.proofs.lemmas.Grind.{div_ceil_times}
 use Rattle.std.proofs.lemmas.Bool.Decides.{nat_tests, leb_tells}
 use Rattle.std.proofs.Math.Nat.{mul-le-mul_left, mul-le-mul_right, mul-pos, pow-zero, pow-suc}
@@ -42,7 +43,13 @@ div_ceil-div_ceil n a b pa pb =
 pub lt-pow_self : (fan n : ℕ) → 2 ≤ fan → n < fan ^ n
 lt-pow_self fan zero two = omega (arith, pow-zero fan)
 lt-pow_self fan (suc n) two =
-    omega (arith, pow-suc fan n, lt-pow_self fan n two, let at_least : 2 ≤ fan = two in mul-le-mul_right (fan ^ n) at_least)
+    omega (
+      arith,
+      pow-suc fan n,
+      lt-pow_self fan n two,
+      let at_least : 2 ≤ fan =
+          two in mul-le-mul_right (fan ^ n) at_least,
+    )
 
 pub IsLevelCount-level_count : (fan n : ℕ) → 2 ≤ fan → IsLevelCount fan n (level_count fan n)
 unfolding level_count
@@ -51,7 +58,8 @@ IsLevelCount-level_count fan n two =
     let found = IsLeast-least_from (λ l. nat_le n (fan ^ l)) 0 n n (omega arith) (omega arith) fits in
     record {
       enough = let pass : leb n (fan ^ level_count fan n) ≡ true = found.passing in grind (arith, nat_tests, pass);
-      least = λ m below. let fail : leb n (fan ^ m) ≡ false = found.least m (omega arith) below in grind (arith, nat_tests, fail);
+      least = λ m below. let fail : leb n (fan ^ m) ≡ false = found.least m (omega arith) below in grind
+          (arith, nat_tests, fail);
     }
 
 -- one run is enough exactly where the quotient rounded up is at most 1

@@ -1,5 +1,6 @@
 -- Fans and slot widths as powers of two.
-use Rattle.std.proofs.Common.{◌≡◌, ℕ, zero, suc, ◌+◌, ◌*◌, ◌/◌, ◌^◌, ◌<◌, ◌≤◌, max, true, false, ltb, leb, arith, ap, refl, inl, inr}
+use Rattle.std.proofs.Common.{◌≡◌, ℕ, zero, suc, ◌+◌, ◌*◌, ◌/◌, ◌^◌, ◌<◌, ◌≤◌, max, true, false, ltb, leb, arith, ap}
+use Rattle.std.proofs.Common.{refl, inl, inr}
 use Rattle.std.proofs.lemmas.Bool.Decides.{nat_tests}
 use Rattle.std.proofs.Math.Nat.{pow-suc, pow-le-pow_right, mul-le-mul_right, le_trans, div-mul-le_self}
 use Rattle.std.proofs.lemmas.Nat.{pow_pos, div-add-mod', mod_below}
@@ -11,12 +12,14 @@ use Rattle.verity_hash.specs.declared.algorithm.Algorithm.{Algorithm}
 use Rattle.verity_hash.specs.declared.algorithm.Algorithm.TheVariants.{Sha256, Sha512, Sha1, Sha224, Sha384}
 use Rattle.verity_hash.specs.declared.salting.SaltRule.{SaltRule}
 use Rattle.verity_hash.specs.declared.salting.SaltRule.TheVariants.{Before, After, PaddedBefore}
-use Rattle.verity_plan.specs.Settings.{Settings, IsValid, fan, digest_len, is_block_size, least_block, greatest_fan, least_power, least_up_to}
+use Rattle.verity_plan.specs.Settings.{Settings, IsValid, fan, digest_len, is_block_size, least_block, greatest_fan}
+use Rattle.verity_plan.specs.Settings.{least_power, least_up_to}
 use Rattle.verity_plan.proofs.LeastLemmas.{IsLeast, IsLeast-same, IsLeast-least_from}
 use Rattle.verity_plan.proofs.CountLemmas.{lt-pow_self, mul_le}
 
 -- the greatest power of two with room for as many digests
-pub greatest_fan-is : (len size k : ℕ) → 0 < len → 2 ^ k * len ≤ size → size < 2 ^ (k + 1) * len → greatest_fan len size ≡ 2 ^ k
+pub greatest_fan-is : (len size k : ℕ) → 0 < len → 2 ^ k * len ≤ size → size < 2 ^ (k + 1) * len
+    → greatest_fan len size ≡ 2 ^ k
 unfolding greatest_fan
 greatest_fan-is len size k some low high =
     let at_least : 1 ≤ len = omega arith in
@@ -31,7 +34,8 @@ greatest_fan-is len size k some low high =
           let below : 2 ^ (m + 1) * len ≤ size = le_trans (mul-le-mul_right len (pow-le-pow_right two more)) low in
           let failing : ltb size (2 ^ (m + 1) * len) ≡ false = grind (arith, nat_tests, below) in failing;
     } in
-    let found = IsLeast-least_from (λ m. nat_lt size (2 ^ (m + 1) * len)) 0 size k (omega arith) (omega (arith, within)) passing in
+    let found = IsLeast-least_from (λ m. nat_lt size (2 ^ (m + 1) * len)) 0 size k (omega arith)
+    (omega (arith, within)) passing in
     ap (λ (m : ℕ). 2 ^ m) (IsLeast-same (λ m. nat_lt size (2 ^ (m + 1) * len)) 0 _ k found here)
 
 -- half of a power of two that is not above a length is below it, as are the powers before it
@@ -52,7 +56,8 @@ least_power-is len k high low =
     let here : IsLeast (λ m. nat_le len (2 ^ m)) 0 k = record {
       from = omega arith;
       passing = passing;
-      least = λ m a b. let past = half_below len k m low b in let failing : leb len (2 ^ m) ≡ false = grind (arith, nat_tests, past) in failing;
+      least = λ m a b. let past = half_below len k m low b in let failing : leb len (2 ^ m)
+          ≡ false = grind (arith, nat_tests, past) in failing;
     } in
     let within : k ≤ len = elim (cases_lt len k) [
       | inl more ↦ absurd (omega (arith, half_below len k len low more, lt-pow_self 2 len (omega arith)))
@@ -62,7 +67,8 @@ least_power-is len k high low =
     ap (λ (m : ℕ). 2 ^ m) (IsLeast-same (λ m. nat_le len (2 ^ m)) 0 _ k found here)
 
 -- the greatest fan from a quotient
-pub greatest_fan-quotient : (len size k : ℕ) → 0 < len → 2 ^ k ≤ size / len → size / len < 2 * 2 ^ k → greatest_fan len size ≡ 2 ^ k
+pub greatest_fan-quotient : (len size k : ℕ) → 0 < len → 2 ^ k ≤ size / len → size / len < 2 * 2 ^ k
+    → greatest_fan len size ≡ 2 ^ k
 greatest_fan-quotient len size k some low high =
     let one_more : k + 1 ≡ suc k = omega arith in
     let next : size / len + 1 ≤ 2 ^ (k + 1) = omega (arith, pow-suc 2 k, ap (λ (n : ℕ). 2 ^ n) one_more, high) in
@@ -96,12 +102,14 @@ block_power least size h = grind (arith, nat_tests, h)
 block_most : (least size : ℕ) → is_block_size least size ≡ true → size ≤ 524288
 block_most least size h = grind (arith, nat_tests, h)
 
-two_slots_by : (rule : SaltRule) (algorithm : Algorithm) (size : ℕ) → is_block_size (least_block rule (digest_len_of algorithm)) size ≡ true → 2 * digest_len_of algorithm ≤ size
+two_slots_by : (rule : SaltRule) (algorithm : Algorithm) (size : ℕ)
+    → is_block_size (least_block rule (digest_len_of algorithm)) size ≡ true → 2 * digest_len_of algorithm ≤ size
 two_slots_by Before algorithm size h = omega (arith, block_least 512 size h, digest_len_of-most algorithm)
 two_slots_by After algorithm size h = omega (arith, block_least 512 size h, digest_len_of-most algorithm)
 two_slots_by PaddedBefore algorithm size h = block_least (2 * digest_len_of algorithm) size h
 
-some_block : (rule : SaltRule) (algorithm : Algorithm) (size : ℕ) → is_block_size (least_block rule (digest_len_of algorithm)) size ≡ true → 0 < size
+some_block : (rule : SaltRule) (algorithm : Algorithm) (size : ℕ)
+    → is_block_size (least_block rule (digest_len_of algorithm)) size ≡ true → 0 < size
 some_block rule algorithm size h = omega (arith, two_slots_by rule algorithm size h, digest_len_of-pos algorithm)
 
 two_from_power : (len size k : ℕ) → 2 * len ≤ size → ltb size (2 ^ (k + 1) * len) ≡ true → 2 ≤ 2 ^ k

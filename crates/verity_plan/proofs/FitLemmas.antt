@@ -1,5 +1,6 @@
 -- A hash block has room for its slots.
-use Rattle.std.proofs.Common.{◌≡◌, ℕ, zero, suc, ◌+◌, ◌-◌, ◌*◌, ◌^◌, ◌<◌, ◌≤◌, true, false, ltb, leb, arith, ap, refl, sym, subst, ◌∙◌, inl, inr}
+use Rattle.std.proofs.Common.{◌≡◌, ℕ, zero, suc, ◌+◌, ◌-◌, ◌*◌, ◌^◌, ◌<◌, ◌≤◌, true, false, ltb, leb, arith, ap, refl}
+use Rattle.std.proofs.Common.{sym, subst, ◌∙◌, inl, inr}
 use Rattle.std.proofs.lemmas.Bool.{cases_lt}
 use Rattle.std.proofs.lemmas.Bool.Decides.{nat_tests}
 use Rattle.std.proofs.lemmas.Nat.{leading_top, ones_cat, pow-add, pow_pos, zero_from_ones}
@@ -8,12 +9,14 @@ use Rattle.std.specs.Prelude.{nat_le, nat_lt, count_ones}
 use Rattle.std.specs.Int.{is_power_of_two}
 use Rattle.verity_hash.specs.declared.salting.SaltRule.{SaltRule}
 use Rattle.verity_hash.specs.declared.salting.SaltRule.TheVariants.{Before, After, PaddedBefore}
-use Rattle.verity_plan.specs.Settings.{Settings, IsValid, fan, digest_len, least_block, slot_width, width_by, least_up_to, greatest_fan, least_power}
+use Rattle.verity_plan.specs.Settings.{Settings, IsValid, fan, digest_len, least_block, slot_width, width_by}
+use Rattle.verity_plan.specs.Settings.{least_up_to, greatest_fan, least_power}
 use Rattle.verity_plan.proofs.LeastLemmas.{IsLeast, IsLeast-least_from}
 use Rattle.verity_plan.proofs.CountLemmas.{lt-pow_self, mul_le}
 use Rattle.verity_plan.proofs.FanLemmas.{block_power, digest_len_of-pos, fan-two, greatest_fan-found, two_slots}
 
-fits_from_power : (len size k : ℕ) → len ≤ size → IsLeast (λ m. nat_lt size (2 ^ (m + 1) * len)) 0 k → 2 ^ k * len ≤ size
+fits_from_power : (len size k : ℕ) → len ≤ size → IsLeast (λ m. nat_lt size (2 ^ (m + 1) * len)) 0 k
+    → 2 ^ k * len ≤ size
 fits_from_power len size zero one found = omega (arith, pow-zero 2, one, ap (λ (n : ℕ). n * len) (pow-zero 2))
 fits_from_power len size (suc k) one found =
     let fail : ltb size (2 ^ (k + 1) * len) ≡ false = found.least k (omega arith) (omega arith) in
@@ -35,7 +38,8 @@ power_of_two-is n some h =
     let high : n < 2 ^ suc top.0 = top.3 in
     let rest : n - 2 ^ top.0 < 2 ^ top.0 = omega (arith, low, high, pow-suc 2 top.0) in
     let same : n ≡ 1 * 2 ^ top.0 + (n - 2 ^ top.0) = omega (arith, low) in
-    let apart : count_ones n ≡ count_ones 1 + count_ones (n - 2 ^ top.0) = ap count_ones same ∙ ones_cat top.0 1 (n - 2 ^ top.0) rest in
+    let apart : count_ones n ≡ count_ones 1 + count_ones (n - 2 ^ top.0) =
+    ap count_ones same ∙ ones_cat top.0 1 (n - 2 ^ top.0) rest in
     let bit : 0 < count_ones 1 = elim (cases_lt 0 (count_ones 1)) [
       | inl more ↦ more
       | inr none ↦ absurd (omega (arith, zero_from_ones 1 (omega (arith, none))))
@@ -69,7 +73,8 @@ unfolding least_power
 least_power-half len some = half_short len _ some (least_power-found len)
 
 -- where so many digests fit into a power of two, so many of their slots do, each the least power of two that holds one
-slots_fit_power : (len b k w : ℕ) → 0 < len → 2 ^ k * len ≤ 2 ^ b → IsLeast (λ m. nat_le len (2 ^ m)) 0 w → 2 ^ k * 2 ^ w ≤ 2 ^ b
+slots_fit_power : (len b k w : ℕ) → 0 < len → 2 ^ k * len ≤ 2 ^ b → IsLeast (λ m. nat_le len (2 ^ m)) 0 w
+    → 2 ^ k * 2 ^ w ≤ 2 ^ b
 slots_fit_power len b k zero some low found =
     let one : 1 ≤ len = omega arith in
     omega (arith, mul-le-mul_left (2 ^ k) one, low, ap (λ (n : ℕ). 2 ^ k * n) (pow-zero 2))
@@ -89,7 +94,8 @@ slots_fit_power len b k (suc m) some low found =
 
 power_fits : (len b : ℕ) → 0 < len → len ≤ 2 ^ b → greatest_fan len (2 ^ b) * least_power len ≤ 2 ^ b
 unfolding greatest_fan least_power
-power_fits len b some one = slots_fit_power len b _ _ some (greatest_fan-fits len (2 ^ b) some one) (least_power-found len)
+power_fits len b some one =
+    slots_fit_power len b _ _ some (greatest_fan-fits len (2 ^ b) some one) (least_power-found len)
 
 -- as many slots as the fan fit, by the rule
 width_fits : (rule : SaltRule) (len size : ℕ) → 0 < len → len ≤ size → is_power_of_two size ≡ true

@@ -1,5 +1,6 @@
 -- What the least number that passes a test is.
-use Rattle.std.proofs.Common.{◌≡◌, ℕ, zero, suc, ◌+◌, ◌<◌, ◌≤◌, Bool, true, false, arith, sym, ◌∙◌, ap, subst, refl, inl, inr}
+use Rattle.std.proofs.Common.{◌≡◌, ℕ, zero, suc, ◌+◌, ◌<◌, ◌≤◌, Bool, true, false, arith, sym, ◌∙◌, ap, subst, refl}
+use Rattle.std.proofs.Common.{inl, inr}
 use Rattle.std.proofs.lemmas.Bool.{cases_lt, cases_eq}
 use Rattle.verity_plan.specs.Settings.{least_from}
 
@@ -30,12 +31,18 @@ pub IsLeast-least_from : (passes : ℕ → Bool) (l fuel k : ℕ) → l ≤ k �
 unfolding least_from
 IsLeast-least_from passes l zero k low high pass =
     let e : k ≡ l = omega arith in
-    record { from = omega arith; passing = subst (λ (n : ℕ). passes n ≡ true) e pass; least = λ m a b. absurd (omega arith) }
+    record {
+      from = omega arith;
+      passing = subst (λ (n : ℕ). passes n ≡ true) e pass;
+      least = λ m a b. absurd (omega arith);
+    }
 IsLeast-least_from passes l (suc fuel) k low high pass =
-    elim (passes l) as (λ b. passes l ≡ b → IsLeast passes l (elim b [ true ↦ l | false ↦ least_from passes (suc l) fuel ])) [
+    elim (passes l) as (λ b. passes l ≡ b
+    → IsLeast passes l (elim b [ true ↦ l | false ↦ least_from passes (suc l) fuel ])) [
       | true ↦ λ t. record { from = omega arith; passing = t; least = λ m a b. absurd (omega arith) }
       | false ↦ λ f.
-          let apart : l ≡ k → ⊥ = λ e. let again : passes l ≡ true = subst (λ (n : ℕ). passes n ≡ true) (sym e) pass in cc in
+          let apart : l ≡ k → ⊥ =
+          λ e. let again : passes l ≡ true = subst (λ (n : ℕ). passes n ≡ true) (sym e) pass in cc in
           let above : suc l ≤ k = omega (arith, apart) in
           let r = IsLeast-least_from passes (suc l) fuel k above (omega arith) pass in
           record {
@@ -53,5 +60,7 @@ pub least_from-same : (p q : ℕ → Bool) (l fuel : ℕ) → ((m : ℕ) → p m
 unfolding least_from
 least_from-same p q l zero same = refl
 least_from-same p q l (suc fuel) same =
-    ap (λ (b : Bool). let after : Bool → ℕ = λ c. elim c [ true ↦ l | false ↦ least_from p (suc l) fuel ] in after b) (same l)
-    ∙ ap (λ (x : ℕ). let after : Bool → ℕ = λ c. elim c [ true ↦ l | false ↦ x ] in after (q l)) (least_from-same p q (suc l) fuel same)
+    ap (λ (b : Bool). let after : Bool → ℕ = λ c. elim c [ true ↦ l | false ↦ least_from p (suc l) fuel ] in after b)
+    (same l)
+    ∙ ap (λ (x : ℕ). let after : Bool → ℕ = λ c. elim c [ true ↦ l | false ↦ x ] in after (q l))
+    (least_from-same p q (suc l) fuel same)

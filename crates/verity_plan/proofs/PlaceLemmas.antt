@@ -20,7 +20,8 @@ blocks_from-le fan n l k zero h =
     omega (arith, same)
 blocks_from-le fan n l zero (suc m) h = absurd (omega arith)
 blocks_from-le fan n l (suc k) (suc m) h =
-    let before : blocks_from fan n (l + 1 + m) (k - m) ≤ blocks_from fan n (l + 1) k = blocks_from-le fan n (l + 1) k m (omega arith) in
+    let before : blocks_from fan n (l + 1 + m) (k - m) ≤ blocks_from fan n (l + 1) k =
+    blocks_from-le fan n (l + 1) k m (omega arith) in
     let e : l + 1 + m ≡ l + suc m = omega arith in
     let f : k - m ≡ suc k - suc m = omega arith in
     let same : blocks_from fan n (l + 1 + m) (k - m) ≡ blocks_from fan n (l + suc m) (suc k - suc m) =
@@ -46,7 +47,8 @@ blocks_from-higher fan n l m levels h k =
     omega (arith, most, same)
 
 -- a block of a higher level stands before each of a lower one
-pub place-lt : (fan n base l j m k : ℕ) → IsTreeBlock fan n l j → IsTreeBlock fan n m k → l < m → place fan n base m k < place fan n base l j
+pub place-lt : (fan n base l j m k : ℕ) → IsTreeBlock fan n l j → IsTreeBlock fan n m k → l < m
+    → place fan n base m k < place fan n base l j
 place-lt fan n base l j m k low high less =
     omega (
       arith,
@@ -59,7 +61,8 @@ place-lt fan n base l j m k low high less =
 
 -- the level and the block at a place
 pub block_at_place : (fan n l k p : ℕ) → p < blocks_from fan n l k
-    → (m : ℕ) × (j : ℕ) × (l ≤ m) × (m < l + k) × (j < level_size fan n m) × (blocks_from fan n (m + 1) (l + k - (m + 1)) + j ≡ p)
+    → (m : ℕ) × (j : ℕ) × (l ≤ m) × (m < l + k) × (j < level_size fan n m)
+    × (blocks_from fan n (m + 1) (l + k - (m + 1)) + j ≡ p)
 block_at_place fan n l zero p h = absurd (omega (arith, h))
 block_at_place fan n l (suc k) p h =
     elim (cases_lt p (blocks_from fan n (l + 1) k)) [

@@ -1,12 +1,16 @@
 -- Sizes and places computed level by level.
-use Rattle.std.proofs.Common.{◌≡◌, ℕ, cond, zero, suc, ◌+◌, ◌-◌, ◌*◌, ◌/◌, ◌^◌, ◌<◌, ◌≤◌, arith, sym, ◌∙◌, ap, refl, inl, inr}
+use Rattle.std.proofs.Common.{◌≡◌, ℕ, cond, zero, suc, ◌+◌, ◌*◌, ◌/◌, ◌^◌, ◌<◌, ◌≤◌, arith, sym, ◌∙◌, ap, refl}
+use Rattle.std.proofs.Common.{inl, inr}
 use Rattle.std.proofs.lemmas.Bool.{cases_lt}
-use Rattle.std.proofs.Math.Nat.{pow-zero, pow-suc, pow-le-pow_left, pow-le-pow_right, one-le-pow, mul-le-mul_left, mul-le-mul_right, mul-le-mul, div-mul-le_self, zero-div}
+use Rattle.std.proofs.Math.Nat.{pow-suc, pow-le-pow_left, pow-le-pow_right, one-le-pow, mul-le-mul_left}
+use Rattle.std.proofs.Math.Nat.{mul-le-mul_right, mul-le-mul, div-mul-le_self, zero-div}
 use Rattle.std.proofs.Math.Bool.{and-false}
 use Rattle.std.proofs.lemmas.Bool.Decides.{nat_tests}
 use Rattle.std.proofs.lemmas.Nat.{div-add-mod', mod_below}
 use Rattle.std.specs.Prelude.{◌==◌, Bool, nat_le, nat_eq, true, false, Ok, Err}
-use Rattle.verity_plan.specs.Plans.{planned, Planned, IsPlanned, HasBlock, byte_of, place_of, levels_of, end_of, store_length_of, has_room, most_bytes}
+use Rattle.verity_io.specs.Writing.{most_bytes}
+use Rattle.verity_plan.specs.Plans.{planned, Planned, IsPlanned, HasBlock, byte_of, place_of, levels_of, end_of}
+use Rattle.verity_plan.specs.Plans.{store_length_of, has_room}
 use Rattle.verity_plan.specs.declared.plan_fault.PlanFault.TheVariants.{NoData, TooLarge}
 use Rattle.std.specs.Int.{div_ceil}
 use Rattle.verity_plan.specs.Counts.{level_count, level_size}
@@ -27,7 +31,8 @@ size-more fan n k size some is =
 -- a level has at most two thirds of the blocks below it
 pub div_ceil-half : (n a : ℕ) → 2 ≤ a → 1 < n → 3 * div_ceil n a ≤ 2 * n
 div_ceil-half n a two more =
-    let half : div_ceil n a ≤ (n + 1) / 2 = div_ceil-le n a ((n + 1) / 2) (omega arith) (omega (arith, mul-le-mul_left ((n + 1) / 2) two)) in
+    let half : div_ceil n a ≤ (n + 1) / 2 =
+    div_ceil-le n a ((n + 1) / 2) (omega arith) (omega (arith, mul-le-mul_left ((n + 1) / 2) two)) in
     omega (arith, half)
 
 -- where more than one block is left there is a level more
@@ -39,7 +44,14 @@ levels-more fan n k size two is more =
       | inl below ↦ below
       | inr past ↦
           let power : fan ^ level_count fan n ≤ fan ^ k = pow-le-pow_right some past in
-          absurd (omega (arith, count.enough, power, is, more, div_ceil-le n (fan ^ k) 1 (omega (arith, one-le-pow k fan some)) (omega (arith, count.enough, power))))
+          absurd (omega (
+            arith,
+            count.enough,
+            power,
+            is,
+            more,
+            div_ceil-le n (fan ^ k) 1 (omega (arith, one-le-pow k fan some)) (omega (arith, count.enough, power)),
+          ))
     ]
 
 -- where one block is left there is no level more
@@ -47,14 +59,15 @@ pub levels-all : (fan n k size : ℕ) → 2 ≤ fan → size ≡ div_ceil n (fan
 levels-all fan n k size two is one =
     let count = IsLevelCount-level_count fan n two in
     let some : 0 < fan = omega arith in
-    let enough : n ≤ 1 * fan ^ k = le-div_ceil n (fan ^ k) 1 (omega (arith, one-le-pow k fan some)) (omega (arith, is, one)) in
+    let enough : n ≤ 1 * fan ^ k =
+    le-div_ceil n (fan ^ k) 1 (omega (arith, one-le-pow k fan some)) (omega (arith, is, one)) in
     elim (cases_lt k (level_count fan n)) [
       | inl below ↦ absurd (omega (arith, count.least k below, enough))
       | inr past ↦ past
     ]
 
 -- the data blocks of a plan are at most as many as their bytes
-pub blocks_few : (p : Planned) → IsPlanned p → p.blocks ≤ 2 ^ 63 - 1
+pub blocks_few : (p : Planned) → IsPlanned p → p.blocks ≤ most_bytes
 blocks_few p h =
     let some : 1 ≤ p.settings.data_block = omega (arith, some_data p.settings h.valid) in
     omega (arith, mul-le-mul_left p.blocks some, h.data_most)
@@ -101,13 +114,18 @@ pub some_hash : (p : Planned) → IsPlanned p → 1 ≤ p.settings.hash_block
 some_hash p h = omega (arith, two_slots p.settings h.valid, digest_len_of-pos p.settings.algorithm)
 
 -- the end fits a number of 63 bits
-pub end_few : (p : Planned) → IsPlanned p → end_of p ≤ 2 ^ 63 - 1
+pub end_few : (p : Planned) → IsPlanned p → end_of p ≤ most_bytes
 end_few p h = omega (arith, mul-le-mul_left (end_of p) (some_hash p h), h.hash_most)
 
 -- a store's length is a small number
 pub store_few : (p : Planned) → IsPlanned p → store_length_of p ≤ 2 ^ 26
 store_few p h =
-    omega (arith, mul-le-mul (levels_few p h) (hash_most p.settings h.valid), hash_most p.settings h.valid, data_most p.settings h.valid)
+    omega (
+      arith,
+      mul-le-mul (levels_few p h) (hash_most p.settings h.valid),
+      hash_most p.settings h.valid,
+      data_most p.settings h.valid,
+    )
 
 -- some blocks have some bytes
 pub some_wanted : (wanted size blocks : ℕ) → blocks ≡ div_ceil wanted size → 0 < blocks → 0 < wanted
@@ -115,7 +133,8 @@ some_wanted zero size blocks is some = absurd (omega (arith, is, zero-div size))
 some_wanted (suc wanted) size blocks is some = omega arith
 
 -- a hash block is within the limit
-pub byte-room : (p : Planned) → IsPlanned p → (l j : ℕ) → HasBlock p l j → byte_of p l j + p.settings.hash_block ≤ 2 ^ 63 - 1
+pub byte-room : (p : Planned) → IsPlanned p → (l j : ℕ) → HasBlock p l j
+    → byte_of p l j + p.settings.hash_block ≤ most_bytes
 byte-room p h l j here =
     let within = (PlacesAreOnce-all (fan p.settings) p.blocks p.base).within l j here in
     let step : place_of p l j + 1 ≤ end_of p = omega (arith, within.1) in
@@ -125,7 +144,8 @@ byte-room p h l j here =
 pub planned_is : (asked plan : Planned) → Ok plan ≡ planned asked → plan ≡ asked
 planned_is asked plan is = by_tests (asked.blocks == 0) (has_room asked) is
   where
-    by_tests : (none room : Bool) → Ok plan ≡ cond none (Err NoData) (cond room (Ok asked) (Err TooLarge)) → plan ≡ asked
+    by_tests : (none room : Bool) → Ok plan ≡ cond none (Err NoData) (cond room (Ok asked) (Err TooLarge))
+        → plan ≡ asked
     by_tests true room e = absurd cc
     by_tests false true e = cc
     by_tests false false e = absurd cc

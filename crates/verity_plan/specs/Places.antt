@@ -19,6 +19,9 @@ byte_at s n base level block = place (fan s) n base level block * s.hash_block
 
 -- the places are base to the end, each that of one block
 pub record PlacesAreOnce (fan n base : ℕ) : Type 0 where
-  pub within : (l j : ℕ) → IsTreeBlock fan n l j → (base ≤ place fan n base l j) × (place fan n base l j < end_place fan n base)
-  pub once : (l j m k : ℕ) → IsTreeBlock fan n l j → IsTreeBlock fan n m k → place fan n base l j ≡ place fan n base m k → (l ≡ m) × (j ≡ k)
-  pub each : (p : ℕ) → base ≤ p → p < end_place fan n base → (l : ℕ) × (j : ℕ) × IsTreeBlock fan n l j × (place fan n base l j ≡ p)
+  pub within : (l j : ℕ) → IsTreeBlock fan n l j → (base ≤ place fan n base l j)
+      × (place fan n base l j < end_place fan n base)
+  pub once : (l j m k : ℕ) → IsTreeBlock fan n l j → IsTreeBlock fan n m k → place fan n base l j ≡ place fan n base m k
+      → (l ≡ m) × (j ≡ k)
+  pub each : (p : ℕ) → base ≤ p → p < end_place fan n base → (l : ℕ) × (j : ℕ) × IsTreeBlock fan n l j
+      × (place fan n base l j ≡ p)

@@ -16,7 +16,8 @@ pub record IsComputed (p : Inside) : Type 0 where
 
 -- fields with these levels and this end
 abbrev pub fields_from : Planned → ℕ → ℕ → Inside
-fields_from p levels end = record { settings = p.settings; blocks = p.blocks; wanted = p.wanted; base = p.base; levels = levels; end = end }
+fields_from p levels end =
+    record { settings = p.settings; blocks = p.blocks; wanted = p.wanted; base = p.base; levels = levels; end = end }
 
 -- the inverse of the view
 abbrev pub fields_of : Planned → Inside

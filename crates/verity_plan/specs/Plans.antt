@@ -1,7 +1,9 @@
--- A plan: what is read, and where each hash block goes; and which sizes make one: at least one data block, and a data area
--- and a hash area of at most 2 ^ 63 - 1 bytes each.
-use Rattle.std.specs.Prelude.{◌≡◌, ◌<◌, ◌≤◌, ℕ, ◌+◌, ◌-◌, ◌*◌, ◌/◌, ◌^◌, ◌&&◌, ◌==◌, Bool, true, false, nat_le, Option, Some, None, Result, Ok, Err, if◌then◌else◌}
+-- A plan: what is read, and where each hash block goes; and which sizes make one: at least one data block, and a data
+-- area and a hash area of at most as many bytes as a device can have, `most_bytes`.
+use Rattle.std.specs.Prelude.{◌≡◌, ◌<◌, ◌≤◌, ℕ, ◌+◌, ◌*◌, ◌/◌, ◌^◌, ◌&&◌, ◌==◌, Bool, true, false, nat_le, Option}
+use Rattle.std.specs.Prelude.{Some, None, Result, Ok, Err, if◌then◌else◌}
 use Rattle.std.specs.Int.{div_ceil}
+use Rattle.verity_io.specs.Writing.{most_bytes}
 use Rattle.verity_plan.specs.Counts.{level_count, level_size, IsTreeBlock}
 use Rattle.verity_plan.specs.Places.{byte_at, place, end_place}
 use Rattle.verity_plan.specs.Settings.{Settings, IsValid, fan}
@@ -19,17 +21,13 @@ pub record Planned : Type 0 where
 abbrev pub block_count : Settings → ℕ → ℕ
 block_count s size = div_ceil size s.data_block
 
--- the largest size of a data or hash area, in bytes
-abbrev pub most_bytes : ℕ
-most_bytes = 2 ^ 63 - 1
-
 -- the length of a superblock in bytes
 abbrev pub superblock_size : ℕ
 superblock_size = 512
 
--- where the hash area begins, in hash blocks: at the first whole hash block after a superblock at this offset, or at the
--- offset where there is no superblock (cryptsetup's on-disk format page; veritysetup(8), `--hash-offset`); none where the
--- superblock's end, or the offset, is past the limit
+-- where the hash area begins, in hash blocks: at the first whole hash block after a superblock at this offset, or at
+-- the offset where there is no superblock (cryptsetup's on-disk format page; veritysetup(8), `--hash-offset`); none
+-- where the superblock's end, or the offset, is past the limit
 abbrev pub base_of : ℕ → Bool → ℕ → Option ℕ
 base_of offset true hash_block =
     if nat_le (offset + superblock_size) most_bytes then Some (div_ceil (offset + superblock_size) hash_block) else None
@@ -68,7 +66,8 @@ store_length_of p = levels_of p * p.settings.hash_block + p.settings.data_block 
 
 -- both areas are within the limit
 abbrev pub has_room : Planned → Bool
-has_room p = nat_le (p.blocks * p.settings.data_block) most_bytes && nat_le (end_of p * p.settings.hash_block) most_bytes
+has_room p = nat_le (p.blocks * p.settings.data_block) most_bytes
+    && nat_le (end_of p * p.settings.hash_block) most_bytes
 
 -- a plan that can be carried out
 pub record IsPlanned (p : Planned) : Type 0 where
@@ -84,7 +83,8 @@ planned p = if p.blocks == 0 then Err NoData else (if has_room p then Ok p else 
 
 -- a plan for whole data blocks
 abbrev pub plan_for_blocks : Settings → ℕ → ℕ → Result Planned PlanFault
-plan_for_blocks s blocks base = planned (record { settings = s; blocks = blocks; wanted = blocks * s.data_block; base = base })
+plan_for_blocks s blocks base =
+    planned (record { settings = s; blocks = blocks; wanted = blocks * s.data_block; base = base })
 
 -- a plan for so many bytes, the last block perhaps not whole
 abbrev pub plan_for_bytes : Settings → ℕ → ℕ → Result Planned PlanFault

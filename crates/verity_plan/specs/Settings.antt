@@ -1,7 +1,8 @@
 -- What a tree is made by: the construction parameters of the Linux kernel's dm-verity page and the tree parameters of
 -- its fs-verity page; how wide a slot of a hash block is and how many slots a hash block has; and which parameters make
 -- settings.
-use Rattle.std.specs.Prelude.{◌≡◌, ℕ, zero, suc, ◌+◌, ◌*◌, ◌^◌, ◌≤◌, ◌&&◌, ◌==◌, Bool, true, false, not, List, length, Option, Some, None, Result, Ok, Err, if◌then◌else◌, nat_le, nat_lt}
+use Rattle.std.specs.Prelude.{◌≡◌, ℕ, zero, suc, ◌+◌, ◌*◌, ◌^◌, ◌≤◌, ◌&&◌, ◌==◌, Bool, true, false, not, List, length}
+use Rattle.std.specs.Prelude.{Option, Some, None, Result, Ok, Err, if◌then◌else◌, nat_le, nat_lt}
 use Rattle.std.specs.Int.{is_power_of_two}
 use Rattle.verity_hash.specs.Algorithms.{digest_len_of}
 use Rattle.verity_hash.specs.Bytes.{filled}
@@ -13,7 +14,8 @@ use Rattle.verity_hash.specs.declared.salting.SaltRule.TheVariants.{Before, Afte
 use Rattle.verity_plan.specs.declared.hash_type.HashType.{HashType}
 use Rattle.verity_plan.specs.declared.hash_type.HashType.TheVariants.{Original, Current}
 use Rattle.verity_plan.specs.declared.setting_fault.SettingFault.{SettingFault}
-use Rattle.verity_plan.specs.declared.setting_fault.SettingFault.TheVariants.{Algorithm as OtherAlgorithm, DataBlockSize, HashBlockSize, SaltSize}
+use Rattle.verity_plan.specs.declared.setting_fault.SettingFault.TheVariants.{Algorithm as OtherAlgorithm}
+use Rattle.verity_plan.specs.declared.setting_fault.SettingFault.TheVariants.{DataBlockSize, HashBlockSize, SaltSize}
 
 -- the first of least, least + 1, .. that passes a test; least + fuel if none before it does
 unfoldable pub least_from : (ℕ → Bool) → ℕ → ℕ → ℕ
@@ -66,18 +68,26 @@ slot s digest = filled (slot_width s) digest
 unfoldable pub fan : Settings → ℕ
 fan s = greatest_fan (digest_len s) s.hash_block
 
--- the largest block size (of dm-verity, and for fs-verity this project's own), the longest salt, the smallest block size
+-- the largest block size (of dm-verity, and for fs-verity this project's own); of dm-verity the smallest block size and
+-- the longest salt
 abbrev pub most_block : ℕ
 most_block = 524288
 
+abbrev pub least_verity_block : ℕ
+least_verity_block = 512
+
+abbrev pub most_verity_salt : ℕ
+most_verity_salt = 256
+
+-- by the place of the salt: the longest salt, and the smallest block size for digests of a length
 abbrev pub most_salt : SaltRule → ℕ
-most_salt Before = 256
-most_salt After = 256
+most_salt Before = most_verity_salt
+most_salt After = most_verity_salt
 most_salt PaddedBefore = 32
 
 abbrev pub least_block : SaltRule → ℕ → ℕ
-least_block Before digest_len = 512
-least_block After digest_len = 512
+least_block Before digest_len = least_verity_block
+least_block After digest_len = least_verity_block
 least_block PaddedBefore digest_len = 2 * digest_len
 
 -- a power of two within limits
@@ -86,7 +96,7 @@ is_block_size least size = is_power_of_two size && (nat_le least size && nat_le 
 
 -- a block size of dm-verity
 abbrev pub is_verity_block_size : ℕ → Bool
-is_verity_block_size size = is_block_size 512 size
+is_verity_block_size size = is_block_size least_verity_block size
 
 -- fs-verity knows the algorithm (Linux kernel, fs-verity page, "fs-verity descriptor")
 abbrev pub is_of_fsverity : Algorithm → Bool
@@ -117,10 +127,10 @@ type_number Current = 1
 abbrev pub type_of_number : ℕ → Option HashType
 type_of_number number = if number == 0 then Some Original else (if number == 1 then Some Current else None)
 
--- the settings, or the first parameter past its limits: those of dm-verity (block sizes 512 to 524288, salts of up to 256
--- bytes; cryptsetup's on-disk format page) and of fs-verity (block sizes are powers of two that hold at least two digests,
--- fsverity(1), `--block-size`, and Linux kernel, fs-verity page, "FS_IOC_ENABLE_VERITY"; salts of up to 32 bytes, the same
--- page). That fs-verity's blocks have at most 524288 bytes is this project's own limit.
+-- the settings, or the first parameter past its limits: those of dm-verity (block sizes 512 to 524288, salts of up to
+-- 256 bytes; cryptsetup's on-disk format page) and of fs-verity (block sizes are powers of two that hold at least two
+-- digests, fsverity(1), `--block-size`, and Linux kernel, fs-verity page, "FS_IOC_ENABLE_VERITY"; salts of up to 32
+-- bytes, the same page). That fs-verity's blocks have at most 524288 bytes is this project's own limit.
 abbrev pub checked : Settings → Result Settings SettingFault
 checked s = if not (is_block_size (least_block s.rule (digest_len_of s.algorithm)) s.data_block) then Err DataBlockSize
     else (if not (is_block_size (least_block s.rule (digest_len_of s.algorithm)) s.hash_block) then Err HashBlockSize
@@ -138,10 +148,11 @@ verity_settings algorithm hash_type salt data_block hash_block = checked (record
 
 -- settings of fs-verity: data and tree blocks have one size, and the algorithm is one that fs-verity knows
 abbrev pub fsverity_settings : Algorithm → List ℕ → ℕ → Result Settings SettingFault
-fsverity_settings algorithm salt block = if not (is_of_fsverity algorithm) then Err OtherAlgorithm else (checked (record {
-  algorithm = algorithm;
-  rule = PaddedBefore;
-  salt = salt;
-  data_block = block;
-  hash_block = block;
-}))
+fsverity_settings algorithm salt block = if not (is_of_fsverity algorithm) then Err OtherAlgorithm
+    else (checked (record {
+      algorithm = algorithm;
+      rule = PaddedBefore;
+      salt = salt;
+      data_block = block;
+      hash_block = block;
+    }))

@@ -18,8 +18,8 @@ pub fn fans_are_greatest()
     ensures greatest { (s : Settings) → s.hash_block < 2 * fan s * digest_len s }
 {}
 
-/// In dm-verity's hash type 1 a slot is the least power of two that isn't below a digest: half of it is. In hash type 0 and
-/// in fs-verity it is a digest.
+/// In dm-verity's hash type 1 a slot is the least power of two that isn't below a digest: half of it is. In hash type 0
+/// and in fs-verity it is a digest.
 pub fn slots_are_least()
     ensures digest { (s : Settings) → digest_len s ≤ slot_width s }
     ensures power { (s : Settings) → s.rule ≡ Before → (k : ℕ) × (slot_width s ≡ 2 ^ k) }

@@ -1,5 +1,5 @@
-//! What a tree of block hashes is made by, and where its blocks go, as the Linux kernel's dm-verity and fs-verity have it:
-//! hash type, settings, and the plan, which is arithmetic alone.
+//! What a tree of block hashes is made by, and where its blocks go, as the Linux kernel's dm-verity and fs-verity have
+//! it: hash type, settings, and the plan, which is arithmetic alone.
 #![tactic(auto)]
 
 mod base;
@@ -10,7 +10,7 @@ mod plan_fault;
 mod setting_fault;
 mod settings;
 
-pub use base::{MOST_BYTES, SUPERBLOCK_SIZE, base_of};
+pub use base::{SUPERBLOCK_SIZE, base_of};
 pub use hash_type::HashType;
 pub use plan::Plan;
 pub use plan_fault::PlanFault;

@@ -1,11 +1,16 @@
 //! What is read, and where each hash block goes.
-ghost use Rattle.std.specs.Prelude.{◌≡◌, ◌+◌, ◌-◌, ◌*◌, ◌^◌, ◌≤◌, ◌<◌};
-ghost use Rattle.verity_plan.specs.Plans.{Planned, IsPlanned, byte_of, most_bytes, levels_of, size_of_level, place_of, end_of, store_length_of, size_under, HasBlock, planned, plan_for_blocks, plan_for_bytes};
+ghost use Rattle.std.specs.Prelude.{◌≡◌, ◌+◌, ◌-◌, ◌*◌, ◌^◌, ◌≤◌, ◌<◌, length, map};
+ghost use Rattle.verity_hash.specs.Bytes.{four_blocks};
+ghost use Rattle.verity_io.specs.Writing.{most_bytes};
+ghost use Rattle.verity_plan.specs.Plans.{Planned, IsPlanned, byte_of, levels_of, size_of_level, place_of, end_of};
+ghost use Rattle.verity_plan.specs.Plans.{store_length_of, size_under, HasBlock, planned, plan_for_blocks};
+ghost use Rattle.verity_plan.specs.Plans.{plan_for_bytes};
 ghost use Rattle.verity_plan.specs.Settings.{digest_len, fan, hash, slot_width};
 
-use crate::{MOST_BYTES, PlanFault, TreeSettings};
+use crate::{PlanFault, TreeSettings};
 use std::marker::Model;
 use verity_hash::Digest;
+use verity_io::MOST_BYTES;
 
 /// A plan for the tree above some data: how many blocks there are, how many bytes are read for them, and where each
 /// hash block goes. It takes no memory of its own.
@@ -20,7 +25,7 @@ pub struct Plan {
 }
 
 impl Model for Plan {
-    ghost use Rattle.verity_plan.specs.Plans.{Planned, IsPlanned, byte_of, most_bytes, levels_of, end_of};
+    ghost use Rattle.verity_plan.specs.Plans.{Planned, IsPlanned, byte_of, levels_of, end_of};
     ghost use Rattle.std.specs.Prelude.{◌≡◌};
 
     ghost Value = { Planned };
@@ -40,11 +45,11 @@ ghost use Rattle.std.specs.Int.{div_ceil};
 ghost use Rattle.verity_plan.specs.Counts.{level_count, blocks_from};
 
 impl Plan {
-    /// A plan for so many whole data blocks, with the hash area from block `base` on, counted in hash blocks (Linux kernel,
-    /// dm-verity page, "Construction Parameters").
+    /// A plan for so many whole data blocks, with the hash area from block `base` on, counted in hash blocks (Linux
+    /// kernel, dm-verity page, "Construction Parameters").
     ///
-    /// `NoData` for no blocks; else `TooLarge` where the data area or the hash area, which ends after the last hash block,
-    /// would go past 2^63 - 1 bytes.
+    /// `NoData` for no blocks; else `TooLarge` where the data area or the hash area, which ends after the last hash
+    /// block, would go past 2^63 - 1 bytes.
     pub fn for_blocks(settings: &TreeSettings, blocks: u64, base: u64) -> Result<Plan, PlanFault>
         ensures { result ≡ plan_for_blocks settings.now blocks base }
     {
@@ -188,6 +193,14 @@ impl Plan {
         self.settings.hash(block)
     }
 
+    /// The salted hashes of four blocks of `size` bytes each, which stand one after another in `blocks`.
+    pub fn hash_four(&self, blocks: &[u8], size: usize) -> [Digest; 4]
+        requires { length blocks.now ≡ 4 * size }
+        ensures { result ≡ map (hash self.now.settings) (four_blocks size blocks.now) }
+    {
+        self.settings.hash_four(blocks, size)
+    }
+
     /// The place after the last hash block, counted in hash blocks.
     pub fn end(&self) -> u64
         ensures { result ≡ end_of self.now }
@@ -225,8 +238,8 @@ impl Plan {
         size
     }
 
-    /// The place of a block of a level, counted in hash blocks: the top level stands first (Linux kernel, dm-verity page,
-    /// "On-disk format"). The level is below the number of levels, and the block below the level's size.
+    /// The place of a block of a level, counted in hash blocks: the top level stands first (Linux kernel, dm-verity
+    /// page, "On-disk format"). The level is below the number of levels, and the block below the level's size.
     pub fn place(&self, level: usize, block: u64) -> u64
         requires { HasBlock self.now level block }
         ensures { result ≡ place_of self.now level block }

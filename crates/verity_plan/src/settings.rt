@@ -1,18 +1,22 @@
 //! What a tree is made by.
-ghost use Rattle.std.specs.Prelude.{true, ◌≡◌, ◌*◌, ◌≤◌, ◌<◌, length};
-ghost use Rattle.verity_plan.specs.Settings.{Settings, IsValid, hash, fan, slot_width, digest_len, least_block, is_block_size, is_verity_block_size, is_of_fsverity, most_salt, least_power, rule_of, checked, verity_settings, fsverity_settings};
+ghost use Rattle.std.specs.Prelude.{true, ◌≡◌, ◌*◌, ◌≤◌, ◌<◌, length, map};
+ghost use Rattle.verity_hash.specs.Bytes.{four_blocks};
+ghost use Rattle.verity_plan.specs.Settings.{Settings, IsValid, hash, fan, slot_width, digest_len, least_block};
+ghost use Rattle.verity_plan.specs.Settings.{is_block_size, is_verity_block_size, is_of_fsverity, most_block};
+ghost use Rattle.verity_plan.specs.Settings.{most_salt, least_power, rule_of, checked, verity_settings};
+ghost use Rattle.verity_plan.specs.Settings.{fsverity_settings};
 ghost use Rattle.verity_hash.specs.Algorithms.{digest_len_of};
 
 use crate::{HashType, SettingFault};
 use std::marker::Model;
-use verity_hash::{Algorithm, Digest, SaltRule, ShortBytes, salted};
+use verity_hash::{Algorithm, Digest, SaltRule, ShortBytes, salted, salted_four};
 
 /// What a tree is made by: algorithm, salt and where it goes, block sizes. Valid by its type.
 #[derive(Clone, Copy, Debug, PartialEq, Eq)]
 pub struct TreeSettings {
     algorithm: Algorithm,
     rule: SaltRule,
-    salt: ShortBytes<256>,
+    salt: ShortBytes<MOST_SALT>,
     data_block: u32,
     hash_block: u32,
 }
@@ -22,11 +26,30 @@ impl Model for TreeSettings {
 
     ghost Value = { Settings };
 
-    ghost view = { λ t. record { algorithm = t.algorithm; rule = t.rule; salt = t.salt; data_block = t.data_block; hash_block = t.hash_block } };
+    ghost view = { λ t. record {
+      algorithm = t.algorithm;
+      rule = t.rule;
+      salt = t.salt;
+      data_block = t.data_block;
+      hash_block = t.hash_block;
+    } };
 
-    ghost invariant = { λ t. IsValid (record { algorithm = t.algorithm; rule = t.rule; salt = t.salt; data_block = t.data_block; hash_block = t.hash_block }) };
+    ghost invariant = { λ t. IsValid
+        (record {
+          algorithm = t.algorithm;
+          rule = t.rule;
+          salt = t.salt;
+          data_block = t.data_block;
+          hash_block = t.hash_block;
+        }) };
 
-    ghost inverse = { λ s. record { algorithm = s.algorithm; rule = s.rule; salt = s.salt; data_block = s.data_block; hash_block = s.hash_block } };
+    ghost inverse = { λ s. record {
+      algorithm = s.algorithm;
+      rule = s.rule;
+      salt = s.salt;
+      data_block = s.data_block;
+      hash_block = s.hash_block;
+    } };
 }
 
 ghost use Rattle.verity_hash.specs.declared.salting.SaltRule.TheVariants.{PaddedBefore};
@@ -47,10 +70,10 @@ impl TreeSettings {
     }
 
     /// Settings of fs-verity: data and tree blocks have one size, a power of two of at least twice the digest's length
-    /// (fsverity(1), `--block-size`; Linux kernel, fs-verity page, "FS_IOC_ENABLE_VERITY"), and at most 524288, a limit of
-    /// this project's own; the salt has up to 32 bytes (the kernel's page again). The hash function is SHA-256 or SHA-512,
-    /// else the fault is `Algorithm`; then the first parameter past its limits is the fault: a bad block size is always
-    /// `DataBlockSize`, never `HashBlockSize`.
+    /// (fsverity(1), `--block-size`; Linux kernel, fs-verity page, "FS_IOC_ENABLE_VERITY"), and at most 524288, a limit
+    /// of this project's own; the salt has up to 32 bytes (the kernel's page again). The hash function is SHA-256 or
+    /// SHA-512, else the fault is `Algorithm`; then the first parameter past its limits is the fault: a bad block size
+    /// is always `DataBlockSize`, never `HashBlockSize`.
     pub fn fsverity(
         algorithm: Algorithm,
         salt: &[u8],
@@ -73,7 +96,14 @@ impl TreeSettings {
     ) -> Result<TreeSettings, SettingFault>
         requires one_size { rule ≡ PaddedBefore → data_block ≡ hash_block }
         requires known { rule ≡ PaddedBefore → is_of_fsverity algorithm ≡ true }
-        ensures { result ≡ checked (record { algorithm = algorithm; rule = rule; salt = salt.now; data_block = data_block; hash_block = hash_block }) }
+        ensures { result
+            ≡ checked (record {
+              algorithm = algorithm;
+              rule = rule;
+              salt = salt.now;
+              data_block = data_block;
+              hash_block = hash_block;
+            }) }
     {
         let least = least_block(rule, algorithm);
         if !is_block_size(least, data_block) {
@@ -139,7 +169,7 @@ impl TreeSettings {
     pub fn fan(&self) -> usize
         ensures value { result ≡ fan self.now }
         ensures two { 2 ≤ result }
-        ensures most { result ≤ 524288 }
+        ensures most { result ≤ most_block }
         ensures fits { fan self.now * slot_width self.now ≤ self.now.hash_block }
     {
         let slots = self.hash_block as usize / self.algorithm.digest_len();
@@ -166,6 +196,16 @@ impl TreeSettings {
     {
         salted(self.algorithm, self.rule, self.salt.as_bytes(), block)
     }
+
+    /// The salted hashes of four blocks of `size` bytes each, which stand one after another in `blocks`.
+    #[tactic(auto, unfolding(crate::specs::Settings::hash))]
+    pub fn hash_four(&self, blocks: &[u8], size: usize) -> [Digest; 4]
+        requires { length blocks.now ≡ 4 * size }
+        ensures { result ≡ map (hash self.now) (four_blocks size blocks.now) }
+    {
+        let salt = self.salt.as_bytes();
+        salted_four(self.algorithm, self.rule, salt, blocks, size)
+    }
 }
 
 /// Whether fs-verity knows the algorithm: SHA-256 and SHA-512 (Linux kernel, fs-verity page, "fs-verity descriptor").
@@ -175,12 +215,15 @@ pub fn is_of_fsverity(algorithm: Algorithm) -> bool
     matches!(algorithm, Algorithm::Sha256 | Algorithm::Sha512)
 }
 
+/// The smallest block size of dm-verity, in bytes (cryptsetup's on-disk format page, "dm-verity header").
+const LEAST_BLOCK: u32 = 512;
+
 /// The smallest block size.
 fn least_block(rule: SaltRule, algorithm: Algorithm) -> u32
     ensures { result ≡ least_block rule (digest_len_of algorithm) }
 {
     match rule {
-        SaltRule::Before | SaltRule::After => 512,
+        SaltRule::Before | SaltRule::After => LEAST_BLOCK,
         SaltRule::PaddedBefore => 2 * algorithm.digest_len() as u32,
     }
 }
@@ -208,13 +251,13 @@ fn is_block_size(least: u32, size: u32) -> bool
     size.is_power_of_two() && least <= size && size <= MOST_BLOCK
 }
 
-/// Whether a block size, in bytes, is one of dm-verity's: a power of two from 512 to 524288 (cryptsetup's on-disk format
-/// page, "dm-verity header").
+/// Whether a block size, in bytes, is one of dm-verity's: a power of two from 512 to 524288 (cryptsetup's on-disk
+/// format page, "dm-verity header").
 pub fn is_verity_block_size(size: u64) -> bool
     ensures { result ≡ is_verity_block_size size }
 {
     match u32::try_from(size) {
-        Ok(size) => is_block_size(512, size),
+        Ok(size) => is_block_size(LEAST_BLOCK, size),
         Err(_) => false,
     }
 }

@@ -1,5 +1,6 @@
 -- One level of the cascade, with the device.
-use Rattle.std.proofs.Common.{Bool, List, [], ap, arith, drop, eqb, false, get_or, inl, inr, length, refl, subst, suc, sym, take, true, zero, ℕ, ◌%◌, ◌*◌, ◌+◌, ◌-◌, ◌/◌, ◌<◌, ◌^◌, ◌∙◌, ◌∷◌, ◌≡◌, ◌≤◌, ◌⊎◌}
+use Rattle.std.proofs.Common.{Bool, List, [], ap, arith, drop, eqb, false, get_or, inl, inr, length, refl, subst, suc}
+use Rattle.std.proofs.Common.{sym, take, true, zero, ℕ, ◌%◌, ◌*◌, ◌+◌, ◌-◌, ◌/◌, ◌<◌, ◌^◌, ◌∙◌, ◌∷◌, ◌≡◌, ◌≤◌, ◌⊎◌}
 use Rattle.std.proofs.lemmas.Bool.{cases_lt}
 use Rattle.std.proofs.lemmas.Bool.Decides.{eqb_tells}
 use Rattle.std.proofs.lemmas.Nat.{div-add-mod', div-mul-add}
@@ -7,17 +8,19 @@ use Rattle.std.proofs.Math.Nat.{one-le-pow, pow-suc}
 use Rattle.verity_plan.specs.Settings.{Settings, hash, fan}
 use Rattle.verity_tree.specs.Levels.{risen}
 use Rattle.verity_plan.specs.Counts.{level_count, level_size}
-use Rattle.verity_tree.specs.ClosingOrder.{closing, closes, closed_to}
+use Rattle.verity_tree.specs.ClosingOrder.{closing, closes}
+use Rattle.verity_tree.specs.Steps.Cascade.{EndsBlock, closed_to}
 use Rattle.verity_plan.specs.Places.{place, byte_at}
-use Rattle.verity_tree.specs.Steps.OpenBlocks.{digests_under, open_block, filling, IsReached, IsCarrying, IsNext, IsKept, climb, arrival}
+use Rattle.verity_tree.specs.Steps.OpenBlocks.{digests_under, open_block, filling, IsReached, IsCarrying, IsNext}
+use Rattle.verity_tree.specs.Steps.OpenBlocks.{IsKept, climb, arrival}
 use Rattle.verity_io.specs.Writing.{put}
 use Rattle.verity_plan.specs.Plans.{Planned}
 use Rattle.verity_tree.specs.Verdicts.{NoneDiffers, StandsThere, stored}
 use Rattle.verity_tree.specs.Image.{tree_block, written}
-use Rattle.verity_plan.proofs.CountLemmas.{mul_le}
 use Rattle.verity_tree.proofs.QuotientLemmas.{quotient-below, quotient-next, IsReached-full}
-use Rattle.verity_tree.proofs.OpenBlockSteps.{carried-below, carried-next, carried-root}
-use Rattle.verity_tree.proofs.OrderSplit.{closing-prefix, closing-all, closes-reached, closes-last, closed_to-more, closes-none, written-more}
+use Rattle.verity_tree.proofs.OpenBlockSteps.{carried-below, carried-next, carried-root, place-first}
+use Rattle.verity_tree.proofs.OrderSplit.{closing-prefix, closing-all, closes-reached, closes-last, closed_to-more}
+use Rattle.verity_tree.proofs.OrderSplit.{closes-none, written-more}
 use Rattle.std.proofs.lemmas.List.Elements.{All-append, All-cons, All-nil}
 
 positive : (k : ℕ) → (k ≡ 0 → ⊥) → k ≡ (k - 1) + 1
@@ -36,7 +39,8 @@ reached-before f i m some h = record {
       let whole : i + 1 ≡ k * w = omega (arith, h.whole, ap (λ (n : ℕ). (i / f ^ (m + 1) + 1) * n) power) in
       let split = div-add-mod' i w in
       let one : k ≡ (k - 1) + 1 = positive k (λ none. omega (arith, whole, ap (λ (n : ℕ). n * w) none)) in
-      let area : k * w ≡ (k - 1) * w + w = ap (λ (n : ℕ). n * w) one ∙ (let t : (k - 1 + 1) * w ≡ (k - 1) * w + w = omega arith in t) in
+      let area : k * w ≡ (k - 1) * w + w =
+      ap (λ (n : ℕ). n * w) one ∙ (let t : (k - 1 + 1) * w ≡ (k - 1) * w + w = omega arith in t) in
       let here : i ≡ (k - 1) * w + (w - 1) = omega (arith, whole, area, wide) in
       let less : w - 1 < w = omega (arith, wide) in
       let q : i / w ≡ k - 1 = ap (λ (n : ℕ). n / w) here ∙ div-mul-add (k - 1) w (w - 1) less in
@@ -56,10 +60,12 @@ reached-down f i m l some h le =
     reached-down-by f i l (m - l) some (subst (λ (n : ℕ). IsReached f i n) e h)
 
 -- the digest that is carried is the next of its level
-pub carried-is_next : (s : Settings) (blocks : List (List ℕ)) (i m levels count at a k : ℕ) (store block digest : List ℕ) → 2 ≤ fan s
-    → i < count → m < levels → at ≡ i / fan s ^ m → a ≡ m * s.hash_block → k ≡ s.hash_block
-    → block ≡ take k (drop a store) → count ≡ length blocks → IsCarrying s blocks (climb i m levels) store digest → IsNext s (risen s blocks m) (arrival at block digest)
-carried-is_next s blocks i m levels count at a k store block digest two below inside place from wide was many h =
+pub carried-is_next : (s : Settings) (blocks : List (List ℕ)) (i m levels count index a k : ℕ)
+    (store block digest : List ℕ) → 2 ≤ fan s
+    → i < count → m < levels → index ≡ i / fan s ^ m → a ≡ m * s.hash_block → k ≡ s.hash_block
+    → block ≡ take k (drop a store) → count ≡ length blocks → IsCarrying s blocks (climb i m levels) store digest
+    → IsNext s (risen s blocks m) (arrival index block digest)
+carried-is_next s blocks i m levels count index a k store block digest two below inside place from wide was many h =
     let some : 0 < fan s = omega arith in
     let less : i < length blocks = omega (arith, below, many) in
     record {
@@ -70,10 +76,11 @@ carried-is_next s blocks i m levels count at a k store block digest two below in
     }
 
 -- the block that closes is the tree's
-pub closed-block : (s : Settings) (blocks : List (List ℕ)) (i m count at : ℕ) (last : Bool) → 0 < fan s
-    → i < count → last ≡ eqb (i + 1) count → at ≡ i / fan s ^ m → count ≡ length blocks → (at % fan s + 1 ≡ fan s) ⊎ (last ≡ true)
-    → filling s (digests_under s blocks m) at ≡ tree_block s blocks m (i / fan s ^ (m + 1))
-closed-block s blocks i m count at last some below l place many ends =
+pub closed-block : (s : Settings) (blocks : List (List ℕ)) (i m count index : ℕ) (last : Bool) → 0 < fan s
+    → i < count → last ≡ eqb (i + 1) count → index ≡ i / fan s ^ m → count ≡ length blocks
+    → (index % fan s + 1 ≡ fan s) ⊎ (last ≡ true)
+    → filling s (digests_under s blocks m) index ≡ tree_block s blocks m (i / fan s ^ (m + 1))
+closed-block s blocks i m count index last some below l place many ends =
     let less : i < length blocks = omega (arith, below, many) in
     let either : (i / fan s ^ m % fan s + 1 ≡ fan s) ⊎ (i + 1 ≡ length blocks) = elim ends [
       | inl full ↦ inl (ap (λ (n : ℕ). n % fan s + 1) (sym place) ∙ full)
@@ -85,25 +92,29 @@ closed-block s blocks i m count at last some below l place many ends =
     ap (filling s (digests_under s blocks m)) place ∙ sym (carried-next s blocks i m some less either)
 
 -- a block that closed is put at its place
-pub device-closed : (s : Settings) (blocks : List (List ℕ)) (base i m at target : ℕ) (start device new : List ℕ)
-    → filling s (digests_under s blocks m) at ≡ tree_block s blocks m (i / fan s ^ (m + 1))
+pub device-closed : (s : Settings) (blocks : List (List ℕ)) (base i m index target : ℕ) (start device new : List ℕ)
+    → filling s (digests_under s blocks m) index ≡ tree_block s blocks m (i / fan s ^ (m + 1))
     → target ≡ byte_at s (length blocks) base m (i / fan s ^ (m + 1))
     → device ≡ written s blocks base (closed_to (fan s) i m) start
-    → new ≡ put device target (filling s (digests_under s blocks m) at)
+    → new ≡ put device target (filling s (digests_under s blocks m) index)
     → new ≡ written s blocks base (closed_to (fan s) i (m + 1)) start
-device-closed s blocks base i m at target start device new block to so_far put_is =
+device-closed s blocks base i m index target start device new block to so_far put_is =
     put_is
-    ∙ ap (λ (xs : List ℕ). put xs target (filling s (digests_under s blocks m) at)) so_far
-    ∙ ap (λ (n : ℕ). put (written s blocks base (closed_to (fan s) i m) start) n (filling s (digests_under s blocks m) at)) to
-    ∙ ap (put (written s blocks base (closed_to (fan s) i m) start) (byte_at s (length blocks) base m (i / fan s ^ (m + 1)))) block
+    ∙ ap (λ (xs : List ℕ). put xs target (filling s (digests_under s blocks m) index)) so_far
+    ∙ ap (λ (n : ℕ). put (written s blocks base (closed_to (fan s) i m) start) n
+    (filling s (digests_under s blocks m) index)) to
+    ∙ ap (put (written s blocks base (closed_to (fan s) i m) start)
+    (byte_at s (length blocks) base m (i / fan s ^ (m + 1)))) block
     ∙ sym (written-more s blocks base i m start)
 
 -- a level that stays open ends the data block's list
-pub closing-kept : (s : Settings) (blocks : List (List ℕ)) (i m levels count at : ℕ) (last : Bool) (block after store digest : List ℕ) → 2 ≤ fan s
-    → i < count → m < levels → levels ≡ level_count (fan s) count → last ≡ eqb (i + 1) count → at ≡ i / fan s ^ m → count ≡ length blocks
-    → IsKept s (arrival at block digest) last after → IsCarrying s blocks (climb i m levels) store digest
+pub closing-kept : (s : Settings) (blocks : List (List ℕ)) (i m levels count index : ℕ) (last : Bool)
+    (block after store digest : List ℕ) → 2 ≤ fan s
+    → i < count → m < levels → levels ≡ level_count (fan s) count → last ≡ eqb (i + 1) count → index ≡ i / fan s ^ m
+    → count ≡ length blocks
+    → IsKept s (arrival index block digest) last after → IsCarrying s blocks (climb i m levels) store digest
     → closing (fan s) count (i + 1) ≡ closed_to (fan s) i m
-closing-kept s blocks i m levels count at last block after store digest two below inside all l place many kept h =
+closing-kept s blocks i m levels count index last block after store digest two below inside all l place many kept h =
     let f = fan s in
     let n = length blocks in
     let some : 0 < f = omega arith in
@@ -124,7 +135,8 @@ closing-kept s blocks i m levels count at last block after store digest two belo
 
 -- all levels close
 pub closing-done : (s : Settings) (blocks : List (List ℕ)) (i levels count : ℕ) (store digest : List ℕ) → 2 ≤ fan s
-    → i < count → levels ≡ level_count (fan s) count → count ≡ length blocks → IsCarrying s blocks (climb i levels levels) store digest
+    → i < count → levels ≡ level_count (fan s) count → count ≡ length blocks
+    → IsCarrying s blocks (climb i levels levels) store digest
     → closing (fan s) count (i + 1) ≡ closed_to (fan s) i levels
 closing-done s blocks i levels count store digest two below all many h =
     let f = fan s in
@@ -141,14 +153,17 @@ pub closing-below : (f count m i : ℕ) → 0 < f → i < count → i / f ^ (m +
 closing-below f count m i some below = quotient-below i count (f ^ (m + 1)) (one-le-pow (m + 1) f some) below
 
 -- its place in its level, from the place of its digest
-pub closing-place : (f i m at g : ℕ) → at ≡ i / f ^ m → g ≡ f → at / g ≡ i / f ^ (m + 1)
-closing-place f i m at g at_is g_is = ap (λ (n : ℕ). n / g) at_is ∙ ap (λ (n : ℕ). i / f ^ m / n) g_is ∙ sym (quotient-next f i m)
+pub closing-place : (f i m index g : ℕ) → index ≡ i / f ^ m → g ≡ f → index / g ≡ i / f ^ (m + 1)
+closing-place f i m index g index_is g_is = ap (λ (n : ℕ). n / g) index_is ∙ ap (λ (n : ℕ). i / f ^ m / n) g_is
+    ∙ sym (quotient-next f i m)
 
 -- the block that could not be written is one that closes
-pub closes-stopped : (s : Settings) (blocks : List (List ℕ)) (i m levels count at : ℕ) (last : Bool) (store digest : List ℕ) → 0 < fan s → i < count
-    → last ≡ eqb (i + 1) count → at ≡ i / fan s ^ m → count ≡ length blocks → (at % fan s + 1 ≡ fan s) ⊎ (last ≡ true)
+pub closes-stopped : (s : Settings) (blocks : List (List ℕ)) (i m levels count index : ℕ) (last : Bool)
+    (store digest : List ℕ) → 0 < fan s → i < count
+    → last ≡ eqb (i + 1) count → index ≡ i / fan s ^ m → count ≡ length blocks
+    → (index % fan s + 1 ≡ fan s) ⊎ (last ≡ true)
     → IsCarrying s blocks (climb i m levels) store digest → closes (fan s) (length blocks) (i + 1) m ≡ true
-closes-stopped s blocks i m levels count at last store digest some below l place many ends h =
+closes-stopped s blocks i m levels count index last store digest some below l place many ends h =
     let n = length blocks in
     elim ends [
       | inl full ↦ elim (eqb_tells (i + 1) n) [
@@ -166,26 +181,54 @@ closes-stopped s blocks i m levels count at last store digest some below l place
     ]
 
 -- and so do the levels below it
-pub closes-stopped_all : (s : Settings) (blocks : List (List ℕ)) (i m levels count at : ℕ) (last : Bool) (store digest : List ℕ) → 0 < fan s → i < count
-    → last ≡ eqb (i + 1) count → at ≡ i / fan s ^ m → count ≡ length blocks → (at % fan s + 1 ≡ fan s) ⊎ (last ≡ true)
-    → IsCarrying s blocks (climb i m levels) store digest → (k : ℕ) → k ≤ m → closes (fan s) (length blocks) (i + 1) k ≡ true
-closes-stopped_all s blocks i m levels count at last store digest some below l place many ends h k le =
+pub closes-stopped_all : (s : Settings) (blocks : List (List ℕ)) (i m levels count index : ℕ) (last : Bool)
+    (store digest : List ℕ) → 0 < fan s → i < count
+    → last ≡ eqb (i + 1) count → index ≡ i / fan s ^ m → count ≡ length blocks
+    → (index % fan s + 1 ≡ fan s) ⊎ (last ≡ true)
+    → IsCarrying s blocks (climb i m levels) store digest → (k : ℕ) → k ≤ m
+    → closes (fan s) (length blocks) (i + 1) k ≡ true
+closes-stopped_all s blocks i m levels count index last store digest some below l place many ends h k le =
     let n = length blocks in
     elim (cases_lt k m) [
       | inl low ↦ elim (cases_lt (i + 1) n) [
-        | inl more ↦ closes-reached (fan s) n i k some (reached-down (fan s) i m (k + 1) some (h.reached more) (omega (arith, low)))
+        | inl more ↦ closes-reached (fan s) n i k some
+            (reached-down (fan s) i m (k + 1) some (h.reached more) (omega (arith, low)))
         | inr past ↦ closes-last (fan s) n i k (omega (arith, past, below, many))
       ]
       | inr high ↦
           let same : m ≡ k = omega (arith, high, le) in
-          subst (λ (j : ℕ). closes (fan s) n (i + 1) j ≡ true) same (closes-stopped s blocks i m levels count at last store digest some below l place many ends h)
+          subst (λ (j : ℕ). closes (fan s) n (i + 1) j ≡ true) same
+          (closes-stopped s blocks i m levels count index last store digest some below l place many ends h)
     ]
 
 -- one block more that stands there
-pub none-differs-more : (p : Planned) (blocks : List (List ℕ)) (i m : ℕ) (device : List ℕ) → NoneDiffers p blocks device (closed_to (fan p.settings) i m)
+pub none-differs-more : (p : Planned) (blocks : List (List ℕ)) (i m : ℕ) (device : List ℕ)
+    → NoneDiffers p blocks device (closed_to (fan p.settings) i m)
     → stored p device m (i / fan p.settings ^ (m + 1)) ≡ tree_block p.settings blocks m (i / fan p.settings ^ (m + 1))
     → NoneDiffers p blocks device (closed_to (fan p.settings) i (m + 1))
 none-differs-more p blocks i m device h here =
     let pair : ℕ × ℕ = (m, i / fan p.settings ^ (m + 1)) in
     subst (NoneDiffers p blocks device) (sym (closed_to-more (fan p.settings) i m))
-    (All-append (StandsThere p blocks device) (closed_to (fan p.settings) i m) (pair ∷ []) h (All-cons (StandsThere p blocks device) pair [] here (All-nil (StandsThere p blocks device))))
+    (All-append (StandsThere p blocks device) (closed_to (fan p.settings) i m) (pair ∷ []) h
+    (All-cons (StandsThere p blocks device) pair [] here (All-nil (StandsThere p blocks device))))
+
+same_last : (i n : ℕ) → eqb (i + 1) n ≡ true → i + 1 ≡ n
+same_last i n is = elim (eqb_tells (i + 1) n) [
+  | inl h ↦ h.1
+  | inr h ↦ search (h.0, is)
+]
+
+-- a block that closes above a data block ends with it
+pub ends-here : (f n i m index : ℕ) (last : Bool) → index ≡ i / f ^ m → last ≡ eqb (i + 1) n
+    → (0 < m → EndsBlock f n i) → (index % f + 1 ≡ f) ⊎ (last ≡ true) → EndsBlock f n i
+ends-here f n i m index last place l before ends =
+    elim (cases_lt 0 m) [
+      | inl above ↦ before above
+      | inr low ↦
+          let first : m ≡ 0 = omega arith in
+          let same : index ≡ i = place ∙ ap (λ (k : ℕ). i / f ^ k) first ∙ sym (place-first i f) in
+          elim ends [
+            | inl full ↦ inl (ap (λ (k : ℕ). k % f + 1) (sym same) ∙ full)
+            | inr is ↦ inr (same_last i n (sym l ∙ is))
+          ]
+    ]

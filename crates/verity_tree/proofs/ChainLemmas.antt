@@ -1,6 +1,10 @@
--- The true chain of a data block: each block's hash is the digest in its slot of the block above, and the last one's the root.
-use Rattle.std.proofs.Common.{◌≡◌, ℕ, zero, suc, ◌+◌, ◌-◌, ◌*◌, ◌/◌, ◌%◌, ◌^◌, ◌<◌, ◌≤◌, List, [], ◌∷◌, ◌++◌, get_or, take, drop, length, map, replicate, arith, sym, ◌∙◌, ap, refl, length-append, length-drop, append_assoc}
-use Rattle.std.proofs.lemmas.List.{drop_at, drop-map, get_or-drop, get_or-take, length-replicate, length-take, length-take-le, take-append-drop, take-map, take_at}
+-- The true chain of a data block: each block's hash is the digest in its slot of the block above, and the last one's
+-- the root.
+use Rattle.std.proofs.Common.{◌≡◌, ℕ, zero, suc, ◌+◌, ◌-◌, ◌*◌, ◌/◌, ◌%◌, ◌^◌, ◌<◌, ◌≤◌, List, [], ◌∷◌, ◌++◌, get_or}
+use Rattle.std.proofs.Common.{take, drop, length, map, replicate, arith, sym, ◌∙◌, ap, refl, length-append, length-drop}
+use Rattle.std.proofs.Common.{append_assoc}
+use Rattle.std.proofs.lemmas.List.{drop_at, drop-map, get_or-drop, get_or-take, length-replicate, length-take}
+use Rattle.std.proofs.lemmas.List.{length-take-le, take-append-drop, take-map, take_at}
 use Rattle.std.proofs.lemmas.List.FromFn.{get_or-map-range_with_len}
 use Rattle.std.proofs.lemmas.Grind.{flat_map-append}
 use Rattle.std.proofs.lemmas.Nat.{div-add-mod', mod_below}
@@ -23,7 +27,8 @@ use Rattle.verity_tree.proofs.QuotientLemmas.{quotient-below, quotient-next}
 use Rattle.verity_tree.proofs.TreeLemmas.{height-level_count}
 
 -- the true chain, by levels up
-pub true_chain-risen : (s : Settings) (blocks : List (List ℕ)) (i l : ℕ) → true_chain s blocks i l ≡ get_or (risen s blocks l) (i / fan s ^ l) []
+pub true_chain-risen : (s : Settings) (blocks : List (List ℕ)) (i l : ℕ)
+    → true_chain s blocks i l ≡ get_or (risen s blocks l) (i / fan s ^ l) []
 unfolding risen
 true_chain-risen s blocks i zero = ap (λ (n : ℕ). get_or blocks n []) (div-pow-zero (fan s) i)
 true_chain-risen s blocks i (suc l) =
@@ -40,7 +45,8 @@ digest_in-slots s xs t fits below =
     let slots = flat_map (slot s) (map (hash s) xs) in
     let zeros : List ℕ = replicate (s.hash_block - length slots) 0 in
     let split : map (hash s) xs ≡ front ++ hash s x ∷ rest =
-    ap (map (hash s)) (sym (take-append-drop t xs)) ∙ ap (λ (ys : List (List ℕ)). map (hash s) (take t xs ++ ys)) (drop-cons xs t [] below)
+    ap (map (hash s)) (sym (take-append-drop t xs))
+    ∙ ap (λ (ys : List (List ℕ)). map (hash s) (take t xs ++ ys)) (drop-cons xs t [] below)
     ∙ map-append (hash s) (take t xs) (x ∷ drop (suc t) xs) in
     let parts : slots ≡ flat_map (slot s) front ++ (slot s (hash s x) ++ flat_map (slot s) rest) =
     ap (flat_map (slot s)) split ∙ flat_map-append (slot s) front (hash s x ∷ rest) in
@@ -50,7 +56,8 @@ digest_in-slots s xs t fits below =
     let whole : slots ++ zeros ≡ flat_map (slot s) front ++ (hash s x ++ (pad ++ (flat_map (slot s) rest ++ zeros))) =
     ap (λ (ys : List ℕ). ys ++ zeros) parts ∙ simp append_assoc in
     ap (λ (ys : List ℕ). take (digest_len s) (drop (t * w) ys)) whole
-    ∙ ap (take (digest_len s)) (drop_at (flat_map (slot s) front) (hash s x ++ (pad ++ (flat_map (slot s) rest ++ zeros))) (t * w) before)
+    ∙ ap (take (digest_len s))
+    (drop_at (flat_map (slot s) front) (hash s x ++ (pad ++ (flat_map (slot s) rest ++ zeros))) (t * w) before)
     ∙ take_at (hash s x) (pad ++ (flat_map (slot s) rest ++ zeros)) (digest_len s) (length-hash s x)
   where
     map-append : (f : List ℕ → List ℕ) (xs ys : List (List ℕ)) → map f (xs ++ ys) ≡ map f xs ++ map f ys
@@ -58,7 +65,8 @@ digest_in-slots s xs t fits below =
     map-append f (x ∷ xs) ys = ap (λ (zs : List (List ℕ)). f x ∷ zs) (map-append f xs ys)
 
 -- the digest of block q is in its slot of the block above
-pub digest-up : (s : Settings) (blocks : List (List ℕ)) (l q : ℕ) → digest_len s ≤ slot_width s → 0 < fan s → q < length (risen s blocks l)
+pub digest-up : (s : Settings) (blocks : List (List ℕ)) (l q : ℕ) → digest_len s ≤ slot_width s → 0 < fan s
+    → q < length (risen s blocks l)
     → digest_in s (get_or (risen s blocks (l + 1)) (q / fan s) []) (q % fan s) ≡ hash s (get_or (risen s blocks l) q [])
 digest-up s blocks l q fits some below =
     let f = fan s in
@@ -66,16 +74,20 @@ digest-up s blocks l q fits some below =
     let split : q / f * f + q % f ≡ q = div-add-mod' q f in
     let low : q % f < f = mod_below q f some in
     let run = take f (drop (q / f * f) xs) in
-    let within : q % f < length run = omega (arith, length-take f (drop (q / f * f) xs), length-drop (q / f * f) xs, split, low, below) in
+    let within : q % f < length run =
+    omega (arith, length-take f (drop (q / f * f) xs), length-drop (q / f * f) xs, split, low, below) in
     let mapped : slice_chunk (digests_under s blocks l) f (q / f) ≡ map (hash s) run =
     ap (take f) (drop-map (hash s) (q / f * f) xs) ∙ take-map (hash s) f (drop (q / f * f) xs) in
-    ap (λ (ys : List ℕ). digest_in s ys (q % f)) (block-up s blocks l (q / f) (quotient-below q (length xs) f some below))
+    ap (λ (ys : List ℕ). digest_in s ys (q % f))
+    (block-up s blocks l (q / f) (quotient-below q (length xs) f some below))
     ∙ ap (λ (ds : List (List ℕ)). digest_in s (hash_block_of s ds) (q % f)) mapped
     ∙ digest_in-slots s run (q % f) fits within
-    ∙ ap (hash s) (get_or-take f (drop (q / f * f) xs) (q % f) [] low ∙ get_or-drop (q / f * f) xs (q % f) [] ∙ ap (λ (n : ℕ). get_or xs n []) split)
+    ∙ ap (hash s) (get_or-take f (drop (q / f * f) xs) (q % f) [] low ∙ get_or-drop (q / f * f) xs (q % f) []
+    ∙ ap (λ (n : ℕ). get_or xs n []) split)
 
 -- the true chain holds at each level
-pub true_chain-up : (s : Settings) (blocks : List (List ℕ)) (i l : ℕ) → digest_len s ≤ slot_width s → 0 < fan s → i < length blocks
+pub true_chain-up : (s : Settings) (blocks : List (List ℕ)) (i l : ℕ) → digest_len s ≤ slot_width s → 0 < fan s
+    → i < length blocks
     → hash s (true_chain s blocks i l) ≡ digest_in s (true_chain s blocks i (suc l)) (i / fan s ^ l % fan s)
 true_chain-up s blocks i l fits some below =
     let q = i / fan s ^ l in
@@ -99,10 +111,12 @@ true_chain-root s blocks i two below =
 
 -- bytes filled to a size have it
 pub length-filled : (n : ℕ) (bytes : List ℕ) → length bytes ≤ n → length (filled n bytes) ≡ n
-length-filled n bytes most = omega (arith, length-append bytes (replicate (n - length bytes) 0), length-replicate {A = ℕ} (n - length bytes) 0)
+length-filled n bytes most =
+    omega (arith, length-append bytes (replicate (n - length bytes) 0), length-replicate {A = ℕ} (n - length bytes) 0)
 
 -- a block of the tree on the way up has a hash block's length
-pub length-true_chain : (s : Settings) (blocks : List (List ℕ)) (i l : ℕ) → digest_len s ≤ slot_width s → 0 < fan s → fan s * slot_width s ≤ s.hash_block
+pub length-true_chain : (s : Settings) (blocks : List (List ℕ)) (i l : ℕ) → digest_len s ≤ slot_width s → 0 < fan s
+    → fan s * slot_width s ≤ s.hash_block
     → i < length blocks → length (true_chain s blocks i (suc l)) ≡ s.hash_block
 length-true_chain s blocks i l fits some room below =
     let f = fan s in
@@ -119,9 +133,11 @@ length-true_chain s blocks i l fits some room below =
     (omega (arith, length-slots s run fits, mul-le-mul_right (slot_width s) few, room))
 
 -- a data block has its length
-pub length-data : (s : Settings) (n wanted : ℕ) (bytes : List ℕ) (i : ℕ) → i < n → length (get_or (cut s n wanted bytes) i []) ≡ s.data_block
+pub length-data : (s : Settings) (n wanted : ℕ) (bytes : List ℕ) (i : ℕ) → i < n
+    → length (get_or (cut s n wanted bytes) i []) ≡ s.data_block
 unfolding cut
 length-data s n wanted bytes i below =
     let all = take wanted bytes in
     ap length (get_or-map-range_with_len (block_at s.data_block all) 0 n i i [] below (omega arith))
-    ∙ length-filled s.data_block (slice_chunk all s.data_block i) (omega (arith, length-take s.data_block (drop (i * s.data_block) all)))
+    ∙ length-filled s.data_block (slice_chunk all s.data_block i)
+    (omega (arith, length-take s.data_block (drop (i * s.data_block) all)))

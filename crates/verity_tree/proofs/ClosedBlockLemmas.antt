@@ -1,7 +1,7 @@
 -- A hash block that has closed, written or compared.
-use Rattle.std.proofs.Common.{◌≡◌, ℕ, ◌+◌, ◌-◌, ◌*◌, ◌<◌, ◌≤◌, min, max, List, [], ◌++◌, length, take, drop, replicate, arith, sym, ◌∙◌, ap, subst, refl, append_assoc, length-drop, Ok, Err}
+use Rattle.std.proofs.Common.{◌≡◌, ℕ, ◌+◌, ◌-◌, ◌<◌, ◌≤◌, List, [], ◌++◌, length, take, drop, replicate}
+use Rattle.std.proofs.Common.{arith, sym, ◌∙◌, ap, subst, refl, append_assoc, length-drop, Ok, Err}
 use Rattle.std.proofs.lemmas.List.{append-nil, length-take, take-append-drop, drop-drop}
-use Rattle.std.specs.Prelude.{slice_index, Result}
 use Rattle.verity_tree.specs.Steps.ClosedBlocks.{Closes, IsCause, closed_block}
 use Rattle.verity_plan.specs.Plans.{Planned, byte_of}
 use Rattle.verity_tree.specs.Verdicts.{stored}
@@ -12,12 +12,15 @@ use Rattle.verity_tree.specs.declared.closed_block.Task.{Task}
 use Rattle.verity_tree.specs.declared.closed_block.Task.TheVariants.{Write, Compare}
 
 -- bytes that stand at a place are as if put there
-pub put-same : (device bytes : List ℕ) (at k : ℕ) → 0 < k → length bytes ≡ k → take k (drop at device) ≡ bytes → device ≡ put device at bytes
+pub put-same : (device bytes : List ℕ) (at k : ℕ) → 0 < k → length bytes ≡ k → take k (drop at device) ≡ bytes
+    → device ≡ put device at bytes
 put-same device bytes at k some size here =
-    let within : at + k ≤ length device = omega (arith, ap length here, length-take k (drop at device), length-drop at device) in
+    let within : at + k ≤ length device =
+    omega (arith, ap length here, length-take k (drop at device), length-drop at device) in
     let none : at - length device ≡ 0 = omega (arith, within) in
     let past : at + k ≡ at + length bytes = omega (arith, size) in
-    let rest : drop k (drop at device) ≡ drop (at + length bytes) device = drop-drop k at device ∙ ap (λ (n : ℕ). drop n device) past in
+    let rest : drop k (drop at device) ≡ drop (at + length bytes) device =
+    drop-drop k at device ∙ ap (λ (n : ℕ). drop n device) past in
     let zeros : replicate (at - length device) 0 ≡ [] = ap (λ (n : ℕ). replicate n 0) none in
     sym (
     ap (λ (zs : List ℕ). take at device ++ zs ++ bytes ++ drop (at + length bytes) device) zeros
@@ -34,17 +37,23 @@ pub Spoiled-none : (device : List ℕ) (at c : ℕ) → Spoiled device at c devi
 Spoiled-none device at c = record { no_shorter = omega arith; no_longer = omega arith; outside = λ i h. refl }
 
 -- a block that is closed is put at its place, or stands there
-pub Closes-put : (p : Planned) (task : Task) (l j : ℕ) (bytes before after : List ℕ) (done : Unit {0}) → 0 < p.settings.hash_block → length bytes ≡ p.settings.hash_block
+pub Closes-put : (p : Planned) (task : Task) (l j : ℕ) (bytes before after : List ℕ) (done : Unit {0})
+    → 0 < p.settings.hash_block → length bytes ≡ p.settings.hash_block
     → Closes p task (closed_block l j bytes) (Ok done) before after → after ≡ put before (byte_of p l j) bytes
 Closes-put p Write l j bytes before after done some size h = h
-Closes-put p Compare l j bytes before after done some size h = h.0 ∙ put-same before bytes (byte_of p l j) p.settings.hash_block some size h.1
+Closes-put p Compare l j bytes before after done some size h =
+    h.0 ∙ put-same before bytes (byte_of p l j) p.settings.hash_block some size h.1
 
 -- a block that stops a pass spoils its range at most
 pub Closes-spoiled : (p : Planned) (task : Task) (l j : ℕ) (bytes before after : List ℕ) (cause : Cause)
-    → Closes p task (closed_block l j bytes) (Err cause) before after → Spoiled before (byte_of p l j) p.settings.hash_block after
+    → Closes p task (closed_block l j bytes) (Err cause) before after
+    → Spoiled before (byte_of p l j) p.settings.hash_block after
 Closes-spoiled p Write l j bytes before after cause h = h
-Closes-spoiled p Compare l j bytes before after Failed h = subst (Spoiled before (byte_of p l j) p.settings.hash_block) (sym h) (Spoiled-none before (byte_of p l j) p.settings.hash_block)
-Closes-spoiled p Compare l j bytes before after (Differs part) h = subst (Spoiled before (byte_of p l j) p.settings.hash_block) (sym h.0) (Spoiled-none before (byte_of p l j) p.settings.hash_block)
+Closes-spoiled p Compare l j bytes before after Failed h = subst (Spoiled before (byte_of p l j) p.settings.hash_block)
+    (sym h) (Spoiled-none before (byte_of p l j) p.settings.hash_block)
+Closes-spoiled p Compare l j bytes before after (Differs part) h =
+    subst (Spoiled before (byte_of p l j) p.settings.hash_block) (sym h.0)
+    (Spoiled-none before (byte_of p l j) p.settings.hash_block)
 
 -- a block that is compared and stands there
 pub Closes-same : (p : Planned) (task : Task) (l j : ℕ) (bytes before after : List ℕ) (done : Unit {0}) → task ≡ Compare
@@ -54,7 +63,8 @@ Closes-same p Compare l j bytes before after done compare h = h
 
 -- a block that is compared and stops the pass
 pub Closes-cause : (p : Planned) (task : Task) (l j : ℕ) (bytes before after : List ℕ) (cause : Cause) → task ≡ Compare
-    → Closes p task (closed_block l j bytes) (Err cause) before after → (after ≡ before) × IsCause p (closed_block l j bytes) before cause
+    → Closes p task (closed_block l j bytes) (Err cause) before after
+    → (after ≡ before) × IsCause p (closed_block l j bytes) before cause
 Closes-cause p Write l j bytes before after cause compare h = cc
 Closes-cause p Compare l j bytes before after Failed compare h = (h, tt)
 Closes-cause p Compare l j bytes before after (Differs part) compare h = h

@@ -1,7 +1,9 @@
 -- One data block taken from the source.
-use Rattle.std.proofs.Common.{List, [], ap, arith, drop, false, get_or, inl, inr, length, length-append, length-drop, map, min, refl, replicate, subst, sym, take, true, ℕ, ◌*◌, ◌++◌, ◌+◌, ◌-◌, ◌/◌, ◌<◌, ◌∙◌, ◌≡◌, ◌≤◌}
+use Rattle.std.proofs.Common.{List, [], ap, arith, drop, false, get_or, inl, inr, length, length-drop}
+use Rattle.std.proofs.Common.{map, min, refl, subst, sym, take, true, ℕ, ◌*◌, ◌+◌, ◌-◌, ◌/◌, ◌<◌, ◌∙◌}
+use Rattle.std.proofs.Common.{◌≡◌, ◌≤◌}
 use Rattle.std.proofs.lemmas.Bool.{cases_lt}
-use Rattle.std.proofs.lemmas.List.{take_all, take_at, take-take, drop-take, drop-drop, length-take, length-take-le}
+use Rattle.std.proofs.lemmas.List.{take_all, take-take, drop-take, drop-drop, length-take, length-take-le}
 use Rattle.std.proofs.lemmas.List.FromFn.{get_or-map-range_with_len}
 use Rattle.std.proofs.lemmas.Slice.{between-put_mid}
 use borrow.Rule.Slice.PartMut.{put_mid}
@@ -9,13 +11,13 @@ use Rattle.std.specs.List.{range_with_len}
 use Rattle.verity_hash.specs.Bytes.{filled}
 use Rattle.verity_io.specs.Reading.{HasRead}
 use Rattle.verity_tree.specs.Reading.{EndsWithin, FailsWithin, bytes_of}
-use Rattle.verity_tree.specs.Steps.DataBlocks.{HoldsBlock, HoldsFront, StopsWithin}
+use Rattle.verity_tree.specs.Steps.DataBlocks.{HoldsBlock, StopsWithin}
 use Rattle.verity_tree.specs.Levels.{block_at, cut, risen, data_blocks, whole}
 use Rattle.verity_tree.specs.Steps.PlainRoots.{digest_of_block}
 use Rattle.verity_tree.specs.Steps.OpenBlocks.{carried}
 use Rattle.verity_plan.specs.Plans.{IsPlanned, Planned}
 use Rattle.verity_plan.specs.Settings.{Settings, hash, fan}
-use Rattle.verity_plan.proofs.CountLemmas.{mul-lt_div_ceil, le-div_ceil, div_ceil-pos}
+use Rattle.verity_plan.proofs.CountLemmas.{mul-lt_div_ceil, div_ceil-pos}
 use Rattle.verity_plan.proofs.FanLemmas.{some_data}
 use Rattle.verity_tree.proofs.OpenBlockSteps.{place-first}
 use Rattle.std.specs.Prelude.{nat_le}
@@ -27,7 +29,8 @@ take-take_min : (n m : ℕ) (xs : List ℕ) → take n (take m xs) ≡ take (min
 take-take_min n m xs =
     elim (cases_lt n m) [
       | inl less ↦ take-take n m xs (omega arith) ∙ ap (λ (k : ℕ). take k xs) (let e : n ≡ min n m = omega arith in e)
-      | inr most ↦ take_all n (take m xs) (omega (arith, length-take m xs)) ∙ ap (λ (k : ℕ). take k xs) (let e : m ≡ min n m = omega arith in e)
+      | inr most ↦ take_all n (take m xs) (omega (arith, length-take m xs))
+          ∙ ap (λ (k : ℕ). take k xs) (let e : m ≡ min n m = omega arith in e)
     ]
 
 -- the next bytes of a file in a block are its next block
@@ -47,8 +50,10 @@ record NextBlock (s : Settings) (size i : ℕ) (bytes after block : List ℕ) : 
   pub rest : after ≡ drop (min ((i + 1) * s.data_block) size) bytes
   pub digest : hash s block ≡ digest_of_block s size bytes i
 
-NextBlock-read : (s : Settings) (size i want b : ℕ) (bytes rest after block : List ℕ) → b ≡ s.data_block → i * s.data_block < size
-    → want ≡ min b (size - i * b) → min (i * s.data_block) size ≤ length bytes → rest ≡ drop (min (i * s.data_block) size) bytes
+NextBlock-read : (s : Settings) (size i want b : ℕ) (bytes rest after block : List ℕ) → b ≡ s.data_block
+    → i * s.data_block < size
+    → want ≡ min b (size - i * b) → min (i * s.data_block) size ≤ length bytes
+    → rest ≡ drop (min (i * s.data_block) size) bytes
     → HoldsBlock want b rest after block → NextBlock s size i bytes after block
 NextBlock-read s size i want b bytes rest after block e here w have goes h =
     let wanted : want ≡ min s.data_block (size - i * s.data_block) = w ∙ ap (λ (n : ℕ). min n (size - i * n)) e in
@@ -57,7 +62,8 @@ NextBlock-read s size i want b bytes rest after block e here w have goes h =
     let from : rest ≡ drop (i * s.data_block) bytes = goes ∙ ap (λ (k : ℕ). drop k bytes) place in
     record {
       enough = omega (arith, next, h.enough, ap length from, length-drop (i * s.data_block) bytes, have);
-      rest = h.rest ∙ ap (drop want) from ∙ drop-drop want (i * s.data_block) bytes ∙ ap (λ (k : ℕ). drop k bytes) (sym next);
+      rest = h.rest ∙ ap (drop want) from ∙ drop-drop want (i * s.data_block) bytes
+          ∙ ap (λ (k : ℕ). drop k bytes) (sym next);
       digest = ap (hash s)
           (h.bytes ∙ ap (λ (xs : List ℕ). filled b (take want xs)) from
           ∙ ap (λ (n : ℕ). filled n (take want (drop (i * s.data_block) bytes))) e
@@ -65,16 +71,20 @@ NextBlock-read s size i want b bytes rest after block e here w have goes h =
     }
 
 -- the digest of data block i is what comes to level 0
-pub carried-data : (s : Settings) (n wanted i : ℕ) (bytes digest : List ℕ) → i < n → digest ≡ digest_of_block s wanted bytes i
+pub carried-data : (s : Settings) (n wanted i : ℕ) (bytes digest : List ℕ) → i < n
+    → digest ≡ digest_of_block s wanted bytes i
     → digest ≡ carried s (cut s n wanted bytes) i 0
 unfolding cut risen
 carried-data s n wanted i bytes digest below is =
     is
-    ∙ ap (hash s) (sym (get_or-map-range_with_len (block_at s.data_block (take wanted bytes)) 0 n i i [] below (omega arith)))
-    ∙ ap (λ (k : ℕ). hash s (get_or (map (block_at s.data_block (take wanted bytes)) (range_with_len 0 n)) k [])) (place-first i (fan s))
+    ∙ ap (hash s)
+    (sym (get_or-map-range_with_len (block_at s.data_block (take wanted bytes)) 0 n i i [] below (omega arith)))
+    ∙ ap (λ (k : ℕ). hash s (get_or (map (block_at s.data_block (take wanted bytes)) (range_with_len 0 n)) k []))
+    (place-first i (fan s))
 
 -- the next data block is read, and hashed where it stands
-pub data-next : (p : Planned) → IsPlanned p → (i want b a : ℕ) (bytes rest after store new digest : List ℕ) → b ≡ p.settings.data_block → i < p.blocks
+pub data-next : (p : Planned) → IsPlanned p → (i want b a : ℕ) (bytes rest after store new digest : List ℕ)
+    → b ≡ p.settings.data_block → i < p.blocks
     → want ≡ min b (p.wanted - i * b) → a + b ≤ length store → length new ≡ length (take (a + b - a) (drop a store))
     → HasRead (bytes_of p i) bytes rest → HoldsBlock want (length (take (a + b - a) (drop a store))) rest after new
     → digest ≡ hash p.settings (take (a + b - a) (drop a (put_mid a (a + b - a) store new)))
@@ -87,9 +97,11 @@ data-next p planned i want b a bytes rest after store new digest e below w room 
     let here : i * s.data_block < wanted = mul-lt_div_ceil wanted s.data_block i some (omega (arith, below, many)) in
     let wide : a + b - a ≡ b = omega arith in
     let left : length (drop a store) ≡ length store - a = length-drop a store in
-    let size : length (take (a + b - a) (drop a store)) ≡ b = length-take-le (a + b - a) (drop a store) (omega (arith, left, room)) ∙ wide in
+    let size : length (take (a + b - a) (drop a store)) ≡ b =
+    length-take-le (a + b - a) (drop a store) (omega (arith, left, room)) ∙ wide in
     let read : HoldsBlock want b rest after new = subst (λ (k : ℕ). HoldsBlock want k rest after new) size block in
-    let next = NextBlock-read s wanted i want b bytes rest after new e here w read_before.enough read_before.rest read in
+    let next = NextBlock-read s wanted i want b bytes rest after new e here w read_before.enough read_before.rest
+    read in
     let stands : take (a + b - a) (drop a (put_mid a (a + b - a) store new)) ≡ new =
     between-put_mid a (a + b - a) store new (a + b) (omega (arith, room)) (len ∙ size ∙ sym wide) in (
       record { enough = next.enough; rest = next.rest },
@@ -113,14 +125,21 @@ le-div i n a some h = elim (cases_lt (n / a) i) [
 
 -- a plan has a data block
 pub blocks-some : (p : Planned) → IsPlanned p → 0 < p.blocks
-blocks-some p planned = omega (arith, planned.blocks_are, div_ceil-pos p.wanted p.settings.data_block (some_data p.settings planned.valid) planned.some)
+blocks-some p planned =
+    omega (
+      arith,
+      planned.blocks_are,
+      div_ceil-pos p.wanted p.settings.data_block (some_data p.settings planned.valid) planned.some,
+    )
 
 -- bytes that hold all that is wanted hold all blocks
 pub whole-all : (p : Planned) (bytes : List ℕ) → p.wanted ≤ length bytes → whole p bytes ≡ p.blocks
-whole-all p bytes enough = let tested : nat_le p.wanted (length bytes) ≡ true = grind (arith, nat_tests, enough) in rw tested refl
+whole-all p bytes enough =
+    let tested : nat_le p.wanted (length bytes) ≡ true = grind (arith, nat_tests, enough) in rw tested refl
 
 -- bytes that end within block i hold i blocks
-pub whole-short : (p : Planned) (i : ℕ) (bytes : List ℕ) → bytes_of p i ≤ length bytes → length bytes < bytes_of p (i + 1) → whole p bytes ≡ i
+pub whole-short : (p : Planned) (i : ℕ) (bytes : List ℕ) → bytes_of p i ≤ length bytes
+    → length bytes < bytes_of p (i + 1) → whole p bytes ≡ i
 whole-short p i bytes enough short =
     let less : length bytes < p.wanted = omega (arith, short) in
     let tested : nat_le p.wanted (length bytes) ≡ false = grind (arith, nat_tests, less) in
@@ -129,7 +148,8 @@ whole-short p i bytes enough short =
     rw tested (div-eq_of_lt-le p.settings.data_block from to)
 
 -- bytes of which i blocks were read hold as many
-pub whole-above : (p : Planned) → IsPlanned p → (i : ℕ) (bytes : List ℕ) → i ≤ p.blocks → bytes_of p i ≤ length bytes → i ≤ whole p bytes
+pub whole-above : (p : Planned) → IsPlanned p → (i : ℕ) (bytes : List ℕ) → i ≤ p.blocks → bytes_of p i ≤ length bytes
+    → i ≤ whole p bytes
 whole-above p planned i bytes within enough = elim (cases_lt (length bytes) p.wanted) [
   | inl less ↦
       let tested : nat_le p.wanted (length bytes) ≡ false = grind (arith, nat_tests, less) in
@@ -139,29 +159,41 @@ whole-above p planned i bytes within enough = elim (cases_lt (length bytes) p.wa
 ]
 
 -- the source ends within block i
-pub short-within : (p : Planned) → IsPlanned p → (i want b : ℕ) (bytes rest after : List ℕ) → b ≡ p.settings.data_block → i < p.blocks
-    → want ≡ min b (p.wanted - i * b) → HasRead (bytes_of p i) bytes rest → length rest < want → after ≡ [] → EndsWithin p i bytes after
+pub short-within : (p : Planned) → IsPlanned p → (i want b : ℕ) (bytes rest after : List ℕ) → b ≡ p.settings.data_block
+    → i < p.blocks
+    → want ≡ min b (p.wanted - i * b) → HasRead (bytes_of p i) bytes rest → length rest < want → after ≡ []
+    → EndsWithin p i bytes after
 short-within p planned i want b bytes rest after e below w read_before short none =
     let s = p.settings in
     let wanted = p.wanted in
     let some = some_data s planned.valid in
     let many = planned.blocks_are in
     let here : i * s.data_block < wanted = mul-lt_div_ceil wanted s.data_block i some (omega (arith, below, many)) in
-    let left : length rest ≡ length bytes - min (i * s.data_block) wanted = ap length read_before.rest ∙ length-drop (bytes_of p i) bytes in
+    let left : length rest ≡ length bytes - min (i * s.data_block) wanted =
+    ap length read_before.rest ∙ length-drop (bytes_of p i) bytes in
     let wide : i * b ≡ i * s.data_block = ap (λ (k : ℕ). i * k) e in
     let within : length bytes < bytes_of p (i + 1) = omega (arith, left, read_before.enough, here, wide, w, e, short) in
-    record { below = below; whole_is = sym (whole-short p i bytes read_before.enough within); enough = read_before.enough; short = within; rest = none }
+    record {
+      below = below;
+      whole_is = sym (whole-short p i bytes read_before.enough within);
+      enough = read_before.enough;
+      short = within;
+      rest = none;
+    }
 
 -- the source failed within block i
-pub failed-within : (p : Planned) → IsPlanned p → (i want b : ℕ) (bytes rest after : List ℕ) → b ≡ p.settings.data_block → i < p.blocks
-    → want ≡ min b (p.wanted - i * b) → HasRead (bytes_of p i) bytes rest → StopsWithin want rest after → FailsWithin p i bytes after
+pub failed-within : (p : Planned) → IsPlanned p → (i want b : ℕ) (bytes rest after : List ℕ) → b ≡ p.settings.data_block
+    → i < p.blocks
+    → want ≡ min b (p.wanted - i * b) → HasRead (bytes_of p i) bytes rest → StopsWithin want rest after
+    → FailsWithin p i bytes after
 failed-within p planned i want b bytes rest after e below w read_before stop =
     let s = p.settings in
     let wanted = p.wanted in
     let some = some_data s planned.valid in
     let many = planned.blocks_are in
     let here : i * s.data_block < wanted = mul-lt_div_ceil wanted s.data_block i some (omega (arith, below, many)) in
-    let left : length rest ≡ length bytes - min (i * s.data_block) wanted = ap length read_before.rest ∙ length-drop (bytes_of p i) bytes in
+    let left : length rest ≡ length bytes - min (i * s.data_block) wanted =
+    ap length read_before.rest ∙ length-drop (bytes_of p i) bytes in
     let wide : i * b ≡ i * s.data_block = ap (λ (k : ℕ). i * k) e in
     record {
       below = below;

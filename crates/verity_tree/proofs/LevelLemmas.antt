@@ -1,5 +1,6 @@
 -- The digests of the hash blocks above a list of digests.
-use Rattle.std.proofs.Common.{◌≡◌, ℕ, ◌+◌, ◌-◌, ◌*◌, List, [], ◌∷◌, ◌++◌, take, drop, map, min, length, arith, sym, ◌∙◌, ap, refl, length-drop}
+use Rattle.std.proofs.Common.{◌≡◌, ℕ, ◌+◌, ◌-◌, ◌*◌, List, [], ◌∷◌, ◌++◌, take, drop, map, min, length, arith, sym, ◌∙◌}
+use Rattle.std.proofs.Common.{ap, refl, length-drop}
 use Rattle.std.proofs.lemmas.List.{take_min}
 use Rattle.std.proofs.lemmas.List.FromFn.{map-range_with_len_more, length-map-range_with_len}
 use Rattle.std.specs.List.{range_with_len}
@@ -15,22 +16,27 @@ map-map f g [] = refl
 map-map f g (x ∷ xs) = ap (λ (ys : List (List ℕ)). f (g x) ∷ ys) (map-map f g xs)
 
 pub map-hash-pack : (s : Settings) (digests : List (List ℕ))
-    → map (hash s) (pack s digests) ≡ map (digest_of_run s digests) (range_with_len 0 (div_ceil (length digests) (fan s)))
+    → map (hash s) (pack s digests)
+    ≡ map (digest_of_run s digests) (range_with_len 0 (div_ceil (length digests) (fan s)))
 unfolding pack
 map-hash-pack s digests =
-    map-map (hash s) (λ j. hash_block_of s (slice_chunk digests (fan s) j)) (range_with_len 0 (div_ceil (length digests) (fan s)))
+    map-map (hash s) (λ j. hash_block_of s (slice_chunk digests (fan s) j))
+    (range_with_len 0 (div_ceil (length digests) (fan s)))
 
 -- a range of a slice is a run
-pub take-run : (digests : List (List ℕ)) (j size count all : ℕ) → size ≡ all → count ≡ min size (length digests - j * size)
+pub take-run : (digests : List (List ℕ)) (j size count all : ℕ) → size ≡ all
+    → count ≡ min size (length digests - j * size)
     → take (j * size + count - j * size) (drop (j * size) digests) ≡ slice_chunk digests all j
 take-run digests j size count all e m =
-    let run : take (j * size + count - j * size) (drop (j * size) digests) ≡ take (min size (length (drop (j * size) digests))) (drop (j * size) digests) =
+    let run : take (j * size + count - j * size) (drop (j * size) digests)
+    ≡ take (min size (length (drop (j * size) digests))) (drop (j * size) digests) =
     ap (λ (n : ℕ). take n (drop (j * size) digests)) (omega (arith, m, length-drop (j * size) digests)) in
     run ∙ take_min size (drop (j * size) digests) ∙ ap (λ (n : ℕ). take n (drop (j * n) digests)) e
 
 -- one more run
 pub digests_more : (s : Settings) (digests above after : List (List ℕ)) (j : ℕ) (digest : List ℕ)
-    → after ≡ above ++ digest ∷ [] → above ≡ map (digest_of_run s digests) (range_with_len 0 j) → digest ≡ digest_of_run s digests j
+    → after ≡ above ++ digest ∷ [] → above ≡ map (digest_of_run s digests) (range_with_len 0 j)
+    → digest ≡ digest_of_run s digests j
     → after ≡ map (digest_of_run s digests) (range_with_len 0 (j + 1))
 digests_more s digests above after j digest pushed before same =
     pushed
@@ -40,7 +46,8 @@ digests_more s digests above after j digest pushed before same =
 
 -- one more element of a list by its index
 pub mapped_more : (f : ℕ → List ℕ) (before after : List (List ℕ)) (j : ℕ) (x : List ℕ)
-    → after ≡ before ++ x ∷ [] → before ≡ map f (range_with_len 0 j) → x ≡ f j → after ≡ map f (range_with_len 0 (j + 1))
+    → after ≡ before ++ x ∷ [] → before ≡ map f (range_with_len 0 j) → x ≡ f j
+    → after ≡ map f (range_with_len 0 (j + 1))
 mapped_more f before after j x pushed so_far same =
     pushed
     ∙ ap (λ (xs : List (List ℕ)). xs ++ x ∷ []) so_far
@@ -56,7 +63,8 @@ map-hash-cut s n wanted bytes = map-map (hash s) (block_at s.data_block (take wa
 pub take-bytes : (bytes : List ℕ) (j size count all : ℕ) → size ≡ all → count ≡ min size (length bytes - j * size)
     → take (j * size + count - j * size) (drop (j * size) bytes) ≡ slice_chunk bytes all j
 take-bytes bytes j size count all e m =
-    let run : take (j * size + count - j * size) (drop (j * size) bytes) ≡ take (min size (length (drop (j * size) bytes))) (drop (j * size) bytes) =
+    let run : take (j * size + count - j * size) (drop (j * size) bytes)
+    ≡ take (min size (length (drop (j * size) bytes))) (drop (j * size) bytes) =
     ap (λ (n : ℕ). take n (drop (j * size) bytes)) (omega (arith, m, length-drop (j * size) bytes)) in
     run ∙ take_min size (drop (j * size) bytes) ∙ ap (λ (n : ℕ). take n (drop (j * n) bytes)) e
 

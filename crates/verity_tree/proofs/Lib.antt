@@ -9,6 +9,7 @@ pub mod QuotientLemmas
 pub mod OpenBlockLemmas
 pub mod OpenBlockSteps
 pub mod CascadeLemmas
+pub mod ReadingAheadLemmas
 pub mod OnePassLemmas
 pub mod DataBlockLemmas
 pub mod Rows

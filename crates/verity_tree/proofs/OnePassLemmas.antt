@@ -1,5 +1,6 @@
 -- The loop over the data blocks.
-use Rattle.std.proofs.Common.{List, [], ap, append_assoc, arith, drop, length, refl, replicate, subst, sym, take, ℕ, ◌%◌, ◌*◌, ◌++◌, ◌+◌, ◌-◌, ◌/◌, ◌<◌, ◌^◌, ◌∙◌, ◌∷◌, ◌≡◌, ◌≤◌}
+use Rattle.std.proofs.Common.{List, [], ap, append_assoc, arith, drop, length, refl, replicate, subst, sym, take, ℕ}
+use Rattle.std.proofs.Common.{◌%◌, ◌*◌, ◌++◌, ◌+◌, ◌-◌, ◌/◌, ◌<◌, ◌^◌, ◌∙◌, ◌∷◌, ◌≡◌, ◌≤◌}
 use Rattle.std.proofs.lemmas.List.{drop-replicate, take-replicate}
 use Rattle.std.proofs.lemmas.Slice.{between_is, take-put_mid_below}
 use Rattle.std.proofs.lemmas.Nat.{div-mul-add, mod-mul-add}
@@ -10,15 +11,15 @@ use Rattle.std.specs.Prelude.{Contains}
 use Rattle.verity_plan.proofs.CountLemmas.{mul_le}
 use Rattle.verity_plan.specs.Settings.{Settings, fan}
 use Rattle.verity_tree.specs.Levels.{hash_block_of, data_blocks}
-use Rattle.verity_tree.specs.ClosingOrder.{closed_to, closing, order}
+use Rattle.verity_tree.specs.ClosingOrder.{closing, order}
 use Rattle.verity_io.specs.Writing.{Spoiled}
 use Rattle.verity_tree.specs.Image.{tree_block, written, begun_after, StopsAt}
 use Rattle.verity_tree.proofs.OrderSplit.{closing-front, order-front, order-more, written-append, written-order}
 use Rattle.verity_tree.specs.Reading.{ReadsUpTo, bytes_of}
 use Rattle.verity_io.specs.Reading.{HasRead}
-use Rattle.verity_tree.specs.Steps.Cascade.{ClosesWith}
+use Rattle.verity_tree.specs.Steps.Cascade.{closed_to, ClosesWith}
 use Rattle.verity_plan.specs.Plans.{Planned, byte_of}
-use Rattle.verity_tree.specs.Steps.OpenBlocks.{digests_under, open_block, AreOpen}
+use Rattle.verity_tree.specs.Steps.OpenBlocks.{digests_under, open_block, HasOpenBlocks}
 use Rattle.verity_tree.proofs.OpenBlockSteps.{hash_block_of-none}
 use Rattle.verity_tree.specs.Steps.ClosedBlocks.{IsCause, closed_block}
 use Rattle.verity_tree.specs.Steps.OnePass.{StopsFor}
@@ -32,9 +33,10 @@ zero_mod : (w : ℕ) → 0 < w → 0 % w ≡ 0
 zero_mod w some = let e : 0 ≡ 0 * w + 0 = omega arith in ap (λ (x : ℕ). x % w) e ∙ mod-mul-add 0 w 0 some
 
 -- a store of zeros has no slots
-pub AreOpen-zeros : (s : Settings) (blocks : List (List ℕ)) (levels len : ℕ) (store : List ℕ) → 0 < fan s → store ≡ replicate len 0
-    → levels * s.hash_block ≤ len → AreOpen s blocks 0 levels 0 store
-AreOpen-zeros s blocks levels len store some zeros room = λ l from to.
+pub HasOpenBlocks-zeros : (s : Settings) (blocks : List (List ℕ)) (levels len : ℕ) (store : List ℕ) → 0 < fan s
+    → store ≡ replicate len 0
+    → levels * s.hash_block ≤ len → HasOpenBlocks s blocks 0 levels 0 store
+HasOpenBlocks-zeros s blocks levels len store some zeros room = λ l from to.
     let f = fan s in
     let size = s.hash_block in
     let step : l + 1 ≤ levels = omega (arith, to) in
@@ -48,9 +50,10 @@ AreOpen-zeros s blocks levels len store some zeros room = λ l from to.
     ∙ ap (open_block s (digests_under s blocks l)) (sym place)
 
 -- a write after the open blocks leaves them
-pub AreOpen-after : (s : Settings) (blocks : List (List ℕ)) (levels i a k : ℕ) (store new : List ℕ) → a ≡ levels * s.hash_block → a ≤ length store
-    → AreOpen s blocks 0 levels i store → AreOpen s blocks 0 levels i (put_mid a k store new)
-AreOpen-after s blocks levels i a k store new place within h = λ l from to.
+pub HasOpenBlocks-after : (s : Settings) (blocks : List (List ℕ)) (levels i a k : ℕ) (store new : List ℕ)
+    → a ≡ levels * s.hash_block → a ≤ length store
+    → HasOpenBlocks s blocks 0 levels i store → HasOpenBlocks s blocks 0 levels i (put_mid a k store new)
+HasOpenBlocks-after s blocks levels i a k store new place within h = λ l from to.
     let size = s.hash_block in
     let step : l + 1 ≤ levels = omega (arith, to) in
     let before : l * size + size ≤ a = omega (arith, place, mul_le (l + 1) levels size step) in
@@ -63,15 +66,18 @@ AreOpen-after s blocks levels i a k store new place within h = λ l from to.
     ∙ h l from to
 
 -- a data block that stopped at a level
-pub image-stopped : (p : Planned) (blocks : List (List ℕ)) (i l j : ℕ) (start device new : List ℕ) → 0 < fan p.settings → i < p.blocks
+pub image-stopped : (p : Planned) (blocks : List (List ℕ)) (i l j : ℕ) (start device new : List ℕ) → 0 < fan p.settings
+    → i < p.blocks
     → ClosesWith p i l j → device ≡ begun_after p blocks i start
-    → Spoiled (written p.settings blocks p.base (closed_to (fan p.settings) i l) device) (byte_of p l j) p.settings.hash_block new
+    → Spoiled (written p.settings blocks p.base (closed_to (fan p.settings) i l) device)
+    (byte_of p l j) p.settings.hash_block new
     → StopsAt p blocks (l, j) start new
 image-stopped p blocks i l j start device new some below with_it so_far h =
     let f = fan p.settings in
     let front = order-front f p.blocks i l some below with_it.level_below with_it.all in
     let pair : (l, i / f ^ (l + 1)) ≡ (l, j) = ap (λ (k : ℕ). (l, k)) (sym with_it.block_is) in
-    let e : written p.settings blocks p.base (closed_to f i l) device ≡ written p.settings blocks p.base (order f p.blocks i ++ closed_to f i l) start =
+    let e : written p.settings blocks p.base (closed_to f i l) device ≡ written p.settings blocks p.base
+    (order f p.blocks i ++ closed_to f i l) start =
     ap (written p.settings blocks p.base (closed_to f i l)) so_far
     ∙ sym (written-append p.settings blocks p.base (order f p.blocks i) (closed_to f i l) start) in
     record {
@@ -88,7 +94,8 @@ middle : (xs ys : List (ℕ × ℕ)) (x : ℕ × ℕ) → Contains (xs ++ x ∷ 
 middle xs ys x = Contains-append_left (xs ++ x ∷ []) ys x (Contains-append_right xs (x ∷ []) x (0, omega arith, refl))
 
 -- the data blocks with which the block closes were read
-pub reads-up-to : (p : Planned) (i l j : ℕ) (before after : List ℕ) → 0 < fan p.settings → i < p.blocks → ClosesWith p i l j
+pub reads-up-to : (p : Planned) (i l j : ℕ) (before after : List ℕ) → 0 < fan p.settings → i < p.blocks
+    → ClosesWith p i l j
     → HasRead (bytes_of p (i + 1)) before after → ReadsUpTo p l j before after
 reads-up-to p i l j before after some below with_it read =
     let f = fan p.settings in
@@ -98,7 +105,8 @@ reads-up-to p i l j before after some below with_it read =
       i = i;
       below = below;
       here = subst (λ (k : ℕ). Contains pairs (l, k)) (sym with_it.block_is)
-          (subst (λ (ps : List (ℕ × ℕ)). Contains ps (l, i / f ^ (l + 1))) (sym front.1) (middle (closed_to f i l) front.0 (l, i / f ^ (l + 1))));
+          (subst (λ (ps : List (ℕ × ℕ)). Contains ps (l, i / f ^ (l + 1))) (sym front.1)
+          (middle (closed_to f i l) front.0 (l, i / f ^ (l + 1))));
       read = read;
     }
 
@@ -111,18 +119,23 @@ image-next s blocks base n i start device new so_far is =
     is ∙ ap (written s blocks base (closing (fan s) n (i + 1))) so_far ∙ sym (written-order s blocks base n i start)
 
 -- one data block more is compared
-pub none-differs-order : (p : Planned) (blocks : List (List ℕ)) (i : ℕ) (device : List ℕ) → NoneDiffers p blocks device (order (fan p.settings) p.blocks i)
-    → NoneDiffers p blocks device (closing (fan p.settings) p.blocks (i + 1)) → NoneDiffers p blocks device (order (fan p.settings) p.blocks (i + 1))
+pub none-differs-order : (p : Planned) (blocks : List (List ℕ)) (i : ℕ) (device : List ℕ)
+    → NoneDiffers p blocks device (order (fan p.settings) p.blocks i)
+    → NoneDiffers p blocks device (closing (fan p.settings) p.blocks (i + 1))
+    → NoneDiffers p blocks device (order (fan p.settings) p.blocks (i + 1))
 none-differs-order p blocks i device before h =
     subst (NoneDiffers p blocks device) (sym (order-more (fan p.settings) p.blocks i))
-    (All-append (StandsThere p blocks device) (order (fan p.settings) p.blocks i) (closing (fan p.settings) p.blocks (i + 1)) before h)
+    (All-append (StandsThere p blocks device) (order (fan p.settings) p.blocks i)
+    (closing (fan p.settings) p.blocks (i + 1)) before h)
 
 -- a comparison that stops at a level of a data block
-pub stops-for : (p : Planned) (bytes : List ℕ) (i : ℕ) (device : List ℕ) (stop : Stop) → 0 < fan p.settings → i < p.blocks
+pub stops-for : (p : Planned) (bytes : List ℕ) (i : ℕ) (device : List ℕ) (stop : Stop) → 0 < fan p.settings
+    → i < p.blocks
     → ClosesWith p i stop.level stop.block → bytes_of p (i + 1) ≤ length bytes
     → NoneDiffers p (data_blocks p bytes) device (order (fan p.settings) p.blocks i)
     → NoneDiffers p (data_blocks p bytes) device (closed_to (fan p.settings) i stop.level)
-    → IsCause p (closed_block stop.level stop.block (tree_block p.settings (data_blocks p bytes) stop.level stop.block)) device stop.cause
+    → IsCause p (closed_block stop.level stop.block (tree_block p.settings (data_blocks p bytes) stop.level stop.block))
+    device stop.cause
     → StopsFor p bytes device stop
 stops-for p bytes i device stop some below with_it enough before h cause =
     let f = fan p.settings in

@@ -1,7 +1,10 @@
 -- An open block as digests come to it.
-use Rattle.std.proofs.Common.{◌≡◌, ℕ, suc, ◌+◌, ◌-◌, ◌*◌, ◌/◌, ◌%◌, ◌<◌, ◌≤◌, ◌⊎◌, List, [], ◌∷◌, ◌++◌, get_or, take, drop, length, map, replicate, arith, sym, ◌∙◌, ap, inl, inr, length-append, length-drop, append_assoc}
+use Rattle.std.proofs.Common.{◌≡◌, ℕ, suc, ◌+◌, ◌-◌, ◌*◌, ◌/◌, ◌%◌, ◌<◌, ◌≤◌, ◌⊎◌, List, [], ◌∷◌, ◌++◌, get_or, take}
+use Rattle.std.proofs.Common.{drop, length, map, replicate, arith, sym, ◌∙◌, ap, inl, inr, length-append, length-drop}
+use Rattle.std.proofs.Common.{append_assoc}
 use Rattle.std.proofs.lemmas.Nat.{div-add-mod', mod_below}
-use Rattle.std.proofs.lemmas.List.{length-map, length-take-le, get_or-map, get_or-drop, take-map, drop-map, take_at, drop-replicate, length-replicate, replicate-append-replicate, take_all, append-nil}
+use Rattle.std.proofs.lemmas.List.{length-map, length-take-le, get_or-map, get_or-drop, take-map, drop-map, take_at}
+use Rattle.std.proofs.lemmas.List.{drop-replicate, length-replicate, replicate-append-replicate, take_all, append-nil}
 use Rattle.std.proofs.lemmas.List.Concat.{flat_map-cons}
 use Rattle.std.proofs.lemmas.Grind.{flat_map-append}
 use Rattle.std.proofs.Math.Seq.{take-suc, drop-append-add}
@@ -22,7 +25,12 @@ length-hash s x = length-salted_hash s.algorithm s.rule s.salt x
 
 length-slot : (s : Settings) (x : List ℕ) → digest_len s ≤ slot_width s → length (slot s (hash s x)) ≡ slot_width s
 length-slot s x fits =
-    omega (arith, length-append (hash s x) (replicate (slot_width s - length (hash s x)) 0), length-replicate {A = ℕ} (slot_width s - length (hash s x)) 0, length-hash s x)
+    omega (
+      arith,
+      length-append (hash s x) (replicate (slot_width s - length (hash s x)) 0),
+      length-replicate {A = ℕ} (slot_width s - length (hash s x)) 0,
+      length-hash s x,
+    )
 
 -- the slots of so many digests
 pub length-slots : (s : Settings) (xs : List (List ℕ)) → digest_len s ≤ slot_width s
@@ -30,11 +38,17 @@ pub length-slots : (s : Settings) (xs : List (List ℕ)) → digest_len s ≤ sl
 length-slots s [] fits = let e : 0 ≡ 0 * slot_width s = omega arith in e
 length-slots s (x ∷ xs) fits =
     ap length (flat_map-cons (slot s) (hash s x) (map (hash s) xs))
-    ∙ omega (arith, length-append (slot s (hash s x)) (flat_map (slot s) (map (hash s) xs)), length-slot s x fits, length-slots s xs fits)
+    ∙ omega (
+      arith,
+      length-append (slot s (hash s x)) (flat_map (slot s) (map (hash s) xs)),
+      length-slot s x fits,
+      length-slots s xs fits,
+    )
 
 -- a digest put after the slots of a block is in its slot
 pub block-more : (k w at : ℕ) (slots digest : List ℕ) → length slots ≡ at → length digest ≤ w → at + w ≤ k
-    → take at (filled k slots) ++ digest ++ drop (at + length digest) (filled k slots) ≡ filled k (slots ++ filled w digest)
+    → take at (filled k slots) ++ digest ++ drop (at + length digest) (filled k slots)
+    ≡ filled k (slots ++ filled w digest)
 block-more k w at slots digest len fits room =
     let zeros = replicate (k - length slots) 0 in
     let d = length digest in
@@ -44,20 +58,30 @@ block-more k w at slots digest len fits room =
     ap (λ (n : ℕ). drop n (filled k slots)) e ∙ drop-append-add slots zeros d ∙ drop-replicate d (k - length slots) 0 in
     let slot_zeros = replicate (w - d) 0 in
     let size : length (slots ++ (digest ++ slot_zeros)) ≡ at + w =
-    omega (arith, length-append slots (digest ++ slot_zeros), length-append digest slot_zeros, length-replicate {A = ℕ} (w - d) 0, len) in
-    let left : k - length slots - d ≡ (w - d) + (k - length (slots ++ (digest ++ slot_zeros))) = omega (arith, size, len) in
+    omega (
+      arith,
+      length-append slots (digest ++ slot_zeros),
+      length-append digest slot_zeros,
+      length-replicate {A = ℕ} (w - d) 0,
+      len,
+    ) in
+    let left : k - length slots - d ≡ (w - d) + (k - length (slots ++ (digest ++ slot_zeros))) =
+    omega (arith, size, len) in
     let after = replicate (k - length (slots ++ (digest ++ slot_zeros))) 0 in
     let split : replicate (k - length slots - d) 0 ≡ slot_zeros ++ after =
-    ap (λ (n : ℕ). replicate n 0) left ∙ sym (replicate-append-replicate (w - d) (k - length (slots ++ (digest ++ slot_zeros))) 0) in
+    ap (λ (n : ℕ). replicate n 0) left
+    ∙ sym (replicate-append-replicate (w - d) (k - length (slots ++ (digest ++ slot_zeros))) 0) in
     ap (λ (xs : List ℕ). xs ++ digest ++ drop (at + d) (filled k slots)) front
     ∙ ap (λ (xs : List ℕ). slots ++ digest ++ xs) (back ∙ split)
     ∙ sym (append_assoc (slots ++ digest) slot_zeros after)
     ∙ ap (λ (xs : List ℕ). xs ++ after) (append_assoc slots digest slot_zeros)
 
 -- one more digest of an open block
-pub open-push : (s : Settings) (xs : List (List ℕ)) (q : ℕ) (digest : List ℕ) (at : ℕ) → digest_len s ≤ slot_width s → fan s * slot_width s ≤ s.hash_block
+pub open-push : (s : Settings) (xs : List (List ℕ)) (q : ℕ) (digest : List ℕ) (at : ℕ) → digest_len s ≤ slot_width s
+    → fan s * slot_width s ≤ s.hash_block
     → 0 < fan s → q < length xs → digest ≡ hash s (get_or xs q []) → at ≡ q % fan s * slot_width s
-    → take at (open_block s (map (hash s) xs) q) ++ digest ++ drop (at + length digest) (open_block s (map (hash s) xs) q)
+    → take at (open_block s (map (hash s) xs) q) ++ digest
+    ++ drop (at + length digest) (open_block s (map (hash s) xs) q)
     ≡ hash_block_of s (take (q % fan s + 1) (drop (q / fan s * fan s) (map (hash s) xs)))
 open-push s xs q digest at fits room some below same place =
     let f = fan s in
@@ -66,7 +90,8 @@ open-push s xs q digest at fits room some below same place =
     let rest = drop (q / f * f) digests in
     let split : q / f * f + q % f ≡ q = div-add-mod' q f in
     let low : q % f < f = mod_below q f some in
-    let left : length rest ≡ length xs - q / f * f = length-drop (q / f * f) digests ∙ ap (λ (n : ℕ). n - q / f * f) (length-map xs (hash s)) in
+    let left : length rest ≡ length xs - q / f * f =
+    length-drop (q / f * f) digests ∙ ap (λ (n : ℕ). n - q / f * f) (length-map xs (hash s)) in
     let here : q % f < length rest = omega (arith, left, split, below) in
     let slots = flat_map (slot s) (take (q % f) rest) in
     let part : take (q % f) rest ≡ map (hash s) (take (q % f) (drop (q / f * f) xs)) =
@@ -81,10 +106,12 @@ open-push s xs q digest at fits room some below same place =
     let inside : at + w ≤ s.hash_block = omega (arith, place, mul_le (q % f + 1) f w within, room) in
     let size : length digest ≤ w = omega (arith, ap length same, length-hash s (get_or xs q []), fits) in
     let element : get_or rest (q % f) [] ≡ digest =
-    get_or-drop (q / f * f) digests (q % f) [] ∙ ap (λ (n : ℕ). get_or digests n []) split ∙ get_or-map (hash s) xs q [] [] below ∙ sym same in
+    get_or-drop (q / f * f) digests (q % f) [] ∙ ap (λ (n : ℕ). get_or digests n []) split
+    ∙ get_or-map (hash s) xs q [] [] below ∙ sym same in
     let one_more : q % f + 1 ≡ suc (q % f) = omega arith in
     let next : take (q % f + 1) rest ≡ take (q % f) rest ++ digest ∷ [] =
-    ap (λ (n : ℕ). take n rest) one_more ∙ take-suc rest (q % f) [] here ∙ ap (λ (x : List ℕ). take (q % f) rest ++ x ∷ []) element in
+    ap (λ (n : ℕ). take n rest) one_more ∙ take-suc rest (q % f) [] here
+    ∙ ap (λ (x : List ℕ). take (q % f) rest ++ x ∷ []) element in
     let pushed : flat_map (slot s) (take (q % f + 1) rest) ≡ slots ++ slot s digest =
     ap (flat_map (slot s)) next ∙ flat_map-append (slot s) (take (q % f) rest) (digest ∷ [])
     ∙ ap (λ (ys : List ℕ). slots ++ ys) (append-nil (slot s digest)) in
@@ -92,7 +119,8 @@ open-push s xs q digest at fits room some below same place =
 
 -- a block that is full, or the last, is the block of its run
 pub open-close : (s : Settings) (xs : List (List ℕ)) (q : ℕ) → 0 < fan s → (q % fan s + 1 ≡ fan s) ⊎ (q + 1 ≡ length xs)
-    → hash_block_of s (take (q % fan s + 1) (drop (q / fan s * fan s) xs)) ≡ hash_block_of s (slice_chunk xs (fan s) (q / fan s))
+    → hash_block_of s (take (q % fan s + 1) (drop (q / fan s * fan s) xs))
+    ≡ hash_block_of s (slice_chunk xs (fan s) (q / fan s))
 open-close s xs q some ends =
     let f = fan s in
     let rest = drop (q / f * f) xs in
@@ -102,7 +130,8 @@ open-close s xs q some ends =
           let split : q / f * f + q % f ≡ q = div-add-mod' q f in
           let low : q % f < f = mod_below q f some in
           let left : length rest ≡ q % f + 1 = omega (arith, length-drop (q / f * f) xs, last, split) in
-          ap (hash_block_of s) (take_all (q % f + 1) rest (omega (arith, left)) ∙ sym (take_all f rest (omega (arith, left, low))))
+          ap (hash_block_of s) (take_all (q % f + 1) rest (omega (arith, left))
+          ∙ sym (take_all f rest (omega (arith, left, low))))
     ]
 
 -- the block of a run stands one level up
@@ -112,4 +141,5 @@ unfolding risen
 block-up s blocks m j below =
     let e : m + 1 ≡ suc m = omega arith in
     ap (λ (k : ℕ). get_or (risen s blocks k) j []) e
-    ∙ get_or-pack s (digests_under s blocks m) j (omega (arith, below, ap (λ (n : ℕ). div_ceil n (fan s)) (length-map (risen s blocks m) (hash s))))
+    ∙ get_or-pack s (digests_under s blocks m) j
+    (omega (arith, below, ap (λ (n : ℕ). div_ceil n (fan s)) (length-map (risen s blocks m) (hash s))))

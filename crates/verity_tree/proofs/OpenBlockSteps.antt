@@ -1,5 +1,7 @@
 -- One level of the cascade.
-use Rattle.std.proofs.Common.{◌≡◌, ℕ, ◌+◌, ◌-◌, ◌*◌, ◌/◌, ◌%◌, ◌^◌, ◌<◌, ◌≤◌, ◌⊎◌, Bool, true, false, eqb, List, [], ◌++◌, get_or, take, drop, length, map, replicate, arith, sym, ◌∙◌, ap, subst, inl, inr, length-drop}
+use Rattle.std.proofs.Common.{◌≡◌, ℕ, ◌+◌, ◌-◌, ◌*◌, ◌/◌, ◌%◌, ◌^◌, ◌<◌, ◌≤◌, ◌⊎◌, Bool, true, false, eqb, List, []}
+use Rattle.std.proofs.Common.{◌++◌, get_or, take, drop, length, map, replicate, arith, sym, ◌∙◌, ap, subst, inl, inr}
+use Rattle.std.proofs.Common.{length-drop}
 use Rattle.std.proofs.lemmas.Bool.{cases_lt}
 use Rattle.std.proofs.lemmas.Bool.Decides.{eqb_tells}
 use Rattle.std.proofs.lemmas.Nat.{mod_below, div-mul-add}
@@ -12,10 +14,12 @@ use Rattle.std.specs.Int.{div_ceil}
 use Rattle.verity_plan.specs.Settings.{Settings, hash, fan, slot_width, digest_len}
 use Rattle.verity_tree.specs.Levels.{hash_block_of, risen, root}
 use Rattle.verity_plan.specs.Counts.{level_count}
-use Rattle.verity_tree.specs.Steps.OpenBlocks.{digests_under, open_block, filling, AreOpen, carried, IsCarrying, IsNext, IsClosed, IsKept, IsCarriedOn, climb, arrival}
+use Rattle.verity_tree.specs.Steps.OpenBlocks.{digests_under, open_block, filling, HasOpenBlocks, carried, IsCarrying}
+use Rattle.verity_tree.specs.Steps.OpenBlocks.{IsNext, IsClosed, IsKept, IsCarriedOn, climb, arrival}
 use Rattle.verity_plan.proofs.CountLemmas.{IsLevelCount-level_count, mul_le}
 use Rattle.verity_tree.proofs.TreeLemmas.{length-risen, height-level_count}
-use Rattle.verity_tree.proofs.QuotientLemmas.{quotient-next, quotient-below, div_ceil-last, IsReached-zero, quotient-reached, IsReached-full, slots-full, slots-more, quotient-stays}
+use Rattle.verity_tree.proofs.QuotientLemmas.{quotient-next, quotient-below, div_ceil-last, IsReached-zero}
+use Rattle.verity_tree.proofs.QuotientLemmas.{quotient-reached, IsReached-full, slots-full, slots-more, quotient-stays}
 use Rattle.verity_tree.proofs.OpenBlockLemmas.{open-push, open-close, block-up}
 use Rattle.verity_plan.proofs.FitLemmas.{digest-slot}
 
@@ -25,7 +29,8 @@ div_small a b h =
     ap (λ (x : ℕ). x / b) e ∙ div-mul-add 0 b a h
 
 -- a write to one run leaves the others
-pub chunk-other : (xs ys : List ℕ) (size m l a k : ℕ) → a ≡ m * size → k ≡ size → length ys ≡ size → m * size + size ≤ length xs → (l < m) ⊎ (m < l)
+pub chunk-other : (xs ys : List ℕ) (size m l a k : ℕ) → a ≡ m * size → k ≡ size → length ys ≡ size
+    → m * size + size ≤ length xs → (l < m) ⊎ (m < l)
     → slice_chunk (put_mid a k xs ys) size l ≡ slice_chunk xs size l
 chunk-other xs ys size m l a k place wide len room apart =
     elim apart [
@@ -53,12 +58,18 @@ chunk-same xs ys size m a k place len room =
     ∙ between-put_mid a k xs ys (m * size + size) (omega (arith, place, room)) (len ∙ e)
 
 -- the place that a digest comes to is in its level
-pub carried-below : (s : Settings) (blocks : List (List ℕ)) (i m : ℕ) → 0 < fan s → i < length blocks → i / fan s ^ m < length (risen s blocks m)
+pub carried-below : (s : Settings) (blocks : List (List ℕ)) (i m : ℕ) → 0 < fan s → i < length blocks
+    → i / fan s ^ m < length (risen s blocks m)
 carried-below s blocks i m some below =
-    omega (arith, quotient-below i (length blocks) (fan s ^ m) (one-le-pow m (fan s) some) below, length-risen s blocks m some)
+    omega (
+      arith,
+      quotient-below i (length blocks) (fan s ^ m) (one-le-pow m (fan s) some) below,
+      length-risen s blocks m some,
+    )
 
 -- at the last data block the place is the last of each level
-pub carried-last : (s : Settings) (blocks : List (List ℕ)) (i m : ℕ) → 0 < fan s → i + 1 ≡ length blocks → i / fan s ^ m + 1 ≡ length (risen s blocks m)
+pub carried-last : (s : Settings) (blocks : List (List ℕ)) (i m : ℕ) → 0 < fan s → i + 1 ≡ length blocks
+    → i / fan s ^ m + 1 ≡ length (risen s blocks m)
 carried-last s blocks i m some last =
     sym (div_ceil-last i (fan s ^ m) (one-le-pow m (fan s) some))
     ∙ ap (λ (n : ℕ). div_ceil n (fan s ^ m)) last
@@ -74,7 +85,8 @@ carried-next s blocks i m some below ends =
     let digests = digests_under s blocks m in
     let many : length digests ≡ length (risen s blocks m) = length-map (risen s blocks m) (hash s) in
     let here : q < length (risen s blocks m) = carried-below s blocks i m some below in
-    let run : q / f < div_ceil (length (risen s blocks m)) f = quotient-below q (length (risen s blocks m)) f some here in
+    let run : q / f < div_ceil (length (risen s blocks m)) f =
+    quotient-below q (length (risen s blocks m)) f some here in
     let closes : (q % f + 1 ≡ f) ⊎ (q + 1 ≡ length digests) = elim ends [
       | inl full ↦ inl full
       | inr last ↦ inr (carried-last s blocks i m some last ∙ sym many)
@@ -84,16 +96,19 @@ carried-next s blocks i m some below ends =
     ∙ sym (open-close s digests q some closes)
 
 -- an open block with no slot is all zeros
-pub hash_block_of-none : (s : Settings) (n : ℕ) (digests : List (List ℕ)) → hash_block_of s (take 0 (drop n digests)) ≡ replicate s.hash_block 0
+pub hash_block_of-none : (s : Settings) (n : ℕ) (digests : List (List ℕ))
+    → hash_block_of s (take 0 (drop n digests)) ≡ replicate s.hash_block 0
 hash_block_of-none s n digests =
     ap (λ (k : ℕ). replicate k 0) (let e : s.hash_block - 0 ≡ s.hash_block = omega arith in e)
 
 -- a level whose block closed goes on
-pub IsCarrying-closed : (s : Settings) (blocks : List (List ℕ)) (i m levels a k : ℕ) (store zeros digest next : List ℕ) → 0 < fan s → i < length blocks → m < levels
+pub IsCarrying-closed : (s : Settings) (blocks : List (List ℕ)) (i m levels a k : ℕ) (store zeros digest next : List ℕ)
+    → 0 < fan s → i < length blocks → m < levels
     → (i / fan s ^ m % fan s + 1 ≡ fan s) ⊎ (i + 1 ≡ length blocks) → levels * s.hash_block ≤ length store
     → a ≡ m * s.hash_block → k ≡ s.hash_block → zeros ≡ replicate s.hash_block 0 → length zeros ≡ s.hash_block
     → next ≡ hash s (filling s (digests_under s blocks m) (i / fan s ^ m))
-    → IsCarrying s blocks (climb i m levels) store digest → IsCarrying s blocks (climb i (m + 1) levels) (put_mid a k store zeros) next
+    → IsCarrying s blocks (climb i m levels) store digest
+    → IsCarrying s blocks (climb i (m + 1) levels) (put_mid a k store zeros) next
 IsCarrying-closed s blocks i m levels a k store zeros digest next some below inside ends room place wide none len is h =
     let f = fan s in
     let q = i / f ^ m in
@@ -113,9 +128,12 @@ IsCarrying-closed s blocks i m levels a k store zeros digest next some below ins
         | inr high ↦
             let same : l ≡ m = omega (arith, high, to) in
             let full : q % f + 1 ≡ f = elim ends [ inl full ↦ full | inr last ↦ absurd (omega (arith, more, last)) ] in
-            let empty : (i + 1) / f ^ m % f ≡ 0 = ap (λ (n : ℕ). n % f) (quotient-reached f i m some (h.reached more)) ∙ slots-full f q some full in
+            let empty : (i + 1) / f ^ m % f ≡ 0 = ap (λ (n : ℕ). n % f) (quotient-reached f i m some (h.reached more))
+            ∙ slots-full f q some full in
             let stood : zeros ≡ open_block s (digests_under s blocks m) ((i + 1) / f ^ m) =
-            none ∙ sym (hash_block_of-none s ((i + 1) / f ^ m / f * f) (digests_under s blocks m)) ∙ ap (λ (n : ℕ). hash_block_of s (take n (drop ((i + 1) / f ^ m / f * f) (digests_under s blocks m)))) (sym empty) in
+            none ∙ sym (hash_block_of-none s ((i + 1) / f ^ m / f * f) (digests_under s blocks m))
+            ∙ ap (λ (n : ℕ). hash_block_of s (take n (drop ((i + 1) / f ^ m / f * f) (digests_under s blocks m))))
+            (sym empty) in
             ap (slice_chunk (put_mid a k store zeros) size) same
             ∙ chunk-same store zeros size m a k place len fits
             ∙ stood
@@ -125,12 +143,14 @@ IsCarrying-closed s blocks i m levels a k store zeros digest next some below ins
     }
 
 -- a level whose block stays stood ends the cascade
-pub AreOpen-kept : (s : Settings) (blocks : List (List ℕ)) (i m levels a k : ℕ) (store stood digest : List ℕ) → 0 < fan s → i + 1 < length blocks → m < levels
+pub HasOpenBlocks-kept : (s : Settings) (blocks : List (List ℕ)) (i m levels a k : ℕ) (store stood digest : List ℕ)
+    → 0 < fan s → i + 1 < length blocks → m < levels
     → i / fan s ^ m % fan s + 1 < fan s → levels * s.hash_block ≤ length store
     → a ≡ m * s.hash_block → k ≡ s.hash_block → length stood ≡ s.hash_block
     → stood ≡ filling s (digests_under s blocks m) (i / fan s ^ m)
-    → IsCarrying s blocks (climb i m levels) store digest → AreOpen s blocks 0 levels (i + 1) (put_mid a k store stood)
-AreOpen-kept s blocks i m levels a k store stood digest some more inside less room place wide len is h =
+    → IsCarrying s blocks (climb i m levels) store digest
+    → HasOpenBlocks s blocks 0 levels (i + 1) (put_mid a k store stood)
+HasOpenBlocks-kept s blocks i m levels a k store stood digest some more inside less room place wide len is h =
     let f = fan s in
     let q = i / f ^ m in
     let size = s.hash_block in
@@ -142,7 +162,8 @@ AreOpen-kept s blocks i m levels a k store stood digest some more inside less ro
         | inl past ↦
             chunk-other store stood size m l a k place wide len fits (inr past)
             ∙ h.above l high to
-            ∙ ap (open_block s (digests_under s blocks l)) (sym (quotient-stays f i m l some (h.reached more) less past))
+            ∙ ap (open_block s (digests_under s blocks l))
+            (sym (quotient-stays f i m l some (h.reached more) less past))
         | inr low ↦
             let same : l ≡ m = omega (arith, high, low) in
             let next : (i + 1) / f ^ m ≡ q + 1 = quotient-reached f i m some (h.reached more) in
@@ -159,18 +180,22 @@ AreOpen-kept s blocks i m levels a k store stood digest some more inside less ro
     ]
 
 -- past all levels only the last data block comes, and its digest is the root
-pub carried-root : (s : Settings) (blocks : List (List ℕ)) (i levels : ℕ) (store digest : List ℕ) → 2 ≤ fan s → i < length blocks
-    → levels ≡ level_count (fan s) (length blocks) → IsCarrying s blocks (climb i levels levels) store digest → (i + 1 ≡ length blocks) × (digest ≡ root s blocks)
+pub carried-root : (s : Settings) (blocks : List (List ℕ)) (i levels : ℕ) (store digest : List ℕ) → 2 ≤ fan s
+    → i < length blocks
+    → levels ≡ level_count (fan s) (length blocks) → IsCarrying s blocks (climb i levels levels) store digest
+    → (i + 1 ≡ length blocks) × (digest ≡ root s blocks)
 unfolding root
 carried-root s blocks i levels store digest two below count h =
     let f = fan s in
     let some : 0 < f = omega arith in
-    let most : length blocks ≤ f ^ levels = omega (arith, (IsLevelCount-level_count f (length blocks) two).enough, ap (λ (n : ℕ). f ^ n) count) in
+    let most : length blocks ≤ f ^ levels =
+    omega (arith, (IsLevelCount-level_count f (length blocks) two).enough, ap (λ (n : ℕ). f ^ n) count) in
     let zero_place : i / f ^ levels ≡ 0 = div_small i (f ^ levels) (omega (arith, most, below)) in
     let last : i + 1 ≡ length blocks = elim (cases_lt (i + 1) (length blocks)) [
       | inl more ↦
           let whole = (h.reached more).whole in
-          let e : (i / f ^ levels + 1) * f ^ levels ≡ (0 + 1) * f ^ levels = ap (λ (n : ℕ). (n + 1) * f ^ levels) zero_place in
+          let e : (i / f ^ levels + 1) * f ^ levels ≡ (0 + 1) * f ^ levels =
+          ap (λ (n : ℕ). (n + 1) * f ^ levels) zero_place in
           absurd (omega (arith, whole, e, most, more))
       | inr past ↦ omega (arith, past, below)
     ] in (
@@ -181,7 +206,8 @@ carried-root s blocks i levels store digest two below count h =
     )
 
 -- a slot is within its block
-pub slot-room : (s : Settings) (q f w len size : ℕ) → f ≡ fan s → w ≡ slot_width s → len ≡ digest_len s → size ≡ s.hash_block → 2 ≤ f
+pub slot-room : (s : Settings) (q f w len size : ℕ) → f ≡ fan s → w ≡ slot_width s → len ≡ digest_len s
+    → size ≡ s.hash_block → 2 ≤ f
     → fan s * slot_width s ≤ s.hash_block → q % f * w + len ≤ size
 slot-room s q f w len size ef ew el es two fits =
     let low : q % f < f = mod_below q f (omega arith) in
@@ -190,13 +216,15 @@ slot-room s q f w len size ef ew el es two fits =
     omega (arith, mul_le (q % f + 1) f w step, area, fits, digest-slot s)
 
 -- the digest in its slot is the block with one more
-pub filling-put : (s : Settings) (below : List (List ℕ)) (q f w : ℕ) (before after digest : List ℕ) → f ≡ fan s → w ≡ slot_width s → 2 ≤ f
+pub filling-put : (s : Settings) (below : List (List ℕ)) (q f w : ℕ) (before after digest : List ℕ) → f ≡ fan s
+    → w ≡ slot_width s → 2 ≤ f
     → fan s * slot_width s ≤ s.hash_block
     → after ≡ take (q % f * w) before ++ digest ++ drop (q % f * w + length digest) before
     → IsNext s below (arrival q before digest) → after ≡ filling s (map (hash s) below) q
 filling-put s below q f w before after digest ef ew two fits put next =
     let some : 0 < fan s = omega arith in
-    let place : q % f * w ≡ q % fan s * slot_width s = ap (λ (n : ℕ). q % n * w) ef ∙ ap (λ (n : ℕ). q % fan s * n) ew in
+    let place : q % f * w ≡ q % fan s * slot_width s =
+    ap (λ (n : ℕ). q % n * w) ef ∙ ap (λ (n : ℕ). q % fan s * n) ew in
     put
     ∙ ap (λ (xs : List ℕ). take (q % f * w) xs ++ digest ++ drop (q % f * w + length digest) xs) next.stands
     ∙ open-push s below q digest (q % f * w) (omega (arith, digest-slot s)) fits some next.here next.digest_is place
@@ -209,8 +237,9 @@ slots-all s q f e two all =
     ap (λ (n : ℕ). q % n + 1) (sym e) ∙ full ∙ e
 
 -- the loop over the levels begins
-pub IsCarrying-first : (s : Settings) (blocks : List (List ℕ)) (i levels : ℕ) (store digest : List ℕ) → digest ≡ carried s blocks i 0
-    → AreOpen s blocks 0 levels i store → IsCarrying s blocks (climb i 0 levels) store digest
+pub IsCarrying-first : (s : Settings) (blocks : List (List ℕ)) (i levels : ℕ) (store digest : List ℕ)
+    → digest ≡ carried s blocks i 0
+    → HasOpenBlocks s blocks 0 levels i store → IsCarrying s blocks (climb i 0 levels) store digest
 IsCarrying-first s blocks i levels store digest is stands = record {
   reached = λ _. IsReached-zero (fan s) i;
   above = stands;
@@ -219,17 +248,21 @@ IsCarrying-first s blocks i levels store digest is stands = record {
 }
 
 -- a level closes and the next one gets its digest
-pub carry-closed : (s : Settings) (blocks : List (List ℕ)) (i m levels count at a k : ℕ) (last : Bool) (store block after digest above : List ℕ) → 2 ≤ fan s
-    → i < count → m < levels → last ≡ eqb (i + 1) count → at ≡ i / fan s ^ m → levels * s.hash_block ≤ length store → a ≡ m * s.hash_block → k ≡ s.hash_block
-    → block ≡ take k (drop a store) → IsClosed s (arrival at block digest) last after above → count ≡ length blocks
-    → IsCarrying s blocks (climb i m levels) store digest → IsCarrying s blocks (climb i (m + 1) levels) (put_mid a k store after) above
-carry-closed s blocks i m levels count at a k last store block after digest above two below inside l place room from wide was closed many h =
+pub carry-closed : (s : Settings) (blocks : List (List ℕ)) (i m levels count index a k : ℕ) (last : Bool)
+    (store block after digest above : List ℕ) → 2 ≤ fan s
+    → i < count → m < levels → last ≡ eqb (i + 1) count → index ≡ i / fan s ^ m → levels * s.hash_block ≤ length store
+    → a ≡ m * s.hash_block → k ≡ s.hash_block
+    → block ≡ take k (drop a store) → IsClosed s (arrival index block digest) last after above → count ≡ length blocks
+    → IsCarrying s blocks (climb i m levels) store digest
+    → IsCarrying s blocks (climb i (m + 1) levels) (put_mid a k store after) above
+carry-closed s blocks i m levels count index a k last store block after digest above two below inside l place room from
+    wide was closed many h =
     let some : 0 < fan s = omega arith in
     let less : i < length blocks = omega (arith, below, many) in
-    let stands : block ≡ open_block s (digests_under s blocks m) at =
+    let stands : block ≡ open_block s (digests_under s blocks m) index =
     was ∙ ap (λ (n : ℕ). take n (drop a store)) wide ∙ ap (λ (n : ℕ). take s.hash_block (drop n store)) from
     ∙ h.above m (omega arith) inside ∙ ap (open_block s (digests_under s blocks m)) (sym place) in
-    let next : IsNext s (risen s blocks m) (arrival at block digest) = record {
+    let next : IsNext s (risen s blocks m) (arrival index block digest) = record {
       here = omega (arith, carried-below s blocks i m some less, place);
       stands = stands;
       digest_is = h.digest_is ∙ ap (λ (n : ℕ). hash s (get_or (risen s blocks m) n [])) (sym place);
@@ -246,17 +279,23 @@ carry-closed s blocks i m levels count at a k last store block after digest abov
     (closed.hashed (risen s blocks m) next ∙ ap (λ (n : ℕ). hash s (filling s (digests_under s blocks m) n)) place) h
 
 -- a level stays open and the cascade ends
-pub carry-kept : (s : Settings) (blocks : List (List ℕ)) (i m levels count at a k : ℕ) (last : Bool) (store block after digest : List ℕ) → 2 ≤ fan s
-    → i < count → m < levels → last ≡ eqb (i + 1) count → at ≡ i / fan s ^ m → levels * s.hash_block ≤ length store → a ≡ m * s.hash_block → k ≡ s.hash_block
-    → block ≡ take k (drop a store) → length after ≡ length block → IsKept s (arrival at block digest) last after → count ≡ length blocks
-    → IsCarrying s blocks (climb i m levels) store digest → IsCarriedOn s blocks i levels (put_mid a k store after) digest
-carry-kept s blocks i m levels count at a k last store block after digest two below inside l place room from wide was len kept many h =
+pub carry-kept : (s : Settings) (blocks : List (List ℕ)) (i m levels count index a k : ℕ) (last : Bool)
+    (store block after digest : List ℕ) → 2 ≤ fan s
+    → i < count → m < levels → last ≡ eqb (i + 1) count → index ≡ i / fan s ^ m → levels * s.hash_block ≤ length store
+    → a ≡ m * s.hash_block → k ≡ s.hash_block
+    → block ≡ take k (drop a store) → length after ≡ length block → IsKept s (arrival index block digest) last after
+    → count ≡ length blocks
+    → IsCarrying s blocks (climb i m levels) store digest
+    → IsCarriedOn s blocks i levels (put_mid a k store after) digest
+carry-kept s blocks i m levels count index a k last store block after digest two below inside l place room from wide was
+    len kept many h =
     let some : 0 < fan s = omega arith in
     let less : i < length blocks = omega (arith, below, many) in
-    let here : slice_chunk store s.hash_block m ≡ open_block s (digests_under s blocks m) (i / fan s ^ m) = h.above m (omega arith) inside in
+    let here : slice_chunk store s.hash_block m ≡ open_block s (digests_under s blocks m) (i / fan s ^ m) =
+    h.above m (omega arith) inside in
     let chunk : block ≡ slice_chunk store s.hash_block m =
     was ∙ ap (λ (n : ℕ). take n (drop a store)) wide ∙ ap (λ (n : ℕ). take s.hash_block (drop n store)) from in
-    let next : IsNext s (risen s blocks m) (arrival at block digest) = record {
+    let next : IsNext s (risen s blocks m) (arrival index block digest) = record {
       here = omega (arith, carried-below s blocks i m some less, place);
       stands = chunk ∙ here ∙ ap (open_block s (digests_under s blocks m)) (sym place);
       digest_is = h.digest_is ∙ ap (λ (n : ℕ). hash s (get_or (risen s blocks m) n [])) (sym place);
@@ -265,20 +304,28 @@ carry-kept s blocks i m levels count at a k last store block after digest two be
       | inl equal ↦ let no : true ≡ false = sym equal.0 ∙ sym l ∙ kept.more in cc
       | inr other ↦ other.1 (same ∙ sym many)
     ] in
-    let more : i + 1 < length blocks = elim (cases_lt (i + 1) (length blocks)) [ inl more ↦ more | inr past ↦ absurd (apart (omega (arith, past, less))) ] in
+    let more : i + 1 < length blocks = elim (cases_lt (i + 1) (length blocks)) [
+      | inl more ↦ more
+      | inr past ↦ absurd (apart (omega (arith, past, less)))
+    ] in
     let step : m + 1 ≤ levels = omega arith in
-    let fits : m * s.hash_block + s.hash_block ≤ length store = omega (arith, room, mul_le (m + 1) levels s.hash_block step) in
-    let size : length after ≡ s.hash_block = len ∙ ap length chunk ∙ length-take-le s.hash_block (drop (m * s.hash_block) store) (omega (arith, length-drop (m * s.hash_block) store, fits)) in
+    let fits : m * s.hash_block + s.hash_block ≤ length store =
+    omega (arith, room, mul_le (m + 1) levels s.hash_block step) in
+    let size : length after ≡ s.hash_block = len ∙ ap length chunk
+    ∙ length-take-le s.hash_block (drop (m * s.hash_block) store)
+    (omega (arith, length-drop (m * s.hash_block) store, fits)) in
     record {
-      stands = λ _. AreOpen-kept s blocks i m levels a k store after digest some more inside
+      stands = λ _. HasOpenBlocks-kept s blocks i m levels a k store after digest some more inside
           (omega (arith, kept.room, ap (λ (n : ℕ). n % fan s) place)) room from wide size
           (kept.filled (risen s blocks m) next ∙ ap (filling s (digests_under s blocks m)) place) h;
       root_is = λ same. absurd (apart same);
     }
 
 -- past the last level
-pub carry-all : (s : Settings) (blocks : List (List ℕ)) (i levels : ℕ) (store digest : List ℕ) → 2 ≤ fan s → i < length blocks
-    → levels ≡ level_count (fan s) (length blocks) → IsCarrying s blocks (climb i levels levels) store digest → IsCarriedOn s blocks i levels store digest
+pub carry-all : (s : Settings) (blocks : List (List ℕ)) (i levels : ℕ) (store digest : List ℕ) → 2 ≤ fan s
+    → i < length blocks
+    → levels ≡ level_count (fan s) (length blocks) → IsCarrying s blocks (climb i levels levels) store digest
+    → IsCarriedOn s blocks i levels store digest
 carry-all s blocks i levels store digest two below many h =
     let done = carried-root s blocks i levels store digest two below many h in
     record {

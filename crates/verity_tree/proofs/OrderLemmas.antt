@@ -1,7 +1,9 @@
 -- The closing order has each block once.
-use Rattle.std.proofs.Common.{◌≡◌, ℕ, zero, suc, ◌+◌, ◌-◌, ◌*◌, ◌/◌, ◌%◌, ◌^◌, ◌<◌, ◌≤◌, min, Bool, true, false, cond, eqb, leb, List, ◌∷◌, map, arith, sym, ◌∙◌, ap, refl, inl, inr, zero-add}
+use Rattle.std.proofs.Common.{◌≡◌, ℕ, zero, suc, ◌+◌, ◌-◌, ◌*◌, ◌/◌, ◌%◌, ◌^◌, ◌<◌, ◌≤◌, min, Bool, true, false, cond}
+use Rattle.std.proofs.Common.{eqb, leb, List, ◌∷◌, map, arith, sym, ◌∙◌, ap, refl, inl, inr, zero-add}
 use Rattle.std.proofs.lemmas.Bool.{cases_lt}
-use Rattle.std.proofs.lemmas.Bool.Decides.{nat_tests, eqb_tells, leb_tells, same_from_decides, Decides-eqb, Decides-and, Decides-or, Decides-like}
+use Rattle.std.proofs.lemmas.Bool.Decides.{nat_tests, eqb_tells, leb_tells, same_from_decides, Decides-eqb, Decides-and}
+use Rattle.std.proofs.lemmas.Bool.Decides.{Decides-or, Decides-like}
 use Rattle.std.proofs.lemmas.List.Sums.{sum_by-cons, sum_by-append}
 use Rattle.std.proofs.lemmas.Nat.{div-add-mod', mod-mul-add, div-mul-add}
 use Rattle.std.proofs.Math.Nat.{one-le-pow, mul-le-mul_right}
@@ -35,7 +37,8 @@ off_last false x e = refl
 times-by : (l j a : ℕ) (f : ℕ → ℕ) (levels : List ℕ) (b : Bool)
     → times l j (map (λ level. (level, f level)) (cond b (a ∷ levels) levels))
     ≡ cond (b && ((a == l) && (f a == j))) 1 0 + times l j (map (λ level. (level, f level)) levels)
-times-by l j a f levels true = sum_by-cons (λ (p : ℕ × ℕ). cond ((p.0 == l) && (p.1 == j)) 1 0) (a, f a) (map (λ level. (level, f level)) levels)
+times-by l j a f levels true =
+    sum_by-cons (λ (p : ℕ × ℕ). cond ((p.0 == l) && (p.1 == j)) 1 0) (a, f a) (map (λ level. (level, f level)) levels)
 times-by l j a f levels false = sym (zero-add _)
 
 times-pairs : (l j a : ℕ) (f : ℕ → ℕ) (c : ℕ → Bool) (levels : List ℕ)
@@ -49,7 +52,8 @@ one_more : (t i : ℕ) → cond (leb t i) 1 0 + cond (t == suc i) 1 0 ≡ cond (
 one_more t i = grind (arith, nat_tests)
 
 -- no pair of another level
-times_outside : (l j a k : ℕ) (f : ℕ → ℕ) (c : ℕ → Bool) → (l < a) ⊎ (a + k ≤ l) → times l j (pairs f c (range_with_len a k)) ≡ 0
+times_outside : (l j a k : ℕ) (f : ℕ → ℕ) (c : ℕ → Bool) → (l < a) ⊎ (a + k ≤ l)
+    → times l j (pairs f c (range_with_len a k)) ≡ 0
 times_outside l j a zero f c h = refl
 times_outside l j a (suc k) f c h =
     let apart : a ≡ l → ⊥ = λ e. elim h [ inl low ↦ omega arith | inr high ↦ omega arith ] in
@@ -68,7 +72,8 @@ times_inside l j a (suc k) f c low high =
       | inl same ↦
           times-pairs l j a f c (range_with_len (a + 1) k)
           ∙ ap (λ (n : ℕ). n + times l j (pairs f c (range_with_len (a + 1) k))) (on (c a) (a == l) (f a == j) same.0)
-          ∙ ap (λ (n : ℕ). cond (c a && (f a == j)) 1 0 + n) (times_outside l j (a + 1) k f c (inl (omega (arith, same.1))))
+          ∙ ap (λ (n : ℕ). cond (c a && (f a == j)) 1 0 + n)
+          (times_outside l j (a + 1) k f c (inl (omega (arith, same.1))))
           ∙ add_zero_at (cond (c a && (f a == j)) 1 0)
           ∙ ap (λ (m : ℕ). cond (c m && (f m == j)) 1 0) same.1
       | inr other ↦
@@ -120,7 +125,8 @@ closes-time : (fan n l j i : ℕ) → 0 < fan → 0 < i → i ≤ n → j < leve
 closes-time fan n l j i pos some most below =
     same_from_decides _ _
     (Decides-like _ (closing_then fan n l j i pos some most below) (then_closing fan n l j i pos some most below)
-    (Decides-and _ _ (Decides-or _ _ (Decides-eqb (i % fan ^ (l + 1)) 0) (Decides-eqb i n)) (Decides-eqb (div_ceil i (fan ^ (l + 1)) - 1) j)))
+    (Decides-and _ _ (Decides-or _ _ (Decides-eqb (i % fan ^ (l + 1)) 0) (Decides-eqb i n))
+    (Decides-eqb (div_ceil i (fan ^ (l + 1)) - 1) j)))
     (Decides-eqb (closing_time fan n l j) i)
 
 -- a block has closed once from its time on
@@ -144,10 +150,12 @@ times-order fan n l j (suc i) pos most block =
     ∙ ap (λ (x : ℕ). x + times l j (closing fan n (suc i))) (times-order fan n l j i pos (omega arith) block)
     ∙ ap (λ (x : ℕ). cond (leb (closing_time fan n l j) i) 1 0 + x)
     (times_inside l j 0 (level_count fan n) f (closes fan n (suc i)) (omega arith) (omega (arith, block.level_below)))
-    ∙ ap (λ (b : Bool). cond (leb (closing_time fan n l j) i) 1 0 + cond b 1 0) (closes-time fan n l j (suc i) pos (omega arith) most block.block_below)
+    ∙ ap (λ (b : Bool). cond (leb (closing_time fan n l j) i) 1 0 + cond b 1 0)
+    (closes-time fan n l j (suc i) pos (omega arith) most block.block_below)
     ∙ one_more (closing_time fan n l j) i
 
-times-closing_none : (fan n l j i : ℕ) → 0 < fan → 0 < i → i ≤ n → (level_count fan n ≤ l) ⊎ (level_size fan n l ≤ j) → times l j (closing fan n i) ≡ 0
+times-closing_none : (fan n l j i : ℕ) → 0 < fan → 0 < i → i ≤ n → (level_count fan n ≤ l) ⊎ (level_size fan n l ≤ j)
+    → times l j (closing fan n i) ≡ 0
 times-closing_none fan n l j i pos some most none =
     let f : ℕ → ℕ = λ level. div_ceil i (fan ^ (level + 1)) - 1 in
     let width = fan ^ (l + 1) in
@@ -157,7 +165,8 @@ times-closing_none fan n l j i pos some most none =
           let past : level_size fan n l ≤ j = elim none [ inl high ↦ absurd (omega arith) | inr past ↦ past ] in
           let count : 0 < div_ceil i width = div_ceil-pos i width wide some in
           let least : div_ceil i width ≤ div_ceil n width =
-          div_ceil-le i width (div_ceil n width) wide (omega (arith, most, le-div_ceil n width (div_ceil n width) wide (omega arith))) in
+          div_ceil-le i width (div_ceil n width) wide
+          (omega (arith, most, le-div_ceil n width (div_ceil n width) wide (omega arith))) in
           let apart : div_ceil i width - 1 < j = omega (arith, count, least, past) in
           let fail : eqb (div_ceil i width - 1) j ≡ false = grind (arith, nat_tests, apart) in
           times_inside l j 0 (level_count fan n) f (closes fan n i) (omega arith) (omega (arith, low))
@@ -166,7 +175,8 @@ times-closing_none fan n l j i pos some most none =
     ]
 
 -- what is no block of the tree doesn't close
-times-order_none : (fan n l j i : ℕ) → 0 < fan → i ≤ n → (level_count fan n ≤ l) ⊎ (level_size fan n l ≤ j) → times l j (order fan n i) ≡ 0
+times-order_none : (fan n l j i : ℕ) → 0 < fan → i ≤ n → (level_count fan n ≤ l) ⊎ (level_size fan n l ≤ j)
+    → times l j (order fan n i) ≡ 0
 unfolding order
 times-order_none fan n l j zero pos most none = refl
 times-order_none fan n l j (suc i) pos most none =

@@ -1,5 +1,6 @@
 -- The closing order, cut between data blocks and between levels.
-use Rattle.std.proofs.Common.{◌≡◌, ℕ, zero, suc, ◌+◌, ◌-◌, ◌*◌, ◌/◌, ◌%◌, ◌^◌, ◌<◌, ◌≤◌, Bool, true, false, cond, eqb, List, [], ◌∷◌, ◌++◌, map, length, arith, sym, ◌∙◌, ap, refl, inl, inr, append_assoc}
+use Rattle.std.proofs.Common.{◌≡◌, ℕ, zero, suc, ◌+◌, ◌-◌, ◌*◌, ◌/◌, ◌%◌, ◌^◌, ◌<◌, ◌≤◌, Bool, true, false, cond, eqb}
+use Rattle.std.proofs.Common.{List, [], ◌∷◌, ◌++◌, map, length, arith, sym, ◌∙◌, ap, refl, inl, inr, append_assoc}
 use Rattle.std.proofs.lemmas.Bool.Decides.{nat_tests, eqb_tells}
 use Rattle.std.proofs.lemmas.Nat.{div-add-mod', mod-mul-add}
 use Rattle.std.proofs.lemmas.List.FromFn.{map-range_with_len_more}
@@ -9,7 +10,8 @@ use Rattle.std.specs.Int.{div_ceil}
 use Rattle.std.specs.List.{filter, range_with_len}
 use Rattle.std.specs.Prelude.{◌==◌, ◌||◌, slice_index_or}
 use Rattle.verity_plan.specs.Counts.{level_count}
-use Rattle.verity_tree.specs.ClosingOrder.{closes, closing, order, closed_to}
+use Rattle.verity_tree.specs.ClosingOrder.{closes, closing, order}
+use Rattle.verity_tree.specs.Steps.Cascade.{closed_to}
 use Rattle.verity_plan.specs.Settings.{Settings, fan}
 use Rattle.verity_tree.specs.Steps.OpenBlocks.{IsReached}
 use Rattle.verity_tree.specs.Levels.{risen}
@@ -24,34 +26,46 @@ pub filter-prefix : (c : ℕ → Bool) (a n m : ℕ) → m ≤ n → ((l : ℕ) 
 filter-prefix c a zero zero le pass fail = refl
 filter-prefix c a zero (suc m) le pass fail = absurd (omega arith)
 filter-prefix c a (suc n) zero le pass fail =
-    ap (λ (b : Bool). cond b (a ∷ filter c (range_with_len (a + 1) n)) (filter c (range_with_len (a + 1) n))) (fail a (omega arith) (omega arith))
-    ∙ filter-prefix c (a + 1) n zero (omega arith) (λ l from to. absurd (omega (arith, from, to))) (λ l from to. fail l (omega (arith, from)) (omega (arith, to)))
+    ap (λ (b : Bool). cond b (a ∷ filter c (range_with_len (a + 1) n)) (filter c (range_with_len (a + 1) n)))
+    (fail a (omega arith) (omega arith))
+    ∙ filter-prefix c (a + 1) n zero (omega arith) (λ l from to. absurd (omega (arith, from, to)))
+    (λ l from to. fail l (omega (arith, from)) (omega (arith, to)))
 filter-prefix c a (suc n) (suc m) le pass fail =
-    ap (λ (b : Bool). cond b (a ∷ filter c (range_with_len (a + 1) n)) (filter c (range_with_len (a + 1) n))) (pass a (omega arith) (omega arith))
+    ap (λ (b : Bool). cond b (a ∷ filter c (range_with_len (a + 1) n)) (filter c (range_with_len (a + 1) n)))
+    (pass a (omega arith) (omega arith))
     ∙ ap (λ (xs : List ℕ). a ∷ xs)
-    (filter-prefix c (a + 1) n m (omega arith) (λ l from to. pass l (omega (arith, from)) (omega (arith, to))) (λ l from to. fail l (omega (arith, from)) (omega (arith, to))))
+    (filter-prefix c (a + 1) n m (omega arith) (λ l from to. pass l (omega (arith, from)) (omega (arith, to)))
+    (λ l from to. fail l (omega (arith, from)) (omega (arith, to))))
 
 map-same : (f g : ℕ → ℕ × ℕ) (xs : List ℕ) → ((x : ℕ) → f x ≡ g x) → map f xs ≡ map g xs
 map-same f g [] same = refl
-map-same f g (x ∷ xs) same = ap (λ (y : ℕ × ℕ). y ∷ map f xs) (same x) ∙ ap (λ (ys : List (ℕ × ℕ)). g x ∷ ys) (map-same f g xs same)
+map-same f g (x ∷ xs) same =
+    ap (λ (y : ℕ × ℕ). y ∷ map f xs) (same x) ∙ ap (λ (ys : List (ℕ × ℕ)). g x ∷ ys) (map-same f g xs same)
 
 -- what closes with a data block is the levels below the first that doesn't close
 pub closing-prefix : (f n i m : ℕ) → 0 < f → m ≤ level_count f n → ((l : ℕ) → l < m → closes f n (i + 1) l ≡ true)
     → ((l : ℕ) → m ≤ l → closes f n (i + 1) l ≡ false) → closing f n (i + 1) ≡ closed_to f i m
 closing-prefix f n i m some le pass fail =
     ap (map (λ level. (level, div_ceil (i + 1) (f ^ (level + 1)) - 1)))
-    (filter-prefix (closes f n (i + 1)) 0 (level_count f n) m le (λ l from to. pass l (omega (arith, to))) (λ l from to. fail l (omega (arith, from))))
-    ∙ map-same (λ level. (level, div_ceil (i + 1) (f ^ (level + 1)) - 1)) (λ level. (level, i / f ^ (level + 1))) (range_with_len 0 m) (λ l.
-    let e : div_ceil (i + 1) (f ^ (l + 1)) - 1 ≡ i / f ^ (l + 1) = omega (arith, div_ceil-last i (f ^ (l + 1)) (one-le-pow (l + 1) f some)) in
+    (filter-prefix (closes f n (i + 1)) 0 (level_count f n) m le (λ l from to. pass l (omega (arith, to)))
+    (λ l from to. fail l (omega (arith, from))))
+    ∙ map-same (λ level. (level, div_ceil (i + 1) (f ^ (level + 1)) - 1)) (λ level. (level, i / f ^ (level + 1)))
+    (range_with_len 0 m) (λ l.
+    let e : div_ceil (i + 1) (f ^ (l + 1)) - 1 ≡ i / f ^ (l + 1) =
+    omega (arith, div_ceil-last i (f ^ (l + 1)) (one-le-pow (l + 1) f some)) in
     ap (λ (j : ℕ). (l, j)) e)
 
 -- all levels close
-pub closing-all : (f n i : ℕ) → 0 < f → ((l : ℕ) → l < level_count f n → closes f n (i + 1) l ≡ true) → closing f n (i + 1) ≡ closed_to f i (level_count f n)
+pub closing-all : (f n i : ℕ) → 0 < f → ((l : ℕ) → l < level_count f n → closes f n (i + 1) l ≡ true)
+    → closing f n (i + 1) ≡ closed_to f i (level_count f n)
 closing-all f n i some pass =
     ap (map (λ level. (level, div_ceil (i + 1) (f ^ (level + 1)) - 1)))
-    (filter-prefix (closes f n (i + 1)) 0 (level_count f n) (level_count f n) (omega arith) (λ l from to. pass l (omega (arith, to))) (λ l from to. absurd (omega (arith, from, to))))
-    ∙ map-same (λ level. (level, div_ceil (i + 1) (f ^ (level + 1)) - 1)) (λ level. (level, i / f ^ (level + 1))) (range_with_len 0 (level_count f n)) (λ l.
-    let e : div_ceil (i + 1) (f ^ (l + 1)) - 1 ≡ i / f ^ (l + 1) = omega (arith, div_ceil-last i (f ^ (l + 1)) (one-le-pow (l + 1) f some)) in
+    (filter-prefix (closes f n (i + 1)) 0 (level_count f n) (level_count f n) (omega arith)
+    (λ l from to. pass l (omega (arith, to))) (λ l from to. absurd (omega (arith, from, to))))
+    ∙ map-same (λ level. (level, div_ceil (i + 1) (f ^ (level + 1)) - 1)) (λ level. (level, i / f ^ (level + 1)))
+    (range_with_len 0 (level_count f n)) (λ l.
+    let e : div_ceil (i + 1) (f ^ (l + 1)) - 1 ≡ i / f ^ (l + 1) =
+    omega (arith, div_ceil-last i (f ^ (l + 1)) (one-le-pow (l + 1) f some)) in
     ap (λ (j : ℕ). (l, j)) e)
 
 or_right : (a b : Bool) → b ≡ true → (a || b) ≡ true
@@ -71,20 +85,23 @@ pub closes-reached : (f n i l : ℕ) → 0 < f → IsReached f i (l + 1) → clo
 closes-reached f n i l some h =
     let wide : 0 < f ^ (l + 1) = one-le-pow (l + 1) f some in
     let e : i + 1 ≡ (i / f ^ (l + 1) + 1) * f ^ (l + 1) + 0 = omega (arith, h.whole) in
-    let whole : (i + 1) % f ^ (l + 1) ≡ 0 = ap (λ (x : ℕ). x % f ^ (l + 1)) e ∙ mod-mul-add (i / f ^ (l + 1) + 1) (f ^ (l + 1)) 0 wide in
+    let whole : (i + 1) % f ^ (l + 1) ≡ 0 =
+    ap (λ (x : ℕ). x % f ^ (l + 1)) e ∙ mod-mul-add (i / f ^ (l + 1) + 1) (f ^ (l + 1)) 0 wide in
     ap (λ (b : Bool). b || (i + 1 == n)) (eqb_same ((i + 1) % f ^ (l + 1)) 0 whole)
 
 pub closes-last : (f n i l : ℕ) → i + 1 ≡ n → closes f n (i + 1) l ≡ true
 closes-last f n i l last = or_right ((i + 1) % f ^ (l + 1) == 0) (i + 1 == n) (eqb_same (i + 1) n last)
 
 -- from a level that stays open none closes
-pub closes-none : (f n i m l : ℕ) → 0 < f → IsReached f i m → i / f ^ m % f + 1 < f → i + 1 < n → m ≤ l → closes f n (i + 1) l ≡ false
+pub closes-none : (f n i m l : ℕ) → 0 < f → IsReached f i m → i / f ^ m % f + 1 < f → i + 1 < n → m ≤ l
+    → closes f n (i + 1) l ≡ false
 closes-none f n i m l some h room more above =
     let w = f ^ (l + 1) in
     let stays : (i + 1) / w ≡ i / w = quotient-stays f i m (l + 1) some h room (omega arith) in
     let apart : (i + 1) % w ≡ 0 → ⊥ = λ whole.
     omega (arith, div-add-mod' (i + 1) w, div-add-mod' i w, whole, ap (λ (x : ℕ). x * w) stays) in
-    or_none ((i + 1) % w == 0) (i + 1 == n) (eqb_apart ((i + 1) % w) 0 apart) (eqb_apart (i + 1) n (λ same. omega (arith, more, same)))
+    or_none ((i + 1) % w == 0) (i + 1 == n) (eqb_apart ((i + 1) % w) 0 apart)
+    (eqb_apart (i + 1) n (λ same. omega (arith, more, same)))
 
 -- one pair more
 pub closed_to-more : (f i m : ℕ) → closed_to f i (m + 1) ≡ closed_to f i m ++ (m, i / f ^ (m + 1)) ∷ []
@@ -96,11 +113,13 @@ pub written-append : (s : Settings) (blocks : List (List ℕ)) (base : ℕ) (ps 
 unfolding written
 written-append s blocks base [] qs device = refl
 written-append s blocks base (p ∷ ps) qs device =
-    written-append s blocks base ps qs (put device (byte_at s (length blocks) base p.0 p.1) (slice_index_or (risen s blocks (p.0 + 1)) p.1 []))
+    written-append s blocks base ps qs
+    (put device (byte_at s (length blocks) base p.0 p.1) (slice_index_or (risen s blocks (p.0 + 1)) p.1 []))
 
 pub written-more : (s : Settings) (blocks : List (List ℕ)) (base i m : ℕ) (device : List ℕ)
     → written s blocks base (closed_to (fan s) i (m + 1)) device
-    ≡ put (written s blocks base (closed_to (fan s) i m) device) (byte_at s (length blocks) base m (i / fan s ^ (m + 1)))
+    ≡ put (written s blocks base (closed_to (fan s) i m) device)
+    (byte_at s (length blocks) base m (i / fan s ^ (m + 1)))
     (slice_index_or (risen s blocks (m + 1)) (i / fan s ^ (m + 1)) [])
 unfolding written
 written-more s blocks base i m device =
@@ -116,7 +135,8 @@ written-order s blocks base n i device =
     let e : i + 1 ≡ suc i = omega arith in
     ap (λ (k : ℕ). written s blocks base (order (fan s) n k) device) e
     ∙ written-append s blocks base (order (fan s) n i) (closing (fan s) n (suc i)) device
-    ∙ ap (λ (k : ℕ). written s blocks base (closing (fan s) n k) (written s blocks base (order (fan s) n i) device)) (sym e)
+    ∙ ap (λ (k : ℕ). written s blocks base (closing (fan s) n k) (written s blocks base (order (fan s) n i) device))
+    (sym e)
 
 -- what has closed stays at the front of the order
 pub order-prefix : (f n i k : ℕ) → (rest : List (ℕ × ℕ)) × (order f n (i + k) ≡ order f n i ++ rest)
@@ -137,9 +157,11 @@ filter-front : (c : ℕ → Bool) (a m n : ℕ) → ((l : ℕ) → a ≤ l → l
 filter-front c a zero n pass le = (filter c (range_with_len a n), refl)
 filter-front c a (suc m) zero pass le = absurd (omega arith)
 filter-front c a (suc m) (suc n) pass le =
-    let after = filter-front c (a + 1) m n (λ l from to. pass l (omega (arith, from)) (omega (arith, to))) (omega arith) in (
+    let after = filter-front c (a + 1) m n (λ l from to. pass l (omega (arith, from)) (omega (arith, to)))
+    (omega arith) in (
       after.0,
-      ap (λ (b : Bool). cond b (a ∷ filter c (range_with_len (a + 1) n)) (filter c (range_with_len (a + 1) n))) (pass a (omega arith) (omega arith))
+      ap (λ (b : Bool). cond b (a ∷ filter c (range_with_len (a + 1) n)) (filter c (range_with_len (a + 1) n)))
+          (pass a (omega arith) (omega arith))
           ∙ ap (λ (xs : List ℕ). a ∷ xs) after.1,
     )
 
@@ -147,14 +169,16 @@ filter-front c a (suc m) (suc n) pass le =
 pub closing-front : (f n i m : ℕ) → 0 < f → m < level_count f n → ((l : ℕ) → l ≤ m → closes f n (i + 1) l ≡ true)
     → (rest : List (ℕ × ℕ)) × (closing f n (i + 1) ≡ closed_to f i m ++ (m, i / f ^ (m + 1)) ∷ [] ++ rest)
 closing-front f n i m some below pass =
-    let front = filter-front (closes f n (i + 1)) 0 (m + 1) (level_count f n) (λ l from to. pass l (omega (arith, to))) (omega (arith, below)) in
+    let front = filter-front (closes f n (i + 1)) 0 (m + 1) (level_count f n) (λ l from to. pass l (omega (arith, to)))
+    (omega (arith, below)) in
     let g : ℕ → ℕ × ℕ = λ level. (level, div_ceil (i + 1) (f ^ (level + 1)) - 1) in
     let h : ℕ → ℕ × ℕ = λ level. (level, i / f ^ (level + 1)) in (
       map g front.0,
       ap (map g) front.1
           ∙ map-append g (range_with_len 0 (m + 1)) front.0
           ∙ ap (λ (ps : List (ℕ × ℕ)). ps ++ map g front.0) (map-same g h (range_with_len 0 (m + 1)) (λ l.
-          let e : div_ceil (i + 1) (f ^ (l + 1)) - 1 ≡ i / f ^ (l + 1) = omega (arith, div_ceil-last i (f ^ (l + 1)) (one-le-pow (l + 1) f some)) in
+          let e : div_ceil (i + 1) (f ^ (l + 1)) - 1 ≡ i / f ^ (l + 1) =
+          omega (arith, div_ceil-last i (f ^ (l + 1)) (one-le-pow (l + 1) f some)) in
           ap (λ (j : ℕ). (l, j)) e))
           ∙ ap (λ (ps : List (ℕ × ℕ)). ps ++ map g front.0) (closed_to-more f i m),
     )
@@ -172,7 +196,8 @@ order-front f n i m some below inside pass =
       front.0 ++ after.0,
       ap (order f n) e ∙ after.1
           ∙ ap (λ (ps : List (ℕ × ℕ)). ps ++ after.0)
-          (ap (order f n) one ∙ ap (λ (k : ℕ). order f n i ++ closing f n k) (sym one) ∙ ap (λ (ps : List (ℕ × ℕ)). order f n i ++ ps) front.1)
+          (ap (order f n) one ∙ ap (λ (k : ℕ). order f n i ++ closing f n k) (sym one)
+          ∙ ap (λ (ps : List (ℕ × ℕ)). order f n i ++ ps) front.1)
           ∙ simp append_assoc,
     )
 

@@ -1,5 +1,6 @@
 -- What an accepted path says of the data, that the true path is accepted, and that one answer is right.
-use Rattle.std.proofs.Common.{◌≡◌, ℕ, zero, suc, ◌+◌, ◌/◌, ◌%◌, ◌^◌, ◌<◌, ◌≤◌, ◌⊎◌, Bool, true, false, List, [], get_or, length, arith, sym, ◌∙◌, ap, refl, inl, inr}
+use Rattle.std.proofs.Common.{◌≡◌, ℕ, zero, suc, ◌+◌, ◌/◌, ◌%◌, ◌^◌, ◌<◌, ◌≤◌, ◌⊎◌, Bool, true, false, List, [], get_or}
+use Rattle.std.proofs.Common.{length, arith, sym, ◌∙◌, ap, refl, inl, inr}
 use Rattle.std.proofs.lemmas.Bool.{cases_lt}
 use Rattle.std.proofs.lemmas.Slice.Eq.{bytes_eq-Decides}
 use Rattle.std.specs.Prelude.{Result, Ok, Err}
@@ -19,16 +20,19 @@ use Rattle.verity_tree.proofs.LevelLemmas.{length-cut}
 use Rattle.verity_tree.proofs.PathSteps.{bytes_eq-false, digest_above-below, digest_above-top}
 use Rattle.verity_tree.proofs.PieceLemmas.{length-pieces, piece}
 
--- two chains with one hash at a level, by whether their blocks there are one: they have one block at the bottom, or a collision at
--- that level or below
-collides-by : (p : Planned) (blocks : List (List ℕ)) (i : ℕ) (block path digest : List ℕ) → 2 ≤ fan p.settings → i < length blocks
+-- two chains with one hash at a level, by whether their blocks there are one: they have one block at the bottom, or a
+-- collision at that level or below
+collides-by : (p : Planned) (blocks : List (List ℕ)) (i : ℕ) (block path digest : List ℕ) → 2 ≤ fan p.settings
+    → i < length blocks
     → ((m : ℕ) → m ≤ levels_of p → HoldsAt p i block path digest m)
-    → (l : ℕ) → l ≤ levels_of p → hash p.settings (chain p.settings block path l) ≡ hash p.settings (true_chain p.settings blocks i l)
+    → (l : ℕ) → l ≤ levels_of p
+    → hash p.settings (chain p.settings block path l) ≡ hash p.settings (true_chain p.settings blocks i l)
     → (b : Bool) → bytes_eq (chain p.settings block path l) (true_chain p.settings blocks i l) ≡ b
     → (block ≡ get_or blocks i []) ⊎ HasCollision p blocks i block path
 collides-by p blocks i block path digest two below holds l within one false apart =
     inr (record { level = l; within = within; differ = bytes_eq-false _ _ apart; one_hash = one })
-collides-by p blocks i block path digest two below holds zero within one true same = inl ((bytes_eq-Decides block (get_or blocks i [])).0 same)
+collides-by p blocks i block path digest two below holds zero within one true same =
+    inl ((bytes_eq-Decides block (get_or blocks i [])).0 same)
 collides-by p blocks i block path digest two below holds (suc l) within one true same =
     let s = p.settings in
     let equal = (bytes_eq-Decides (chain s block path (suc l)) (true_chain s blocks i (suc l))).0 same in
@@ -38,7 +42,8 @@ collides-by p blocks i block path digest two below holds (suc l) within one true
     holds l low ∙ digest_above-below p i path digest l less
     ∙ ap (λ (xs : List ℕ). digest_in s xs (i / fan s ^ l % fan s)) equal
     ∙ sym (true_chain-up s blocks i l (digest-slot s) (omega (arith, two)) below) in
-    collides-by p blocks i block path digest two below holds l low lower (bytes_eq (chain s block path l) (true_chain s blocks i l)) refl
+    collides-by p blocks i block path digest two below holds l low lower
+    (bytes_eq (chain s block path l) (true_chain s blocks i l)) refl
 
 -- what is accepted is the data's, or there is a collision
 pub accepted-true : (p : Planned) (bytes : List ℕ) (i : ℕ) (block path : List ℕ) → IsPlanned p
@@ -52,21 +57,25 @@ accepted-true p bytes i block path planned h =
     let below : i < length blocks = omega (arith, h.index, many) in
     let top : levels_of p ≤ levels_of p = omega arith in
     collides-by p blocks i block path (root s blocks) two below h.holds (levels_of p) top
-    (h.holds (levels_of p) top ∙ digest_above-top p i path (root s blocks) (levels_of p) top ∙ sym (true_chain-root s blocks i two below)
+    (h.holds (levels_of p) top ∙ digest_above-top p i path (root s blocks) (levels_of p) top
+    ∙ sym (true_chain-root s blocks i two below)
     ∙ ap (λ (n : ℕ). hash s (true_chain s blocks i (level_count (fan s) n))) many) _ refl
 
 -- a true chain is the chain of the true path
 chain-true : (p : Planned) (blocks : List (List ℕ)) (i l : ℕ) → IsValid p.settings → i < length blocks → l ≤ levels_of p
-    → chain p.settings (get_or blocks i []) (true_path p.settings blocks i (levels_of p)) l ≡ true_chain p.settings blocks i l
+    → chain p.settings (get_or blocks i []) (true_path p.settings blocks i (levels_of p)) l
+    ≡ true_chain p.settings blocks i l
 chain-true p blocks i zero valid below within = refl
 chain-true p blocks i (suc l) valid below within =
     let none : 0 + l ≡ l = omega arith in
     piece (λ m. true_chain p.settings blocks i (suc m)) p.settings.hash_block 0 (levels_of p) l (omega (arith, within))
-    (λ m a b. length-true_chain p.settings blocks i m (digest-slot p.settings) (fan-pos p.settings valid) (fan-fits p.settings valid) below)
+    (λ m a b. length-true_chain p.settings blocks i m (digest-slot p.settings) (fan-pos p.settings valid)
+    (fan-fits p.settings valid) below)
     ∙ ap (λ (m : ℕ). true_chain p.settings blocks i (suc m)) none
 
 -- the true path holds at each level
-holds-true : (p : Planned) (blocks : List (List ℕ)) (i : ℕ) → IsValid p.settings → length blocks ≡ p.blocks → i < length blocks → (l : ℕ) → l ≤ levels_of p
+holds-true : (p : Planned) (blocks : List (List ℕ)) (i : ℕ) → IsValid p.settings → length blocks ≡ p.blocks
+    → i < length blocks → (l : ℕ) → l ≤ levels_of p
     → HoldsAt p i (get_or blocks i []) (true_path p.settings blocks i (levels_of p)) (root p.settings blocks) l
 holds-true p blocks i valid many below l within =
     let s = p.settings in
@@ -75,7 +84,8 @@ holds-true p blocks i valid many below l within =
     ∙ elim (cases_lt l (levels_of p)) [
       | inl less ↦
           true_chain-up s blocks i l (digest-slot s) (fan-pos s valid) below
-          ∙ ap (λ (xs : List ℕ). digest_in s xs (i / fan s ^ l % fan s)) (sym (chain-true p blocks i (suc l) valid below (omega (arith, less))))
+          ∙ ap (λ (xs : List ℕ). digest_in s xs (i / fan s ^ l % fan s))
+          (sym (chain-true p blocks i (suc l) valid below (omega (arith, less))))
           ∙ sym (digest_above-below p i path (root s blocks) l less)
       | inr most ↦
           let top : l ≡ levels_of p = omega (arith, within, most) in
@@ -86,7 +96,8 @@ holds-true p blocks i valid many below l within =
 
 -- the true path is accepted
 pub true-accepted : (p : Planned) (bytes : List ℕ) (i : ℕ) → IsPlanned p → i < p.blocks
-    → IsAccepted p i (get_or (data_blocks p bytes) i []) (true_path p.settings (data_blocks p bytes) i (levels_of p)) (root p.settings (data_blocks p bytes))
+    → IsAccepted p i (get_or (data_blocks p bytes) i []) (true_path p.settings (data_blocks p bytes) i (levels_of p))
+    (root p.settings (data_blocks p bytes))
 true-accepted p bytes i planned index =
     let s = p.settings in
     let blocks = data_blocks p bytes in
@@ -97,7 +108,8 @@ true-accepted p bytes i planned index =
       lengths = record {
         of_block = length-data s p.blocks p.wanted bytes i index;
         of_path = length-pieces (λ m. true_chain s blocks i (suc m)) s.hash_block 0 (levels_of p)
-            (λ m a b. length-true_chain s blocks i m (digest-slot s) (fan-pos s planned.valid) (fan-fits s planned.valid) below);
+            (λ m a b. length-true_chain s blocks i m (digest-slot s) (fan-pos s planned.valid)
+            (fan-fits s planned.valid) below);
       };
       holds = holds-true p blocks i planned.valid many below;
     }

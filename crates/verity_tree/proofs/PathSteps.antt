@@ -1,5 +1,6 @@
 -- The check of a path, level by level.
-use Rattle.std.proofs.Common.{◌≡◌, ℕ, suc, ◌+◌, ◌-◌, ◌*◌, ◌/◌, ◌%◌, ◌^◌, ◌<◌, ◌≤◌, true, false, List, length, take, drop, arith, sym, ◌∙◌, ap, refl, length-drop}
+use Rattle.std.proofs.Common.{◌≡◌, ℕ, suc, ◌+◌, ◌-◌, ◌*◌, ◌/◌, ◌%◌, ◌^◌, ◌<◌, ◌≤◌, true, false, List, length, take}
+use Rattle.std.proofs.Common.{drop, arith, sym, ◌∙◌, ap, refl, length-drop}
 use Rattle.std.proofs.lemmas.Bool.Decides.{nat_tests}
 use Rattle.std.proofs.lemmas.Nat.{mod_below}
 use Rattle.std.proofs.Math.Nat.{mul-le-mul_right, pow-zero}
@@ -15,48 +16,56 @@ use Rattle.verity_tree.specs.Verdicts.{digest_in}
 use Rattle.verity_tree.proofs.VerdictLemmas.{digest-room}
 
 -- one block further up the chain
-pub chain-more : (s : Settings) (block path : List ℕ) (l : ℕ) → chain s block path (l + 1) ≡ slice_chunk path s.hash_block l
+pub chain-more : (s : Settings) (block path : List ℕ) (l : ℕ)
+    → chain s block path (l + 1) ≡ slice_chunk path s.hash_block l
 chain-more s block path l = let e : l + 1 ≡ suc l = omega arith in ap (chain s block path) e
 
 -- a range of the path is the block of a level
-pub range-block : (path : List ℕ) (l size all : ℕ) → size ≡ all → take (l * size + size - l * size) (drop (l * size) path) ≡ slice_chunk path all l
+pub range-block : (path : List ℕ) (l size all : ℕ) → size ≡ all
+    → take (l * size + size - l * size) (drop (l * size) path) ≡ slice_chunk path all l
 range-block path l size all e =
     let same : l * size + size - l * size ≡ size = omega arith in
     ap (λ (n : ℕ). take n (drop (l * size) path)) same ∙ ap (λ (n : ℕ). slice_chunk path n l) e
 
 -- below the top a digest in its slot
 pub digest_above-below : (p : Planned) (i : ℕ) (path root : List ℕ) (l : ℕ) → l < levels_of p
-    → digest_above p i path root l ≡ digest_in p.settings (slice_chunk path p.settings.hash_block l) (i / fan p.settings ^ l % fan p.settings)
+    → digest_above p i path root l ≡ digest_in p.settings (slice_chunk path p.settings.hash_block l)
+    (i / fan p.settings ^ l % fan p.settings)
 digest_above-below p i path root l below =
     let tested : nat_lt l (levels_of p) ≡ true = grind (arith, nat_tests, below) in rw tested refl
 
 -- at the top the root
-pub digest_above-top : (p : Planned) (i : ℕ) (path root : List ℕ) (l : ℕ) → levels_of p ≤ l → digest_above p i path root l ≡ root
+pub digest_above-top : (p : Planned) (i : ℕ) (path root : List ℕ) (l : ℕ) → levels_of p ≤ l
+    → digest_above p i path root l ≡ root
 digest_above-top p i path root l top =
     let tested : nat_lt l (levels_of p) ≡ false = grind (arith, nat_tests, top) in rw tested refl
 
 -- the digest that the code reads is the digest above
-pub read-is : (p : Planned) (i : ℕ) (path root above : List ℕ) (l slot at f : ℕ) → l < levels_of p → above ≡ slice_chunk path p.settings.hash_block l
-    → f ≡ fan p.settings → at ≡ i / fan p.settings ^ l → slot ≡ at % f
+pub read-is : (p : Planned) (i : ℕ) (path root above : List ℕ) (l slot index f : ℕ) → l < levels_of p
+    → above ≡ slice_chunk path p.settings.hash_block l
+    → f ≡ fan p.settings → index ≡ i / fan p.settings ^ l → slot ≡ index % f
     → digest_in p.settings above slot ≡ digest_above p i path root l
-read-is p i path root above l slot at f below above_is f_is at_is slot_is =
+read-is p i path root above l slot index f below above_is f_is index_is slot_is =
     ap (λ (xs : List ℕ). digest_in p.settings xs slot) above_is
     ∙ ap (digest_in p.settings (slice_chunk path p.settings.hash_block l))
-    (slot_is ∙ ap (λ (n : ℕ). n % f) at_is ∙ ap (λ (n : ℕ). i / fan p.settings ^ l % n) f_is)
+    (slot_is ∙ ap (λ (n : ℕ). n % f) index_is ∙ ap (λ (n : ℕ). i / fan p.settings ^ l % n) f_is)
     ∙ sym (digest_above-below p i path root l below)
 
 -- a level's block of a whole path has a digest's room in each slot
-pub slot-in-block : (p : Planned) (path above : List ℕ) (l at f : ℕ) → fan p.settings * slot_width p.settings ≤ p.settings.hash_block
-    → l < levels_of p → levels_of p * p.settings.hash_block ≤ length path → above ≡ slice_chunk path p.settings.hash_block l
+pub slot-in-block : (p : Planned) (path above : List ℕ) (l index f : ℕ)
+    → fan p.settings * slot_width p.settings ≤ p.settings.hash_block
+    → l < levels_of p → levels_of p * p.settings.hash_block ≤ length path
+    → above ≡ slice_chunk path p.settings.hash_block l
     → f ≡ fan p.settings → 2 ≤ f
-    → at % f * slot_width p.settings + digest_len p.settings ≤ length above
-slot-in-block p path above l at f fits below whole above_is f_is two =
+    → index % f * slot_width p.settings + digest_len p.settings ≤ length above
+slot-in-block p path above l index f fits below whole above_is f_is two =
     let size = p.settings.hash_block in
     let next : l + 1 ≤ levels_of p = omega arith in
-    let left : size ≤ length (drop (l * size) path) = omega (arith, length-drop (l * size) path, whole, mul-le-mul_right size next) in
+    let left : size ≤ length (drop (l * size) path) =
+    omega (arith, length-drop (l * size) path, whole, mul-le-mul_right size next) in
     let len : length above ≡ size = ap length above_is ∙ length-take-le size (drop (l * size) path) left in
-    let low : at % f < fan p.settings = omega (arith, mod_below at f (omega arith), f_is) in
-    omega (arith, digest-room p.settings (at % f) low fits, len)
+    let low : index % f < fan p.settings = omega (arith, mod_below index f (omega arith), f_is) in
+    omega (arith, digest-room p.settings (index % f) low fits, len)
 
 -- a number divided by a zeroth power
 pub div-pow-zero : (f i : ℕ) → i ≡ i / f ^ 0
@@ -64,10 +73,12 @@ div-pow-zero f i = let one : i ≡ i / 1 = omega arith in one ∙ ap (λ (n : �
 
 -- two lists of bytes that the test tells apart are two
 pub bytes_eq-false : (xs ys : List ℕ) → bytes_eq xs ys ≡ false → ¬ (xs ≡ ys)
-bytes_eq-false xs ys apart same = let equal = (bytes_eq-Decides xs ys).1 same in let bad : true ≡ false = sym equal ∙ apart in cc
+bytes_eq-false xs ys apart same = let equal = (bytes_eq-Decides xs ys).1 same in let bad : true ≡ false = sym equal
+    ∙ apart in cc
 
 -- the lengths that the code reads are the plan's
-pub HasLengths-read : (p : Planned) (block path : List ℕ) (wide levels size : ℕ) → wide ≡ p.settings.data_block → levels ≡ levels_of p → size ≡ p.settings.hash_block
+pub HasLengths-read : (p : Planned) (block path : List ℕ) (wide levels size : ℕ) → wide ≡ p.settings.data_block
+    → levels ≡ levels_of p → size ≡ p.settings.hash_block
     → length block ≡ wide → length path ≡ levels * size → HasLengths p block path
 HasLengths-read p block path wide levels size wide_is levels_is size_is of_block of_path = record {
   of_block = of_block ∙ wide_is;

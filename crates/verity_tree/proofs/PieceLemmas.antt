@@ -1,5 +1,6 @@
 -- Pieces of one size, joined.
-use Rattle.std.proofs.Common.{◌≡◌, ℕ, zero, suc, ◌+◌, ◌*◌, ◌<◌, ◌≤◌, List, ◌++◌, take, drop, length, arith, ◌∙◌, ap, length-append}
+use Rattle.std.proofs.Common.{◌≡◌, ℕ, zero, suc, ◌+◌, ◌*◌, ◌<◌, ◌≤◌, List, ◌++◌, take, drop, length, arith, ◌∙◌, ap}
+use Rattle.std.proofs.Common.{length-append}
 use Rattle.std.proofs.lemmas.List.{take_at}
 use Rattle.std.proofs.Math.Seq.{drop-append-add}
 use Rattle.std.specs.Fork.{slice_chunk}
@@ -11,7 +12,8 @@ pub length-pieces : (f : ℕ → List ℕ) (size from n : ℕ) → ((m : ℕ) �
 length-pieces f size from zero each = let none : 0 ≡ 0 * size = omega arith in none
 length-pieces f size from (suc n) each =
     let rest = length-pieces f size (from + 1) n (λ m a b. each m (omega (arith, a)) (omega (arith, b))) in
-    length-append (f from) (flat_map f (range_with_len (from + 1) n)) ∙ omega (arith, rest, each from (omega arith) (omega arith))
+    length-append (f from) (flat_map f (range_with_len (from + 1) n))
+    ∙ omega (arith, rest, each from (omega arith) (omega arith))
 
 -- one piece
 pub piece : (f : ℕ → List ℕ) (size from n l : ℕ) → l < n → ((m : ℕ) → from ≤ m → m < from + n → length (f m) ≡ size)
@@ -21,7 +23,8 @@ piece f size from (suc n) zero below each =
     let rest = flat_map f (range_with_len (from + 1) n) in
     let start : 0 * size ≡ 0 = omega arith in
     let same : from ≡ from + 0 = omega arith in
-    ap (λ (k : ℕ). take size (drop k (f from ++ rest))) start ∙ take_at (f from) rest size (each from (omega arith) (omega arith)) ∙ ap f same
+    ap (λ (k : ℕ). take size (drop k (f from ++ rest))) start
+    ∙ take_at (f from) rest size (each from (omega arith) (omega arith)) ∙ ap f same
 piece f size from (suc n) (suc l) below each =
     let rest = flat_map f (range_with_len (from + 1) n) in
     let past : suc l * size ≡ length (f from) + l * size = omega (arith, each from (omega arith) (omega arith)) in

@@ -1,5 +1,6 @@
 -- A block that has closed depends on the data before it alone.
-use Rattle.std.proofs.Common.{◌≡◌, ℕ, zero, suc, ◌+◌, ◌*◌, ◌^◌, ◌<◌, ◌≤◌, min, List, [], get_or, drop, length, map, arith, sym, ◌∙◌, ap, length-drop}
+use Rattle.std.proofs.Common.{◌≡◌, ℕ, zero, suc, ◌+◌, ◌*◌, ◌^◌, ◌<◌, ◌≤◌, min, List, [], get_or, drop, length, map}
+use Rattle.std.proofs.Common.{arith, sym, ◌∙◌, ap, length-drop}
 use Rattle.std.proofs.lemmas.List.{length-map, length-take, get_or-map, get_or-take, get_or-drop, ext_get_or}
 use Rattle.std.proofs.lemmas.List.FromFn.{get_or-map-range_with_len}
 use Rattle.std.proofs.Math.Nat.{pow-zero, pow-suc, one-le-pow, mul-le-mul_right}
@@ -18,17 +19,27 @@ pub get_or-pack : (s : Settings) (digests : List (List ℕ)) (j : ℕ) → j < d
     → get_or (pack s digests) j [] ≡ hash_block_of s (slice_chunk digests (fan s) j)
 unfolding pack
 get_or-pack s digests j h =
-    get_or-map-range_with_len (λ m. hash_block_of s (slice_chunk digests (fan s) m)) 0 (div_ceil (length digests) (fan s)) j j [] h (omega arith)
+    get_or-map-range_with_len (λ m. hash_block_of s (slice_chunk digests (fan s) m)) 0
+    (div_ceil (length digests) (fan s)) j j [] h (omega arith)
 
 -- two runs with the same elements are one
 pub slice_chunk-same : (xs ys : List (List ℕ)) (size j : ℕ) → length xs ≡ length ys
-    → ((k : ℕ) → k < j * size + size → k < length xs → get_or xs k [] ≡ get_or ys k []) → slice_chunk xs size j ≡ slice_chunk ys size j
+    → ((k : ℕ) → k < j * size + size → k < length xs → get_or xs k [] ≡ get_or ys k [])
+    → slice_chunk xs size j ≡ slice_chunk ys size j
 slice_chunk-same xs ys size j same each =
     ext_get_or [] (slice_chunk xs size j) (slice_chunk ys size j)
-    (omega (arith, length-take size (drop (j * size) xs), length-take size (drop (j * size) ys), length-drop (j * size) xs, length-drop (j * size) ys, same))
+    (omega (
+      arith,
+      length-take size (drop (j * size) xs),
+      length-take size (drop (j * size) ys),
+      length-drop (j * size) xs,
+      length-drop (j * size) ys,
+      same,
+    ))
     (λ m h.
     let below : m < size = omega (arith, h, length-take size (drop (j * size) xs)) in
-    let within : j * size + m < length xs = omega (arith, h, length-take size (drop (j * size) xs), length-drop (j * size) xs) in
+    let within : j * size + m < length xs =
+    omega (arith, h, length-take size (drop (j * size) xs), length-drop (j * size) xs) in
     get_or-take size (drop (j * size) xs) m [] below ∙ get_or-drop (j * size) xs m []
     ∙ each (j * size + m) (omega (arith, below)) within
     ∙ sym (get_or-take size (drop (j * size) ys) m [] below ∙ get_or-drop (j * size) ys m []))
@@ -48,27 +59,40 @@ risen-prefix s xs ys i (suc l) j pos same each below time =
     let wide : 0 < width = one-le-pow l (fan s) pos in
     let before = risen s xs l in
     let after = risen s ys l in
-    let count : length (map (hash s) before) ≡ div_ceil (length xs) width = length-map before (hash s) ∙ length-risen s xs l pos in
-    let other : length (map (hash s) after) ≡ div_ceil (length ys) width = length-map after (hash s) ∙ length-risen s ys l pos in
+    let count : length (map (hash s) before) ≡ div_ceil (length xs) width =
+    length-map before (hash s) ∙ length-risen s xs l pos in
+    let other : length (map (hash s) after) ≡ div_ceil (length ys) width =
+    length-map after (hash s) ∙ length-risen s ys l pos in
     let equal : div_ceil (length xs) width ≡ div_ceil (length ys) width = ap (λ (n : ℕ). div_ceil n width) same in
     let whole : div_ceil (length xs) (fan s ^ suc l) ≡ div_ceil (div_ceil (length xs) width) (fan s) =
     ap (div_ceil (length xs)) (pow-suc (fan s) l) ∙ sym (div_ceil-div_ceil (length xs) width (fan s) wide pos) in
-    let here : j < div_ceil (length (map (hash s) before)) (fan s) = omega (arith, below, whole, ap (λ (n : ℕ). div_ceil n (fan s)) count) in
-    let there : j < div_ceil (length (map (hash s) after)) (fan s) = omega (arith, below, whole, ap (λ (n : ℕ). div_ceil n (fan s)) (other ∙ sym equal)) in
+    let here : j < div_ceil (length (map (hash s) before)) (fan s) =
+    omega (arith, below, whole, ap (λ (n : ℕ). div_ceil n (fan s)) count) in
+    let there : j < div_ceil (length (map (hash s) after)) (fan s) =
+    omega (arith, below, whole, ap (λ (n : ℕ). div_ceil n (fan s)) (other ∙ sym equal)) in
     get_or-pack s (map (hash s) before) j here
-    ∙ ap (hash_block_of s) (slice_chunk-same (map (hash s) before) (map (hash s) after) (fan s) j (count ∙ equal ∙ sym other) (λ k low within.
+    ∙ ap (hash_block_of s)
+    (slice_chunk-same (map (hash s) before) (map (hash s) after) (fan s) j (count ∙ equal ∙ sym other)
+    (λ k low within.
     let inside : k < length before = omega (arith, within, length-map before (hash s)) in
     let beside : k < length after = omega (arith, within, count, equal, other, length-map after (hash s)) in
     let step : k + 1 ≤ (j + 1) * fan s = omega (arith, low) in
     let sooner : min ((k + 1) * width) (length xs) ≤ i =
-    omega (arith, time, mul-le-mul_right width step, pow-suc (fan s) l, ap (λ (n : ℕ). (j + 1) * n) (pow-suc (fan s) l)) in
+    omega (
+      arith,
+      time,
+      mul-le-mul_right width step,
+      pow-suc (fan s) l,
+      ap (λ (n : ℕ). (j + 1) * n) (pow-suc (fan s) l),
+    ) in
     get_or-map (hash s) before k [] [] inside
     ∙ ap (hash s) (risen-prefix s xs ys i l k pos same each (omega (arith, within, count)) sooner)
     ∙ sym (get_or-map (hash s) after k [] [] beside)))
     ∙ sym (get_or-pack s (map (hash s) after) j there)
 
 -- what has closed after i data blocks depends on these alone
-pub closed-prefix : (s : Settings) (xs ys : List (List ℕ)) (i l j : ℕ) → 0 < fan s → length xs ≡ length ys → i ≤ length xs
+pub closed-prefix : (s : Settings) (xs ys : List (List ℕ)) (i l j : ℕ) → 0 < fan s → length xs ≡ length ys
+    → i ≤ length xs
     → ((k : ℕ) → k < i → get_or xs k [] ≡ get_or ys k []) → 0 < times l j (order (fan s) (length xs) i)
     → tree_block s xs l j ≡ tree_block s ys l j
 closed-prefix s xs ys i l j pos same most each some =

@@ -80,7 +80,8 @@ slots-more f q room =
     )
 
 -- the levels above a block that isn't full stand as before
-quotient-stays-by : (f i m k : ℕ) → 0 < f → IsReached f i m → i / f ^ m % f + 1 < f → (i + 1) / f ^ (m + 1 + k) ≡ i / f ^ (m + 1 + k)
+quotient-stays-by : (f i m k : ℕ) → 0 < f → IsReached f i m → i / f ^ m % f + 1 < f
+    → (i + 1) / f ^ (m + 1 + k) ≡ i / f ^ (m + 1 + k)
 quotient-stays-by f i m zero some h room =
     let e : m + 1 + 0 ≡ m + 1 = omega arith in
     ap (λ (x : ℕ). (i + 1) / f ^ x) e
@@ -97,7 +98,8 @@ quotient-stays-by f i m (suc k) some h room =
     ∙ sym (quotient-next f i (m + 1 + k))
     ∙ ap (λ (x : ℕ). i / f ^ x) (sym e)
 
-pub quotient-stays : (f i m l : ℕ) → 0 < f → IsReached f i m → i / f ^ m % f + 1 < f → m < l → (i + 1) / f ^ l ≡ i / f ^ l
+pub quotient-stays : (f i m l : ℕ) → 0 < f → IsReached f i m → i / f ^ m % f + 1 < f → m < l
+    → (i + 1) / f ^ l ≡ i / f ^ l
 quotient-stays f i m l some h room above =
     let e : l ≡ m + 1 + (l - (m + 1)) = omega arith in
     ap (λ (x : ℕ). (i + 1) / f ^ x) e

@@ -1,5 +1,6 @@
 -- The root, and what is left of it one level up.
-use Rattle.std.proofs.Common.{◌≡◌, ℕ, zero, suc, ◌^◌, ◌<◌, ◌≤◌, List, [], length, map, get_or, arith, sym, ◌∙◌, ap, refl, inl, inr}
+use Rattle.std.proofs.Common.{◌≡◌, ℕ, zero, suc, ◌^◌, ◌<◌, ◌≤◌, List, [], length, map, get_or, arith, sym, ◌∙◌, ap}
+use Rattle.std.proofs.Common.{refl, inl, inr}
 use Rattle.std.proofs.lemmas.Bool.{cases_lt}
 use Rattle.std.proofs.lemmas.List.{length-map, get_or-map}
 use Rattle.std.proofs.Math.Nat.{pow-zero, pow-suc, one-le-pow}
@@ -14,17 +15,21 @@ use Rattle.verity_tree.proofs.TreeLemmas.{length-pack, length-risen, height-leve
 -- two numbers of levels are one
 pub IsLevelCount-same : (fan n x y : ℕ) → IsLevelCount fan n x → IsLevelCount fan n y → x ≡ y
 IsLevelCount-same fan n x y h k =
-    let a : x ≤ y = elim (cases_lt y x) [ inl below ↦ absurd (omega (arith, h.least y below, k.enough)) | inr le ↦ le ] in
-    let b : y ≤ x = elim (cases_lt x y) [ inl below ↦ absurd (omega (arith, k.least x below, h.enough)) | inr le ↦ le ] in
+    let a : x ≤ y =
+    elim (cases_lt y x) [ inl below ↦ absurd (omega (arith, h.least y below, k.enough)) | inr le ↦ le ] in
+    let b : y ≤ x =
+    elim (cases_lt x y) [ inl below ↦ absurd (omega (arith, k.least x below, h.enough)) | inr le ↦ le ] in
     omega arith
 
 -- one level more than above one level up
-pub IsLevelCount-suc : (fan n levels : ℕ) → 2 ≤ fan → 1 < n → IsLevelCount fan (div_ceil n fan) levels → IsLevelCount fan n (suc levels)
+pub IsLevelCount-suc : (fan n levels : ℕ) → 2 ≤ fan → 1 < n → IsLevelCount fan (div_ceil n fan) levels
+    → IsLevelCount fan n (suc levels)
 IsLevelCount-suc fan n levels two more h = record {
   enough = omega (arith, pow-suc fan levels, le-div_ceil n fan (fan ^ levels) (omega arith) h.enough);
   least = IsLevelCount-suc-least fan n levels two more h;
 } where
-  IsLevelCount-suc-least : (fan n levels : ℕ) → 2 ≤ fan → 1 < n → IsLevelCount fan (div_ceil n fan) levels → (m : ℕ) → m < suc levels → fan ^ m < n
+  IsLevelCount-suc-least : (fan n levels : ℕ) → 2 ≤ fan → 1 < n → IsLevelCount fan (div_ceil n fan) levels → (m : ℕ)
+      → m < suc levels → fan ^ m < n
   IsLevelCount-suc-least fan n levels two more h zero below = omega (arith, pow-zero fan)
   IsLevelCount-suc-least fan n levels two more h (suc m) below =
       omega (arith, pow-suc fan m, mul-lt_div_ceil n fan (fan ^ m) (omega arith) (h.least m (omega arith)))
@@ -36,14 +41,16 @@ level_count-suc fan n two more =
 
 pub level_count-one : (fan : ℕ) → 2 ≤ fan → level_count fan 1 ≡ 0
 level_count-one fan two =
-    IsLevelCount-same fan 1 _ 0 (IsLevelCount-level_count fan 1 two) (record { enough = omega (arith, pow-zero fan); least = λ m h. absurd (omega arith) })
+    IsLevelCount-same fan 1 _ 0 (IsLevelCount-level_count fan 1 two)
+    (record { enough = omega (arith, pow-zero fan); least = λ m h. absurd (omega arith) })
 
 -- the levels of digests above one level up
 pub digests_risen-up : (s : Settings) (digests : List (List ℕ)) (l : ℕ)
     → digests_risen s digests (suc l) ≡ digests_risen s (map (hash s) (pack s digests)) l
 unfolding digests_risen
 digests_risen-up s digests zero = refl
-digests_risen-up s digests (suc l) = ap (λ (ds : List (List ℕ)). map (hash s) (pack s ds)) (digests_risen-up s digests l)
+digests_risen-up s digests (suc l) =
+    ap (λ (ds : List (List ℕ)). map (hash s) (pack s ds)) (digests_risen-up s digests l)
 
 -- one level up leaves the same root
 pub root_of_digests-up : (s : Settings) (digests : List (List ℕ)) → 2 ≤ fan s → 1 < length digests
@@ -53,7 +60,8 @@ root_of_digests-up s digests two more =
     let above : length (map (hash s) (pack s digests)) ≡ div_ceil (length digests) (fan s) =
     length-map (pack s digests) (hash s) ∙ length-pack s digests in
     ap (λ (n : ℕ). get_or (digests_risen s (map (hash s) (pack s digests)) (level_count (fan s) n)) 0 []) above
-    ∙ ap (λ (ds : List (List ℕ)). get_or ds 0 []) (sym (digests_risen-up s digests (level_count (fan s) (div_ceil (length digests) (fan s)))))
+    ∙ ap (λ (ds : List (List ℕ)). get_or ds 0 [])
+    (sym (digests_risen-up s digests (level_count (fan s) (div_ceil (length digests) (fan s)))))
     ∙ ap (λ (l : ℕ). get_or (digests_risen s digests l) 0 []) (sym (level_count-suc (fan s) (length digests) two more))
 
 -- a single digest is the root
@@ -64,23 +72,30 @@ root_of_digests-one s digests two one =
     ap (λ (l : ℕ). get_or (digests_risen s digests l) 0 []) (ap (level_count (fan s)) one ∙ level_count-one (fan s) two)
 
 -- the digests of the blocks of a level
-pub map-hash-risen : (s : Settings) (blocks : List (List ℕ)) (l : ℕ) → map (hash s) (risen s blocks l) ≡ digests_risen s (map (hash s) blocks) l
+pub map-hash-risen : (s : Settings) (blocks : List (List ℕ)) (l : ℕ)
+    → map (hash s) (risen s blocks l) ≡ digests_risen s (map (hash s) blocks) l
 unfolding risen digests_risen
 map-hash-risen s blocks zero = refl
 map-hash-risen s blocks (suc l) = ap (λ (ds : List (List ℕ)). map (hash s) (pack s ds)) (map-hash-risen s blocks l)
 
 -- the root above some blocks is the root above their digests
-pub root-digests : (s : Settings) (blocks : List (List ℕ)) → 2 ≤ fan s → 0 < length blocks → root s blocks ≡ root_of_digests s (map (hash s) blocks)
+pub root-digests : (s : Settings) (blocks : List (List ℕ)) → 2 ≤ fan s → 0 < length blocks
+    → root s blocks ≡ root_of_digests s (map (hash s) blocks)
 unfolding root root_of_digests
 root-digests s blocks two some =
     let l = level_count (fan s) (length blocks) in
     let low : 0 < fan s = omega arith in
     let left : 0 < length (risen s blocks l) =
-    omega (arith, div_ceil-pos (length blocks) (fan s ^ l) (one-le-pow l (fan s) low) some, length-risen s blocks l low) in
+    omega (
+      arith,
+      div_ceil-pos (length blocks) (fan s ^ l) (one-le-pow l (fan s) low) some,
+      length-risen s blocks l low,
+    ) in
     ap (λ (k : ℕ). hash s (get_or (risen s blocks k) 0 [])) (height-level_count s blocks low)
     ∙ sym (get_or-map (hash s) (risen s blocks l) 0 [] [] left)
     ∙ ap (λ (ds : List (List ℕ)). get_or ds 0 []) (map-hash-risen s blocks l)
-    ∙ ap (λ (n : ℕ). get_or (digests_risen s (map (hash s) blocks) (level_count (fan s) n)) 0 []) (sym (length-map blocks (hash s)))
+    ∙ ap (λ (n : ℕ). get_or (digests_risen s (map (hash s) blocks) (level_count (fan s) n)) 0 [])
+    (sym (length-map blocks (hash s)))
 
 -- how many digests are one level up
 pub length-above : (s : Settings) (digests above : List (List ℕ)) → above ≡ map (hash s) (pack s digests)

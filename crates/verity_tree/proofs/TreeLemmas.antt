@@ -16,7 +16,8 @@ unfolding pack
 length-pack s digests = length-map-range_with_len _ 0 (div_ceil (length digests) (fan s))
 
 pub length-up : (s : Settings) (blocks : List (List ℕ)) → length (up s blocks) ≡ div_ceil (length blocks) (fan s)
-length-up s blocks = length-pack s (map (hash s) blocks) ∙ ap (λ (n : ℕ). div_ceil n (fan s)) (length-map blocks (hash s))
+length-up s blocks =
+    length-pack s (map (hash s) blocks) ∙ ap (λ (n : ℕ). div_ceil n (fan s)) (length-map blocks (hash s))
 
 -- l levels up there are ceil(n / fan ^ l) blocks
 pub length-risen : (s : Settings) (blocks : List (List ℕ)) (l : ℕ) → 0 < fan s
@@ -36,4 +37,5 @@ pub height-level_count : (s : Settings) (blocks : List (List ℕ)) → 0 < fan s
     → height s blocks ≡ level_count (fan s) (length blocks)
 unfolding height level_count
 height-level_count s blocks some = least_from-same _ _ 0 (length blocks) (λ l.
-    ap (λ (n : ℕ). nat_le n 1) (length-risen s blocks l some) ∙ leb-div_ceil_one (length blocks) (fan s ^ l) (one-le-pow l (fan s) some))
+    ap (λ (n : ℕ). nat_le n 1) (length-risen s blocks l some)
+    ∙ leb-div_ceil_one (length blocks) (fan s ^ l) (one-le-pow l (fan s) some))

@@ -1,11 +1,10 @@
 -- Stored blocks beside the tree's.
-use Rattle.std.proofs.Common.{◌≡◌, ◌≢◌, ℕ, zero, suc, ◌+◌, ◌-◌, ◌*◌, ◌/◌, ◌^◌, ◌<◌, ◌≤◌, min, Bool, true, false, List, [], ◌∷◌, ◌++◌, length, take, drop, arith, sym, ◌∙◌, ap, subst, refl, inl, inr, length-drop}
+use Rattle.std.proofs.Common.{◌≡◌, ℕ, zero, suc, ◌+◌, ◌*◌, ◌<◌, ◌≤◌, Bool, true, false}
+use Rattle.std.proofs.Common.{arith, ◌∙◌, ap, refl, inl, inr}
 use Rattle.std.proofs.lemmas.Bool.{cases_lt}
 use Rattle.std.proofs.Math.Nat.{mul-le-mul_right}
-use Rattle.std.specs.Prelude.{find, not, Option, Some, None}
-use Rattle.std.specs.Int.{div_ceil}
+use Rattle.std.specs.Prelude.{find, Some, None}
 use Rattle.std.specs.List.{range_with_len}
-use Rattle.verity_plan.specs.Counts.{level_size}
 use Rattle.verity_plan.specs.Plans.{Planned, HasBlock, size_under}
 use Rattle.verity_plan.specs.Settings.{Settings, digest_len, fan, slot_width}
 use Rattle.verity_plan.proofs.CountLemmas.{mul-lt_div_ceil}
@@ -13,14 +12,16 @@ use Rattle.verity_plan.proofs.FitLemmas.{digest-slot}
 use Rattle.verity_plan.proofs.PlanLemmas.{size-more}
 
 -- the first number of a range that passes a test
-pub find-range : (p : ℕ → Bool) (from n k : ℕ) → from ≤ k → k < from + n → ((j : ℕ) → from ≤ j → j < k → p j ≡ false) → p k ≡ true
+pub find-range : (p : ℕ → Bool) (from n k : ℕ) → from ≤ k → k < from + n → ((j : ℕ) → from ≤ j → j < k → p j ≡ false)
+    → p k ≡ true
     → find p (range_with_len from n) ≡ Some k
 find-range p from zero k low high before here = absurd (omega arith)
 find-range p from (suc n) k low high before here =
     elim (cases_lt from k) [
       | inl less ↦
           let no : p from ≡ false = before from (omega arith) less in
-          rw no (find-range p (from + 1) n k (omega (arith, less)) (omega (arith, high)) (λ j a b. before j (omega (arith, a)) b) here)
+          rw no (find-range p (from + 1) n k (omega (arith, less)) (omega (arith, high))
+          (λ j a b. before j (omega (arith, a)) b) here)
       | inr past ↦
           let same : from ≡ k = omega (arith, low, past) in
           let yes : p from ≡ true = ap p same ∙ here in
@@ -28,7 +29,8 @@ find-range p from (suc n) k low high before here =
     ]
 
 -- a range of which none passes
-pub find-range_none : (p : ℕ → Bool) (from n : ℕ) → ((j : ℕ) → from ≤ j → j < from + n → p j ≡ false) → find p (range_with_len from n) ≡ None
+pub find-range_none : (p : ℕ → Bool) (from n : ℕ) → ((j : ℕ) → from ≤ j → j < from + n → p j ≡ false)
+    → find p (range_with_len from n) ≡ None
 find-range_none p from zero none = refl
 find-range_none p from (suc n) none =
     let no : p from ≡ false = none from (omega arith) (omega arith) in
@@ -41,7 +43,8 @@ first-child p some l j here =
     (omega (arith, here.block_below, size-more (fan p.settings) p.blocks l (size_under p l) some refl))
 
 -- a digest is within its block
-pub digest-room : (s : Settings) (slot : ℕ) → slot < fan s → fan s * slot_width s ≤ s.hash_block → slot * slot_width s + digest_len s ≤ s.hash_block
+pub digest-room : (s : Settings) (slot : ℕ) → slot < fan s → fan s * slot_width s ≤ s.hash_block
+    → slot * slot_width s + digest_len s ≤ s.hash_block
 digest-room s slot below fits =
     let next : slot + 1 ≤ fan s = omega arith in
     omega (arith, digest-slot s, mul-le-mul_right (slot_width s) next, fits)

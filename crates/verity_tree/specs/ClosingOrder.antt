@@ -1,6 +1,7 @@
 -- The order in which hash blocks close, and so are written and compared, as the data blocks come one after another: a
 -- block closes when it is full, or with the last data block. This project's own; the kernel's pages leave it open.
-use Rattle.std.specs.Prelude.{◌≡◌, ◌<◌, ℕ, zero, suc, ◌+◌, ◌-◌, ◌/◌, ◌%◌, ◌^◌, Bool, ◌||◌, ◌&&◌, ◌==◌, List, [], ◌∷◌, ◌++◌, map, filter}
+use Rattle.std.specs.Prelude.{◌≡◌, ◌<◌, ℕ, zero, suc, ◌+◌, ◌-◌, ◌%◌, ◌^◌, Bool, ◌||◌, ◌&&◌, ◌==◌, List, [], ◌∷◌}
+use Rattle.std.specs.Prelude.{◌++◌, map, filter}
 use Rattle.std.specs.List.{range_with_len, count_by}
 use Rattle.std.specs.Int.{div_ceil}
 use Rattle.verity_plan.specs.Counts.{level_count, IsTreeBlock}
@@ -11,16 +12,13 @@ closes fan n i level = (i % fan ^ (level + 1) == 0) || (i == n)
 
 -- the blocks (level, block) that close after data block i, counted from 1, in rising order of level
 abbrev pub closing : ℕ → ℕ → ℕ → List (ℕ × ℕ)
-closing fan n i = map (λ level. (level, div_ceil i (fan ^ (level + 1)) - 1)) (filter (closes fan n i) (range_with_len 0 (level_count fan n)))
+closing fan n i = map (λ level. (level, div_ceil i (fan ^ (level + 1)) - 1))
+    (filter (closes fan n i) (range_with_len 0 (level_count fan n)))
 
 -- the blocks that have closed after i data blocks, in order
 unfoldable pub order : ℕ → ℕ → ℕ → List (ℕ × ℕ)
 order fan n zero = []
 order fan n (suc i) = order fan n i ++ closing fan n (suc i)
-
--- the blocks of the levels below m that close with data block i, counted from 0, where all of them do
-abbrev pub closed_to : ℕ → ℕ → ℕ → List (ℕ × ℕ)
-closed_to fan i m = map (λ level. (level, i / fan ^ (level + 1))) (range_with_len 0 m)
 
 -- a pair that comes in an order after those that are done
 pub record ComesNext (pairs done : List (ℕ × ℕ)) (next : ℕ × ℕ) : Type 0 where

@@ -8,7 +8,8 @@ use Rattle.verity_tree.specs.Levels.{data_blocks}
 use Rattle.verity_tree.specs.Reading.{EndsWithin, FailsWithin, ReadsUpTo}
 use Rattle.verity_tree.specs.Verdicts.{NoneDiffers, verdict}
 use Rattle.verity_tree.specs.declared.comparing.CompareFault.{CompareFault}
-use Rattle.verity_tree.specs.declared.comparing.CompareFault.TheVariants.{SourceShort, SourceFailed, DeviceFailed, Differs, RootDiffers}
+use Rattle.verity_tree.specs.declared.comparing.CompareFault.TheVariants.{SourceShort, SourceFailed, DeviceFailed}
+use Rattle.verity_tree.specs.declared.comparing.CompareFault.TheVariants.{Differs, RootDiffers}
 
 -- no block before this one in closing order differs
 pub record ComesTo (p : Planned) (device bytes : List ℕ) (pair : ℕ × ℕ) : Type 0 where
@@ -18,21 +19,23 @@ pub record ComesTo (p : Planned) (device bytes : List ℕ) (pair : ℕ × ℕ) :
 
 -- the answer is the verdict, or a failure before which nothing differs
 abbrev pub Judges : Planned → List ℕ → List ℕ → List ℕ → Result Unit CompareFault → Type 0
-Judges p device bytes digest (Err (SourceFailed i)) = NoneDiffers p (data_blocks p bytes) device (order (fan p.settings) p.blocks i)
+Judges p device bytes digest (Err (SourceFailed i)) =
+    NoneDiffers p (data_blocks p bytes) device (order (fan p.settings) p.blocks i)
 Judges p device bytes digest (Err (DeviceFailed level block)) = ComesTo p device bytes (level, block)
 Judges p device bytes digest (Ok right) = verdict p device bytes digest ≡ Ok right
 Judges p device bytes digest (Err (SourceShort i)) = verdict p device bytes digest ≡ Err (SourceShort i)
-Judges p device bytes digest (Err (Differs level block part)) = verdict p device bytes digest ≡ Err (Differs level block part)
+Judges p device bytes digest (Err (Differs level block part)) =
+    verdict p device bytes digest ≡ Err (Differs level block part)
 Judges p device bytes digest (Err (RootDiffers computed)) = verdict p device bytes digest ≡ Err (RootDiffers computed)
 
 -- how much was read
-abbrev pub Reads : Planned → Result Unit CompareFault → List ℕ → List ℕ → Type 0
-Reads p (Ok right) before after = HasRead p.wanted before after
-Reads p (Err (SourceShort i)) before after = EndsWithin p i before after
-Reads p (Err (SourceFailed i)) before after = FailsWithin p i before after
-Reads p (Err (DeviceFailed level block)) before after = ReadsUpTo p level block before after
-Reads p (Err (Differs level block part)) before after = ReadsUpTo p level block before after
-Reads p (Err (RootDiffers computed)) before after = HasRead p.wanted before after
+abbrev pub CompareReads : Planned → Result Unit CompareFault → List ℕ → List ℕ → Type 0
+CompareReads p (Ok right) before after = HasRead p.wanted before after
+CompareReads p (Err (SourceShort i)) before after = EndsWithin p i before after
+CompareReads p (Err (SourceFailed i)) before after = FailsWithin p i before after
+CompareReads p (Err (DeviceFailed level block)) before after = ReadsUpTo p level block before after
+CompareReads p (Err (Differs level block part)) before after = ReadsUpTo p level block before after
+CompareReads p (Err (RootDiffers computed)) before after = HasRead p.wanted before after
 
 -- whether the answer is a failure of the source, or of the device
 abbrev pub source_failed : Result Unit CompareFault → Bool

@@ -1,5 +1,5 @@
--- What a device holds of a tree: each hash block at its place (cryptsetup's on-disk format page; Linux kernel, dm-verity
--- page, "On-disk format").
+-- What a device holds of a tree: each hash block at its place (cryptsetup's on-disk format page; Linux kernel,
+-- dm-verity page, "On-disk format").
 use Rattle.std.specs.Prelude.{ℕ, List, [], ◌∷◌, length, slice_index_or}
 use Rattle.verity_io.specs.Writing.{put, Spoiled}
 use Rattle.verity_plan.specs.Places.{byte_at}
@@ -30,4 +30,5 @@ begun p blocks before = begun_after p blocks p.blocks before
 pub record StopsAt (p : Planned) (blocks : List (List ℕ)) (pair : ℕ × ℕ) (before after : List ℕ) : Type 0 where
   pub done : List (ℕ × ℕ)
   pub next : ComesNext (order (fan p.settings) p.blocks p.blocks) done pair
-  pub spoiled : Spoiled (written p.settings blocks p.base done before) (byte_of p pair.0 pair.1) p.settings.hash_block after
+  pub spoiled : Spoiled (written p.settings blocks p.base done before) (byte_of p pair.0 pair.1) p.settings.hash_block
+      after

@@ -1,6 +1,7 @@
 -- A data block checked by its path: the hash blocks above it, joined, level 0 next to the data (Linux kernel, dm-verity
 -- page, "Hash Tree": each digest leads to the block above; fs-verity page, "Merkle tree").
-use Rattle.std.specs.Prelude.{◌≡◌, ◌≢◌, ◌<◌, ◌≤◌, ℕ, zero, suc, ◌+◌, ◌*◌, ◌/◌, ◌%◌, ◌^◌, List, [], length, nat_lt, slice_index_or, if◌then◌else◌, Result, Ok, Err}
+use Rattle.std.specs.Prelude.{◌≡◌, ◌≢◌, ◌<◌, ◌≤◌, ℕ, zero, suc, ◌+◌, ◌*◌, ◌/◌, ◌%◌, ◌^◌, List, [], length, nat_lt}
+use Rattle.std.specs.Prelude.{slice_index_or, if◌then◌else◌, Result, Ok, Err}
 use Rattle.std.specs.Fork.{slice_chunk}
 use Rattle.std.specs.List.{flat_map, range_with_len}
 use Rattle.verity_tree.specs.Image.{tree_block}
@@ -65,4 +66,5 @@ pub record HasCollision (p : Planned) (blocks : List (List ℕ)) (i : ℕ) (bloc
   pub level : ℕ
   pub within : level ≤ levels_of p
   pub differ : chain p.settings block path level ≢ true_chain p.settings blocks i level
-  pub one_hash : hash p.settings (chain p.settings block path level) ≡ hash p.settings (true_chain p.settings blocks i level)
+  pub one_hash : hash p.settings (chain p.settings block path level)
+      ≡ hash p.settings (true_chain p.settings blocks i level)

@@ -3,5 +3,6 @@ pub mod OpenBlocks
 pub mod DataBlocks
 pub mod ClosedBlocks
 pub mod Cascade
+pub mod ReadingAhead
 pub mod OnePass
 pub mod PlainRoots

@@ -1,6 +1,7 @@
 -- Whether the hash blocks that a device holds are the tree's, and which is the first in closing order that is not
 -- (veritysetup(8), `verify`; the order and the parts are this project's own).
-use Rattle.std.specs.Prelude.{◌≡◌, ◌≢◌, ℕ, ◌+◌, ◌-◌, ◌*◌, ◌/◌, ◌^◌, Bool, not, min, List, length, take, drop, find, All, nat_le, nat_lt, Option, Some, None, Result, Ok, Err, if◌then◌else◌}
+use Rattle.std.specs.Prelude.{◌≡◌, ℕ, ◌+◌, ◌-◌, ◌*◌, Bool, not, min, List, length, take, drop, find, All}
+use Rattle.std.specs.Prelude.{nat_lt, Option, Some, None, Result, Ok, Err, if◌then◌else◌}
 use Rattle.std.specs.List.{range_with_len}
 use Rattle.std.specs.Str.{bytes_eq}
 use Rattle.verity_tree.specs.ClosingOrder.{order}
@@ -9,7 +10,8 @@ use Rattle.verity_tree.specs.Levels.{root, data_blocks, whole}
 use Rattle.verity_plan.specs.Plans.{Planned, byte_of, size_under}
 use Rattle.verity_plan.specs.Settings.{Settings, digest_len, fan, slot_width}
 use Rattle.verity_tree.specs.declared.comparing.CompareFault.{CompareFault}
-use Rattle.verity_tree.specs.declared.comparing.CompareFault.TheVariants.{SourceShort, SourceFailed, DeviceFailed, Differs, RootDiffers}
+use Rattle.verity_tree.specs.declared.comparing.CompareFault.TheVariants.{SourceShort}
+use Rattle.verity_tree.specs.declared.comparing.CompareFault.TheVariants.{Differs, RootDiffers}
 use Rattle.verity_tree.specs.declared.part.Part.{Part}
 use Rattle.verity_tree.specs.declared.part.Part.TheVariants.{Missing, Child, Spare}
 
@@ -19,7 +21,7 @@ stored p device level block = take p.settings.hash_block (drop (byte_of p level 
 
 -- the digest in a slot of a hash block
 abbrev pub digest_in : Settings → List ℕ → ℕ → List ℕ
-digest_in s block slot = take (digest_len s) (drop (slot * slot_width s) block)
+digest_in s bytes slot = take (digest_len s) (drop (slot * slot_width s) bytes)
 
 -- the first used slot whose digests differ in two hash blocks of this place
 abbrev pub first_slot : Planned → ℕ → ℕ → List ℕ → List ℕ → Option ℕ
@@ -39,12 +41,14 @@ part_of p level block held computed = if nat_lt (length held) p.settings.hash_bl
 
 -- the block that a device holds is not the tree's
 abbrev pub differs : Planned → List (List ℕ) → List ℕ → ℕ × ℕ → Bool
-differs p blocks device pair = not (bytes_eq (stored p device pair.0 pair.1) (tree_block p.settings blocks pair.0 pair.1))
+differs p blocks device pair =
+    not (bytes_eq (stored p device pair.0 pair.1) (tree_block p.settings blocks pair.0 pair.1))
 
 -- the fault at the first block that differs
 abbrev pub difference : Planned → List (List ℕ) → List ℕ → ℕ × ℕ → CompareFault
 difference p blocks device pair =
-    Differs pair.0 pair.1 (part_of p pair.0 pair.1 (stored p device pair.0 pair.1) (tree_block p.settings blocks pair.0 pair.1))
+    Differs pair.0 pair.1
+    (part_of p pair.0 pair.1 (stored p device pair.0 pair.1) (tree_block p.settings blocks pair.0 pair.1))
 
 -- without a difference: short data, another root, or all is right
 abbrev pub judged : Planned → List ℕ → List ℕ → Option (ℕ × ℕ) → List ℕ → Result Unit CompareFault
@@ -57,7 +61,8 @@ judged p device bytes None digest = if nat_lt (whole p bytes) p.blocks then Err 
 -- the data blocks that are there, then short data, then the root
 abbrev pub verdict : Planned → List ℕ → List ℕ → List ℕ → Result Unit CompareFault
 verdict p device bytes digest =
-    judged p device bytes (find (differs p (data_blocks p bytes) device) (order (fan p.settings) p.blocks (whole p bytes))) digest
+    judged p device bytes
+    (find (differs p (data_blocks p bytes) device) (order (fan p.settings) p.blocks (whole p bytes))) digest
 
 -- the device holds this block of the tree
 abbrev pub StandsThere : Planned → List (List ℕ) → List ℕ → ℕ × ℕ → Type 0

@@ -29,14 +29,14 @@ pub enum BuildFault {
     },
 }
 
-/// Builds the tree above the data of a source: reads the data once, writes each hash block once, in closing order and at
-/// its place, and answers the root hash (Linux kernel, dm-verity page, "Hash Tree"). It takes no memory. The store is one
-/// that `fits` the plan.
+/// Builds the tree above the data of a source: reads the data once, writes each hash block once, in closing order and
+/// at its place, and answers the root hash (Linux kernel, dm-verity page, "Hash Tree"). It takes no memory. The store
+/// is one that `fits` the plan.
 ///
-/// A fault leaves the hash blocks that closed before it; after `DeviceFailed` the failed block's own range is unknown. How
-/// much was read of the source: all that the plan wants where a root is answered; all its bytes after `SourceShort`; the data
-/// up to the block with which the hash block closed after `DeviceFailed`; the blocks before the failed one, and less than one
-/// block more, after `SourceFailed`.
+/// A fault leaves the hash blocks that closed before it; after `DeviceFailed` the failed block's own range is unknown.
+/// How much was read of the source: all that the plan wants where a root is answered; all its bytes after
+/// `SourceShort`; the data up to the block with which the hash block closed after `DeviceFailed`; the blocks before the
+/// failed one, and less than one block more, after `SourceFailed`.
 pub fn build<S: Source, D: Device>(
     plan: &Plan,
     store: &mut Store,
@@ -54,9 +54,10 @@ pub fn build<S: Source, D: Device>(
     ensures device_count { Counts (device_failed result) (D.failures device.old) (D.failures device.new) }
 
     // The root is that of the levels over whole lists.
-    ensures read { S.tells source.old → Builds plan.now result (S.to_come source.old) (S.to_come source.new) }
+    ensures read { S.tells source.old → Builds plan.now result (S.remaining source.old) (S.remaining source.new) }
     ensures stands { S.tells source.old → D.tells device.old
-        → BuildsImage plan.now (data_blocks plan.now (S.to_come source.old)) result (D.content device.old) (D.content device.new) }
+        → BuildsImage plan.now (data_blocks plan.now (S.remaining source.old))
+        result (D.content device.old) (D.content device.new) }
 {
     match pass(plan, Task::Write, &mut store.bytes, source, device) {
         Ok(root) => Ok(root),
@@ -69,8 +70,8 @@ pub fn build<S: Source, D: Device>(
     }
 }
 
-/// The root hash of the tree above the data of a source, which is read once, as `build` reads it; nothing is written. It
-/// takes no memory, and its only faults are those of the source. The store is one that `fits` the plan.
+/// The root hash of the tree above the data of a source, which is read once, as `build` reads it; nothing is written.
+/// It takes no memory, and its only faults are those of the source. The store is one that `fits` the plan.
 pub fn root_only<S: Source>(
     plan: &Plan,
     store: &mut Store,
@@ -82,15 +83,7 @@ pub fn root_only<S: Source>(
     ensures told { S.tells source.old → S.tells source.new }
     ensures count { Counts (source_failed result) (S.failures source.old) (S.failures source.new) }
     ensures fault { IfErr result IsOfSource }
-    ensures read { S.tells source.old → Builds plan.now result (S.to_come source.old) (S.to_come source.new) }
+    ensures read { S.tells source.old → Builds plan.now result (S.remaining source.old) (S.remaining source.new) }
 {
-    match pass(plan, Task::Write, &mut store.bytes, source, &mut Nowhere) {
-        Ok(root) => Ok(root),
-        Err(PassFault::SourceShort(i)) => Err(BuildFault::SourceShort(i)),
-        Err(PassFault::SourceFailed(i)) => Err(BuildFault::SourceFailed(i)),
-        Err(PassFault::Stopped(stop)) => Err(BuildFault::DeviceFailed {
-            level: stop.level,
-            block: stop.block,
-        }),
-    }
+    build(plan, store, source, &mut Nowhere)
 }

@@ -1,9 +1,11 @@
 //! A data block's digest on its way up through the levels, with one open block a level.
-ghost use Rattle.std.specs.Prelude.{◌≡◌, ℕ, ◌+◌, ◌-◌, ◌*◌, ◌/◌, ◌%◌, ◌<◌, ◌≤◌, ◌++◌, List, length, take, drop, IfOk};
+ghost use Rattle.std.specs.Prelude.{◌≡◌, ℕ, ◌+◌, ◌-◌, ◌*◌, ◌/◌, ◌%◌, ◌<◌, ◌≤◌, ◌++◌, List, length, take, drop, IfErr};
+ghost use Rattle.std.specs.Prelude.{IfOk};
 ghost use Rattle.verity_io.specs.Counting.{Counts};
-ghost use Rattle.verity_tree.specs.Steps.Cascade.{Carries, CarriesCompared, CarriesDevice, StepsCompared, StepsDevice, StepsLevel, carry_failed, step_failed};
+ghost use Rattle.verity_tree.specs.Steps.Cascade.{Carries, CarriesCompared, CarriesDevice, StepsCompared, StepsDevice};
+ghost use Rattle.verity_tree.specs.Steps.Cascade.{EndsBlock, StepsLevel, carry_failed, step_failed};
 ghost use Rattle.verity_tree.specs.declared.closed_block.Task.TheVariants.{Compare};
-ghost use Rattle.verity_tree.specs.Steps.OpenBlocks.{AreOpen, arrival, carried};
+ghost use Rattle.verity_tree.specs.Steps.OpenBlocks.{HasOpenBlocks, arrival, carried};
 ghost use Rattle.verity_plan.specs.Plans.{Planned, HasBlock, levels_of};
 ghost use Rattle.verity_plan.specs.Settings.{digest_len, fan};
 
@@ -14,7 +16,7 @@ use verity_plan::Plan;
 
 /// What became of a level's open block.
 #[derive(Clone, Copy, Debug, PartialEq, Eq)]
-pub(crate) enum Step {
+pub(crate) enum LevelStep {
     /// It has room.
     Open,
     /// It has closed, and this is its digest.
@@ -40,7 +42,8 @@ fn put_slot(block: &mut [u8], from: usize, digest: &Digest)
     block[from..from + bytes.len()].copy_from_slice(bytes);
 }
 
-/// Adds the digest of this number to a level's open block; if that is then full, or the last, closes it and leaves zeros.
+/// Adds the digest of this number to a level's open block; if that is then full, or the last, closes it and leaves
+/// zeros.
 fn step_level<D: Device>(
     plan: &Plan,
     task: Task,
@@ -51,35 +54,39 @@ fn step_level<D: Device>(
     last: bool,
     digest: &Digest,
     device: &mut D,
-) -> Step
+) -> LevelStep
     requires size { length bytes.old ≡ plan.now.settings.hash_block }
     requires stored { length stored.old ≡ plan.now.settings.hash_block }
     requires digest { length digest.now ≡ digest_len plan.now.settings }
     requires here { HasBlock plan.now level (index / fan plan.now.settings) }
     ensures told { D.tells device.old → D.tells device.new }
     ensures level { StepsLevel plan.now.settings (arrival index bytes.old digest.now) last bytes.new result }
-    ensures device { D.tells device.old → StepsDevice plan.now level (arrival index bytes.old digest.now) result (D.content device.old) (D.content device.new) }
-    ensures compared { task ≡ Compare → D.tells device.old → StepsCompared plan.now level (arrival index bytes.old digest.now) result (D.content device.old) (D.content device.new) }
+    ensures device { D.tells device.old
+        → StepsDevice plan.now level (arrival index bytes.old digest.now)
+        result (D.content device.old) (D.content device.new) }
+    ensures compared { task ≡ Compare → D.tells device.old
+        → StepsCompared plan.now level (arrival index bytes.old digest.now)
+        result (D.content device.old) (D.content device.new) }
     ensures count { Counts (step_failed task result) (D.failures device.old) (D.failures device.new) }
 {
     let fan = plan.fan();
     let slot = (index % fan as u64) as usize;
     put_slot(bytes, slot * plan.slot_width(), digest);
     if slot + 1 < fan && !last {
-        return Step::Open;
+        return LevelStep::Open;
     }
     match close(plan, task, level, index / fan as u64, bytes, stored, device) {
         Ok(()) => {
             let above = plan.hash(bytes);
             bytes.fill(0);
-            Step::Closed(above)
+            LevelStep::Closed(above)
         }
-        Err(cause) => Step::Stopped(cause),
+        Err(cause) => LevelStep::Stopped(cause),
     }
 }
 
-/// Carries the digest of data block `i` up through the levels whose open blocks, one after another in `opened`, close, and
-/// closes these in rising order. After the last data block the answer is the root.
+/// Carries the digest of data block `i` up through the levels whose open blocks, one after another in `opened`, close,
+/// and closes these in rising order. After the last data block the answer is the root.
 pub(crate) fn carry<D: Device>(
     plan: &Plan,
     task: Task,
@@ -95,16 +102,20 @@ pub(crate) fn carry<D: Device>(
     requires below { i < plan.now.blocks }
     ensures size { IfOk result (λ root. length root ≡ digest_len plan.now.settings) }
     ensures told { D.tells device.old → D.tells device.new }
+    ensures ends { IfErr result (λ _. EndsBlock (fan plan.now.settings) plan.now.blocks i) }
     ensures count { Counts (carry_failed task result) (D.failures device.old) (D.failures device.new) }
     ensures carries { (blocks : List (List ℕ)) → plan.now.blocks ≡ length blocks
-        → digest ≡ carried plan.now.settings blocks i 0 → AreOpen plan.now.settings blocks 0 (levels_of plan.now) i opened.old
+        → digest ≡ carried plan.now.settings blocks i 0
+        → HasOpenBlocks plan.now.settings blocks 0 (levels_of plan.now) i opened.old
         → Carries plan.now blocks i result opened.new }
     ensures device { D.tells device.old → (blocks : List (List ℕ)) → plan.now.blocks ≡ length blocks
-        → digest ≡ carried plan.now.settings blocks i 0 → AreOpen plan.now.settings blocks 0 (levels_of plan.now) i opened.old
+        → digest ≡ carried plan.now.settings blocks i 0
+        → HasOpenBlocks plan.now.settings blocks 0 (levels_of plan.now) i opened.old
         → CarriesDevice plan.now blocks i result (D.content device.old) (D.content device.new) }
     ensures stays { task ≡ Compare → D.tells device.old → D.content device.new ≡ D.content device.old }
     ensures compared { task ≡ Compare → D.tells device.old → (blocks : List (List ℕ)) → plan.now.blocks ≡ length blocks
-        → digest ≡ carried plan.now.settings blocks i 0 → AreOpen plan.now.settings blocks 0 (levels_of plan.now) i opened.old
+        → digest ≡ carried plan.now.settings blocks i 0
+        → HasOpenBlocks plan.now.settings blocks 0 (levels_of plan.now) i opened.old
         → CarriesCompared plan.now blocks i result (D.content device.old) (D.content device.new) }
 {
     let blocks = plan.blocks();
@@ -119,9 +130,9 @@ pub(crate) fn carry<D: Device>(
         match step_level(
             plan, task, level, bytes, stored, index, last, &carried, device,
         ) {
-            Step::Closed(above) => carried = above,
-            Step::Open => return Ok(carried),
-            Step::Stopped(cause) => {
+            LevelStep::Closed(above) => carried = above,
+            LevelStep::Open => return Ok(carried),
+            LevelStep::Stopped(cause) => {
                 return Err(Stop {
                     level,
                     block: index / fan,

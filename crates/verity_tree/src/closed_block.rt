@@ -1,7 +1,7 @@
 //! What is done with a hash block when it has closed.
 ghost use Rattle.std.specs.Prelude.{◌≡◌, ◌+◌, ◌*◌, ◌≤◌, length, take};
 ghost use Rattle.verity_io.specs.Counting.{Counts};
-ghost use Rattle.verity_tree.specs.Steps.ClosedBlocks.{Closes, Compares, close_failed, closed_block};
+ghost use Rattle.verity_tree.specs.Steps.ClosedBlocks.{Closes, ComparesBlock, close_failed, closed_block};
 ghost use Rattle.verity_plan.specs.Plans.{HasBlock};
 
 use crate::part::{Part, part_between};
@@ -41,7 +41,9 @@ pub(crate) fn close<D: Device>(
     requires stored { length stored.old ≡ plan.now.settings.hash_block }
     ensures told { D.tells device.old → D.tells device.new }
     ensures count { Counts (close_failed task result) (D.failures device.old) (D.failures device.new) }
-    ensures device { D.tells device.old → Closes plan.now task (closed_block level block bytes.now) result (D.content device.old) (D.content device.new) }
+    ensures device { D.tells device.old
+        → Closes plan.now task (closed_block level block bytes.now)
+        result (D.content device.old) (D.content device.new) }
 {
     let at = plan.byte(level, block);
     match task {
@@ -69,7 +71,7 @@ fn compared(
     requires size { length bytes.now ≡ plan.now.settings.hash_block }
     requires held { length held.now ≡ plan.now.settings.hash_block }
     requires count { count ≤ plan.now.settings.hash_block }
-    ensures { Compares plan.now (closed_block level block bytes.now) (take count held.now) result }
+    ensures { ComparesBlock plan.now (closed_block level block bytes.now) (take count held.now) result }
 {
     if count < held.len() {
         return Err(Cause::Differs(Part::Missing));

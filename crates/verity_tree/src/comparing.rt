@@ -39,12 +39,12 @@ pub enum CompareFault {
 }
 
 ghost use Rattle.verity_io.specs.Counting.{Counts};
-ghost use Rattle.verity_tree.specs.Comparing.{Judges, Reads, device_failed, source_failed};
+ghost use Rattle.verity_tree.specs.Comparing.{Judges, CompareReads, device_failed, source_failed};
 ghost use Rattle.verity_tree.specs.Steps.OnePass.{fault_of};
 
-/// Compares a stored tree with the one above the data of a source, which is read once: every byte of every hash block, in
-/// closing order, and then the root hash (veritysetup(8), `verify`). It writes nothing and takes no memory. The store is
-/// one that fits the plan.
+/// Compares a stored tree with the one above the data of a source, which is read once: every byte of every hash block,
+/// in closing order, and then the root hash (veritysetup(8), `verify`). It writes nothing and takes no memory. The
+/// store is one that fits the plan.
 ///
 /// The first block that differs is the fault, and short data or a failure only where no block that closed before it
 /// differs; another root only where all blocks are equal.
@@ -65,9 +65,9 @@ pub fn compare<S: Source, D: Device>(
     ensures source_count { Counts (source_failed result) (S.failures source.old) (S.failures source.new) }
     ensures device_count { Counts (device_failed result) (D.failures device.old) (D.failures device.new) }
 
-    ensures read { S.tells source.old → Reads plan.now result (S.to_come source.old) (S.to_come source.new) }
+    ensures read { S.tells source.old → CompareReads plan.now result (S.remaining source.old) (S.remaining source.new) }
     ensures verdict { S.tells source.old → D.tells device.old
-        → Judges plan.now (D.content device.old) (S.to_come source.old) root.now result }
+        → Judges plan.now (D.content device.old) (S.remaining source.old) root.now result }
 {
     judge(plan, &mut store.bytes, source, device, root)
 }
@@ -86,9 +86,9 @@ fn judge<S: Source, D: Device>(
     ensures device_told { D.tells device.old → D.tells device.new }
     ensures source_count { Counts (source_failed result) (S.failures source.old) (S.failures source.new) }
     ensures device_count { Counts (device_failed result) (D.failures device.old) (D.failures device.new) }
-    ensures read { S.tells source.old → Reads plan.now result (S.to_come source.old) (S.to_come source.new) }
+    ensures read { S.tells source.old → CompareReads plan.now result (S.remaining source.old) (S.remaining source.new) }
     ensures verdict { S.tells source.old → D.tells device.old
-        → Judges plan.now (D.content device.old) (S.to_come source.old) root.now result }
+        → Judges plan.now (D.content device.old) (S.remaining source.old) root.now result }
 {
     match pass(plan, Task::Compare, store, source, device) {
         Ok(computed) => {

@@ -33,11 +33,13 @@ pub fn closing_order_is_once()
 /// What has closed after some data blocks is the same for all data that begins with these.
 pub fn closed_blocks_stay()
     ensures { (s : Settings) (xs ys : List (List ℕ)) (i l j : ℕ) → length xs ≡ length ys → i ≤ length xs
-        → ((k : ℕ) → k < i → slice_index_or xs k [] ≡ slice_index_or ys k []) → 0 < times l j (order (fan s) (length xs) i)
+        → ((k : ℕ) → k < i → slice_index_or xs k [] ≡ slice_index_or ys k [])
+        → 0 < times l j (order (fan s) (length xs) i)
         → tree_block s xs l j ≡ tree_block s ys l j }
 {}
 
-/// A data block and its path have one answer: accepted exactly where the path holds at every level, else the first fault.
+/// A data block and its path have one answer: accepted exactly where the path holds at every level, else the first
+/// fault.
 pub fn one_answer_is_right()
     ensures { (p : Planned) (i : ℕ) (block path root : List ℕ) (x y : Result Unit PathFault)
         → ChecksBlock p i block path root x → ChecksBlock p i block path root y → x ≡ y }
@@ -54,6 +56,7 @@ pub fn accepted_blocks_are_true()
 /// Each data block is accepted by its true path.
 pub fn true_paths_are_accepted()
     ensures { (p : Planned) (bytes : List ℕ) (i : ℕ) → IsPlanned p → i < p.blocks
-        → IsAccepted p i (slice_index_or (data_blocks p bytes) i []) (true_path p.settings (data_blocks p bytes) i (levels_of p))
+        → IsAccepted p i (slice_index_or (data_blocks p bytes) i [])
+        (true_path p.settings (data_blocks p bytes) i (levels_of p))
         (root p.settings (data_blocks p bytes)) }
 {}

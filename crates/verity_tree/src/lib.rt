@@ -1,6 +1,6 @@
 //! Trees of block hashes, as the Linux kernel's dm-verity and fs-verity have them: how one is built, or compared with a
-//! stored one, in one pass over the data. What a tree is made by and where its blocks go is in `verity_plan`, and what is
-//! read and written in `verity_io`; both stand here too.
+//! stored one, in one pass over the data. What a tree is made by and where its blocks go is in `verity_plan`, and what
+//! is read and written in `verity_io`; both stand here too.
 #![tactic(auto)]
 
 mod building;
@@ -13,6 +13,7 @@ mod one_pass;
 mod part;
 mod path;
 mod plain_root;
+mod reading_ahead;
 mod store;
 
 pub use building::{BuildFault, build, root_only};

@@ -1,11 +1,8 @@
 //! One pass over the data, with one open block a level.
 ghost use Rattle.std.specs.Prelude.{◌≡◌, ℕ, ◌+◌, ◌*◌, ◌<◌, ◌≤◌, List, length, IfOk};
 ghost use Rattle.verity_io.specs.Counting.{Counts};
-ghost use Rattle.verity_io.specs.Reading.{HasRead};
-ghost use Rattle.verity_tree.specs.Reading.{bytes_of};
-ghost use Rattle.verity_tree.specs.Steps.DataBlocks.{read_failed};
-ghost use Rattle.verity_tree.specs.Steps.OpenBlocks.{AreOpen};
-ghost use Rattle.verity_tree.specs.Steps.OnePass.{Passes, PassesCompared, PassesImage, TakesDataBlock, device_failed, source_failed};
+ghost use Rattle.verity_tree.specs.Steps.OnePass.{Passes, PassesCompared, PassesImage, device_failed};
+ghost use Rattle.verity_tree.specs.Steps.OnePass.{source_failed};
 ghost use Rattle.verity_plan.specs.Plans.{IsPlanned, Planned, levels_of, store_length_of};
 ghost use Rattle.verity_tree.specs.Levels.{data_blocks};
 ghost use Rattle.verity_plan.specs.Settings.{digest_len};
@@ -13,7 +10,8 @@ ghost use Rattle.verity_tree.specs.declared.closed_block.Task.TheVariants.{Compa
 
 use crate::cascade::{Stop, carry};
 use crate::closed_block::Task;
-use crate::data_block::{BlockFault, read_data_block};
+use crate::data_block::BlockFault;
+use crate::reading_ahead::{Ahead, WINDOW, take_next};
 use verity_hash::Digest;
 use verity_io::{Device, Source};
 use verity_plan::Plan;
@@ -45,17 +43,19 @@ pub(crate) fn pass<S: Source, D: Device>(
     ensures source_count { Counts (source_failed result) (S.failures source.old) (S.failures source.new) }
     ensures device_count { Counts (device_failed task result) (D.failures device.old) (D.failures device.new) }
     ensures stays { task ≡ Compare → D.tells device.old → D.content device.new ≡ D.content device.old }
-    ensures read { S.tells source.old → Passes plan.now result (S.to_come source.old) (S.to_come source.new) }
+    ensures read { S.tells source.old → Passes plan.now result (S.remaining source.old) (S.remaining source.new) }
     ensures stands { S.tells source.old → D.tells device.old
-        → PassesImage plan.now (data_blocks plan.now (S.to_come source.old)) result (D.content device.old) (D.content device.new) }
+        → PassesImage plan.now (data_blocks plan.now (S.remaining source.old))
+        result (D.content device.old) (D.content device.new) }
     ensures compared { task ≡ Compare → S.tells source.old → D.tells device.old
-        → PassesCompared plan.now (S.to_come source.old) result (D.content device.old) (D.content device.new) }
+        → PassesCompared plan.now (S.remaining source.old) result (D.content device.old) (D.content device.new) }
 {
     let (work, stored) = store.split_at_mut(store.len() - plan.hash_block());
     pass_over(plan, task, work, stored, source, device)
 }
 
-/// The pass, with the open blocks and the data block in `work`, and a hash block to compare with in `stored`.
+/// The pass, with the open blocks and the data block in `work`, and a hash block to compare with in `stored`. Data
+/// blocks that are hashed side by side have a window of their own.
 fn pass_over<S: Source, D: Device>(
     plan: &Plan,
     task: Task,
@@ -73,16 +73,19 @@ fn pass_over<S: Source, D: Device>(
     ensures source_count { Counts (source_failed result) (S.failures source.old) (S.failures source.new) }
     ensures device_count { Counts (device_failed task result) (D.failures device.old) (D.failures device.new) }
     ensures stays { task ≡ Compare → D.tells device.old → D.content device.new ≡ D.content device.old }
-    ensures read { S.tells source.old → Passes plan.now result (S.to_come source.old) (S.to_come source.new) }
+    ensures read { S.tells source.old → Passes plan.now result (S.remaining source.old) (S.remaining source.new) }
     ensures stands { S.tells source.old → D.tells device.old
-        → PassesImage plan.now (data_blocks plan.now (S.to_come source.old)) result (D.content device.old) (D.content device.new) }
+        → PassesImage plan.now (data_blocks plan.now (S.remaining source.old))
+        result (D.content device.old) (D.content device.new) }
     ensures compared { task ≡ Compare → S.tells source.old → D.tells device.old
-        → PassesCompared plan.now (S.to_come source.old) result (D.content device.old) (D.content device.new) }
+        → PassesCompared plan.now (S.remaining source.old) result (D.content device.old) (D.content device.new) }
 {
     work.fill(0);
+    let mut window = [0; WINDOW];
     let mut root = Digest::zeros(plan.settings().algorithm());
+    let mut ahead = Ahead::none(plan);
     for i in 0..plan.blocks() {
-        let digest = match take_data_block(plan, work, i, source) {
+        let digest = match take_next(plan, work, &mut window, i, source, &mut ahead) {
             Ok(digest) => digest,
             Err(BlockFault::Short) => return Err(PassFault::SourceShort(i)),
             Err(BlockFault::Failed) => return Err(PassFault::SourceFailed(i)),
@@ -93,30 +96,4 @@ fn pass_over<S: Source, D: Device>(
         };
     }
     Ok(root)
-}
-
-/// Reads data block `i` into the work space, after the open blocks, and hashes it there.
-fn take_data_block<S: Source>(
-    plan: &Plan,
-    work: &mut [u8],
-    i: u64,
-    source: &mut S,
-) -> Result<Digest, BlockFault>
-    requires room { levels_of plan.now * plan.now.settings.hash_block + plan.now.settings.data_block ≤ length work.old }
-    requires below { i < plan.now.blocks }
-    ensures size { IfOk result (λ digest. length digest ≡ digest_len plan.now.settings) }
-    ensures told { S.tells source.old → S.tells source.new }
-    ensures count { Counts (read_failed result) (S.failures source.old) (S.failures source.new) }
-    ensures opened { (blocks : List (List ℕ)) → AreOpen plan.now.settings blocks 0 (levels_of plan.now) i work.old
-        → AreOpen plan.now.settings blocks 0 (levels_of plan.now) i work.new }
-    ensures taken { S.tells source.old → (bytes : List ℕ) → HasRead (bytes_of plan.now i) bytes (S.to_come source.old)
-        → TakesDataBlock plan.now i bytes result (S.to_come source.new) }
-{
-    let size = plan.data_block();
-    let from = plan.levels() * plan.hash_block();
-    let want = (size as u64).min(plan.wanted() - i * size as u64) as usize;
-    match read_data_block(source, &mut work[from..from + size], want) {
-        Ok(()) => Ok(plan.hash(&work[from..from + size])),
-        Err(fault) => Err(fault),
-    }
 }

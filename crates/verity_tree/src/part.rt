@@ -49,7 +49,8 @@ fn slot_differs(plan: &Plan, slot: usize, held: &[u8], computed: &[u8]) -> bool
     requires room { slot * slot_width plan.now.settings + digest_len plan.now.settings ≤ plan.now.settings.hash_block }
     requires held { length held.now ≡ plan.now.settings.hash_block }
     requires computed { length computed.now ≡ plan.now.settings.hash_block }
-    ensures { result ≡ not (bytes_eq (digest_in plan.now.settings held.now slot) (digest_in plan.now.settings computed.now slot)) }
+    ensures { result
+        ≡ not (bytes_eq (digest_in plan.now.settings held.now slot) (digest_in plan.now.settings computed.now slot)) }
 {
     let len = plan.digest_len();
     let from = slot * plan.slot_width();

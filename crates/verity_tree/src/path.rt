@@ -14,8 +14,8 @@ pub enum PathFault {
     Index,
     /// The block is not a data block long, or the path not one hash block a level.
     Length,
-    /// The hash of the block below this level isn't the digest in its slot of the path's block; at the number of levels,
-    /// it isn't the root hash.
+    /// The hash of the block below this level isn't the digest in its slot of the path's block; at the number of
+    /// levels, it isn't the root hash.
     DiffersAt(usize),
 }
 

@@ -109,8 +109,8 @@ fn digests_of(
     Ok(digests)
 }
 
-/// The root hash of all data of a plan, by the levels as whole lists (Linux kernel, dm-verity page, "Hash Tree"). The error
-/// is out of memory. It holds the digests of a level at a time.
+/// The root hash of all data of a plan, by the levels as whole lists (Linux kernel, dm-verity page, "Hash Tree"). The
+/// error is out of memory. It holds the digests of a level at a time.
 pub fn root_by_levels(alloc: Global, plan: &Plan, bytes: &[u8]) -> Result<Digest, AllocError>
     requires { length bytes.now ≡ plan.now.wanted }
     ensures { IfOk result (λ digest. digest ≡ root plan.now.settings (data_blocks plan.now bytes.now)) }

@@ -1,1 +1,2 @@
 pub mod PrintingLemmas
+pub mod ProgramLemmas

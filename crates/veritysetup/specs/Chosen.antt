@@ -6,13 +6,15 @@ use Rattle.verity_plan.specs.declared.hash_type.HashType.{HashType}
 use Rattle.verity_plan.specs.declared.plan_fault.PlanFault.{PlanFault}
 use Rattle.verity_plan.specs.declared.plan_fault.PlanFault.TheVariants.{NoData, TooLarge}
 
--- the hash type, the UUID's bytes, the hash offset in bytes, whether a superblock stands there, and the tree's plan
+-- the hash type, the UUID's bytes, the hash offset in bytes, whether a superblock stands there, the tree's plan, and the
+-- root hash where one was given
 pub record Chosen : Type 0 where
   pub hash_type : HashType
   pub uuid : List ℕ
   pub offset : ℕ
   pub superblock : Bool
   pub plan : Planned
+  pub root : Option (List ℕ)
 
 -- the plan for so many data blocks where the tree begins at this hash block; without one the hash area is too large
 abbrev pub plan_from : Settings → ℕ → Option ℕ → Result Planned PlanFault

@@ -30,19 +30,20 @@ fault_text (Superblock Unread) = unread_superblock_text
 fault_text (Report Memory) = memory_text
 fault_text (Report (Output taken)) = unwritten_output_text
 
--- the report of the superblock at the device's start is printed, without a root hash
-abbrev pub ReportsSuperblock : List ℕ → Change → Result (Unit {0}) PrintFault → Option (List ℕ) → Option (List ℕ)
-    → Type 0
-ReportsSuperblock path device result before after = (v : SuperblockFields)
-    × (device.told → IsSuperblock (header 0 device.before) v)
+-- the report of the superblock at an offset of the device is printed, without a root hash
+abbrev pub ReportsSuperblock : ℕ → List ℕ → Change → Result (Unit {0}) PrintFault → Option (List ℕ)
+    → Option (List ℕ) → Type 0
+ReportsSuperblock offset path device result before after = (v : SuperblockFields)
+    × (device.told → IsSuperblock (header offset device.before) v)
     × Prints result (report_text path (uuid_text v.uuid) v None) before after
 
--- what is printed of a device
-abbrev pub DumpsTo : List ℕ → Change → Result (Unit {0}) DumpFault → Option (List ℕ) → Option (List ℕ) → Type 0
-DumpsTo path device (Ok done) before after = ReportsSuperblock path device (Ok tt) before after
-DumpsTo path device (Err (Superblock fault)) before after =
-    (device.told → ReadsSuperblock (Err fault) 0 device.before) × Keeps before after
-DumpsTo path device (Err (Report fault)) before after = ReportsSuperblock path device (Err fault) before after
+-- what is printed of a device with the superblock at an offset
+abbrev pub DumpsTo : ℕ → List ℕ → Change → Result (Unit {0}) DumpFault → Option (List ℕ) → Option (List ℕ) → Type 0
+DumpsTo offset path device (Ok done) before after = ReportsSuperblock offset path device (Ok tt) before after
+DumpsTo offset path device (Err (Superblock fault)) before after =
+    (device.told → ReadsSuperblock (Err fault) offset device.before) × Keeps before after
+DumpsTo offset path device (Err (Report fault)) before after =
+    ReportsSuperblock offset path device (Err fault) before after
 
 -- the device could not be read
 abbrev pub device_failed : Result (Unit {0}) DumpFault → Bool
@@ -50,10 +51,10 @@ device_failed (Ok done) = false
 device_failed (Err (Superblock fault)) = is_unread fault
 device_failed (Err (Report fault)) = false
 
--- a run on a device: one outcome says what became of each
-pub record DumpRun (path : List ℕ) (status : ℕ) (device : Change) (texts : Printed) : Type 0 where
+-- a run on a device with the superblock at an offset: one outcome says what became of each
+pub record DumpRun (offset : ℕ) (path : List ℕ) (status : ℕ) (device : Change) (texts : Printed) : Type 0 where
   pub outcome : Result (Unit {0}) DumpFault
   pub status_is : status ≡ status_of fault_status outcome
-  pub printed : DumpsTo path device outcome texts.out_before texts.out_after
+  pub printed : DumpsTo offset path device outcome texts.out_before texts.out_after
   pub message : AppendsFront (message_of fault_text outcome) texts.msgs_before texts.msgs_after
   pub counted : Counts (device_failed outcome) device.failures_before device.failures_after

@@ -1,6 +1,6 @@
 -- How a run of format ends (veritysetup(8), "format"; statuses and messages are this project's own). Where it stops at
 -- a fault, nothing that comes later has been done: the superblock is written after all hash blocks, the report last.
-use Rattle.std.specs.Prelude.{◌≡◌, ℕ, Bool, true, false, List, Option, Some, Result, Ok, Err}
+use Rattle.std.specs.Prelude.{◌≡◌, ℕ, Bool, true, false, List, Option, Some, Result, Ok, Err, if◌then◌else◌}
 use Rattle.std.specs.Io.KnownBytes.{Appends, Keeps}
 use Rattle.verity_io.specs.Counting.{Change, Counts}
 use Rattle.verity_io.specs.Writing.{Spoiled}
@@ -16,7 +16,7 @@ use Rattle.veritysetup.specs.Messages.{build_text, memory_text, unwritten_output
 use Rattle.veritysetup.specs.Outcomes.{Printed, status_of, message_of}
 use Rattle.command_line.specs.Printing.{AppendsFront}
 use Rattle.veritysetup.specs.Printing.{Prints}
-use Rattle.veritysetup.specs.Reports.{report_text, uuid_text}
+use Rattle.veritysetup.specs.Reports.{bare_text, report_text, uuid_text}
 use Rattle.veritysetup.specs.declared.format_run.FormatFault.{FormatFault}
 use Rattle.veritysetup.specs.declared.format_run.FormatFault.TheVariants.{Store, Build, Superblock, Report}
 use Rattle.veritysetup.specs.declared.printing.PrintFault.TheVariants.{Memory, Output}
@@ -41,9 +41,13 @@ fault_text (Report (Output taken)) = unwritten_output_text
 abbrev pub root_above : Chosen → List ℕ → List ℕ
 root_above c bytes = root c.plan.settings (data_blocks c.plan bytes)
 
+-- the text in the report's line of the UUID
+abbrev pub shown_uuid : Chosen → List ℕ
+shown_uuid c = if c.superblock then uuid_text c.uuid else bare_text
+
 -- the report of format, with this root hash
 abbrev pub format_report : Chosen → List ℕ → List ℕ → List ℕ
-format_report c path root = report_text path (uuid_text c.uuid) (superblock_for c) (Some root)
+format_report c path root = report_text path (shown_uuid c) (superblock_for c) (Some root)
 
 -- how much was read of the source: once the tree is built, the bytes of all data blocks
 abbrev pub Reads : Chosen → Result (Unit {0}) FormatFault → List ℕ → List ℕ → Type 0

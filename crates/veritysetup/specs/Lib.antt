@@ -5,6 +5,7 @@ pub mod Options
 pub mod Chosen
 pub mod Choosing
 pub mod CommandLines
+pub mod RawWords
 pub mod Messages
 pub mod Reports
 pub mod ReportSteps
@@ -16,3 +17,4 @@ pub mod Images
 pub mod FormatRun
 pub mod VerifyRun
 pub mod VerifySteps
+pub mod Programs

@@ -12,9 +12,9 @@ use Rattle.verity_tree.specs.declared.part.Part.TheVariants.{Missing, Child, Spa
 use Rattle.verity_format.specs.declared.super_fault.SuperFault.{SuperFault}
 use Rattle.verity_format.specs.declared.super_fault.SuperFault.TheVariants as super
 use Rattle.veritysetup.specs.declared.options.OptionName.{OptionName}
-use Rattle.veritysetup.specs.declared.options.OptionName.TheVariants.{Format, DataBlockSize, HashBlockSize, DataBlocks}
+use Rattle.veritysetup.specs.declared.options.OptionName.TheVariants.{Format, DataBlockSize, HashBlockSize, DataBlocks, HashOffset}
 use Rattle.veritysetup.specs.declared.options.OptionFault.{OptionFault}
-use Rattle.veritysetup.specs.declared.options.OptionFault.TheVariants.{BadNumber, UnknownHash, BadHashType, BadBlockSize, BadSalt, BadUuid, NoData, TooLarge, Overlap}
+use Rattle.veritysetup.specs.declared.options.OptionFault.TheVariants.{BadNumber, UnknownHash, BadHashType, BadBlockSize, BadSalt, BadUuid, BadHashOffset, NoData, TooLarge, Overlap, BadRoot}
 
 -- an option's long name
 abbrev pub option_name : OptionName → List ℕ
@@ -22,6 +22,7 @@ option_name Format = codes "format"
 option_name DataBlockSize = codes "data-block-size"
 option_name HashBlockSize = codes "hash-block-size"
 option_name DataBlocks = codes "data-blocks"
+option_name HashOffset = codes "hash-offset"
 
 abbrev pub no_data_text : List ℕ
 no_data_text = codes "No data blocks.\n"
@@ -49,9 +50,11 @@ option_text BadHashType = codes "Hash type must be 0 or 1.\n"
 option_text (BadBlockSize option) = concat (codes "Option --" ∷ option_name option ∷ codes " is not a valid block size.\n" ∷ [])
 option_text BadSalt = codes "Salt is not valid.\n"
 option_text BadUuid = codes "UUID is not valid.\n"
+option_text BadHashOffset = codes "Hash offset is not valid.\n"
 option_text NoData = no_data_text
 option_text TooLarge = too_large_text
 option_text Overlap = codes "Data area and hash area overlap.\n"
+option_text BadRoot = codes "Root hash is not valid.\n"
 
 -- a number in a superblock that is not taken
 abbrev pub refused_text : List ℕ → ℕ → List ℕ → List ℕ

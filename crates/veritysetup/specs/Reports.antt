@@ -25,6 +25,10 @@ salt_text (b ∷ rest) = encode_lower (b ∷ rest)
 abbrev pub uuid_text : List ℕ → List ℕ
 uuid_text uuid = hyphenated_text lower uuid
 
+-- what stands in the place of a UUID where there is no superblock
+abbrev pub bare_text : List ℕ
+bare_text = codes "-"
+
 -- the line of the root hash, where there is one
 abbrev pub root_line : Option (List ℕ) → List ℕ
 root_line None = []

@@ -1,27 +1,28 @@
 -- How a run of verify ends (veritysetup(8), "verify"; statuses and messages are this project's own).
-use Rattle.std.specs.Prelude.{◌≡◌, ℕ, Bool, true, false, List, codes, Option, Some, None, Result, Ok, Err}
+use Rattle.std.specs.Prelude.{◌≡◌, ℕ, Bool, true, false, List, Option, Some, None, Result, Ok, Err}
 use Rattle.verity_format.specs.SuperblockFields.{SuperblockFields}
 use Rattle.verity_format.specs.Superblocks.{IsSuperblock}
 use Rattle.verity_io.specs.Counting.{Change, Counts}
 use Rattle.verity_plan.specs.Plans.{Planned}
 use Rattle.verity_plan.specs.declared.plan_fault.PlanFault.{PlanFault}
-use Rattle.verity_tree.specs.Comparing.{Judges, Reads}
+use Rattle.verity_tree.specs.Comparing.{CompareReads, Judges}
 use Rattle.verity_tree.specs.Comparing as comparing
 use Rattle.verity_tree.specs.declared.comparing.CompareFault.{CompareFault}
 use Rattle.verity_tree.specs.declared.comparing.CompareFault.TheVariants as fault
 use Rattle.veritysetup.specs.Chosen.{plan_at}
-use Rattle.veritysetup.specs.Messages.{compare_text, memory_text, super_text, too_large_text, unread_superblock_text}
+use Rattle.veritysetup.specs.Messages.{compare_text, memory_text, option_text, super_text, too_large_text, unread_superblock_text}
 use Rattle.veritysetup.specs.Outcomes.{status_of, message_of}
 use Rattle.command_line.specs.Printing.{AppendsFront}
 use Rattle.veritysetup.specs.RootHash.{root_of}
 use Rattle.veritysetup.specs.StoredSuperblock.{ReadsSuperblock, header, is_unread}
+use Rattle.veritysetup.specs.declared.options.OptionFault.TheVariants as option
 use Rattle.veritysetup.specs.declared.stored_superblock.StoredFault.TheVariants.{Unread, Refused}
 use Rattle.veritysetup.specs.declared.verify_fault.InputFault.{InputFault}
 use Rattle.veritysetup.specs.declared.verify_fault.InputFault.TheVariants.{Superblock, TooLarge, BadRoot}
 use Rattle.veritysetup.specs.declared.verify_fault.VerifyFault.{VerifyFault}
 use Rattle.veritysetup.specs.declared.verify_fault.VerifyFault.TheVariants.{Input, Store, Compare}
 use Rattle.veritysetup.specs.declared.verify_input.VerifyInput.{VerifyInput}
-use Rattle.veritysetup.specs.declared.verify_input.VerifyInput.TheVariants.{Stored}
+use Rattle.veritysetup.specs.declared.verify_input.VerifyInput.TheVariants.{Stored, Given}
 
 -- the status of a comparison that ends with a fault
 abbrev pub compare_status : CompareFault → ℕ
@@ -43,7 +44,7 @@ abbrev pub input_text : InputFault → List ℕ
 input_text (Superblock (Refused cause)) = super_text cause
 input_text (Superblock Unread) = unread_superblock_text
 input_text TooLarge = too_large_text
-input_text BadRoot = codes "Root hash is not valid.\n"
+input_text BadRoot = option_text option.BadRoot
 
 -- the status of a fault
 abbrev pub fault_status : VerifyFault → ℕ
@@ -89,13 +90,15 @@ RefusesStored offset text device (Superblock cause) = ReadsSuperblock (Err cause
 RefusesStored offset text device TooLarge = IsTooLarge offset device
 RefusesStored offset text device BadRoot = IsBadRoot offset text device
 
--- what an input has the stored tree compared by: the superblock stands at the device's start
+-- what an input has the stored tree compared by: a superblock and the text of a root hash, or settings with a root hash
 abbrev pub Trusts : VerifyInput → List ℕ → Planned → List ℕ → Type 0
-Trusts (Stored text) device plan root = Describes 0 text.now device plan root
+Trusts (Stored offset text) device plan root = Describes offset text.now device plan root
+Trusts (Given settings) device plan root = (plan ≡ settings.now.plan) × (settings.now.root ≡ Some root)
 
 -- why an input has nothing compared
 abbrev pub Refuses : VerifyInput → List ℕ → InputFault → Type 0
-Refuses (Stored text) device fault = RefusesStored 0 text.now device fault
+Refuses (Stored offset text) device fault = RefusesStored offset text.now device fault
+Refuses (Given settings) device fault = (fault ≡ BadRoot) × (settings.now.root ≡ None)
 
 -- the tree is compared: the answer, and how much was read of the source
 pub record Compares (input : VerifyInput) (device before after : List ℕ) (result : Result Unit CompareFault)
@@ -104,7 +107,7 @@ pub record Compares (input : VerifyInput) (device before after : List ℕ) (resu
   pub root : List ℕ
   pub trusted : Trusts input device plan root
   pub judged : Judges plan device before root result
-  pub read : Reads plan result before after
+  pub read : CompareReads plan result before after
 
 -- the verdict, and how much was read of the source: nothing before the store is there
 abbrev pub Verifies : VerifyInput → List ℕ → List ℕ → List ℕ → Result (Unit {0}) VerifyFault → Type 0

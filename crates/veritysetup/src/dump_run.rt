@@ -1,5 +1,6 @@
 //! The run of dump.
-ghost use Rattle.std.specs.Prelude.{◌≡◌};
+ghost use Rattle.std.specs.Prelude.{◌≡◌, IsTrue};
+ghost use Rattle.std.specs.Io.KnownBytes.{Appends};
 ghost use Rattle.verity_io.specs.Counting.{Counts, change};
 ghost use Rattle.veritysetup.specs.DumpRun.{DumpRun, DumpsTo, device_failed, fault_status, fault_text};
 ghost use Rattle.veritysetup.specs.Outcomes.{printed};
@@ -7,6 +8,7 @@ ghost use Rattle.command_line.specs.Printing.{AppendsFront};
 
 use crate::messages::{OUT_OF_MEMORY, OUTPUT_UNWRITTEN, SUPERBLOCK_UNREAD, super_message};
 use crate::printing::{PrintFault, print_report};
+use crate::reports::report;
 use crate::stored_superblock::{StoredFault, stored_superblock};
 use command_line::{tell, tell_text};
 use std::alloc::Global;
@@ -35,14 +37,16 @@ impl DumpFault {
         }
     }
 
-    /// Writes the message of the fault.
-    fn tell<M: Write>(&self, alloc: Global, msgs: &mut M)
-        ensures { AppendsFront (fault_text self.now) (M.contents msgs.old) (M.contents msgs.new) }
+    /// Writes the message of the fault. The answer says whether the writer took all of it.
+    fn tell<M: Write>(&self, alloc: Global, msgs: &mut M) -> bool
+        ensures whole { IsTrue result → Appends (M.contents msgs.old) (M.contents msgs.new) (fault_text self.now) }
+        ensures front { AppendsFront (fault_text self.now) (M.contents msgs.old) (M.contents msgs.new) }
     {
         match self {
-            DumpFault::Superblock(StoredFault::Refused(fault)) => {
-                tell(super_message(alloc, fault), msgs);
-            }
+            DumpFault::Superblock(StoredFault::Refused(fault)) => tell(
+                super_message(alloc, fault),
+                msgs,
+            ),
             DumpFault::Superblock(StoredFault::Unread) => tell_text(SUPERBLOCK_UNREAD, msgs),
             DumpFault::Report(PrintFault::Memory) => tell_text(OUT_OF_MEMORY, msgs),
             DumpFault::Report(PrintFault::Output(_)) => tell_text(OUTPUT_UNWRITTEN, msgs),
@@ -53,31 +57,33 @@ impl DumpFault {
 /// Reads the superblock and prints its report.
 fn dump<D: Device, O: Write>(
     alloc: Global,
+    offset: u64,
     hash_path: &str,
     device: &mut D,
     out: &mut O,
 ) -> Result<(), DumpFault>
     ensures told { D.tells device.old → D.tells device.new }
     ensures stands { D.tells device.old → D.content device.new ≡ D.content device.old }
-    ensures printed { DumpsTo hash_path.now (change D.tells D.content D.failures device.old device.new) result
+    ensures printed { DumpsTo offset hash_path.now (change D.tells D.content D.failures device.old device.new) result
         (O.contents out.old) (O.contents out.new) }
     ensures count { Counts (device_failed result) (D.failures device.old) (D.failures device.new) }
 {
-    let superblock = match stored_superblock(device, 0) {
+    let superblock = match stored_superblock(device, offset) {
         Ok(superblock) => superblock,
         Err(fault) => return Err(DumpFault::Superblock(fault)),
     };
-    match print_report(alloc, &superblock, None, hash_path, out) {
+    match print_report(report(alloc, &superblock, None, hash_path), out) {
         Ok(()) => Ok(()),
         Err(fault) => Err(DumpFault::Report(fault)),
     }
 }
 
-/// Prints what the superblock of a hash device says, without a root hash (veritysetup(8), "dump"). The answer is the
-/// status: 0 done, 1 no superblock, 3 out of memory, 4 the device is not read or `out` not written. A fault's message
-/// goes to `msgs` as far as that takes it. The device stays.
+/// Prints what the superblock at an offset, in bytes, of a hash device says, without a root hash (veritysetup(8),
+/// "dump"). The answer is the status: 0 done, 1 no superblock, 3 out of memory, 4 the device is not read or `out` not
+/// written. A fault's message goes to `msgs` as far as that takes it. The device stays.
 pub fn run_dump<D: Device, O: Write, M: Write>(
     alloc: Global,
+    offset: u64,
     hash_path: &str,
     device: &mut D,
     out: &mut O,
@@ -87,10 +93,10 @@ pub fn run_dump<D: Device, O: Write, M: Write>(
     ensures stands { D.tells device.old → D.content device.new ≡ D.content device.old }
 
     // One outcome gives the status, what is printed, the message, and the count of failures.
-    ensures run { DumpRun hash_path.now result (change D.tells D.content D.failures device.old device.new)
+    ensures run { DumpRun offset hash_path.now result (change D.tells D.content D.failures device.old device.new)
         (printed O.contents M.contents out.old out.new msgs.old msgs.new) }
 {
-    match dump(alloc, hash_path, device, out) {
+    match dump(alloc, offset, hash_path, device, out) {
         Ok(()) => 0,
         Err(fault) => {
             fault.tell(alloc, msgs);

@@ -1,5 +1,6 @@
 //! The run of format.
-ghost use Rattle.std.specs.Prelude.{◌≡◌, ℕ, List, OnOk, OnErr};
+ghost use Rattle.std.specs.Prelude.{◌≡◌, ℕ, List, IfOk, OnOk, OnErr, IsTrue, string_bytes};
+ghost use Rattle.std.specs.Io.KnownBytes.{Appends};
 ghost use Rattle.verity_io.specs.Counting.{Counts, CountsFailure, change};
 ghost use Rattle.verity_io.specs.Writing.{Spoiled};
 ghost use Rattle.verity_plan.specs.Plans.{superblock_size};
@@ -11,11 +12,13 @@ ghost use Rattle.command_line.specs.Printing.{AppendsFront};
 
 use crate::messages::{OUT_OF_MEMORY, OUTPUT_UNWRITTEN, SUPERBLOCK_UNWRITTEN, build_message};
 use crate::printing::{PrintFault, print_report};
+use crate::reports::{report, report_bare};
 use crate::settings::Settings;
 use command_line::{tell, tell_text};
-use std::alloc::Global;
+use std::alloc::{AllocError, Global};
 use std::io::Write;
 use verity_format::write_superblock;
+use verity_hash::Digest;
 use verity_tree::{BuildFault, Device, Failed, Source, Store, build};
 
 /// Why format stops, in the order in which it goes on.
@@ -45,9 +48,10 @@ impl FormatFault {
         }
     }
 
-    /// Writes the message of the fault.
-    fn tell<M: Write>(&self, alloc: Global, msgs: &mut M)
-        ensures { AppendsFront (fault_text self.now) (M.contents msgs.old) (M.contents msgs.new) }
+    /// Writes the message of the fault. The answer says whether the writer took all of it.
+    fn tell<M: Write>(&self, alloc: Global, msgs: &mut M) -> bool
+        ensures whole { IsTrue result → Appends (M.contents msgs.old) (M.contents msgs.new) (fault_text self.now) }
+        ensures front { AppendsFront (fault_text self.now) (M.contents msgs.old) (M.contents msgs.new) }
     {
         match self {
             FormatFault::Build(fault) => tell(build_message(alloc, fault), msgs),
@@ -76,6 +80,23 @@ fn put_superblock<D: Device>(settings: &Settings, device: &mut D) -> Result<(), 
     }
 }
 
+/// The report with the root hash; without a superblock there is no UUID in it.
+fn settings_report(
+    alloc: Global,
+    settings: &Settings,
+    root: &Digest,
+    path: &str,
+) -> Result<String, AllocError>
+    ensures { IfOk result (λ s. string_bytes s ≡ format_report settings.now path.now root.now) }
+{
+    let superblock = settings.superblock();
+    if settings.has_superblock() {
+        report(alloc, &superblock, Some(root), path)
+    } else {
+        report_bare(alloc, &superblock, Some(root), path)
+    }
+}
+
 /// Builds the tree, writes the superblock after it, and prints the report.
 fn format<S: Source, D: Device, O: Write>(
     alloc: Global,
@@ -87,11 +108,11 @@ fn format<S: Source, D: Device, O: Write>(
 ) -> Result<(), FormatFault>
     ensures source_told { S.tells source.old → S.tells source.new }
     ensures device_told { D.tells device.old → D.tells device.new }
-    ensures read { S.tells source.old → Reads settings.now result (S.to_come source.old) (S.to_come source.new) }
+    ensures read { S.tells source.old → Reads settings.now result (S.remaining source.old) (S.remaining source.new) }
     ensures stands { S.tells source.old → D.tells device.old →
-        Writes settings.now (data_blocks settings.now.plan (S.to_come source.old)) result
+        Writes settings.now (data_blocks settings.now.plan (S.remaining source.old)) result
         (D.content device.old) (D.content device.new) }
-    ensures printed { (root : List ℕ) × (S.tells source.old → root ≡ root_above settings.now (S.to_come source.old))
+    ensures printed { (root : List ℕ) × (S.tells source.old → root ≡ root_above settings.now (S.remaining source.old))
         × PrintsReport (format_report settings.now hash_path.now root) result
         (O.contents out.old) (O.contents out.new) }
     ensures source_count { Counts (source_failed result) (S.failures source.old) (S.failures source.new) }
@@ -110,16 +131,16 @@ fn format<S: Source, D: Device, O: Write>(
         Ok(()) => {}
         Err(Failed) => return Err(FormatFault::Superblock),
     }
-    match print_report(alloc, &settings.superblock(), Some(&root), hash_path, out) {
+    match print_report(settings_report(alloc, settings, &root, hash_path), out) {
         Ok(()) => Ok(()),
         Err(fault) => Err(FormatFault::Report(fault)),
     }
 }
 
-/// Makes a hash device for the data of a source: builds the tree and writes it, then the superblock, and prints a
-/// report with the root hash (veritysetup(8), "format"). The answer is the status: 0 done, 3 out of memory, 4 the source
-/// or the device failed, the data is too short, or `out` is not written. A fault's message goes to `msgs` as far as that
-/// takes it, and nothing that comes later is done.
+/// Makes a hash device for the data of a source: builds the tree and writes it, then the superblock where one is
+/// wanted, and prints a report with the root hash (veritysetup(8), "format"). The answer is the status: 0 done, 3 out
+/// of memory, 4 the source or the device failed, the data is too short, or `out` is not written. A fault's message
+/// goes to `msgs` as far as that takes it, and nothing that comes later is done.
 pub fn run_format<S: Source, D: Device, O: Write, M: Write>(
     alloc: Global,
     settings: &Settings,
@@ -134,13 +155,13 @@ pub fn run_format<S: Source, D: Device, O: Write, M: Write>(
 
     // Status 0: the image stands, the data was read once, the report is printed.
     ensures formatted { result ≡ 0 → S.tells source.old → D.tells device.old → IsFormatted settings.now hash_path.now
-        (change S.tells S.to_come S.failures source.old source.new)
+        (change S.tells S.remaining S.failures source.old source.new)
         (change D.tells D.content D.failures device.old device.new)
         (printed O.contents M.contents out.old out.new msgs.old msgs.new) }
 
     // Each status: one outcome says what became of source, device, out and msgs, and which count of failures rose.
     ensures run { FormatRun settings.now hash_path.now result
-        (change S.tells S.to_come S.failures source.old source.new)
+        (change S.tells S.remaining S.failures source.old source.new)
         (change D.tells D.content D.failures device.old device.new)
         (printed O.contents M.contents out.old out.new msgs.old msgs.new) }
 {

@@ -40,9 +40,11 @@ pub fn option_message(alloc: Global, fault: &OptionFault) -> Result<String, Allo
         OptionFault::BadHashType => "Hash type must be 0 or 1.\n",
         OptionFault::BadSalt => "Salt is not valid.\n",
         OptionFault::BadUuid => "UUID is not valid.\n",
+        OptionFault::BadHashOffset => "Hash offset is not valid.\n",
         OptionFault::NoData => NO_DATA,
         OptionFault::TooLarge => TOO_LARGE,
         OptionFault::Overlap => "Data area and hash area overlap.\n",
+        OptionFault::BadRoot => "Root hash is not valid.\n",
     };
     String::from_str(alloc, text)
 }

@@ -19,6 +19,12 @@ pub struct RawOptions<'a> {
     pub salt: Option<&'a str>,
     /// `--uuid`: by default random.
     pub uuid: Option<&'a str>,
+    /// `--hash-offset`: the byte at which the hash area begins. By default 0.
+    pub hash_offset: Option<&'a str>,
+    /// ROOT of verify: the hexadecimal digits of a root hash.
+    pub root: Option<&'a str>,
+    /// `--no-superblock`: the hash area is the tree alone.
+    pub no_superblock: bool,
     /// Whether data and hash area are in one file.
     pub same_file: bool,
 }
@@ -34,6 +40,8 @@ pub enum OptionName {
     HashBlockSize,
     /// `--data-blocks`.
     DataBlocks,
+    /// `--hash-offset`.
+    HashOffset,
 }
 
 impl OptionName {
@@ -46,6 +54,7 @@ impl OptionName {
             OptionName::DataBlockSize => "data-block-size",
             OptionName::HashBlockSize => "hash-block-size",
             OptionName::DataBlocks => "data-blocks",
+            OptionName::HashOffset => "hash-offset",
         }
     }
 }
@@ -65,10 +74,14 @@ pub enum OptionFault {
     BadSalt,
     /// The UUID is no text of a UUID.
     BadUuid,
+    /// The hash offset is no multiple of 512, or without a superblock none of the hash block size.
+    BadHashOffset,
     /// The data holds no whole block, or none is wanted.
     NoData,
     /// The data area or the hash area is larger than 2^63 - 1 bytes.
     TooLarge,
-    /// The hash area overlaps the data.
+    /// Data and hash area are in one file, and the hash area begins within the covered data.
     Overlap,
+    /// The root hash is no digest of the hash algorithm in hexadecimal digits.
+    BadRoot,
 }

@@ -1,12 +1,14 @@
 //! What the texts of options choose, before the data is looked at.
 ghost use Rattle.std.specs.Prelude.{◌≡◌, IfOk, option_map};
-ghost use Rattle.veritysetup.specs.Options.{texts_of, block_size_of, number_if_given, salt_or_random, uuid_or_random};
+ghost use Rattle.veritysetup.specs.Options.{texts_of, block_size_of, salt_or_random, uuid_or_random, uuid_where};
 ghost use Rattle.verity_plan.specs.Settings.{rule_of};
 ghost use Rattle.veritysetup.specs.Choosing.{parameters};
 
+use crate::hash_offset::{multiple_of, offset_unit};
+use crate::option_numbers::OptionNumbers;
 use crate::options::{OptionFault, OptionName, RawOptions};
 use crate::uuids::{random_uuid, read_uuid};
-use command_line::{DEFAULT_BLOCK_SIZE, algorithm_or_default, number_or, read_number, read_salt};
+use command_line::{algorithm_or_default, read_salt};
 use uuid::Uuid;
 use verity_hash::ShortBytes;
 use verity_plan::{MOST_SALT, is_verity_block_size};
@@ -17,7 +19,7 @@ use verity_tree::{HashType, TreeSettings};
 pub struct Parameters {
     /// Where the salt goes.
     pub hash_type: HashType,
-    /// The UUID of the hash device.
+    /// The UUID of the hash area, all zeros without a superblock.
     pub uuid: Uuid,
     /// The byte at which the hash area begins on the hash device.
     pub offset: u64,
@@ -35,22 +37,13 @@ impl Parameters {
         ensures value { result ≡ parameters (texts_of raw.now) (option_map (λ b. b.now) random.entry) }
         ensures of_type { IfOk result (λ chosen. chosen.tree.rule ≡ rule_of chosen.hash_type) }
     {
-        let format = number_or(1, raw.format).ok_or(OptionFault::BadNumber(OptionName::Format))?;
-        let data_size = number_or(DEFAULT_BLOCK_SIZE, raw.data_block_size).ok_or(
-            OptionFault::BadNumber(OptionName::DataBlockSize),
-        )?;
-        let hash_size = number_or(DEFAULT_BLOCK_SIZE, raw.hash_block_size).ok_or(
-            OptionFault::BadNumber(OptionName::HashBlockSize),
-        )?;
-        let blocks = number_if_given(raw.data_blocks).ok_or(OptionFault::BadNumber(
-            OptionName::DataBlocks,
-        ))?;
+        let numbers = OptionNumbers::read(raw)?;
         let algorithm = algorithm_or_default(raw.hash).ok_or(OptionFault::UnknownHash)?;
-        let hash_type = HashType::from_number(format).ok_or(OptionFault::BadHashType)?;
-        let data_block = block_size_of(data_size).ok_or(OptionFault::BadBlockSize(
+        let hash_type = HashType::from_number(numbers.format).ok_or(OptionFault::BadHashType)?;
+        let data_block = block_size_of(numbers.data_block).ok_or(OptionFault::BadBlockSize(
             OptionName::DataBlockSize,
         ))?;
-        let hash_block = block_size_of(hash_size).ok_or(OptionFault::BadBlockSize(
+        let hash_block = block_size_of(numbers.hash_block).ok_or(OptionFault::BadBlockSize(
             OptionName::HashBlockSize,
         ))?;
         let salt = salt_or_random(raw.salt, random).ok_or(OptionFault::BadSalt)?;
@@ -63,27 +56,17 @@ impl Parameters {
             hash_block,
         )
         .unwrap();
+        let superblock = !raw.no_superblock;
+        let unit = offset_unit(superblock, &tree);
+        let offset = multiple_of(unit, numbers.offset).ok_or(OptionFault::BadHashOffset)?;
         Ok(Parameters {
             hash_type,
-            uuid,
-            offset: 0,
-            superblock: true,
-            blocks,
+            uuid: uuid_where(superblock, uuid),
+            offset,
+            superblock,
+            blocks: numbers.blocks,
             tree,
         })
-    }
-}
-
-/// The number of an option that may be missing, or `None` where the option is no number.
-fn number_if_given(text: Option<&str>) -> Option<Option<u64>>
-    ensures { result ≡ number_if_given (option_map (λ t. t.now) text.entry) }
-{
-    match text {
-        Some(text) => match read_number(text) {
-            Some(number) => Some(Some(number)),
-            None => None,
-        },
-        None => Some(None),
     }
 }
 
@@ -118,4 +101,11 @@ fn uuid_or_random(text: Option<&str>, random: Option<&[u8; 48]>) -> Option<Uuid>
         (None, Some(random)) => Some(random_uuid(&random[32..])),
         (None, None) => Some(Uuid::nil()),
     }
+}
+
+/// The UUID of a hash area with a superblock; all zeros without one.
+fn uuid_where(superblock: bool, uuid: Uuid) -> Uuid
+    ensures { result ≡ uuid_where superblock uuid }
+{
+    if superblock { uuid } else { Uuid::nil() }
 }

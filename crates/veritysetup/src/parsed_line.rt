@@ -1,5 +1,6 @@
 //! What a command line holds.
-ghost use Rattle.std.specs.Prelude.{◌≡◌, option_map, option_copied, string_bytes};
+ghost use Rattle.std.specs.Prelude.{◌≡◌, map, option_map, option_copied, string_bytes};
+ghost use Rattle.veritysetup.specs.RawWords.{root_word};
 
 use crate::{CommandName, RawOptions};
 use command_line::text_of;
@@ -23,12 +24,17 @@ pub struct Line {
     pub salt: Option<String>,
     /// The value of `--uuid`.
     pub uuid: Option<String>,
+    /// The value of `--hash-offset`.
+    pub hash_offset: Option<String>,
+    /// Whether `--no-superblock` is given.
+    pub no_superblock: bool,
     /// The words beside the options: DATA, HASH and ROOT, those that the command has, in this order.
     pub files: Vec<String>,
 }
 
 impl Line {
-    /// The texts of the options, as they are given, and whether data and hash area are in one file, as the caller says.
+    /// The texts of the options, as they are given, the ROOT of verify, and whether data and hash area are in one
+    /// file, as the caller says.
     pub fn raw(&self, same_file: bool) -> RawOptions<'_>
         ensures hash { option_copied result.hash ≡ option_map string_bytes self.now.hash }
         ensures format { option_copied result.format ≡ option_map string_bytes self.now.format }
@@ -39,6 +45,9 @@ impl Line {
         ensures data_blocks { option_copied result.data_blocks ≡ option_map string_bytes self.now.data_blocks }
         ensures salt { option_copied result.salt ≡ option_map string_bytes self.now.salt }
         ensures uuid { option_copied result.uuid ≡ option_map string_bytes self.now.uuid }
+        ensures hash_offset { option_copied result.hash_offset ≡ option_map string_bytes self.now.hash_offset }
+        ensures root { option_copied result.root ≡ root_word self.now.command (map string_bytes self.now.files.items) }
+        ensures no_superblock { result.no_superblock ≡ self.now.no_superblock }
         ensures same_file { result.same_file ≡ same_file }
     {
         RawOptions {
@@ -49,7 +58,20 @@ impl Line {
             data_blocks: text_of(&self.data_blocks),
             salt: text_of(&self.salt),
             uuid: text_of(&self.uuid),
+            hash_offset: text_of(&self.hash_offset),
+            root: self.root(),
+            no_superblock: self.no_superblock,
             same_file,
+        }
+    }
+
+    /// ROOT, the third word of verify.
+    fn root(&self) -> Option<&str>
+        ensures { option_copied result ≡ root_word self.now.command (map string_bytes self.now.files.items) }
+    {
+        match (self.command, self.files.as_slice()) {
+            (CommandName::Verify, [_, _, root]) => Some(root.as_str()),
+            _ => None,
         }
     }
 }

@@ -1,13 +1,10 @@
 //! Writing the report.
-ghost use Rattle.std.specs.Prelude.{◌≡◌, option_map};
+ghost use Rattle.std.specs.Prelude.{◌≡◌, ℕ, List, IfOk, string_bytes};
 ghost use Rattle.veritysetup.specs.Printing.{Prints};
-ghost use Rattle.veritysetup.specs.Reports.{report_text, uuid_text};
 
-use crate::reports::report;
-use std::alloc::Global;
+use std::alloc::AllocError;
 use std::io::Write;
-use verity_format::{PutFault, Superblock, put_all};
-use verity_hash::Digest;
+use verity_format::{PutFault, put_all};
 
 /// Why a report is not printed whole.
 #[derive(Clone, Copy, Debug, PartialEq, Eq)]
@@ -18,19 +15,15 @@ pub enum PrintFault {
     Output(usize),
 }
 
-/// Makes the report whole, and then writes it.
+/// Writes a report, where there was memory for it.
 pub fn print_report<W: Write>(
-    alloc: Global,
-    superblock: &Superblock,
-    root: Option<&Digest>,
-    path: &str,
+    report: Result<String, AllocError>,
     out: &mut W,
 ) -> Result<(), PrintFault>
-    ensures { Prints result
-        (report_text path.now (uuid_text superblock.now.uuid) superblock.now (option_map (λ d. d.now) root.entry))
-        (W.contents out.old) (W.contents out.new) }
+    ensures { (text : List ℕ) → IfOk report (λ s. string_bytes s ≡ text)
+        → Prints result text (W.contents out.old) (W.contents out.new) }
 {
-    match report(alloc, superblock, root, path) {
+    match report {
         Ok(text) => match put_all(out, text.as_bytes()) {
             Ok(()) => Ok(()),
             Err(PutFault(taken)) => Err(PrintFault::Output(taken)),

@@ -1,7 +1,7 @@
 //! The report of format and dump.
 ghost use Rattle.std.specs.Prelude.{◌≡◌, ◌++◌, IfOk, OnOk, string_bytes, option_map};
 ghost use Rattle.veritysetup.specs.ReportSteps.{with_header, with_sizes, with_hash};
-ghost use Rattle.veritysetup.specs.Reports.{salt_text, uuid_text, root_line, report_text};
+ghost use Rattle.veritysetup.specs.Reports.{bare_text, salt_text, uuid_text, root_line, report_text};
 
 use std::alloc::{AllocError, Global};
 use uuid::Uuid;
@@ -24,6 +24,20 @@ pub fn report(
     let uuid = Uuid::from_bytes(superblock.uuid());
     let uuid = uuid.hyphenated().encode_lower(&mut digits);
     report_with(alloc, superblock, uuid, root, path)
+}
+
+/// The same with `-` in the place of the UUID, for a hash area without a superblock. The error is that it is out of
+/// memory.
+pub fn report_bare(
+    alloc: Global,
+    superblock: &Superblock,
+    root: Option<&Digest>,
+    path: &str,
+) -> Result<String, AllocError>
+    ensures { IfOk result (λ s. string_bytes s
+        ≡ report_text path.now bare_text superblock.now (option_map (λ d. d.now) root.entry)) }
+{
+    report_with(alloc, superblock, "-", root, path)
 }
 
 /// The report with this text of the UUID.

@@ -1,5 +1,6 @@
 //! Root hashes as the command line writes them.
-ghost use Rattle.std.specs.Prelude.{◌≡◌};
+ghost use Rattle.std.specs.Prelude.{◌≡◌, option_map};
+ghost use Rattle.veritysetup.specs.Options.{root_if_given};
 ghost use Rattle.veritysetup.specs.RootHash.{root_of};
 
 use verity_hash::{Algorithm, Digest};
@@ -13,5 +14,18 @@ pub fn read_root(algorithm: Algorithm, text: &str) -> Option<Digest>
     match hex::decode_to_slice(text.as_bytes(), digest) {
         Ok(()) => Digest::from_bytes(digest),
         Err(_) => None,
+    }
+}
+
+/// The root hash of a text that may be missing, or `None` where the text is no digest of the algorithm.
+pub fn root_if_given(algorithm: Algorithm, text: Option<&str>) -> Option<Option<Digest>>
+    ensures { result ≡ root_if_given algorithm (option_map (λ t. t.now) text.entry) }
+{
+    match text {
+        Some(text) => match read_root(algorithm, text) {
+            Some(root) => Some(Some(root)),
+            None => None,
+        },
+        None => Some(None),
     }
 }

@@ -1,4 +1,5 @@
-//! What format makes: hash type, UUID, where the hash area begins, and the plan of the tree.
+//! What format makes, and verify compares by: hash type, UUID, where the hash area begins, the plan of the tree, and a
+//! root hash.
 ghost use Rattle.std.specs.Prelude.{◌≡◌, option_map};
 ghost use Rattle.veritysetup.specs.Chosen.{IsChosen};
 ghost use Rattle.veritysetup.specs.Choosing.{settings};
@@ -8,9 +9,11 @@ ghost use Rattle.veritysetup.specs.Options.{texts_of};
 use crate::hash_area::plan_at;
 use crate::options::{OptionFault, RawOptions};
 use crate::parameters::Parameters;
+use crate::root_hash::root_if_given;
 use std::marker::Model;
 use uuid::Uuid;
 use verity_format::Superblock;
+use verity_hash::Digest;
 use verity_tree::{HashType, Plan, PlanFault};
 
 /// The settings of a hash device. Only `settings_of` makes them, so the parts agree: the plan's tree is of the hash
@@ -22,6 +25,7 @@ pub struct Settings {
     offset: u64,
     superblock: bool,
     plan: Plan,
+    root: Option<Digest>,
 }
 
 impl Model for Settings {
@@ -35,6 +39,7 @@ impl Model for Settings {
       offset = s.offset;
       superblock = s.superblock;
       plan = s.plan;
+      root = s.root;
     } };
 
     ghost invariant = { λ s. IsChosen (record {
@@ -43,6 +48,7 @@ impl Model for Settings {
       offset = s.offset;
       superblock = s.superblock;
       plan = s.plan;
+      root = s.root;
     }) };
 
     ghost inverse = { λ c. record {
@@ -51,6 +57,7 @@ impl Model for Settings {
       offset = c.offset;
       superblock = c.superblock;
       plan = c.plan;
+      root = c.root;
     } };
 }
 
@@ -91,6 +98,13 @@ impl Settings {
         &self.plan
     }
 
+    /// The root hash, where one was given.
+    pub fn root(&self) -> Option<Digest>
+        ensures { result ≡ self.now.root }
+    {
+        self.root
+    }
+
     /// The superblock that describes them.
     pub fn superblock(&self) -> Superblock
         ensures { result ≡ superblock_for self.now }
@@ -114,14 +128,18 @@ pub fn settings_of(
     let whole = length / u64::from(chosen.tree.data_block());
     let blocks = chosen.blocks.unwrap_or(whole);
     match plan_at(&chosen.tree, blocks, chosen.offset, chosen.superblock) {
-        Ok(_) if raw.same_file => Err(OptionFault::Overlap),
-        Ok(plan) => Ok(Settings {
-            hash_type: chosen.hash_type,
-            uuid: chosen.uuid,
-            offset: chosen.offset,
-            superblock: chosen.superblock,
-            plan,
-        }),
+        Ok(plan) if raw.same_file && chosen.offset < plan.wanted() => Err(OptionFault::Overlap),
+        Ok(plan) => match root_if_given(chosen.tree.algorithm(), raw.root) {
+            Some(root) => Ok(Settings {
+                hash_type: chosen.hash_type,
+                uuid: chosen.uuid,
+                offset: chosen.offset,
+                superblock: chosen.superblock,
+                plan,
+                root,
+            }),
+            None => Err(OptionFault::BadRoot),
+        },
         Err(PlanFault::NoData) => Err(OptionFault::NoData),
         Err(PlanFault::TooLarge) => Err(OptionFault::TooLarge),
     }

@@ -4,6 +4,7 @@ ghost use Rattle.verity_io.specs.Counting.{Counts};
 ghost use Rattle.veritysetup.specs.StoredSuperblock.{ReadsSuperblock, unread};
 
 use verity_format::{SuperFault, Superblock, read_superblock};
+use verity_plan::SUPERBLOCK_SIZE;
 use verity_tree::{Device, Failed};
 
 /// Why there is no superblock.
@@ -22,7 +23,7 @@ pub fn stored_superblock<D: Device>(device: &mut D, offset: u64) -> Result<Super
     ensures superblock { D.tells device.old → ReadsSuperblock result offset (D.content device.old) }
     ensures count { Counts (unread result) (D.failures device.old) (D.failures device.new) }
 {
-    let mut bytes = [0; 512];
+    let mut bytes = [0; SUPERBLOCK_SIZE];
     match device.read_at(offset, &mut bytes) {
         Ok(count) => match read_superblock(&bytes[..count]) {
             Ok(superblock) => Ok(superblock),

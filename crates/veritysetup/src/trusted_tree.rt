@@ -28,7 +28,14 @@ pub fn read_trusted<D: Device>(device: &mut D, input: &VerifyInput) -> Result<Tr
     ensures count { Counts (device_unread result) (D.failures device.old) (D.failures device.new) }
 {
     match *input {
-        VerifyInput::Stored { root } => read_stored(device, 0, root),
+        VerifyInput::Stored { offset, root } => read_stored(device, offset, root),
+        VerifyInput::Given(settings) => match settings.root() {
+            Some(root) => Ok(Trusted {
+                plan: *settings.plan(),
+                root,
+            }),
+            None => Err(InputFault::BadRoot),
+        },
     }
 }
 

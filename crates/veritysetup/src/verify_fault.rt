@@ -1,11 +1,13 @@
 //! Why verify stops, with its statuses and messages.
-ghost use Rattle.std.specs.Prelude.{◌≡◌};
+ghost use Rattle.std.specs.Prelude.{◌≡◌, IsTrue};
+ghost use Rattle.std.specs.Io.KnownBytes.{Appends};
 ghost use Rattle.command_line.specs.Printing.{AppendsFront};
 ghost use Rattle.veritysetup.specs.VerifyRun.{compare_status, fault_status, fault_text, input_status, input_text};
 
 use crate::messages::{
-    OUT_OF_MEMORY, SUPERBLOCK_UNREAD, TOO_LARGE, compare_message, super_message,
+    OUT_OF_MEMORY, SUPERBLOCK_UNREAD, TOO_LARGE, compare_message, option_message, super_message,
 };
+use crate::options::OptionFault;
 use crate::stored_superblock::StoredFault;
 use command_line::{tell, tell_text};
 use std::alloc::Global;
@@ -19,7 +21,7 @@ pub enum InputFault {
     Superblock(StoredFault),
     /// The hash area that the superblock describes is too large.
     TooLarge,
-    /// The text is no root hash of the superblock's algorithm.
+    /// The text is no root hash of the superblock's algorithm, or the settings have no root hash.
     BadRoot,
 }
 
@@ -47,17 +49,19 @@ impl InputFault {
         }
     }
 
-    /// Writes the message of the fault.
-    fn tell<M: Write>(&self, alloc: Global, msgs: &mut M)
-        ensures { AppendsFront (input_text self.now) (M.contents msgs.old) (M.contents msgs.new) }
+    /// Writes the message of the fault. The answer says whether the writer took all of it.
+    fn tell<M: Write>(&self, alloc: Global, msgs: &mut M) -> bool
+        ensures whole { IsTrue result → Appends (M.contents msgs.old) (M.contents msgs.new) (input_text self.now) }
+        ensures front { AppendsFront (input_text self.now) (M.contents msgs.old) (M.contents msgs.new) }
     {
         match self {
-            InputFault::Superblock(StoredFault::Refused(fault)) => {
-                tell(super_message(alloc, fault), msgs);
-            }
+            InputFault::Superblock(StoredFault::Refused(fault)) => tell(
+                super_message(alloc, fault),
+                msgs,
+            ),
             InputFault::Superblock(StoredFault::Unread) => tell_text(SUPERBLOCK_UNREAD, msgs),
             InputFault::TooLarge => tell_text(TOO_LARGE, msgs),
-            InputFault::BadRoot => tell_text("Root hash is not valid.\n", msgs),
+            InputFault::BadRoot => tell(option_message(alloc, &OptionFault::BadRoot), msgs),
         }
     }
 }
@@ -87,9 +91,10 @@ impl VerifyFault {
         }
     }
 
-    /// Writes the message of the fault.
-    pub fn tell<M: Write>(&self, alloc: Global, msgs: &mut M)
-        ensures { AppendsFront (fault_text self.now) (M.contents msgs.old) (M.contents msgs.new) }
+    /// Writes the message of the fault. The answer says whether the writer took all of it.
+    pub fn tell<M: Write>(&self, alloc: Global, msgs: &mut M) -> bool
+        ensures whole { IsTrue result → Appends (M.contents msgs.old) (M.contents msgs.new) (fault_text self.now) }
+        ensures front { AppendsFront (fault_text self.now) (M.contents msgs.old) (M.contents msgs.new) }
     {
         match self {
             VerifyFault::Input(fault) => fault.tell(alloc, msgs),

@@ -21,7 +21,7 @@ fn verify<S: Source, D: Device>(
     ensures device_told { D.tells device.old → D.tells device.new }
     ensures stands { D.tells device.old → D.content device.new ≡ D.content device.old }
     ensures verdict { S.tells source.old → D.tells device.old →
-        Verifies input.now (D.content device.old) (S.to_come source.old) (S.to_come source.new) result }
+        Verifies input.now (D.content device.old) (S.remaining source.old) (S.remaining source.new) result }
     ensures source_count { Counts (source_failed result) (S.failures source.old) (S.failures source.new) }
     ensures device_count { Counts (device_failed result) (D.failures device.old) (D.failures device.new) }
 {
@@ -56,11 +56,11 @@ pub fn run_verify<S: Source, D: Device, M: Write>(
 
     // Status 0: superblock and root are accepted, and every byte of every hash block and the root are the tree's.
     ensures verified { result ≡ 0 → S.tells source.old → D.tells device.old →
-        IsVerified input.now (D.content device.old) (S.to_come source.old) (S.to_come source.new) }
+        IsVerified input.now (D.content device.old) (S.remaining source.old) (S.remaining source.new) }
 
     // Each status: one outcome gives the verdict, the message and which count of failures rose.
     ensures run { VerifyRun input.now result
-        (change S.tells S.to_come S.failures source.old source.new)
+        (change S.tells S.remaining S.failures source.old source.new)
         (change D.tells D.content D.failures device.old device.new)
         (M.contents msgs.old) (M.contents msgs.new) }
 {

@@ -1,39 +1,62 @@
 //! The words of a command line, read by clap.
 ghost use Rattle.std.specs.Prelude.{◌≡◌, ◌++◌, IfOk, IfErr, map, string_bytes, true};
-ghost use Rattle.clap.specs.Words.{first_of, found_of, rows_of, subcommand_of, takes};
+ghost use Rattle.clap.specs.Words.{App, first_of, found_of, rows_of, subcommand_of, takes};
 ghost use Rattle.clap.specs.declared.Command.TheViews.{out-Command as fields_of};
 ghost use Rattle.command_line.specs.Arguments.{Defines};
 ghost use Rattle.command_line.specs.LineFaults.{IsMemory};
 ghost use Rattle.veritysetup.specs.CommandLines.{HoldsCommand, HoldsRows, given_files, word_list};
 ghost use Rattle.veritysetup.specs.CommandLines.{dump_app, format_app, verify_app, veritysetup_app};
+ghost use Rattle.veritysetup.specs.CommandLines.{with_offset_rule, with_tree_rules};
 
 use crate::{CommandName, Line};
 use clap::{ArgMatches, Command};
-use command_line::{LineFault, copied_value, option, program, word};
+use command_line::{LineFault, copied_value, flag, is_given, option, program, word};
 use std::alloc::{AllocError, Global};
 
 /// The usage text where no command is known.
 const USAGE: &str = "veritysetup format [options] DATA HASH
-       veritysetup dump HASH
-       veritysetup verify DATA HASH ROOT";
+       veritysetup dump [--hash-offset BYTES] HASH
+       veritysetup verify [options] DATA HASH ROOT";
 
 /// The usage text of `format`.
 const FORMAT_USAGE: &str =
     "veritysetup format [--hash NAME] [--format TYPE] [--data-block-size BYTES]
-           [--hash-block-size BYTES] [--data-blocks NUMBER] [--salt HEX] [--uuid UUID] DATA HASH";
+           [--hash-block-size BYTES] [--data-blocks NUMBER] [--salt HEX] [--uuid UUID]
+           [--hash-offset BYTES] [--no-superblock] DATA HASH";
 
-fn format_command<'a>(alloc: Global) -> Result<Command<'a>, AllocError>
-    ensures { IfOk result (Defines format_app) }
+/// The usage text of `verify`.
+const VERIFY_USAGE: &str =
+    "veritysetup verify [--hash NAME] [--format TYPE] [--data-block-size BYTES]
+           [--hash-block-size BYTES] [--data-blocks NUMBER] [--salt HEX]
+           [--hash-offset BYTES] [--no-superblock] DATA HASH ROOT";
+
+/// Adds the options for what a tree is made by.
+fn with_tree_options<'a>(alloc: Global, command: Command<'a>) -> Result<Command<'a>, AllocError>
+    ensures { (a : App) → Defines a command.entry → IfOk result (Defines (with_tree_rules a)) }
 {
-    Command::new(alloc, "format")
-        .override_usage(FORMAT_USAGE)
+    command
         .arg(option(alloc, "hash"))?
         .arg(option(alloc, "format"))?
         .arg(option(alloc, "data-block-size"))?
         .arg(option(alloc, "hash-block-size"))?
         .arg(option(alloc, "data-blocks"))?
-        .arg(option(alloc, "salt"))?
+        .arg(option(alloc, "salt"))
+}
+
+/// Adds the option for where the hash area begins.
+fn with_offset_option<'a>(alloc: Global, command: Command<'a>) -> Result<Command<'a>, AllocError>
+    ensures { (a : App) → Defines a command.entry → IfOk result (Defines (with_offset_rule a)) }
+{
+    command.arg(option(alloc, "hash-offset"))
+}
+
+fn format_command<'a>(alloc: Global) -> Result<Command<'a>, AllocError>
+    ensures { IfOk result (Defines format_app) }
+{
+    let command = Command::new(alloc, "format").override_usage(FORMAT_USAGE);
+    with_offset_option(alloc, with_tree_options(alloc, command)?)?
         .arg(option(alloc, "uuid"))?
+        .arg(flag(alloc, "no-superblock"))?
         .arg(word(alloc, "DATA"))?
         .arg(word(alloc, "HASH"))
 }
@@ -41,16 +64,18 @@ fn format_command<'a>(alloc: Global) -> Result<Command<'a>, AllocError>
 fn dump_command<'a>(alloc: Global) -> Result<Command<'a>, AllocError>
     ensures { IfOk result (Defines dump_app) }
 {
-    Command::new(alloc, "dump")
-        .override_usage("veritysetup dump HASH")
-        .arg(word(alloc, "HASH"))
+    let command = Command::new(alloc, "dump").override_usage(
+        "veritysetup dump [--hash-offset BYTES] HASH",
+    );
+    with_offset_option(alloc, command)?.arg(word(alloc, "HASH"))
 }
 
 fn verify_command<'a>(alloc: Global) -> Result<Command<'a>, AllocError>
     ensures { IfOk result (Defines verify_app) }
 {
-    Command::new(alloc, "verify")
-        .override_usage("veritysetup verify DATA HASH ROOT")
+    let command = Command::new(alloc, "verify").override_usage(VERIFY_USAGE);
+    with_offset_option(alloc, with_tree_options(alloc, command)?)?
+        .arg(flag(alloc, "no-superblock"))?
         .arg(word(alloc, "DATA"))?
         .arg(word(alloc, "HASH"))?
         .arg(word(alloc, "ROOT"))
@@ -111,6 +136,8 @@ fn line_of(
         data_blocks: copied_value(alloc, matches, "data-blocks")?,
         salt: copied_value(alloc, matches, "salt")?,
         uuid: copied_value(alloc, matches, "uuid")?,
+        hash_offset: copied_value(alloc, matches, "hash-offset")?,
+        no_superblock: is_given(matches, "no-superblock"),
         files: files_of(alloc, matches)?,
     })
 }

@@ -1,9 +1,10 @@
 -- One data block's digest on its way up through the levels whose blocks close.
 -- For the private steps; not needed to read a public contract.
 use Rattle.std.specs.Prelude.{◌≡◌, ◌⊎◌, ℕ, ◌+◌, ◌/◌, ◌%◌, ◌<◌, ◌≤◌, ◌^◌, Bool, true, false, List, map, Result, Ok, Err}
+use Rattle.std.specs.List.{range_with_len}
 use Rattle.verity_hash.specs.declared.digest.Digest.{Digest}
 use Rattle.verity_plan.specs.Settings.{Settings, hash, fan}
-use Rattle.verity_tree.specs.ClosingOrder.{closing, closes, closed_to}
+use Rattle.verity_tree.specs.ClosingOrder.{closing, closes}
 use Rattle.verity_tree.specs.Image.{tree_block, written}
 use Rattle.verity_plan.specs.Plans.{Planned, byte_of, levels_of}
 use Rattle.verity_tree.specs.declared.cascade.Stop.{Stop}
@@ -12,35 +13,45 @@ use Rattle.verity_tree.specs.Steps.ClosedBlocks.{IsCause, call_failed, closed_bl
 use Rattle.verity_tree.specs.Verdicts.{NoneDiffers, stored}
 use Rattle.verity_tree.specs.Steps.OpenBlocks.{Arrival, IsNext, filling, IsCarriedOn, IsKept, IsClosed}
 use Rattle.verity_io.specs.Writing.{put, Spoiled}
-use Rattle.verity_tree.specs.declared.cascade.Step.{Step}
-use Rattle.verity_tree.specs.declared.cascade.Step.TheVariants.{Open, Closed, Stopped}
+use Rattle.verity_tree.specs.declared.cascade.LevelStep.{LevelStep}
+use Rattle.verity_tree.specs.declared.cascade.LevelStep.TheVariants.{Open, Closed, Stopped}
+
+-- the blocks of the levels below m that close with data block i, counted from 0, where all of them do
+abbrev pub closed_to : ℕ → ℕ → ℕ → List (ℕ × ℕ)
+closed_to fan i m = map (λ level. (level, i / fan ^ (level + 1))) (range_with_len 0 m)
+
+-- data block i, counted from 0, is the last below a block of level 0
+abbrev pub EndsBlock : ℕ → ℕ → ℕ → Type 0
+EndsBlock fan n i = (i % fan + 1 ≡ fan) ⊎ (i + 1 ≡ n)
 
 -- what a level's open block is after its step
-abbrev pub StepsLevel : Settings → Arrival → Bool → List ℕ → Step → Type 0
+abbrev pub StepsLevel : Settings → Arrival → Bool → List ℕ → LevelStep → Type 0
 StepsLevel s a last after Open = IsKept s a last after
 StepsLevel s a last after (Closed above) = IsClosed s a last after above
 StepsLevel s a last after (Stopped cause) = (a.index % fan s + 1 ≡ fan s) ⊎ (last ≡ true)
 
 -- what a level does to the device: its closed block is put at its place, or stands there
-abbrev pub StepsDevice : Planned → ℕ → Arrival → Step → List ℕ → List ℕ → Type 0
+abbrev pub StepsDevice : Planned → ℕ → Arrival → LevelStep → List ℕ → List ℕ → Type 0
 StepsDevice p level a Open before after = after ≡ before
 StepsDevice p level a (Closed above) before after = (below : List (List ℕ)) → IsNext p.settings below a
-    → after ≡ put before (byte_of p level (a.index / fan p.settings)) (filling p.settings (map (hash p.settings) below) a.index)
+    → after ≡ put before (byte_of p level (a.index / fan p.settings))
+    (filling p.settings (map (hash p.settings) below) a.index)
 StepsDevice p level a (Stopped cause) before after =
     Spoiled before (byte_of p level (a.index / fan p.settings)) p.settings.hash_block after
 
 -- what a level's closed block says beside what stands at its place; the device stays
-abbrev pub StepsCompared : Planned → ℕ → Arrival → Step → List ℕ → List ℕ → Type 0
+abbrev pub StepsCompared : Planned → ℕ → Arrival → LevelStep → List ℕ → List ℕ → Type 0
 StepsCompared p level a Open before after = after ≡ before
 StepsCompared p level a (Closed above) before after = (after ≡ before)
     × ((below : List (List ℕ)) → IsNext p.settings below a
     → stored p before level (a.index / fan p.settings) ≡ filling p.settings (map (hash p.settings) below) a.index)
 StepsCompared p level a (Stopped cause) before after = (after ≡ before)
     × ((below : List (List ℕ)) → IsNext p.settings below a
-    → IsCause p (closed_block level (a.index / fan p.settings) (filling p.settings (map (hash p.settings) below) a.index)) before cause)
+    → IsCause p (closed_block level (a.index / fan p.settings)
+    (filling p.settings (map (hash p.settings) below) a.index)) before cause)
 
 -- whether a call of the device failed
-abbrev pub step_failed : Task → Step → Bool
+abbrev pub step_failed : Task → LevelStep → Bool
 step_failed task Open = false
 step_failed task (Closed above) = false
 step_failed task (Stopped cause) = call_failed task cause
@@ -65,7 +76,8 @@ abbrev pub CarriesDevice : Planned → List (List ℕ) → ℕ → Result Digest
 CarriesDevice p blocks i (Ok digest) before after =
     after ≡ written p.settings blocks p.base (closing (fan p.settings) p.blocks (i + 1)) before
 CarriesDevice p blocks i (Err stop) before after =
-    Spoiled (written p.settings blocks p.base (closed_to (fan p.settings) i stop.level) before) (byte_of p stop.level stop.block) p.settings.hash_block after
+    Spoiled (written p.settings blocks p.base (closed_to (fan p.settings) i stop.level) before)
+    (byte_of p stop.level stop.block) p.settings.hash_block after
 
 -- the blocks that close with a data block do not differ from what the device holds, up to the one that stops the pass
 abbrev pub CarriesCompared : Planned → List (List ℕ) → ℕ → Result Digest Stop → List ℕ → List ℕ → Type 0
@@ -73,4 +85,5 @@ CarriesCompared p blocks i (Ok digest) before after =
     (after ≡ before) × NoneDiffers p blocks before (closing (fan p.settings) p.blocks (i + 1))
 CarriesCompared p blocks i (Err stop) before after = (after ≡ before)
     × NoneDiffers p blocks before (closed_to (fan p.settings) i stop.level)
-    × IsCause p (closed_block stop.level stop.block (tree_block p.settings blocks stop.level stop.block)) before stop.cause
+    × IsCause p (closed_block stop.level stop.block (tree_block p.settings blocks stop.level stop.block)) before
+    stop.cause

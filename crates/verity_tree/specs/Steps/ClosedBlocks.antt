@@ -1,5 +1,5 @@
--- What becomes of a device when a hash block has closed: the block is written, or compared with what stands at its place.
--- For the private steps; not needed to read a public contract.
+-- What becomes of a device when a hash block has closed: the block is written, or compared with what stands at its
+-- place. For the private steps; not needed to read a public contract.
 use Rattle.std.specs.Prelude.{◌≡◌, ◌≢◌, ℕ, Bool, true, false, List, Result, Ok, Err}
 use Rattle.verity_io.specs.Writing.{put, Spoiled}
 use Rattle.verity_plan.specs.Plans.{Planned, byte_of}
@@ -19,10 +19,10 @@ abbrev pub closed_block : ℕ → ℕ → List ℕ → ClosedBlock
 closed_block level block bytes = record { level = level; block = block; bytes = bytes }
 
 -- what stored bytes say beside the computed block
-abbrev pub Compares : Planned → ClosedBlock → List ℕ → Result Unit Cause → Type 0
-Compares p computed held (Ok _) = held ≡ computed.bytes
-Compares p computed held (Err Failed) = ⊥
-Compares p computed held (Err (Differs part)) =
+abbrev pub ComparesBlock : Planned → ClosedBlock → List ℕ → Result Unit Cause → Type 0
+ComparesBlock p computed held (Ok _) = held ≡ computed.bytes
+ComparesBlock p computed held (Err Failed) = ⊥
+ComparesBlock p computed held (Err (Differs part)) =
     (held ≢ computed.bytes) × (part ≡ part_of p computed.level computed.block held computed.bytes)
 
 -- why the computed block stops the pass: what the device holds at its place differs, and where, or the device failed
@@ -38,9 +38,9 @@ Closes p Write closed (Err cause) before after =
     Spoiled before (byte_of p closed.level closed.block) p.settings.hash_block after
 Closes p Compare closed (Err Failed) before after = after ≡ before
 Closes p Compare closed (Ok done) before after =
-    (after ≡ before) × Compares p closed (stored p before closed.level closed.block) (Ok done)
+    (after ≡ before) × ComparesBlock p closed (stored p before closed.level closed.block) (Ok done)
 Closes p Compare closed (Err (Differs part)) before after =
-    (after ≡ before) × Compares p closed (stored p before closed.level closed.block) (Err (Differs part))
+    (after ≡ before) × ComparesBlock p closed (stored p before closed.level closed.block) (Err (Differs part))
 
 -- whether a call of the device failed
 abbrev pub call_failed : Task → Cause → Bool

@@ -1,7 +1,14 @@
--- How one data block is read from a source.
+-- How one data block is read from a source and hashed.
 -- For the private steps; not needed to read a public contract.
-use Rattle.std.specs.Prelude.{◌≡◌, ℕ, ◌<◌, ◌≤◌, Bool, true, false, List, [], ◌++◌, length, take, drop, Result, Ok, Err}
+use Rattle.std.specs.Prelude.{◌≡◌, ℕ, ◌+◌, ◌<◌, ◌≤◌, Bool, true, false, List, [], ◌++◌, length, take, drop, Result, Ok}
+use Rattle.std.specs.Prelude.{Err}
 use Rattle.verity_hash.specs.Bytes.{filled}
+use Rattle.verity_hash.specs.declared.digest.Digest.{Digest}
+use Rattle.verity_io.specs.Reading.{HasRead}
+use Rattle.verity_plan.specs.Plans.{Planned}
+use Rattle.verity_tree.specs.Levels.{data_blocks}
+use Rattle.verity_tree.specs.Reading.{EndsWithin, FailsWithin, bytes_of}
+use Rattle.verity_tree.specs.Steps.OpenBlocks.{carried}
 use Rattle.verity_tree.specs.declared.data_block.BlockFault.{BlockFault}
 use Rattle.verity_tree.specs.declared.data_block.BlockFault.TheVariants.{Short, Failed}
 
@@ -42,3 +49,10 @@ abbrev pub read_failed : {X : Type 0} → Result X BlockFault → Bool
 read_failed (Ok _) = false
 read_failed (Err Short) = false
 read_failed (Err Failed) = true
+
+-- data block i of these bytes is taken, or the source ended or failed within it
+abbrev pub TakesDataBlock : Planned → ℕ → List ℕ → Result Digest BlockFault → List ℕ → Type 0
+TakesDataBlock p i bytes (Ok digest) after =
+    HasRead (bytes_of p (i + 1)) bytes after × (digest ≡ carried p.settings (data_blocks p bytes) i 0)
+TakesDataBlock p i bytes (Err Short) after = EndsWithin p i bytes after
+TakesDataBlock p i bytes (Err Failed) after = FailsWithin p i bytes after

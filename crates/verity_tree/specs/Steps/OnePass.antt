@@ -8,9 +8,8 @@ use Rattle.verity_tree.specs.Image.{StopsAt, begun, begun_after, tree_block}
 use Rattle.verity_tree.specs.ClosingOrder.{ComesNext, order}
 use Rattle.verity_tree.specs.Steps.ClosedBlocks.{IsCause, call_failed, closed_block}
 use Rattle.verity_tree.specs.Levels.{root, data_blocks}
-use Rattle.verity_tree.specs.Steps.OpenBlocks.{carried}
 use Rattle.verity_plan.specs.Plans.{Planned}
-use Rattle.verity_plan.specs.Settings.{Settings, fan}
+use Rattle.verity_plan.specs.Settings.{fan}
 use Rattle.verity_tree.specs.Verdicts.{NoneDiffers}
 use Rattle.verity_tree.specs.declared.cascade.Stop.{Stop}
 use Rattle.verity_tree.specs.declared.closed_block.Task.{Task}
@@ -18,17 +17,8 @@ use Rattle.verity_tree.specs.declared.closed_block.Cause.{Cause}
 use Rattle.verity_tree.specs.declared.closed_block.Cause.TheVariants as cause
 use Rattle.verity_tree.specs.declared.comparing.CompareFault.{CompareFault}
 use Rattle.verity_tree.specs.declared.comparing.CompareFault.TheVariants as fault
-use Rattle.verity_tree.specs.declared.data_block.BlockFault.{BlockFault}
-use Rattle.verity_tree.specs.declared.data_block.BlockFault.TheVariants.{Short, Failed}
 use Rattle.verity_tree.specs.declared.one_pass.PassFault.{PassFault}
 use Rattle.verity_tree.specs.declared.one_pass.PassFault.TheVariants.{SourceShort, SourceFailed, Stopped}
-
--- data block i of these bytes is taken, or the source ended or failed within it
-abbrev pub TakesDataBlock : Planned → ℕ → List ℕ → Result Digest BlockFault → List ℕ → Type 0
-TakesDataBlock p i bytes (Ok digest) after =
-    HasRead (bytes_of p (i + 1)) bytes after × (digest ≡ carried p.settings (data_blocks p bytes) i 0)
-TakesDataBlock p i bytes (Err Short) after = EndsWithin p i bytes after
-TakesDataBlock p i bytes (Err Failed) after = FailsWithin p i bytes after
 
 -- the answer, and how much was read
 abbrev pub Passes : Planned → Result Digest PassFault → List ℕ → List ℕ → Type 0
@@ -52,13 +42,18 @@ pub record StopsFor (p : Planned) (bytes device : List ℕ) (stop : Stop) : Type
   pub done : List (ℕ × ℕ)
   pub next : ComesNext (order (fan p.settings) p.blocks (i + 1)) done (stop.level, stop.block)
   pub same : NoneDiffers p (data_blocks p bytes) device done
-  pub cause_is : IsCause p (closed_block stop.level stop.block (tree_block p.settings (data_blocks p bytes) stop.level stop.block)) device stop.cause
+  pub cause_is : IsCause p
+      (closed_block stop.level stop.block (tree_block p.settings (data_blocks p bytes) stop.level stop.block)) device
+      stop.cause
 
 -- a comparison leaves the device, and comes as far as nothing differs
 abbrev pub PassesCompared : Planned → List ℕ → Result Digest PassFault → List ℕ → List ℕ → Type 0
-PassesCompared p bytes (Ok digest) before after = (after ≡ before) × NoneDiffers p (data_blocks p bytes) before (order (fan p.settings) p.blocks p.blocks)
-PassesCompared p bytes (Err (SourceShort i)) before after = (after ≡ before) × NoneDiffers p (data_blocks p bytes) before (order (fan p.settings) p.blocks i)
-PassesCompared p bytes (Err (SourceFailed i)) before after = (after ≡ before) × NoneDiffers p (data_blocks p bytes) before (order (fan p.settings) p.blocks i)
+PassesCompared p bytes (Ok digest) before after =
+    (after ≡ before) × NoneDiffers p (data_blocks p bytes) before (order (fan p.settings) p.blocks p.blocks)
+PassesCompared p bytes (Err (SourceShort i)) before after =
+    (after ≡ before) × NoneDiffers p (data_blocks p bytes) before (order (fan p.settings) p.blocks i)
+PassesCompared p bytes (Err (SourceFailed i)) before after =
+    (after ≡ before) × NoneDiffers p (data_blocks p bytes) before (order (fan p.settings) p.blocks i)
 PassesCompared p bytes (Err (Stopped stop)) before after = (after ≡ before) × StopsFor p bytes before stop
 
 -- whether the source failed, or the device

@@ -1,6 +1,7 @@
 -- The open blocks of a tree that is built as its data blocks come.
 -- For the private steps; not needed to read a public contract.
-use Rattle.std.specs.Prelude.{◌≡◌, ℕ, ◌+◌, ◌*◌, ◌/◌, ◌%◌, ◌^◌, ◌<◌, ◌≤◌, List, [], take, drop, length, map, replicate, slice_index_or, Bool, true, false, ◌⊎◌}
+use Rattle.std.specs.Prelude.{◌≡◌, ℕ, ◌+◌, ◌*◌, ◌/◌, ◌%◌, ◌^◌, ◌<◌, ◌≤◌, List, [], take, drop, length, map, replicate}
+use Rattle.std.specs.Prelude.{slice_index_or, Bool, true, false, ◌⊎◌}
 use Rattle.std.specs.Fork.{slice_chunk}
 use Rattle.verity_plan.specs.Settings.{Settings, hash, fan, digest_len}
 use Rattle.verity_tree.specs.Levels.{hash_block_of, risen, root}
@@ -14,9 +15,10 @@ abbrev pub open_block : Settings → List (List ℕ) → ℕ → List ℕ
 open_block s digests q = hash_block_of s (take (q % fan s) (drop (q / fan s * fan s) digests))
 
 -- after i data blocks the levels from one to another have their open blocks in the store
-abbrev pub AreOpen : Settings → List (List ℕ) → ℕ → ℕ → ℕ → List ℕ → Type 0
-AreOpen s blocks from to i store =
-    (l : ℕ) → from ≤ l → l < to → slice_chunk store s.hash_block l ≡ open_block s (digests_under s blocks l) (i / fan s ^ l)
+abbrev pub HasOpenBlocks : Settings → List (List ℕ) → ℕ → ℕ → ℕ → List ℕ → Type 0
+HasOpenBlocks s blocks from to i store =
+    (l : ℕ) → from ≤ l → l < to
+    → slice_chunk store s.hash_block l ≡ open_block s (digests_under s blocks l) (i / fan s ^ l)
 
 -- the digest that comes to level m with data block i, counted from 0
 abbrev pub carried : Settings → List (List ℕ) → ℕ → ℕ → List ℕ
@@ -42,8 +44,8 @@ climb i level levels = record { i = i; level = level; levels = levels }
 -- the cascade of data block i has come to a level with this digest: the levels below have closed
 pub record IsCarrying (s : Settings) (blocks : List (List ℕ)) (c : Climb) (store digest : List ℕ) : Type 0 where
   pub reached : c.i + 1 < length blocks → IsReached (fan s) c.i c.level
-  pub above : AreOpen s blocks c.level c.levels c.i store
-  pub below : c.i + 1 < length blocks → AreOpen s blocks 0 c.level (c.i + 1) store
+  pub above : HasOpenBlocks s blocks c.level c.levels c.i store
+  pub below : c.i + 1 < length blocks → HasOpenBlocks s blocks 0 c.level (c.i + 1) store
   pub digest_is : digest ≡ carried s blocks c.i c.level
 
 -- a digest that comes to an open block: its number among the digests of the level, the open block, and the digest
@@ -76,5 +78,5 @@ pub record IsClosed (s : Settings) (a : Arrival) (last : Bool) (after above : Li
 
 -- data block i has come to all levels; the last one gives the root
 pub record IsCarriedOn (s : Settings) (blocks : List (List ℕ)) (i levels : ℕ) (store digest : List ℕ) : Type 0 where
-  pub stands : i + 1 < length blocks → AreOpen s blocks 0 levels (i + 1) store
+  pub stands : i + 1 < length blocks → HasOpenBlocks s blocks 0 levels (i + 1) store
   pub root_is : i + 1 ≡ length blocks → digest ≡ root s blocks

@@ -1,5 +1,5 @@
--- The levels of digests rather than of blocks, for proofs and for the plain body of the root by whole lists; not needed to
--- read a public contract.
+-- The levels of digests rather than of blocks, for proofs and for the plain body of the root by whole lists; not needed
+-- to read a public contract.
 use Rattle.std.specs.Prelude.{ℕ, zero, suc, List, [], length, map, take, slice_index_or}
 use Rattle.std.specs.Fork.{slice_chunk}
 use Rattle.verity_plan.specs.Counts.{level_count}

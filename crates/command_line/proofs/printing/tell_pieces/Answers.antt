@@ -11,13 +11,18 @@ loop-piece-preserved g c =
     pieces_whole (λ p. p.now) c.args.pieces.now c.loop-piece.piece-index _ _ _ _ c.loop-piece-test.true
     c.loop-piece.invariant piece
 
-pub returns-in-Err : goal.returns-in-Err
-returns-in-Err g c =
+pub returns-in-Err-clause-front : goal.returns-in-Err-clause-front
+returns-in-Err-clause-front g c =
     let front = front_of c.put_all.result c.as_bytes.result.now _ _ c.put_all.ensures.whole c.put_all.ensures.front in
     pieces_front (λ p. p.now) c.args.pieces.now c.loop-piece.piece-index _ _ _ _ c.loop-piece-test.true
     c.loop-piece.invariant (rw c.as_bytes.ensures.value at front)
 
-pub returns : goal.returns
-returns g c =
+pub returns-clause-whole : goal.returns-clause-whole
+returns-clause-whole g c =
+    let all = take_all c.loop-piece.piece-index c.args.pieces.now c.loop-piece-test.false in
+    λ _. rw all at c.loop-piece.invariant
+
+pub returns-clause-front : goal.returns-clause-front
+returns-clause-front g c =
     let all = take_all c.loop-piece.piece-index c.args.pieces.now c.loop-piece-test.false in
     front_whole _ _ _ (rw all at c.loop-piece.invariant)

@@ -32,7 +32,7 @@ returns-in-Err-clause-ended g c = λ _.
           (change c.loop-name.opener c.digest_next.new.opener) c.loop-name.name-index c.in-Err.fault
           c.loop-name.invariant.same.told c.loop-name.invariant.same.files c.loop-name.invariant.next
           c.loop-name.invariant.within c.loop-name.invariant.failures refl c.in-Err.ensures.reason;
-      message = rw (get_or_from_slice_get _ _ _ _ named) (rw c.loop-name.invariant.quiet at c.tell.ensures);
+      message = rw (get_or_from_slice_get _ _ _ _ named) (rw c.loop-name.invariant.quiet at c.tell.ensures.front);
       written = λ t.
           let part = c.in-Err.ensures.written (c.loop-name.invariant.same.told.0 t) in
           part_more _ _ _ _ _ _ _ _ named (c.loop-name.invariant.out t)

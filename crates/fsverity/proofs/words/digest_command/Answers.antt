@@ -16,4 +16,8 @@ returns c =
     let one = arg_added _ _ _ _ _ none c.option.ensures.rule c.option.ensures.local c.in_ok-arg.ensures in
     let two = arg_added _ _ _ _ _ one c.option-2.ensures.rule c.option-2.ensures.local c.in_ok-arg-2.ensures in
     let three = arg_added _ _ _ _ _ two c.option-3.ensures.rule c.option-3.ensures.local c.in_ok-arg-3.ensures in
-    IfOk-weaker c.arg-4.result _ _ (λ r h. arg_added _ r _ _ _ three c.words.ensures.rule c.words.ensures.local h) c.arg-4.ensures
+    let four = arg_added _ _ _ _ _ three c.flag.ensures.rule c.flag.ensures.local c.in_ok-arg-4.ensures in
+    let five = arg_added _ _ _ _ _ four c.flag-2.ensures.rule c.flag-2.ensures.local c.in_ok-arg-5.ensures in
+    let six = arg_added _ _ _ _ _ five c.option-4.ensures.rule c.option-4.ensures.local c.in_ok-arg-6.ensures in
+    let seven = arg_added _ _ _ _ _ six c.option-5.ensures.rule c.option-5.ensures.local c.in_ok-arg-7.ensures in
+    IfOk-weaker c.arg-8.result _ _ (λ r h. arg_added _ r _ _ _ seven c.words.ensures.rule c.words.ensures.local h) c.arg-8.ensures

@@ -10,7 +10,8 @@ byte-at-requires g c =
     let p = c.args.plan.now in
     let l = c.loop-level.level in
     let some : 0 < fan p.settings = omega (arith, c.fan-fan.ensures.two, c.fan-fan.ensures.value) in
-    let here = closing-place (fan p.settings) c.args.i l c.loop-level.index c.fan-fan.result c.loop-level.invariant.quotient c.fan-fan.ensures.value in
+    let here = closing-place (fan p.settings) c.args.i l c.loop-level.index c.fan-fan.result
+    c.loop-level.invariant.quotient c.fan-fan.ensures.value in
     record {
       level_below = omega (arith, c.loop-level-test.true, c.levels-level-end.ensures);
       block_below = omega (arith, here, closing-below (fan p.settings) p.blocks l c.args.i some c.requires.index);
@@ -23,9 +24,11 @@ loop-level-preserved g c =
     let inv = c.loop-level.invariant in
     let path = c.loop-level.path in
     let size = c.hash_block-size.result in
-    let here = closing-place (fan p.settings) c.args.i l c.loop-level.index c.fan-fan.result inv.quotient c.fan-fan.ensures.value in
+    let here = closing-place (fan p.settings) c.args.i l c.loop-level.index c.fan-fan.result inv.quotient
+    c.fan-fan.ensures.value in
     let below : l < levels_of p = omega (arith, c.loop-level-test.true, c.levels-level-end.ensures) in
-    let long : length path ≡ levels_of p * size = c.loop-level.auto.path ∙ c.requires.path ∙ ap (λ (n : ℕ). levels_of p * n) (sym c.hash_block-size.ensures) in
+    let long : length path ≡ levels_of p * size =
+    c.loop-level.auto.path ∙ c.requires.path ∙ ap (λ (n : ℕ). levels_of p * n) (sym c.hash_block-size.ensures) in
     let within = run-within path l (levels_of p) size below long in
     let run = length-run path l size within in
     let len : length c.read_filled.new.buf ≡ size = c.read_filled.auto.buf ∙ run in
@@ -37,6 +40,8 @@ loop-level-preserved g c =
       read = λ tells.
           let device = g.D.Device.content c.args.device.now in
           let stored = c.in-Ok.ensures.bytes (inv.told tells)
-          ∙ read-stored p c.args.i l c.byte-at.result _ _ device _ (run ∙ c.hash_block-size.ensures) c.byte-at.ensures.value here (inv.same tells) in
-          path-more p c.args.i l size path c.read_filled.new.buf device c.hash_block-size.ensures len within stored (inv.read tells);
+          ∙ read-stored p c.args.i l c.byte-at.result _ _ device _
+          (run ∙ c.hash_block-size.ensures) c.byte-at.ensures.value here (inv.same tells) in
+          path-more p c.args.i l size path c.read_filled.new.buf device c.hash_block-size.ensures len within stored
+          (inv.read tells);
     }

@@ -15,6 +15,7 @@ read_is s v (Err e) said one none value fault = let passes : cause s ≡ None = 
 pub returns : goal.returns
 returns c =
     let v = c.args.superblock.now in
-    let said = subst (λ (s : List ℕ). IsSuperblock s v) (sym c.write_superblock-bytes.ensures) (c.text_says_its_superblock.ensures v c.tree-tree.ensures.valid) in
+    let said = subst (λ (s : List ℕ). IsSuperblock s v) (sym c.write_superblock-bytes.ensures)
+    (c.text_says_its_superblock.ensures v c.tree-tree.ensures.valid) in
     read_is c.write_superblock-bytes.result v c.read_superblock.result said c.bytes_say_one_superblock.ensures
     c.bytes_say_a_superblock_or_fail_a_test.ensures c.read_superblock.ensures.value c.read_superblock.ensures.fault

@@ -8,5 +8,6 @@ use Rattle.verity_format.proofs.putting.put_all.Goals as goal
 pub loop-taken-preserved : goal.loop-taken-preserved
 loop-taken-preserved g c = record {
   within = grind (arith, common_steps, c.in-Ok.ensures.bound);
-  bytes = appends_more _ _ _ c.args.text.now c.loop-taken.taken c.in-Ok.count c.loop-taken.invariant.bytes (rw take_rest at c.in-Ok.ensures.front);
+  bytes = appends_more _ _ _ c.args.text.now c.loop-taken.taken c.in-Ok.count c.loop-taken.invariant.bytes
+      (rw take_rest at c.in-Ok.ensures.front);
 }

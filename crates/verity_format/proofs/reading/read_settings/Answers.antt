@@ -10,7 +10,8 @@ returns-clause-value c =
     let made = c.settings_within_limits.ensures.value in
     let less : 88 + n - 88 ≡ n = omega arith in
     let held : length (take n (drop 88 s)) ≡ n = length-take-le n (drop 88 s) (omega (arith, length-drop 88 s)) in
-    let salt : c.settings_within_limits.result.salt ≡ take n (drop 88 s) = ap (λ t. t.salt) made ∙ ap (λ m. take m (drop 88 s)) less in
+    let salt : c.settings_within_limits.result.salt ≡ take n (drop 88 s) =
+    ap (λ t. t.salt) made ∙ ap (λ m. take m (drop 88 s)) less in
     let long : length c.settings_within_limits.result.salt ≡ n = ap length salt ∙ held in
     record {
       name = search rules;

@@ -7,7 +7,7 @@ invariant-loop-filled g l = record {
   count : g.S.Source.failures l.source ≡ g.S.Source.failures l.fn.source;
   told : g.S.Source.tells l.fn.source → g.S.Source.tells l.source;
   bytes : g.S.Source.tells l.fn.source →
-      g.S.Source.to_come l.fn.source ≡ take l.filled l.buf ++ g.S.Source.to_come l.source;
+      g.S.Source.remaining l.fn.source ≡ take l.filled l.buf ++ g.S.Source.remaining l.source;
 }
 
 abbrev pub decreases-loop-filled : goal.decreases-loop-filled

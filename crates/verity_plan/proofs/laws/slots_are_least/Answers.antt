@@ -2,4 +2,10 @@ use Rattle.verity_plan.proofs.FitLemmas.{digest-slot, slot-least, slot-after, sl
 use Rattle.verity_plan.proofs.laws.slots_are_least.Goals as goal
 
 pub returns : goal.returns
-returns c = record { digest = digest-slot; power = slot-power; least = slot-least; after = slot-after; same = slot-same }
+returns c = record {
+  digest = digest-slot;
+  power = slot-power;
+  least = slot-least;
+  after = slot-after;
+  same = slot-same;
+}

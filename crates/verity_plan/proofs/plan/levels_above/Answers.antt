@@ -9,25 +9,52 @@ pub levels-preserved : goal.levels-preserved
 levels-preserved c =
     let inv = c.levels.invariant in
     let some : 0 < c.args.fan = omega (arith, c.requires.two) in
-    let more = levels-more c.args.fan c.args.blocks c.levels.above.levels c.levels.size c.requires.two inv.size_is c.levels-test.true in
-    let next = c.div_ceil-size.ensures ∙ size-more c.args.fan c.args.blocks c.levels.above.levels c.levels.size some inv.size_is in
+    let more = levels-more c.args.fan c.args.blocks c.levels.above.levels c.levels.size c.requires.two inv.size_is
+    c.levels-test.true in
+    let next = c.div_ceil-size.ensures
+    ∙ size-more c.args.fan c.args.blocks c.levels.above.levels c.levels.size some inv.size_is in
     record {
       size_is = next;
       some = omega (arith, c.div_ceil-size.ensures, div_ceil-pos c.levels.size c.args.fan some inv.some);
       within = omega (arith, more);
-      counted = omega (arith, inv.counted, next, blocks_from-level c.args.fan c.args.blocks c.levels.above.levels (level_count c.args.fan c.args.blocks) more);
-      most = omega (arith, inv.most, c.div_ceil-size.ensures, div_ceil-half c.levels.size c.args.fan c.requires.two c.levels-test.true);
-      few = omega (arith, inv.few, c.div_ceil-size.ensures, div_ceil-lt c.levels.size c.args.fan c.requires.two c.levels-test.true);
+      counted = omega (
+        arith,
+        inv.counted,
+        next,
+        blocks_from-level c.args.fan c.args.blocks c.levels.above.levels (level_count c.args.fan c.args.blocks) more,
+      );
+      most = omega (
+        arith,
+        inv.most,
+        c.div_ceil-size.ensures,
+        div_ceil-half c.levels.size c.args.fan c.requires.two c.levels-test.true,
+      );
+      few = omega (
+        arith,
+        inv.few,
+        c.div_ceil-size.ensures,
+        div_ceil-lt c.levels.size c.args.fan c.requires.two c.levels-test.true,
+      );
     }
 
 pub returns-clause-levels : goal.returns-clause-levels
 returns-clause-levels c =
     let inv = c.levels.invariant in
-    omega (arith, inv.within, levels-all c.args.fan c.args.blocks c.levels.above.levels c.levels.size c.requires.two inv.size_is (omega (arith, c.levels-test.false)))
+    omega (
+      arith,
+      inv.within,
+      levels-all c.args.fan c.args.blocks c.levels.above.levels c.levels.size c.requires.two
+          inv.size_is (omega (arith, c.levels-test.false)),
+    )
 
 pub returns-clause-blocks : goal.returns-clause-blocks
 returns-clause-blocks c =
     let inv = c.levels.invariant in
     let none : level_count c.args.fan c.args.blocks - c.levels.above.levels ≡ 0 =
-    omega (arith, inv.within, levels-all c.args.fan c.args.blocks c.levels.above.levels c.levels.size c.requires.two inv.size_is (omega (arith, c.levels-test.false))) in
+    omega (
+      arith,
+      inv.within,
+      levels-all c.args.fan c.args.blocks c.levels.above.levels c.levels.size c.requires.two
+          inv.size_is (omega (arith, c.levels-test.false)),
+    ) in
     omega (arith, inv.counted, ap (λ (k : ℕ). blocks_from c.args.fan c.args.blocks c.levels.above.levels k) none)

@@ -5,7 +5,7 @@ use Rattle.verity_tree.proofs.data_block.read_front.Goals as goal
 pub returns-in-Err-clause-bytes : goal.returns-in-Err-clause-bytes
 returns-in-Err-clause-bytes g c = λ tells.
     let stop = c.in-Err.ensures.bytes tells in
-    let after = g.S.Source.to_come c.read_block.new.source in
+    let after = g.S.Source.remaining c.read_block.new.source in
     record {
       count = length stop.0;
       less = omega (arith, stop.1, c.read_block.auto.buf, length-take-le c.args.want c.args.block.now c.requires);

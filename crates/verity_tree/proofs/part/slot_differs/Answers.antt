@@ -1,5 +1,5 @@
 -- The digests in a slot, as the code cuts them.
-use Rattle.std.proofs.Common.{◌≡◌, ℕ, ◌+◌, ◌-◌, ◌*◌, Bool, List, take, drop, arith, ◌∙◌, ap}
+use Rattle.std.proofs.Common.{◌≡◌, ℕ, ◌+◌, ◌-◌, ◌*◌, List, take, drop, arith, ◌∙◌, ap}
 use Rattle.std.specs.Prelude.{not}
 use Rattle.std.specs.Str.{bytes_eq}
 use Rattle.verity_plan.specs.Settings.{Settings, digest_len, slot_width}
@@ -17,9 +17,13 @@ pub returns : goal.returns
 returns c =
     let s = c.args.plan.now.settings in
     let slot = c.args.slot in
-    let computed = cut_is s c.args.computed.now slot c.slot_width.result c.digest_len-len.result c.slot_width.ensures c.digest_len-len.ensures in
-    let held = cut_is s c.args.held.now slot c.slot_width.result c.digest_len-len.result c.slot_width.ensures c.digest_len-len.ensures in
-    let cut = λ (bytes : List ℕ). take (slot * c.slot_width.result + c.digest_len-len.result - slot * c.slot_width.result) (drop (slot * c.slot_width.result) bytes) in
+    let computed = cut_is s c.args.computed.now slot c.slot_width.result c.digest_len-len.result c.slot_width.ensures
+    c.digest_len-len.ensures in
+    let held = cut_is s c.args.held.now slot c.slot_width.result c.digest_len-len.result c.slot_width.ensures
+    c.digest_len-len.ensures in
+    let cut = λ (bytes : List ℕ). take
+    (slot * c.slot_width.result + c.digest_len-len.result - slot * c.slot_width.result)
+    (drop (slot * c.slot_width.result) bytes) in
     c.ne.ensures
     ∙ ap (λ (xs : List ℕ). not (bytes_eq xs (cut c.args.computed.now))) held
     ∙ ap (λ (xs : List ℕ). not (bytes_eq (digest_in s c.args.held.now slot) xs)) computed

@@ -3,7 +3,8 @@ use Rattle.std.proofs.lemmas.Slice.Eq.{bytes_eq-Decides}
 use Rattle.verity_tree.specs.Paths.{HoldsAt, chain}
 use Rattle.verity_plan.specs.Plans.{levels_of}
 use Rattle.verity_plan.specs.Settings.{fan, hash}
-use Rattle.verity_tree.proofs.PathSteps.{HasLengths-read, bytes_eq-false, chain-more, digest_above-top, range-block, read-is, slot-in-block}
+use Rattle.verity_tree.proofs.PathSteps.{HasLengths-read, bytes_eq-false, chain-more, digest_above-top, range-block}
+use Rattle.verity_tree.proofs.PathSteps.{read-is, slot-in-block}
 use Rattle.verity_plan.proofs.PlanLemmas.{store_few}
 use Rattle.verity_tree.proofs.QuotientLemmas.{quotient-next}
 use Rattle.verity_tree.proofs.path.check_block.Goals as goal
@@ -29,7 +30,8 @@ has_digest-requires c =
       ap (λ (n : ℕ). levels_of p * n) c.hash_block-size.ensures,
     ) in
     slot-in-block p c.args.path.now _ c.loop-level.level _ c.fan-fan.result c.fan-fan.ensures.fits below long
-    (range-block c.args.path.now c.loop-level.level c.hash_block-size.result p.settings.hash_block c.hash_block-size.ensures) c.fan-fan.ensures.value c.fan-fan.ensures.two
+    (range-block c.args.path.now c.loop-level.level c.hash_block-size.result p.settings.hash_block
+    c.hash_block-size.ensures) c.fan-fan.ensures.value c.fan-fan.ensures.two
 
 pub loop-level-preserved : goal.loop-level-preserved
 loop-level-preserved c =
@@ -39,14 +41,18 @@ loop-level-preserved c =
     let l = c.loop-level.level in
     let below : l < levels_of p = omega (arith, c.loop-level-test.true, c.levels-levels.ensures) in
     let above = range-block path l c.hash_block-size.result p.settings.hash_block c.hash_block-size.ensures in
-    let read = read-is p i path c.args.root.now _ l (c.loop-level.index % c.fan-fan.result) c.loop-level.index c.fan-fan.result below above
+    let read = read-is p i path c.args.root.now _ l (c.loop-level.index % c.fan-fan.result) c.loop-level.index
+    c.fan-fan.result below above
     c.fan-fan.ensures.value c.loop-level.invariant.quotient refl in
     let equal = (bytes_eq-Decides c.loop-level.digest _).0 (sym c.has_digest.ensures ∙ c.if-not-has_digest.false) in
-    let here : HoldsAt p i c.args.block.now path c.args.root.now l = sym c.loop-level.invariant.digest_is ∙ equal ∙ read in
+    let here : HoldsAt p i c.args.block.now path c.args.root.now l =
+    sym c.loop-level.invariant.digest_is ∙ equal ∙ read in
     record {
-      quotient = ap (λ (n : ℕ). n / c.fan-fan.result) c.loop-level.invariant.quotient ∙ ap (λ (n : ℕ). i / fan p.settings ^ l / n) c.fan-fan.ensures.value
+      quotient = ap (λ (n : ℕ). n / c.fan-fan.result) c.loop-level.invariant.quotient
+          ∙ ap (λ (n : ℕ). i / fan p.settings ^ l / n) c.fan-fan.ensures.value
           ∙ sym (quotient-next (fan p.settings) i l);
-      digest_is = c.hash-digest-in-loop-level.ensures ∙ ap (hash p.settings) (above ∙ sym (chain-more p.settings c.args.block.now path l));
+      digest_is = c.hash-digest-in-loop-level.ensures
+          ∙ ap (hash p.settings) (above ∙ sym (chain-more p.settings c.args.block.now path l));
       below = below_more (HoldsAt p i c.args.block.now path c.args.root.now) l c.loop-level.invariant.below here;
     }
 
@@ -58,11 +64,13 @@ returns-then-not-has_digest c =
     let l = c.loop-level.level in
     let below : l < levels_of p = omega (arith, c.loop-level-test.true, c.levels-levels.ensures) in
     let above = range-block path l c.hash_block-size.result p.settings.hash_block c.hash_block-size.ensures in
-    let read = read-is p i path c.args.root.now _ l (c.loop-level.index % c.fan-fan.result) c.loop-level.index c.fan-fan.result below above
+    let read = read-is p i path c.args.root.now _ l (c.loop-level.index % c.fan-fan.result) c.loop-level.index
+    c.fan-fan.result below above
     c.fan-fan.ensures.value c.loop-level.invariant.quotient refl in
     record {
       index = omega (arith, c.if-i-blocks.false, c.blocks-2.ensures.value);
-      lengths = HasLengths-read p c.args.block.now c.args.path.now _ _ _ c.data_block.ensures c.levels-levels.ensures c.hash_block-size.ensures
+      lengths = HasLengths-read p c.args.block.now c.args.path.now _ _ _ c.data_block.ensures c.levels-levels.ensures
+          c.hash_block-size.ensures
           c.if-block-data_block.false c.if-path-levels.false;
       within = omega (arith, below);
       below = c.loop-level.invariant.below;
@@ -77,7 +85,8 @@ returns-then-eq c =
     let block = c.args.block.now in
     let path = c.args.path.now in
     let root = c.args.root.now in
-    let top : c.loop-level.level ≡ levels_of p = omega (arith, c.loop-level.auto.level-end, c.loop-level-test.false, c.levels-levels.ensures) in
+    let top : c.loop-level.level ≡ levels_of p =
+    omega (arith, c.loop-level.auto.level-end, c.loop-level-test.false, c.levels-levels.ensures) in
     let equal = (bytes_eq-Decides c.as_bytes.result.now c.as_bytes-2.result.now).0 (sym c.eq.ensures ∙ c.if-eq.true) in
     let here : HoldsAt p i block path root c.loop-level.level =
     sym c.loop-level.invariant.digest_is ∙ sym c.as_bytes.ensures.bytes ∙ equal ∙ c.as_bytes-2.ensures.bytes
@@ -85,7 +94,8 @@ returns-then-eq c =
     let all = below_more (HoldsAt p i block path root) c.loop-level.level c.loop-level.invariant.below here in
     record {
       index = omega (arith, c.if-i-blocks.false, c.blocks-2.ensures.value);
-      lengths = HasLengths-read p c.args.block.now c.args.path.now _ _ _ c.data_block.ensures c.levels-levels.ensures c.hash_block-size.ensures
+      lengths = HasLengths-read p c.args.block.now c.args.path.now _ _ _ c.data_block.ensures c.levels-levels.ensures
+          c.hash_block-size.ensures
           c.if-block-data_block.false c.if-path-levels.false;
       holds = λ l within. all l (omega (arith, within, top));
     }
@@ -96,15 +106,18 @@ returns-else-eq c =
     let i = c.args.i in
     let path = c.args.path.now in
     let root = c.args.root.now in
-    let top : c.loop-level.level ≡ c.levels-levels.result = omega (arith, c.loop-level.auto.level-end, c.loop-level-test.false) in
+    let top : c.loop-level.level ≡ c.levels-levels.result =
+    omega (arith, c.loop-level.auto.level-end, c.loop-level-test.false) in
     let past : levels_of p ≤ c.levels-levels.result = omega (arith, c.levels-levels.ensures) in
     record {
       index = omega (arith, c.if-i-blocks.false, c.blocks-2.ensures.value);
-      lengths = HasLengths-read p c.args.block.now c.args.path.now _ _ _ c.data_block.ensures c.levels-levels.ensures c.hash_block-size.ensures
+      lengths = HasLengths-read p c.args.block.now c.args.path.now _ _ _ c.data_block.ensures c.levels-levels.ensures
+          c.hash_block-size.ensures
           c.if-block-data_block.false c.if-path-levels.false;
       within = omega (arith, c.levels-levels.ensures);
       below = λ m less. c.loop-level.invariant.below m (omega (arith, less, top));
       fails = λ holds. bytes_eq-false c.as_bytes.result.now c.as_bytes-2.result.now (sym c.eq.ensures ∙ c.if-eq.false)
-          (c.as_bytes.ensures.bytes ∙ c.loop-level.invariant.digest_is ∙ ap (λ (l : ℕ). hash p.settings (chain p.settings c.args.block.now path l)) top
+          (c.as_bytes.ensures.bytes ∙ c.loop-level.invariant.digest_is
+          ∙ ap (λ (l : ℕ). hash p.settings (chain p.settings c.args.block.now path l)) top
           ∙ holds ∙ digest_above-top p i path root c.levels-levels.result past ∙ sym c.as_bytes-2.ensures.bytes);
     }

@@ -15,10 +15,12 @@ pub loop-i-preserved : goal.loop-i-preserved
 loop-i-preserved c =
     let settings = c.args.settings.now in
     let bytes = c.args.bytes.now in
-    let run = take-bytes bytes c.loop-i.i c.data_block-size.result c.min-count.result settings.data_block c.data_block-size.ensures.value c.min-count.ensures in
+    let run = take-bytes bytes c.loop-i.i c.data_block-size.result c.min-count.result settings.data_block
+    c.data_block-size.ensures.value c.min-count.ensures in
     let block = c.deref.ensures.value ∙ c.in_ok-block.ensures ∙ ap (filled c.data_block-size.result) run
     ∙ ap (λ (n : ℕ). filled n (slice_chunk bytes settings.data_block c.loop-i.i)) c.data_block-size.ensures.value
-    ∙ ap (λ (xs : List ℕ). block_at settings.data_block xs c.loop-i.i) (sym (take_all (length bytes) bytes (omega arith))) in
+    ∙ ap (λ (xs : List ℕ). block_at settings.data_block xs c.loop-i.i)
+    (sym (take_all (length bytes) bytes (omega arith))) in
     mapped_more (digest_of_block settings (length bytes) bytes) c.loop-i.digests.items _ c.loop-i.i c.hash.result
     c.in_ok-push.ensures.items c.loop-i.invariant (c.hash.ensures ∙ ap (hash settings) block)
 
@@ -27,7 +29,8 @@ returns c =
     let settings = c.args.settings.now in
     let bytes = c.args.bytes.now in
     let count = div_ceil (length bytes) settings.data_block in
-    let same : c.div_ceil-i-end.result ≡ count = c.div_ceil-i-end.ensures ∙ ap (λ (n : ℕ). div_ceil (length bytes) n) c.data_block-size.ensures.value in
+    let same : c.div_ceil-i-end.result ≡ count =
+    c.div_ceil-i-end.ensures ∙ ap (λ (n : ℕ). div_ceil (length bytes) n) c.data_block-size.ensures.value in
     let last : c.loop-i.i ≡ count = omega (arith, same, c.loop-i.auto.i-end, c.loop-i-test.false) in
     c.loop-i.invariant
     ∙ ap (λ (n : ℕ). map (digest_of_block settings (length bytes) bytes) (range_with_len 0 n)) last

@@ -11,15 +11,19 @@ use Rattle.verity_tree.proofs.plain_root.level_up.Goals as goal
 pub loop-j-preserved : goal.loop-j-preserved
 loop-j-preserved c =
     let settings = c.args.settings.now in
-    let run = take-run c.args.digests.now c.loop-j.j c.fan-fan.result c.min-size.result (fan settings) c.fan-fan.ensures.value c.min-size.ensures in
-    let digest = c.hash.ensures ∙ ap (hash settings) (c.deref.ensures.value ∙ c.in_ok-block.ensures ∙ ap (hash_block_of settings) run) in
-    digests_more settings c.args.digests.now c.loop-j.above.items _ c.loop-j.j c.hash.result c.in_ok-push.ensures.items c.loop-j.invariant digest
+    let run = take-run c.args.digests.now c.loop-j.j c.fan-fan.result c.min-size.result
+    (fan settings) c.fan-fan.ensures.value c.min-size.ensures in
+    let digest = c.hash.ensures
+    ∙ ap (hash settings) (c.deref.ensures.value ∙ c.in_ok-block.ensures ∙ ap (hash_block_of settings) run) in
+    digests_more settings c.args.digests.now c.loop-j.above.items _ c.loop-j.j c.hash.result c.in_ok-push.ensures.items
+    c.loop-j.invariant digest
 
 pub returns : goal.returns
 returns c =
     let settings = c.args.settings.now in
     let count = div_ceil (length c.args.digests.now) (fan settings) in
-    let same : c.div_ceil-j-end.result ≡ count = c.div_ceil-j-end.ensures ∙ ap (λ (n : ℕ). div_ceil (length c.args.digests.now) n) c.fan-fan.ensures.value in
+    let same : c.div_ceil-j-end.result ≡ count =
+    c.div_ceil-j-end.ensures ∙ ap (λ (n : ℕ). div_ceil (length c.args.digests.now) n) c.fan-fan.ensures.value in
     let last : c.loop-j.j ≡ count = omega (arith, same, c.loop-j.auto.j-end, c.loop-j-test.false) in
     c.loop-j.invariant
     ∙ ap (λ (n : ℕ). map (digest_of_run settings c.args.digests.now) (range_with_len 0 n)) last

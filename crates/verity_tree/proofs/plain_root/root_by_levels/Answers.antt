@@ -13,7 +13,8 @@ use Rattle.verity_tree.proofs.DataBlockLemmas.{blocks-some}
 use Rattle.verity_tree.proofs.plain_root.root_by_levels.Goals as goal
 
 -- the digests are those of the plan's data blocks
-digests-are : (p : Planned) → IsPlanned p → (s : Settings) (bytes : List ℕ) (digests : List (List ℕ)) → s ≡ p.settings → length bytes ≡ p.wanted
+digests-are : (p : Planned) → IsPlanned p → (s : Settings) (bytes : List ℕ) (digests : List (List ℕ)) → s ≡ p.settings
+    → length bytes ≡ p.wanted
     → digests ≡ map (hash s) (cut s (div_ceil (length bytes) s.data_block) (length bytes) bytes)
     → digests ≡ map (hash p.settings) (data_blocks p bytes)
 digests-are p planned s bytes digests same all is =
@@ -47,5 +48,6 @@ returns c =
     let digests = digests-are p planned _ bytes _ c.settings-settings.ensures c.requires c.in_ok-digests.ensures in
     let same = ap (λ (s : Settings). root_of_digests s c.in_ok-digests.digests.items) c.settings-settings.ensures
     ∙ ap (root_of_digests p.settings) digests
-    ∙ sym (root-digests p.settings (data_blocks p bytes) (fan-two p.settings planned.valid) (blocks-are-some p planned bytes)) in
+    ∙ sym (root-digests p.settings (data_blocks p bytes) (fan-two p.settings planned.valid)
+    (blocks-are-some p planned bytes)) in
     subst (λ (x : List ℕ). IfOk c.root_above.result (λ r. r ≡ x)) same c.root_above.ensures

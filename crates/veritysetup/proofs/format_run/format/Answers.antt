@@ -12,22 +12,22 @@ by_plan p q bytes found is same = is ∙ ap (λ (r : Planned). root r.settings (
 
 pub returns-in-Err-clause-printed : goal.returns-in-Err-clause-printed
 returns-in-Err-clause-printed g c =
-    (root_above c.args.settings.now (g.S.Source.to_come c.args.source.now), λ told. refl, kept _)
+    (root_above c.args.settings.now (g.S.Source.remaining c.args.source.now), λ told. refl, kept _)
 
 pub returns-in-Err-build-clause-printed : goal.returns-in-Err-build-clause-printed
 returns-in-Err-build-clause-printed g c =
-    (root_above c.args.settings.now (g.S.Source.to_come c.args.source.now), λ told. refl, kept _)
+    (root_above c.args.settings.now (g.S.Source.remaining c.args.source.now), λ told. refl, kept _)
 
 pub returns-in-Ok-print_report-clause-printed : goal.returns-in-Ok-print_report-clause-printed
 returns-in-Ok-print_report-clause-printed g c = (
   c.in-Ok-build.root,
   λ told. by_plan _ _ _ _ (c.in-Ok-build.ensures.read told).0 c.plan-plan.ensures.value,
-  rw c.superblock.ensures at c.in-Ok-print_report.ensures,
+  c.in-Ok-print_report.ensures _ c.settings_report.ensures,
 )
 
 pub returns-clause-printed : goal.returns-clause-printed
 returns-clause-printed g c = (
   c.in-Ok-build.root,
   λ told. by_plan _ _ _ _ (c.in-Ok-build.ensures.read told).0 c.plan-plan.ensures.value,
-  rw c.superblock.ensures at c.in-Err-print_report.ensures,
+  c.in-Err-print_report.ensures _ c.settings_report.ensures,
 )

@@ -1,4 +1,4 @@
-use Rattle.std.proofs.Common.{◌≡◌, ◌∙◌, ◌*◌, ◌/◌, ℕ, ap, sym, refl, Bool, true, false, cond, Option, Some, None, Ok, Err}
+use Rattle.std.proofs.Common.{◌≡◌, ◌∙◌, ◌*◌, ℕ, ap, sym, refl, Bool, true, false, cond, Option, Some, None, Ok, Err}
 use Rattle.verity_plan.specs.Plans.{Planned}
 use Rattle.verity_plan.specs.Settings.{Settings}
 use Rattle.verity_plan.proofs.PlanLemmas.{planned_is}
@@ -24,7 +24,7 @@ plan_is s count None q e = by_test _ e
 pub invariant_of-result : goal.invariant_of-result
 invariant_of-result c =
     let tree = c.in_ok-chosen.chosen.tree in
-    let made = plan_is tree _ _ c.in-Ok.field-0 (sym c.in-Ok.is ∙ c.plan_at.ensures) in
+    let made = plan_is tree _ _ c.in-Ok.plan (sym c.in-Ok.is ∙ c.plan_at.ensures) in
     record {
       of_type = ap (λ (p : Planned). p.settings.rule) made.plan_is ∙ c.in_ok-chosen.ensures.of_type;
       whole = rw made.plan_is refl;

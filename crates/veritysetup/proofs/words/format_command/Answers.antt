@@ -12,14 +12,11 @@ unfolding format_app
 returns c =
     let new : Defines (new_app (codes "format")) c.new.result
     = record { app = c.new.ensures.app; local = c.new.ensures.local } in
-    let none = usage_replaced _ _ _ _ new c.override_usage.ensures in
-    let one = arg_added _ _ _ _ _ none c.option.ensures.rule c.option.ensures.local c.in_ok-arg.ensures in
-    let two = arg_added _ _ _ _ _ one c.option-2.ensures.rule c.option-2.ensures.local c.in_ok-arg-2.ensures in
-    let three = arg_added _ _ _ _ _ two c.option-3.ensures.rule c.option-3.ensures.local c.in_ok-arg-3.ensures in
-    let four = arg_added _ _ _ _ _ three c.option-4.ensures.rule c.option-4.ensures.local c.in_ok-arg-4.ensures in
-    let five = arg_added _ _ _ _ _ four c.option-5.ensures.rule c.option-5.ensures.local c.in_ok-arg-5.ensures in
-    let six = arg_added _ _ _ _ _ five c.option-6.ensures.rule c.option-6.ensures.local c.in_ok-arg-6.ensures in
-    let seven = arg_added _ _ _ _ _ six c.option-7.ensures.rule c.option-7.ensures.local c.in_ok-arg-7.ensures in
-    let eight = arg_added _ _ _ _ _ seven c.word.ensures.rule c.word.ensures.local c.in_ok-arg-8.ensures in
-    IfOk-weaker c.arg-9.result _ _ (λ r h. arg_added _ r _ _ _ eight c.word-2.ensures.rule c.word-2.ensures.local h)
-    c.arg-9.ensures
+    let none = usage_replaced _ _ _ _ new c.override_usage-command.ensures in
+    let tree = c.in_ok-with_tree_options.ensures _ none in
+    let offset = c.in_ok-with_offset_option.ensures _ tree in
+    let one = arg_added _ _ _ _ _ offset c.option.ensures.rule c.option.ensures.local c.in_ok-arg.ensures in
+    let two = arg_added _ _ _ _ _ one c.flag.ensures.rule c.flag.ensures.local c.in_ok-arg-2.ensures in
+    let three = arg_added _ _ _ _ _ two c.word.ensures.rule c.word.ensures.local c.in_ok-arg-3.ensures in
+    IfOk-weaker c.arg-4.result _ _
+    (λ r h. arg_added _ r _ _ _ three c.word-2.ensures.rule c.word-2.ensures.local h) c.arg-4.ensures

@@ -6,12 +6,12 @@ use Rattle.clap.specs.declared.parser.matches.ArgMatches.{ArgMatches}
 use Rattle.clap.proofs.OnLiterals.{clap_on_literals}
 use Rattle.command_line.specs.Arguments.{Defines}
 use Rattle.command_line.proofs.Named.{IsOneOf, met_is_own, met_of, none_of, sub_names}
-use Rattle.veritysetup.specs.CommandLines.{command_text, dump_app, format_app, verify_app, veritysetup_app}
+use Rattle.veritysetup.specs.CommandLines.{command_text, dump_app, format_app, verify_app, veritysetup_app, with_offset_rule, with_tree_rules}
 use Rattle.veritysetup.specs.declared.command_name.CommandName.TheVariants.{Format, Dump, Verify}
 use Rattle.veritysetup.proofs.words.read_words.Goals as goal
 
 simple : is_simple veritysetup_app ≡ true
-unfolding clap_on_literals veritysetup_app format_app dump_app verify_app
+unfolding clap_on_literals veritysetup_app format_app dump_app verify_app with_tree_rules with_offset_rule
 simple = refl
 
 help_is_off : veritysetup_app.top.disable_help_subcommand ≡ true
@@ -19,7 +19,7 @@ unfolding veritysetup_app
 help_is_off = refl
 
 names : sub_names veritysetup_app ≡ map command_text (Format ∷ Dump ∷ Verify ∷ [])
-unfolding veritysetup_app format_app dump_app verify_app
+unfolding veritysetup_app format_app dump_app verify_app with_tree_rules with_offset_rule
 names = refl
 
 met : (c : Command) (m : ArgMatches) (words : List Text) (name : Text) (rows : List Row) → Defines veritysetup_app c

@@ -18,4 +18,5 @@ checked-requires c =
     let wide : c.from.result ≡ s.data_block = c.from.ensures ∙ c.data_block.ensures.value in
     let told = c.in-Some.ensures in
     let product : c.in-Some.wanted ≡ c.args.blocks * s.data_block = told.1 ∙ ap (λ (n : ℕ). c.args.blocks * n) wide in
-    sym (ap (λ (n : ℕ). div_ceil n s.data_block) product ∙ div_ceil-mul c.args.blocks s.data_block (some_data s c.data_block.ensures.valid))
+    sym (ap (λ (n : ℕ). div_ceil n s.data_block) product
+    ∙ div_ceil-mul c.args.blocks s.data_block (some_data s c.data_block.ensures.valid))

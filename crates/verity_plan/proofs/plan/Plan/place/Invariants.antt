@@ -9,5 +9,6 @@ use Rattle.verity_plan.proofs.plan.Plan.place.Given as goal
 abbrev pub invariant-loop-below : goal.invariant-loop-below
 invariant-loop-below l = record {
   size_is : l.size ≡ div_ceil l.self.blocks (fan l.self.settings ^ l.below);
-  start_is : l.start ≡ l.self.base + blocks_from (fan l.self.settings) l.self.blocks l.below (levels_of l.self - l.below);
+  start_is : l.start ≡ l.self.base + blocks_from (fan l.self.settings) l.self.blocks l.below
+      (levels_of l.self - l.below);
 }

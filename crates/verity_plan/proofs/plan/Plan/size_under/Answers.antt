@@ -7,7 +7,8 @@ use Rattle.verity_plan.proofs.plan.Plan.size_under.Goals as goal
 pub loop-below-preserved : goal.loop-below-preserved
 loop-below-preserved c =
     let p = c.args.self.now in
-    let fan_is : c.fan-fan.result ≡ fan p.settings = c.fan-fan.ensures.value ∙ ap (λ v. fan v.settings) c.self.view_is in
+    let fan_is : c.fan-fan.result ≡ fan p.settings =
+    c.fan-fan.ensures.value ∙ ap (λ v. fan v.settings) c.self.view_is in
     let some : 0 < fan p.settings = omega (arith, fan_is, c.fan-fan.ensures.two) in
     c.div_ceil-size.ensures ∙ ap (λ (f : ℕ). div_ceil c.loop-below.size f) fan_is
     ∙ size-more (fan p.settings) p.blocks c.loop-below.below c.loop-below.size some c.loop-below.invariant

@@ -1,0 +1,32 @@
+-- Facts on the lines of files: what a form asks of a digest, and what a writer holds after nothing was written.
+use Rattle.std.proofs.Common.{◌≡◌, ℕ, ◌<◌, List, length, Option, Some, None, true, refl, arith}
+use Rattle.std.specs.Io.KnownBytes.{Keeps}
+use Rattle.verity_hash.specs.Algorithms.{digest_len_of}
+use Rattle.verity_hash.specs.declared.algorithm.Algorithm.{Algorithm}
+use Rattle.verity_hash.specs.declared.algorithm.Algorithm.TheVariants.{Sha256, Sha512, Sha1, Sha224, Sha384}
+use Rattle.verity_format.specs.Descriptors.{algorithm_number}
+use Rattle.verity_plan.specs.Settings.{is_of_fsverity}
+use Rattle.fsverity.specs.Lines.{FitsForm}
+use Rattle.fsverity.specs.declared.digest_lines.Form.{Form}
+use Rattle.fsverity.specs.declared.digest_lines.Form.TheVariants.{Full, Compact, Builtin, CompactBuiltin}
+
+-- an algorithm of fs-verity has a number
+has_number : (a : Algorithm) → is_of_fsverity a ≡ true → 0 < algorithm_number a
+has_number Sha256 known = omega arith
+has_number Sha512 known = omega arith
+has_number Sha1 known = absurd cc
+has_number Sha224 known = absurd cc
+has_number Sha384 known = absurd cc
+
+-- a digest of an algorithm of fs-verity fits each form
+pub fits_form : (form : Form) (a : Algorithm) (digest : List ℕ) → is_of_fsverity a ≡ true →
+    length digest ≡ digest_len_of a → FitsForm form a digest
+fits_form Full a digest known whole = tt
+fits_form Compact a digest known whole = tt
+fits_form Builtin a digest known whole = (has_number a known, whole)
+fits_form CompactBuiltin a digest known whole = (has_number a known, whole)
+
+-- nothing was written
+pub kept : (held : Option (List ℕ)) → Keeps held held
+kept None = tt
+kept (Some bytes) = refl

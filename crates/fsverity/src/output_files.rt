@@ -1,0 +1,119 @@
+//! The output files of a run.
+ghost use Rattle.std.specs.Prelude.{◌≡◌, ◌⊎◌, ◌||◌, IfErr, IfOk, IfSome, IsSome, IsTrue, None, Some, false, is_some, option_map, option_copied, string_bytes};
+
+use crate::Line;
+use command_line::{FileIdentity, Identities, text_of};
+use std::fs::File;
+use std::rt::Files;
+
+/// The names of the output files, where they are given.
+#[derive(Clone, Copy)]
+pub(crate) struct OutputNames<'a> {
+    pub tree: Option<&'a str>,
+    pub descriptor: Option<&'a str>,
+}
+
+impl<'a> OutputNames<'a> {
+    /// The names that a command line gives.
+    pub(crate) fn of_line(line: &'a Line) -> OutputNames<'a>
+        ensures tree { option_copied result.tree ≡ option_map string_bytes line.now.out_merkle_tree }
+        ensures descriptor { option_copied result.descriptor ≡ option_map string_bytes line.now.out_descriptor }
+    {
+        OutputNames {
+            tree: text_of(&line.out_merkle_tree),
+            descriptor: text_of(&line.out_descriptor),
+        }
+    }
+
+    /// Whether one is given.
+    pub(crate) fn are_given(&self) -> bool
+        ensures { result ≡ (is_some self.now.tree || is_some self.now.descriptor) }
+    {
+        self.tree.is_some() || self.descriptor.is_some()
+    }
+}
+
+/// The opened output files, those that are named.
+#[derive(Drop)]
+pub(crate) struct OutputFiles<F> {
+    pub tree: Option<F>,
+    pub descriptor: Option<F>,
+}
+
+impl<F> OutputFiles<F> {
+    /// Opens the output files, the tree's and then the descriptor's: each is made, or cut to nothing. The error is the
+    /// name of the first that is refused. Nobody loses a file that is named twice: an output file that the system tells
+    /// to be the input file, or to be the other output file, is refused before anything is cut.
+    pub(crate) fn open<'a, R: Identities<File = F>>(
+        rt: &R,
+        input: &F,
+        names: OutputNames<'a>,
+    ) -> Result<OutputFiles<F>, &'a str>
+        ensures tree { IfOk result (λ files. is_some files.tree ≡ is_some names.entry.tree) }
+        ensures descriptor { IfOk result (λ files. is_some files.descriptor ≡ is_some names.entry.descriptor) }
+        ensures named { IfErr result (λ name. (names.entry.tree ≡ Some name) ⊎ (names.entry.descriptor ≡ Some name)) }
+    {
+        if let Some(name) = named_twice(rt, input, names) {
+            return Err(name);
+        }
+        let tree = open_output(rt, names.tree)?;
+        // The file is there now, so that a second name of it can be told.
+        if let (Some(file), Some(name)) = (&tree, names.descriptor)
+            && are_one(rt.file_identity(file), rt.path_identity(name))
+        {
+            return Err(name);
+        }
+        let descriptor = open_output(rt, names.descriptor)?;
+        Ok(OutputFiles { tree, descriptor })
+    }
+}
+
+/// The name of the first output file that the system tells to be the input file or the other output file.
+fn named_twice<'a, R: Identities>(
+    rt: &R,
+    input: &R::File,
+    names: OutputNames<'a>,
+) -> Option<&'a str>
+    ensures { IfSome result (λ name. (names.entry.tree ≡ Some name) ⊎ (names.entry.descriptor ≡ Some name)) }
+{
+    let opened = rt.file_identity(input);
+    let tree = identity_of(rt, names.tree);
+    let descriptor = identity_of(rt, names.descriptor);
+    if are_one(tree, opened) {
+        names.tree
+    } else if are_one(descriptor, opened) || are_one(descriptor, tree) {
+        names.descriptor
+    } else {
+        None
+    }
+}
+
+/// The file that a name leads to, where one is given and the system tells.
+fn identity_of<R: Identities>(rt: &R, name: Option<&str>) -> Option<FileIdentity>
+    ensures { name.entry ≡ None → result ≡ None }
+{
+    rt.path_identity(name?)
+}
+
+/// Whether the system tells that two files are one.
+fn are_one(one: Option<FileIdentity>, other: Option<FileIdentity>) -> bool
+    ensures known { one ≡ None → result ≡ false }
+    ensures same { IsTrue result → one ≡ other }
+    ensures equal { IsSome one → one ≡ other → IsTrue result }
+{
+    one.is_some() && one == other
+}
+
+/// The output file of a name, made or cut to nothing. The error is the name.
+fn open_output<'a, R: Files>(rt: &R, name: Option<&'a str>) -> Result<Option<R::File>, &'a str>
+    ensures named { IfOk result (λ file. is_some file ≡ is_some name.entry) }
+    ensures error { IfErr result (λ refused. name.entry ≡ Some refused) }
+{
+    match name {
+        None => Ok(None),
+        Some(name) => match File::create(rt, name) {
+            Ok(file) => Ok(Some(file)),
+            Err(_) => Err(name),
+        },
+    }
+}

@@ -1,0 +1,126 @@
+//! The program, over any runtime.
+ghost use Rattle.std.specs.Prelude.{◌≡◌, ◌≤◌, IfErr, IfOk};
+ghost use Rattle.command_line.specs.Printing.{AppendsFront};
+ghost use Rattle.fsverity.specs.CommandLines.{settings_of};
+ghost use Rattle.fsverity.specs.Messages.{option_text};
+ghost use Rattle.fsverity.specs.Runs.{run_fault_text};
+ghost use Rattle.fsverity.specs.declared.run_fault.RunFault.TheVariants.{NotOpened};
+
+use crate::output_files::OutputNames;
+use crate::output_program::digest_to;
+use crate::{
+    FileOpener, Line, LineFault, OUT_OF_MEMORY, RunFault, digest_settings, option_message,
+    read_words, run_digest,
+};
+use command_line::{
+    Identities, NOT_TEXT, NULL_DEVICE, NullFiles, given_words, tell_text, texts_of,
+};
+use std::alloc::Global;
+use std::env::Env;
+use std::io::{ErrorKind, Write};
+
+/// The status of a file that fails, and of out of memory.
+const FAILED: u8 = 1;
+
+/// The status of a refused command line or option.
+const REFUSED: u8 = 2;
+
+/// Carries out the command line of a runtime (fsverity(1)): what it prints goes to `out`, messages go to `msgs` as far
+/// as that takes them. The answer is the status: 0 done, 1 a file failed, the output could not be written or there was no
+/// memory, 2 the command line or an option is refused, and no file has been opened then.
+pub fn run_program<R: Identities + Env + AllocGlobal, O: Write, M: Write>(
+    rt: &R,
+    out: &mut O,
+    msgs: &mut M,
+) -> u8
+    ensures { result ≤ 2 }
+{
+    match given_words(rt) {
+        Ok(words) => run_words(rt, words.as_slice(), out, msgs),
+        Err(error) if error.kind() == ErrorKind::OutOfMemory => end(FAILED, OUT_OF_MEMORY, msgs),
+        Err(_) => end(REFUSED, NOT_TEXT, msgs),
+    }
+}
+
+/// Reads the words of the command line and carries them out.
+fn run_words<R: Identities + AllocGlobal, O: Write, M: Write>(
+    rt: &R,
+    words: &[String],
+    out: &mut O,
+    msgs: &mut M,
+) -> u8
+    ensures { result ≤ 2 }
+{
+    let Ok(texts) = texts_of(rt.alloc(), words) else {
+        return end(FAILED, OUT_OF_MEMORY, msgs);
+    };
+    match read_words(rt.alloc(), texts.as_slice()) {
+        Ok(line) => run_line(rt, &line, out, msgs),
+        Err(LineFault::Refused(error)) => {
+            let _ = write!(msgs, "{error}");
+            REFUSED
+        }
+        Err(LineFault::Memory) => end(FAILED, OUT_OF_MEMORY, msgs),
+    }
+}
+
+/// `fsverity digest`. A refused option has its message and status 2.
+fn run_line<R: Identities + AllocGlobal, O: Write, M: Write>(
+    rt: &R,
+    line: &Line,
+    out: &mut O,
+    msgs: &mut M,
+) -> u8
+    ensures status { result ≤ 2 }
+    ensures refused { IfErr (settings_of line.now) (λ fault. (result ≡ 2) × (out.new ≡ out.old)
+        × AppendsFront (option_text fault) (M.contents msgs.old) (M.contents msgs.new)) }
+    ensures accepted { IfOk (settings_of line.now) (λ _. result ≤ 1) }
+{
+    let settings = match digest_settings(&line.options()) {
+        Ok(settings) => settings,
+        Err(fault) => return end(REFUSED, option_message(&fault), msgs),
+    };
+    let Ok(names) = texts_of(rt.alloc(), line.files.as_slice()) else {
+        return end(FAILED, OUT_OF_MEMORY, msgs);
+    };
+    let null_files = NullFiles::open(rt);
+    if !null_files.are_open() {
+        return cannot_open(rt.alloc(), NULL_DEVICE, msgs);
+    }
+    let outputs = OutputNames::of_line(line);
+    match names.as_slice() {
+        [name] if outputs.are_given() => {
+            digest_to(rt, &settings, line.form(), name, outputs, out, msgs)
+        }
+        names => {
+            let mut opener = FileOpener::new(rt, names);
+            run_digest(
+                rt.alloc(),
+                &settings,
+                line.form(),
+                names,
+                &mut opener,
+                out,
+                msgs,
+            )
+        }
+    }
+}
+
+/// Writes that a file can't be opened. The answer is the status.
+pub(crate) fn cannot_open<M: Write>(alloc: Global, name: &str, msgs: &mut M) -> u8
+    ensures status { result ≡ 1 }
+    ensures message { AppendsFront (run_fault_text NotOpened name.now) (M.contents msgs.old) (M.contents msgs.new) }
+{
+    RunFault::NotOpened.tell(alloc, name, msgs);
+    FAILED
+}
+
+/// Writes a message, as far as that can be written. The answer is the status.
+fn end<M: Write>(status: u8, message: &str, msgs: &mut M) -> u8
+    ensures status { result ≡ status }
+    ensures message { AppendsFront message.now (M.contents msgs.old) (M.contents msgs.new) }
+{
+    tell_text(message, msgs);
+    status
+}

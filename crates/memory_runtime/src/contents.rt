@@ -1,0 +1,114 @@
+//! What stands on a disk, and what was done to it.
+use crate::call::Calls;
+use crate::kind::Kind;
+use std::alloc::{AllocError, Global};
+use std::fs::OpenOptions;
+use std::io;
+use std::io::ErrorKind;
+
+/// A file without its names.
+#[derive(Drop)]
+pub struct Stored {
+    pub kind: Kind,
+    pub bytes: Vec<u8>,
+}
+
+/// Files with their names, and what was called.
+#[derive(Drop)]
+pub struct Contents {
+    /// A name, and the number of its file.
+    names: Vec<(String, usize)>,
+    pub files: Vec<Stored>,
+    /// The names whose opening is refused.
+    pub refused: Vec<String>,
+    /// What was opened, a line each.
+    pub opened: String,
+    pub calls: Calls,
+}
+
+impl Contents {
+    pub fn new(alloc: Global) -> Contents {
+        Contents {
+            names: Vec::new(alloc),
+            files: Vec::new(alloc),
+            refused: Vec::new(alloc),
+            opened: String::new(alloc),
+            calls: Calls::NONE,
+        }
+    }
+
+    /// The number of the file with this name.
+    pub fn number_of(&self, name: &str) -> Option<usize> {
+        for (other, number) in &self.names {
+            if other.as_str() == name {
+                return Some(*number);
+            }
+        }
+        None
+    }
+
+    /// Gives a file one more name.
+    pub fn link(&mut self, alloc: Global, name: &str, number: usize) -> Result<(), AllocError> {
+        self.names.push((String::from_str(alloc, name)?, number))?;
+        Ok(())
+    }
+
+    /// Makes a file. The answer is its number.
+    pub fn make(&mut self, alloc: Global, name: &str, stored: Stored) -> Result<usize, AllocError> {
+        let number = self.files.len();
+        self.files.push(stored)?;
+        self.link(alloc, name, number)?;
+        Ok(number)
+    }
+
+    fn is_refused(&self, name: &str) -> bool {
+        self.refused.iter().any(|refused| refused.as_str() == name)
+    }
+
+    /// Writes down how a name was opened.
+    fn write_down(&mut self, how: &OpenOptions, name: &str) -> Result<(), AllocError> {
+        self.opened.push_str(name)?;
+        self.opened.push(':')?;
+        for (asked, word) in [
+            (how.asks_read(), " read"),
+            (how.asks_write(), " write"),
+            (how.asks_append(), " append"),
+            (how.asks_truncate(), " truncate"),
+            (how.asks_create(), " create"),
+            (how.asks_create_new(), " create_new"),
+        ] {
+            if asked {
+                self.opened.push_str(word)?;
+            }
+        }
+        self.opened.push('\n')
+    }
+
+    /// Opens a name: finds its file, or makes it where that is asked for, and cuts it where that is. The answer is its
+    /// number.
+    pub fn open(&mut self, alloc: Global, how: &OpenOptions, name: &str) -> io::Result<usize> {
+        self.write_down(how, name)?;
+        if self.is_refused(name) {
+            return Err(io::Error::from(ErrorKind::PermissionDenied));
+        }
+        let Some(number) = self.number_of(name) else {
+            if !how.asks_create() && !how.asks_create_new() {
+                return Err(io::Error::from(ErrorKind::NotFound));
+            }
+            let stored = Stored {
+                kind: Kind::Plain,
+                bytes: Vec::new(alloc),
+            };
+            return Ok(self.make(alloc, name, stored)?);
+        };
+        if how.asks_create_new() {
+            return Err(io::Error::from(ErrorKind::AlreadyExists));
+        }
+        if how.asks_truncate()
+            && let Some(stored) = self.files.get_mut(number)
+        {
+            stored.bytes.clear();
+        }
+        Ok(number)
+    }
+}

@@ -1,0 +1,143 @@
+//! A disk that a test fills, lets programs run over, and then looks at.
+ghost use Rattle.std.specs.Prelude.{IsErr};
+
+use crate::call::Call;
+use crate::contents::{Contents, Stored};
+use crate::kind::Kind;
+use command_line::FileIdentity;
+use std::alloc::Global;
+use std::cell::{Ref, RefCell, RefMut};
+use std::fs::OpenOptions;
+use std::io;
+use std::io::ErrorKind;
+
+/// Files by their names, what was opened, and which calls fail. Each error is out of memory, or that no file has a name.
+#[derive(Drop)]
+pub struct Disk {
+    alloc: Global,
+    contents: RefCell<Contents>,
+}
+
+/// An error of this kind.
+pub(crate) fn refused<T>(kind: ErrorKind) -> io::Result<T>
+    ensures { IsErr result }
+{
+    Err(io::Error::from(kind))
+}
+
+impl Disk {
+    /// No file is there, and nothing fails.
+    pub fn new(alloc: Global) -> Disk {
+        Disk {
+            alloc,
+            contents: RefCell::new(Contents::new(alloc)),
+        }
+    }
+
+    /// What stands here, to be looked at.
+    pub(crate) fn seen(&self) -> io::Result<Ref<'_, Contents>> {
+        match self.contents.try_borrow() {
+            Ok(contents) => Ok(contents),
+            Err(_) => Err(io::Error::from(ErrorKind::ResourceBusy)),
+        }
+    }
+
+    /// What stands here, to be changed.
+    pub(crate) fn changed(&self) -> io::Result<RefMut<'_, Contents>> {
+        match self.contents.try_borrow_mut() {
+            Ok(contents) => Ok(contents),
+            Err(_) => Err(io::Error::from(ErrorKind::ResourceBusy)),
+        }
+    }
+
+    /// Makes a file of these bytes.
+    pub fn make(&self, name: &str, bytes: Vec<u8>) -> io::Result<()> {
+        self.make_kind(name, Kind::Plain, bytes)
+    }
+
+    /// Makes a file of a kind.
+    pub fn make_kind(&self, name: &str, kind: Kind, bytes: Vec<u8>) -> io::Result<()> {
+        let mut contents = self.changed()?;
+        contents.make(self.alloc, name, Stored { kind, bytes })?;
+        Ok(())
+    }
+
+    /// Gives the file of this name another name as well.
+    pub fn link(&self, name: &str, other: &str) -> io::Result<()> {
+        let mut contents = self.changed()?;
+        let Some(number) = contents.number_of(name) else {
+            return refused(ErrorKind::NotFound);
+        };
+        contents.link(self.alloc, other, number)?;
+        Ok(())
+    }
+
+    /// Lets each opening of this name fail.
+    pub fn refuse(&self, name: &str) -> io::Result<()> {
+        let name = String::from_str(self.alloc, name)?;
+        self.changed()?.refused.push(name)?;
+        Ok(())
+    }
+
+    /// Lets the call of this number fail, counted from 1 over all files.
+    pub fn fail(&self, call: Call, number: u64) -> io::Result<()> {
+        self.changed()?.calls.set_failing(call, number);
+        Ok(())
+    }
+
+    /// Whether a file has this name.
+    pub fn has(&self, name: &str) -> io::Result<bool> {
+        Ok(self.seen()?.number_of(name).is_some())
+    }
+
+    /// The number of the file of this name.
+    pub(crate) fn number_of(&self, name: &str) -> Option<usize> {
+        self.seen().ok()?.number_of(name)
+    }
+
+    /// Which file the one of this number is.
+    pub(crate) fn identity(&self, number: usize) -> Option<FileIdentity> {
+        let contents = self.seen().ok()?;
+        let inode = number as u64;
+        match contents.files.get(number)?.kind {
+            Kind::Plain => Some(FileIdentity::Regular { device: 1, inode }),
+            Kind::Block => Some(FileIdentity::BlockDevice { number: inode }),
+            Kind::Character | Kind::Pipe => None,
+        }
+    }
+
+    /// The bytes of the file of this name.
+    pub fn bytes_of(&self, name: &str) -> io::Result<Vec<u8>> {
+        let contents = self.seen()?;
+        let Some(number) = contents.number_of(name) else {
+            return refused(ErrorKind::NotFound);
+        };
+        match contents.files.get(number) {
+            Some(stored) => Ok(stored.bytes.to_vec(self.alloc)?),
+            None => refused(ErrorKind::NotFound),
+        }
+    }
+
+    /// What was opened, in order, a line each, as `hash: read write create`. An opening that was refused counts.
+    pub fn opened(&self) -> io::Result<String> {
+        Ok(String::from_str(self.alloc, self.seen()?.opened.as_str())?)
+    }
+
+    /// How often a call was made, over all files.
+    pub fn calls(&self, call: Call) -> io::Result<u64> {
+        Ok(self.seen()?.calls.count(call).made)
+    }
+
+    /// Counts a call, and refuses the one that fails.
+    pub(crate) fn count(&self, call: Call) -> io::Result<()> {
+        if self.changed()?.calls.fails(call) {
+            return refused(ErrorKind::Other);
+        }
+        Ok(())
+    }
+
+    /// Opens a name. The answer is the number of its file.
+    pub(crate) fn open(&self, how: &OpenOptions, name: &str) -> io::Result<usize> {
+        self.changed()?.open(self.alloc, how, name)
+    }
+}

@@ -1,0 +1,150 @@
+//! The runtime.
+ghost use Rattle.std.specs.Io.{WritesAtMost};
+
+use crate::disk::{Disk, refused};
+use crate::file::MemoryFile;
+use command_line::{FileIdentity, Identities};
+use std::alloc::{Allocator, Global};
+use std::env::{Env, FillError};
+use std::fs::{Metadata, OpenOptions};
+use std::io;
+use std::io::{Empty, ErrorKind};
+use std::random::RandomSource;
+use std::rt::Files;
+
+/// A runtime over a disk. What isn't named here is refused, as directories and environment variables.
+#[derive(Clone, Copy)]
+pub struct MemoryRuntime<'a> {
+    alloc: Global,
+    disk: &'a Disk,
+    /// The words of the command line, the program's name first, with a space between two. A word written '' is empty.
+    words: &'a str,
+    /// One more word at the end, which may be no text.
+    pub last_word: Option<&'a [u8]>,
+    /// The random bytes, which are given over and over. With none they are refused.
+    pub random: &'a [u8],
+}
+
+impl<'a> MemoryRuntime<'a> {
+    /// A runtime with these words of the command line, the program's name first and a space between two. A word written
+    /// '' is empty. Its random bytes are all 7.
+    pub fn new(alloc: Global, disk: &'a Disk, words: &'a str) -> Self {
+        MemoryRuntime {
+            alloc,
+            disk,
+            words,
+            last_word: None,
+            random: &[7],
+        }
+    }
+}
+
+impl Alloc for MemoryRuntime<'_> {
+    type A = Global;
+
+    fn alloc(&self) -> Global {
+        self.alloc
+    }
+}
+
+impl RandomSource for MemoryRuntime<'_> {
+    fn fill_bytes(&self, buf: &mut [u8]) -> io::Result<()> {
+        if self.random.is_empty() {
+            return refused(ErrorKind::Unsupported);
+        }
+        for (i, byte) in buf.iter_mut().enumerate() {
+            let place = i.checked_rem(self.random.len()).unwrap_or(0);
+            *byte = self.random.get(place).copied().unwrap_or(0);
+        }
+        Ok(())
+    }
+}
+
+/// Copies a word to the front of a buffer.
+fn copied(word: &[u8], buf: &mut [u8]) -> Result<usize, FillError>
+    ensures { WritesAtMost result buf.new }
+{
+    if word.len() > buf.len() {
+        return Err(FillError::TooLong);
+    }
+    buf[..word.len()].copy_from_slice(word);
+    Ok(word.len())
+}
+
+impl Env for MemoryRuntime<'_> {
+    fn arg(&self, i: usize, buf: &mut [u8]) -> Result<usize, FillError> {
+        match (self.words.split(' ').nth(i), self.last_word) {
+            (Some("''"), _) => Ok(0),
+            (Some(word), _) => copied(word.as_bytes(), buf),
+            (None, Some(word)) if i == self.words.split(' ').count() => copied(word, buf),
+            (None, _) => Err(FillError::NotPresent),
+        }
+    }
+
+    fn var(&self, _name: &str, _buf: &mut [u8]) -> Result<usize, FillError> {
+        Err(FillError::NotPresent)
+    }
+
+    fn var_at(&self, _i: usize, _buf: &mut [u8]) -> Result<usize, FillError> {
+        Err(FillError::NotPresent)
+    }
+}
+
+impl<'a> Files for MemoryRuntime<'a> {
+    type File = MemoryFile<'a>;
+
+    type Dir = Empty;
+
+    fn open_file(&self, how: &OpenOptions, path: &str) -> io::Result<MemoryFile<'a>> {
+        how.check()?;
+        let number = self.disk.open(how, path)?;
+        let writes = how.asks_write() || how.asks_append();
+        Ok(MemoryFile::new(self.disk, number, how.asks_read(), writes))
+    }
+
+    fn open_dir(&self, _path: &str) -> io::Result<Empty> {
+        refused(ErrorKind::Unsupported)
+    }
+
+    fn metadata(&self, _path: &str) -> io::Result<Metadata> {
+        refused(ErrorKind::Unsupported)
+    }
+
+    fn symlink_metadata(&self, _path: &str) -> io::Result<Metadata> {
+        refused(ErrorKind::Unsupported)
+    }
+
+    fn copy(&self, _from: &str, _to: &str) -> io::Result<u64> {
+        refused(ErrorKind::Unsupported)
+    }
+
+    fn rename(&self, _from: &str, _to: &str) -> io::Result<()> {
+        refused(ErrorKind::Unsupported)
+    }
+
+    fn remove_file(&self, _path: &str) -> io::Result<()> {
+        refused(ErrorKind::Unsupported)
+    }
+
+    fn create_dir(&self, _path: &str) -> io::Result<()> {
+        refused(ErrorKind::Unsupported)
+    }
+
+    fn remove_dir(&self, _path: &str) -> io::Result<()> {
+        refused(ErrorKind::Unsupported)
+    }
+
+    fn remove_dir_all<B: Allocator>(&self, _alloc: B, _path: &str) -> io::Result<()> {
+        refused(ErrorKind::Unsupported)
+    }
+}
+
+impl Identities for MemoryRuntime<'_> {
+    fn path_identity(&self, path: &str) -> Option<FileIdentity> {
+        self.disk.identity(self.disk.number_of(path)?)
+    }
+
+    fn file_identity(&self, file: &Self::File) -> Option<FileIdentity> {
+        self.disk.identity(file.number())
+    }
+}

@@ -1,0 +1,40 @@
+//! Tests of what veritysetup does: its command line and options, and the runs of format, dump and verify. Expected bytes
+//! come from the formats' public pages, expected digests from `sha2` over stated bytes.
+#![tactic(auto)]
+
+#[cfg(test)]
+mod dumping;
+#[cfg(test)]
+mod extremes;
+#[cfg(test)]
+mod format_faults;
+#[cfg(test)]
+mod formatting;
+#[cfg(test)]
+mod hash_types;
+#[cfg(test)]
+mod images;
+#[cfg(test)]
+mod messages;
+#[cfg(test)]
+mod offsets;
+#[cfg(test)]
+mod outputs;
+#[cfg(test)]
+mod program_files;
+#[cfg(test)]
+mod program_runs;
+#[cfg(test)]
+mod reports;
+#[cfg(test)]
+mod setup_options;
+#[cfg(test)]
+mod setup_words;
+#[cfg(test)]
+mod shared_words;
+#[cfg(test)]
+mod syncs;
+#[cfg(test)]
+mod told_texts;
+#[cfg(test)]
+mod verifying;

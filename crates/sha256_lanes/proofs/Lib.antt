@@ -1,0 +1,5 @@
+pub mod Absorbing
+pub mod Bitwise
+pub mod LaneLemmas
+pub mod Rotations
+pub mod Rows

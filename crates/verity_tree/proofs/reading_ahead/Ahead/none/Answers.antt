@@ -1,0 +1,23 @@
+use Rattle.std.proofs.Common.{arith, ap, length, inl, inr, refl, rules, ◌∙◌}
+use Rattle.std.proofs.lemmas.List.{length-replicate}
+use Rattle.verity_tree.proofs.DataBlockLemmas.{HasRead-none}
+use Rattle.verity_tree.proofs.ReadingAheadLemmas.{same-four}
+use Rattle.verity_tree.proofs.reading_ahead.Ahead.none.Goals as goal
+
+pub returns-clause-quiet : goal.returns-clause-quiet
+returns-clause-quiet c = record {
+  from = omega arith;
+  to = omega arith;
+  short = λ ne. absurd (ne refl);
+  quiet = λ k from pending. elim pending [
+    | inl lt ↦ absurd (omega (arith, lt))
+    | inr eq ↦ absurd (eq.1 refl)
+  ];
+  sizes = λ r lt. ap length (same-four _ r lt) ∙ search (rules, length-replicate);
+}
+
+pub returns-clause-ahead : goal.returns-clause-ahead
+returns-clause-ahead c = λ bytes. record {
+  held = λ k from lt. absurd (omega (arith, lt));
+  stands = HasRead-none c.args.plan.now bytes;
+}

@@ -1,0 +1,88 @@
+-- Data blocks that are read and hashed before their turn.
+-- For the private steps; not needed to read a public contract.
+use Rattle.std.specs.Prelude.{◌≡◌, ◌≢◌, ◌⊎◌, ℕ, ◌+◌, ◌%◌, ◌<◌, ◌≤◌, Bool, true, false, List, [], length}
+use Rattle.std.specs.Prelude.{slice_index_or, Option, Some, None, Result, Ok, Err}
+use Rattle.std.specs.Fork.{slice_chunk}
+use Rattle.verity_hash.specs.declared.digest.Digest.{Digest}
+use Rattle.verity_io.specs.Reading.{HasRead}
+use Rattle.verity_plan.specs.Plans.{Planned}
+use Rattle.verity_plan.specs.Settings.{hash, fan, digest_len}
+use Rattle.verity_tree.specs.Levels.{data_blocks}
+use Rattle.verity_tree.specs.Reading.{EndsWithin, FailsWithin, bytes_of}
+use Rattle.verity_tree.specs.Steps.Cascade.{EndsBlock}
+use Rattle.verity_tree.specs.Steps.OpenBlocks.{carried}
+use Rattle.verity_tree.specs.declared.data_block.BlockFault.{BlockFault}
+use Rattle.verity_tree.specs.declared.data_block.BlockFault.TheVariants.{Short, Failed}
+use Rattle.verity_tree.specs.declared.reading_ahead.Ahead.{Ahead}
+
+-- data block i stands in a row, or the source ended or failed within it
+abbrev pub ReadsRow : Planned → ℕ → List ℕ → Result Unit BlockFault → List ℕ → List ℕ → Type 0
+ReadsRow p i bytes (Ok _) row after =
+    HasRead (bytes_of p (i + 1)) bytes after × (hash p.settings row ≡ carried p.settings (data_blocks p bytes) i 0)
+ReadsRow p i bytes (Err Short) row after = EndsWithin p i bytes after
+ReadsRow p i bytes (Err Failed) row after = FailsWithin p i bytes after
+
+-- so many data blocks from i on stand in the rows
+abbrev pub HoldsRows : Planned → ℕ → List ℕ → ℕ → List ℕ → Type 0
+HoldsRows p i bytes n rows = (r : ℕ) → r < n
+    → hash p.settings (slice_chunk rows p.settings.data_block r) ≡ carried p.settings (data_blocks p bytes) (i + r) 0
+
+-- where the source stands before data block i, or why that is not to be had
+abbrev pub StandsBy : Planned → ℕ → List ℕ → Option BlockFault → List ℕ → Type 0
+StandsBy p i bytes None after = HasRead (bytes_of p i) bytes after
+StandsBy p i bytes (Some Short) after = EndsWithin p i bytes after
+StandsBy p i bytes (Some Failed) after = FailsWithin p i bytes after
+
+-- four blocks, or fewer where the source ended or failed
+abbrev pub IsRun : ℕ → Option BlockFault → Type 0
+IsRun n None = n ≡ 4
+IsRun n (Some fault) = n < 4
+
+-- whether the source failed
+abbrev pub stop_failed : Option BlockFault → Bool
+stop_failed None = false
+stop_failed (Some Short) = false
+stop_failed (Some Failed) = true
+
+abbrev pub ahead_failed : Ahead → Bool
+ahead_failed ahead = stop_failed ahead.fault
+
+abbrev pub next_failed : Result Digest BlockFault → Ahead → Bool
+next_failed (Ok digest) ahead = ahead_failed ahead
+next_failed (Err fault) ahead = stop_failed (Some fault)
+
+-- the digests have their length
+abbrev pub HasSizes : Planned → Ahead → Type 0
+HasSizes p ahead = (r : ℕ) → r < 4 → length (slice_index_or ahead.digests r []) ≡ digest_len p.settings
+
+-- more is known than data block k: blocks after it, or why there are none
+abbrev pub IsPending : Ahead → ℕ → Type 0
+IsPending ahead k = (k + 1 < ahead.end) ⊎ ((k + 1 ≡ ahead.end) × (ahead.fault ≢ None))
+
+-- what is ahead of data block i: no block of which more is known than it is the last below a hash block
+pub record IsQuiet (p : Planned) (i : ℕ) (ahead : Ahead) : Type 0 where
+  pub from : i ≤ ahead.end
+  pub to : ahead.end ≤ p.blocks
+  pub short : ahead.fault ≢ None → ahead.end < p.blocks
+  pub quiet : (k : ℕ) → i ≤ k + 1 → IsPending ahead k → ¬ EndsBlock (fan p.settings) p.blocks k
+  pub sizes : HasSizes p ahead
+
+-- data block i is there, or why it is not
+pub record IsFilled (p : Planned) (i : ℕ) (ahead : Ahead) : Type 0 where
+  pub some : (i < ahead.end) ⊎ ((i ≡ ahead.end) × (ahead.fault ≢ None))
+  pub to : ahead.end ≤ p.blocks
+  pub short : ahead.fault ≢ None → ahead.end < p.blocks
+  pub quiet : (k : ℕ) → i ≤ k → IsPending ahead k → ¬ EndsBlock (fan p.settings) p.blocks k
+  pub sizes : HasSizes p ahead
+
+-- the digests of the data blocks from i on, and where the source stands
+pub record IsAhead (p : Planned) (i : ℕ) (bytes : List ℕ) (ahead : Ahead) (after : List ℕ) : Type 0 where
+  pub held : (k : ℕ) → i ≤ k → k < ahead.end
+      → slice_index_or ahead.digests (k % 4) [] ≡ carried p.settings (data_blocks p bytes) k 0
+  pub stands : StandsBy p ahead.end bytes ahead.fault after
+
+-- the next data block's digest, or why there is none
+abbrev pub TakesNext : Planned → ℕ → List ℕ → Result Digest BlockFault → Ahead → List ℕ → Type 0
+TakesNext p i bytes (Ok digest) ahead after =
+    IsAhead p (i + 1) bytes ahead after × (digest ≡ carried p.settings (data_blocks p bytes) i 0)
+TakesNext p i bytes (Err fault) ahead after = StandsBy p i bytes (Some fault) after

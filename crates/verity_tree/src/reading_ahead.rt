@@ -1,0 +1,196 @@
+//! Data blocks that are read and hashed before their turn, four side by side.
+ghost use Rattle.std.specs.Prelude.{◌≡◌, ℕ, ◌+◌, ◌%◌, ◌*◌, ◌<◌, ◌≤◌, List, length, IfOk};
+ghost use Rattle.std.specs.Fork.{slice_chunk};
+ghost use Rattle.verity_io.specs.Counting.{Counts};
+ghost use Rattle.verity_io.specs.Reading.{HasRead};
+ghost use Rattle.verity_plan.specs.Plans.{levels_of};
+ghost use Rattle.verity_plan.specs.Settings.{digest_len, fan};
+ghost use Rattle.verity_tree.specs.Reading.{bytes_of};
+ghost use Rattle.verity_tree.specs.Steps.DataBlocks.{read_failed};
+ghost use Rattle.verity_tree.specs.Steps.OpenBlocks.{HasOpenBlocks};
+ghost use Rattle.verity_tree.specs.Steps.ReadingAhead.{HoldsRows, IsAhead, IsFilled, IsQuiet, IsRun, ReadsRow};
+ghost use Rattle.verity_tree.specs.Steps.ReadingAhead.{StandsBy, TakesNext, ahead_failed, next_failed, stop_failed};
+
+use crate::data_block::{BlockFault, read_data_block, take_data_block};
+use verity_hash::Digest;
+use verity_io::Source;
+use verity_plan::Plan;
+
+/// The size of the largest data blocks that are hashed side by side, in bytes. It is the usual size.
+const MOST_SIZE: usize = 4096;
+
+/// The length of the window that they are read into: four rows, a block in each.
+pub(crate) const WINDOW: usize = 4 * MOST_SIZE;
+
+/// Data blocks that were read and hashed before their turn.
+#[derive(Clone, Copy, Debug, PartialEq, Eq)]
+pub(crate) struct Ahead {
+    /// The digest of each block from the next on and below `end`, at its number modulo 4.
+    digests: [Digest; 4],
+    /// The number of the block after them.
+    end: u64,
+    /// Why that one isn't to be had, where the source ended or failed.
+    fault: Option<BlockFault>,
+}
+
+impl Ahead {
+    ghost use Rattle.std.specs.Prelude.{ℕ, List};
+    ghost use Rattle.verity_io.specs.Counting.{Counts};
+    ghost use Rattle.verity_tree.specs.Steps.ReadingAhead.{IsAhead, IsQuiet, ahead_failed};
+
+    /// Before the first data block nothing is ahead.
+    pub(crate) fn none(plan: &Plan) -> Ahead
+        ensures quiet { IsQuiet plan.now 0 result }
+        ensures count { (start : ℕ) → Counts (ahead_failed result) start start }
+        ensures ahead { (bytes : List ℕ) → IsAhead plan.now 0 bytes result bytes }
+    {
+        Ahead {
+            digests: [Digest::zeros(plan.settings().algorithm()); 4],
+            end: 0,
+            fault: None,
+        }
+    }
+}
+
+/// The digest of data block `i`, which is read now or was before.
+pub(crate) fn take_next<S: Source>(
+    plan: &Plan,
+    work: &mut [u8],
+    window: &mut [u8; WINDOW],
+    i: u64,
+    source: &mut S,
+    ahead: &mut Ahead,
+) -> Result<Digest, BlockFault>
+    requires room { levels_of plan.now * plan.now.settings.hash_block + plan.now.settings.data_block ≤ length work.old }
+    requires below { i < plan.now.blocks }
+    requires quiet { IsQuiet plan.now i ahead.old }
+    ensures size { IfOk result (λ digest. length digest ≡ digest_len plan.now.settings) }
+    ensures told { S.tells source.old → S.tells source.new }
+    ensures quiet { IfOk result (λ digest. IsQuiet plan.now (i + 1) ahead.new) }
+    ensures count { (start : ℕ) → Counts (ahead_failed ahead.old) start (S.failures source.old)
+        → Counts (next_failed result ahead.new) start (S.failures source.new) }
+    ensures opened { (blocks : List (List ℕ)) → HasOpenBlocks plan.now.settings blocks 0 (levels_of plan.now) i work.old
+        → HasOpenBlocks plan.now.settings blocks 0 (levels_of plan.now) i work.new }
+    ensures taken { S.tells source.old → (bytes : List ℕ) → IsAhead plan.now i bytes ahead.old (S.remaining source.old)
+        → TakesNext plan.now i bytes result ahead.new (S.remaining source.new) }
+{
+    if i >= ahead.end && ahead.fault.is_none() {
+        *ahead = read_ahead(plan, work, window, i, source);
+    }
+    match ahead.fault {
+        Some(fault) if i >= ahead.end => Err(fault),
+        _ => Ok(ahead.digests[(i % 4) as usize]),
+    }
+}
+
+/// Reads and hashes data blocks from `i` on: four where none but the last of them can be the last below a hash block,
+/// and else one.
+fn read_ahead<S: Source>(
+    plan: &Plan,
+    work: &mut [u8],
+    window: &mut [u8; WINDOW],
+    i: u64,
+    source: &mut S,
+) -> Ahead
+    requires room { levels_of plan.now * plan.now.settings.hash_block + plan.now.settings.data_block ≤ length work.old }
+    requires below { i < plan.now.blocks }
+    ensures told { S.tells source.old → S.tells source.new }
+    ensures quiet { IsFilled plan.now i result }
+    ensures count { Counts (ahead_failed result) (S.failures source.old) (S.failures source.new) }
+    ensures opened { (blocks : List (List ℕ)) → HasOpenBlocks plan.now.settings blocks 0 (levels_of plan.now) i work.old
+        → HasOpenBlocks plan.now.settings blocks 0 (levels_of plan.now) i work.new }
+    ensures ahead { S.tells source.old → (bytes : List ℕ) → HasRead (bytes_of plan.now i) bytes (S.remaining source.old)
+        → IsAhead plan.now i bytes result (S.remaining source.new) }
+{
+    let size = plan.data_block();
+    let left = plan.blocks() - i;
+    if size <= MOST_SIZE && plan.fan() % 4 == 0 && i % 4 == 0 && left >= 4 {
+        return read_four(plan, &mut window[..4 * size], i, source);
+    }
+    match take_data_block(plan, work, i, source) {
+        Ok(digest) => Ahead {
+            digests: [digest; 4],
+            end: i + 1,
+            fault: None,
+        },
+        Err(fault) => Ahead {
+            digests: [Digest::zeros(plan.settings().algorithm()); 4],
+            end: i,
+            fault: Some(fault),
+        },
+    }
+}
+
+/// Reads four data blocks from `i` on and hashes them side by side. Where the source ends or fails within one, the
+/// digests from it on count for nothing.
+fn read_four<S: Source>(plan: &Plan, rows: &mut [u8], i: u64, source: &mut S) -> Ahead
+    requires room { length rows.old ≡ 4 * plan.now.settings.data_block }
+    requires below { i + 4 ≤ plan.now.blocks }
+    requires aligned { i % 4 ≡ 0 }
+    requires fours { fan plan.now.settings % 4 ≡ 0 }
+    ensures told { S.tells source.old → S.tells source.new }
+    ensures quiet { IsFilled plan.now i result }
+    ensures count { Counts (ahead_failed result) (S.failures source.old) (S.failures source.new) }
+    ensures ahead { S.tells source.old → (bytes : List ℕ) → HasRead (bytes_of plan.now i) bytes (S.remaining source.old)
+        → IsAhead plan.now i bytes result (S.remaining source.new) }
+{
+    let _blocks = plan.blocks();
+    let (count, fault) = read_rows(plan, rows, i, source);
+    Ahead {
+        digests: plan.hash_four(rows, plan.data_block()),
+        end: i + count as u64,
+        fault,
+    }
+}
+
+/// Reads data blocks from `i` on into the four rows, one after another: how many, and why no more.
+fn read_rows<S: Source>(
+    plan: &Plan,
+    rows: &mut [u8],
+    i: u64,
+    source: &mut S,
+) -> (usize, Option<BlockFault>)
+    requires room { length rows.old ≡ 4 * plan.now.settings.data_block }
+    requires below { i + 4 ≤ plan.now.blocks }
+    ensures told { S.tells source.old → S.tells source.new }
+    ensures count { Counts (stop_failed result.1) (S.failures source.old) (S.failures source.new) }
+    ensures many { IsRun result.0 result.1 }
+    ensures held { S.tells source.old → (bytes : List ℕ) → HasRead (bytes_of plan.now i) bytes (S.remaining source.old)
+        → HoldsRows plan.now i bytes result.0 rows.new }
+    ensures taken { S.tells source.old → (bytes : List ℕ) → HasRead (bytes_of plan.now i) bytes (S.remaining source.old)
+        → StandsBy plan.now (i + result.0) bytes result.1 (S.remaining source.new) }
+{
+    let _blocks = plan.blocks();
+    for row in 0..4 {
+        match read_row(plan, rows, i + row as u64, row, source) {
+            Ok(()) => {}
+            Err(fault) => return (row, Some(fault)),
+        }
+    }
+    (4, None)
+}
+
+/// Reads data block `i` into a row.
+fn read_row<S: Source>(
+    plan: &Plan,
+    rows: &mut [u8],
+    i: u64,
+    row: usize,
+    source: &mut S,
+) -> Result<(), BlockFault>
+    requires room { length rows.old ≡ 4 * plan.now.settings.data_block }
+    requires below { i < plan.now.blocks }
+    requires row { row < 4 }
+    ensures told { S.tells source.old → S.tells source.new }
+    ensures count { Counts (read_failed result) (S.failures source.old) (S.failures source.new) }
+    ensures kept { (r : ℕ) → r < row → slice_chunk rows.new plan.now.settings.data_block r
+        ≡ slice_chunk rows.old plan.now.settings.data_block r }
+    ensures taken { S.tells source.old → (bytes : List ℕ) → HasRead (bytes_of plan.now i) bytes (S.remaining source.old)
+        → ReadsRow plan.now i bytes result (slice_chunk rows.new plan.now.settings.data_block row)
+        (S.remaining source.new) }
+{
+    let size = plan.data_block();
+    let from = row * size;
+    let want = (size as u64).min(plan.wanted() - i * size as u64) as usize;
+    read_data_block(source, &mut rows[from..from + size], want)
+}

@@ -1,0 +1,38 @@
+//! `veritysetup dump` over the files of a runtime.
+ghost use Rattle.veritysetup.specs.Programs.{CommandRun};
+ghost use Rattle.veritysetup.specs.Outcomes.{printed};
+
+use crate::Line;
+use crate::dump_run::run_dump;
+use crate::hash_offset::offset_of;
+use crate::program_messages::{cannot_open, refused_option};
+use std::alloc::AllocGlobal;
+use std::fs::File;
+use std::io::Write;
+use std::rt::Files;
+use verity_tree::FileDevice;
+
+/// Prints what the superblock of a hash device says. A refused option opens no file.
+pub fn dump<R, O, M>(rt: &R, line: &Line, hash: &str, out: &mut O, msgs: &mut M) -> u8
+where
+    R: Files + AllocGlobal,
+    O: Write,
+    M: Write,
+    ensures { CommandRun result (printed O.contents M.contents out.old out.new msgs.old msgs.new) }
+{
+    let offset = match offset_of(&line.raw(false)) {
+        Ok(offset) => offset,
+        Err(fault) => return refused_option(rt.alloc(), &fault, msgs),
+    };
+    match File::open(rt, hash) {
+        Ok(file) => run_dump(
+            rt.alloc(),
+            offset,
+            hash,
+            &mut FileDevice::new(file),
+            out,
+            msgs,
+        ),
+        Err(_) => cannot_open(hash, msgs),
+    }
+}

@@ -1,0 +1,97 @@
+//! `veritysetup format` over the files of a runtime.
+ghost use Rattle.veritysetup.specs.Programs.{CommandRun};
+ghost use Rattle.veritysetup.specs.Outcomes.{printed};
+
+use crate::Line;
+use crate::format_run::run_format;
+use crate::options::RawOptions;
+use crate::program_messages::{cannot_open, cannot_write, no_random_bytes, refused_option};
+use crate::random_bytes::draw;
+use crate::settings::{Settings, settings_of};
+use command_line::{Identities, is_same_file, open_measured, open_writable};
+use rand::rngs::StdRng;
+use std::alloc::AllocGlobal;
+use std::io;
+use std::io::{Read, Write};
+use std::random::RandomSource;
+use std::rt::Files;
+use verity_tree::{Failed, FileDevice, FileSource};
+
+/// Makes the hash device of a data file. HASH is opened only once the options are read, so a refused option leaves no
+/// new file. Before it is opened the system is asked whether it is DATA by another name.
+pub fn format<R, O, M>(rt: &R, line: &Line, data: &str, hash: &str, out: &mut O, msgs: &mut M) -> u8
+where
+    R: Identities + RandomSource + AllocGlobal,
+    O: Write,
+    M: Write,
+    ensures { CommandRun result (printed O.contents M.contents out.old out.new msgs.old msgs.new) }
+{
+    let (file, length) = match open_measured(rt, data) {
+        Ok(opened) => opened,
+        Err(_) => return cannot_open(data, msgs),
+    };
+    let raw = line.raw(data == hash || is_same_file(rt, &file, hash));
+    let random = match random_bytes(rt, &raw) {
+        Ok(random) => random,
+        Err(_) => return no_random_bytes(msgs),
+    };
+    match settings_of(&raw, length, random.as_ref()) {
+        Ok(settings) => make(
+            rt,
+            &settings,
+            FileSource::new(file, length),
+            hash,
+            out,
+            msgs,
+        ),
+        Err(fault) => refused_option(rt.alloc(), &fault, msgs),
+    }
+}
+
+/// Random bytes of a generator that the runtime seeds, where salt or UUID is missing.
+fn random_bytes<R: RandomSource>(rt: &R, raw: &RawOptions) -> io::Result<Option<[u8; 48]>> {
+    if raw.salt.is_some() && raw.uuid.is_some() {
+        return Ok(None);
+    }
+    let mut rng: StdRng = rand::make_rng(rt)?;
+    Ok(Some(draw(&mut rng)))
+}
+
+/// Opens HASH, makes it, and asks the system to keep it.
+fn make<R, F, O, M>(
+    rt: &R,
+    settings: &Settings,
+    source: FileSource<F>,
+    hash: &str,
+    out: &mut O,
+    msgs: &mut M,
+) -> u8
+where
+    R: Files + AllocGlobal,
+    F: Read + Drop,
+    O: Write,
+    M: Write,
+    ensures { CommandRun result (printed O.contents M.contents out.old out.new msgs.old msgs.new) }
+{
+    let mut source = source;
+    let mut device = match open_writable(rt, hash) {
+        Ok(file) => FileDevice::new(file),
+        Err(_) => return cannot_open(hash, msgs),
+    };
+    let status = run_format(
+        rt.alloc(),
+        settings,
+        hash,
+        &mut source,
+        &mut device,
+        out,
+        msgs,
+    );
+    if status != 0 {
+        return status;
+    }
+    match device.sync() {
+        Ok(()) => 0,
+        Err(Failed) => cannot_write(hash, msgs),
+    }
+}

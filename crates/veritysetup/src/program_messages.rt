@@ -1,0 +1,90 @@
+//! Messages of the program's own, one line each. The answer is the status that goes with each.
+ghost use Rattle.std.specs.Prelude.{◌≡◌};
+ghost use Rattle.command_line.specs.Printing.{AppendsFront};
+ghost use Rattle.veritysetup.specs.Messages.{memory_text, option_text};
+ghost use Rattle.veritysetup.specs.Programs.{IsRefusal, incomplete_text, no_random_text, unopened_text, unwritten_text};
+
+use crate::messages::{OUT_OF_MEMORY, option_message};
+use crate::options::OptionFault;
+use command_line::{LineFault, NOT_TEXT, tell, tell_pieces, tell_text};
+use std::alloc::Global;
+use std::io;
+use std::io::{ErrorKind, Write};
+
+/// The file could not be opened, or its length not be found.
+pub fn cannot_open<M: Write>(path: &str, msgs: &mut M) -> u8
+    ensures status { result ≡ 4 }
+    ensures message { AppendsFront (unopened_text path.now) (M.contents msgs.old) (M.contents msgs.new) }
+{
+    tell_pieces(&["Cannot open ", path, ".\n"], msgs);
+    4
+}
+
+/// The system does not keep what was written to the file.
+pub fn cannot_write<M: Write>(path: &str, msgs: &mut M) -> u8
+    ensures status { result ≡ 4 }
+    ensures message { AppendsFront (unwritten_text path.now) (M.contents msgs.old) (M.contents msgs.new) }
+{
+    tell_pieces(&["Cannot write ", path, ".\n"], msgs);
+    4
+}
+
+/// There are no random bytes.
+pub fn no_random_bytes<M: Write>(msgs: &mut M) -> u8
+    ensures status { result ≡ 4 }
+    ensures message { AppendsFront no_random_text (M.contents msgs.old) (M.contents msgs.new) }
+{
+    tell_text("Cannot get random bytes.\n", msgs);
+    4
+}
+
+/// There is no memory for the command line.
+pub fn out_of_memory<M: Write>(msgs: &mut M) -> u8
+    ensures status { result ≡ 3 }
+    ensures message { AppendsFront memory_text (M.contents msgs.old) (M.contents msgs.new) }
+{
+    tell_text(OUT_OF_MEMORY, msgs);
+    3
+}
+
+/// An option is refused.
+pub fn refused_option<M: Write>(alloc: Global, fault: &OptionFault, msgs: &mut M) -> u8
+    ensures status { result ≡ 1 }
+    ensures message { AppendsFront (option_text fault.now) (M.contents msgs.old) (M.contents msgs.new) }
+{
+    tell(option_message(alloc, fault), msgs);
+    1
+}
+
+/// The command line is accepted, but without a file that it must have. `clap` lets no such line pass.
+pub fn incomplete_line<M: Write>(msgs: &mut M) -> u8
+    ensures status { result ≡ 1 }
+    ensures message { AppendsFront incomplete_text (M.contents msgs.old) (M.contents msgs.new) }
+{
+    tell_text("error: the command line is not complete\n", msgs);
+    1
+}
+
+/// The words of the command line can't be had: there is no memory for them, or one is no text.
+pub fn refused_words<M: Write>(error: &io::Error, msgs: &mut M) -> u8
+    ensures { IsRefusal result }
+{
+    if error.kind() == ErrorKind::OutOfMemory {
+        return out_of_memory(msgs);
+    }
+    tell_text(NOT_TEXT, msgs);
+    1
+}
+
+/// The command line is refused, with `clap`'s text, or there is no memory for it.
+pub fn refused_line<M: Write>(fault: &LineFault, msgs: &mut M) -> u8
+    ensures { IsRefusal result }
+{
+    match fault {
+        LineFault::Refused(error) => {
+            let _ = write!(msgs, "{error}");
+            1
+        }
+        LineFault::Memory => out_of_memory(msgs),
+    }
+}

@@ -1,0 +1,100 @@
+//! `veritysetup verify` over the files of a runtime.
+ghost use Rattle.std.specs.Prelude.{◌≡◌};
+ghost use Rattle.std.specs.Io.KnownBytes.{Keeps};
+ghost use Rattle.veritysetup.specs.Programs.{Grows, IsStatus};
+
+use crate::Line;
+use crate::hash_offset::offset_of;
+use crate::program_messages::{cannot_open, refused_option};
+use crate::settings::settings_of;
+use crate::verify_input::VerifyInput;
+use crate::verify_run::run_verify;
+use command_line::open_measured;
+use std::alloc::AllocGlobal;
+use std::fs::File;
+use std::io::{Read, Write};
+use std::rt::Files;
+use verity_tree::{FileDevice, FileSource};
+
+/// Verifies a hash device against a data file and a root hash. With a superblock no option but the hash offset is
+/// looked at, before any file is opened; without one all are, once DATA's length is known and before HASH is opened.
+pub fn verify<R, M>(rt: &R, line: &Line, data: &str, hash: &str, root: &str, msgs: &mut M) -> u8
+where
+    R: Files + AllocGlobal,
+    M: Write,
+    ensures status { IsStatus result }
+    ensures grows { Grows (M.contents msgs.old) (M.contents msgs.new) }
+    ensures quiet { result ≡ 0 → Keeps (M.contents msgs.old) (M.contents msgs.new) }
+{
+    if line.no_superblock {
+        return verify_bare(rt, line, data, hash, msgs);
+    }
+    let offset = match offset_of(&line.raw(false)) {
+        Ok(offset) => offset,
+        Err(fault) => return refused_option(rt.alloc(), &fault, msgs),
+    };
+    match open_measured(rt, data) {
+        Ok((file, length)) => {
+            let source = FileSource::new(file, length);
+            compare(
+                rt,
+                &VerifyInput::Stored { offset, root },
+                source,
+                hash,
+                msgs,
+            )
+        }
+        Err(_) => cannot_open(data, msgs),
+    }
+}
+
+/// Verifies a hash device without a superblock, by the options.
+fn verify_bare<R, M>(rt: &R, line: &Line, data: &str, hash: &str, msgs: &mut M) -> u8
+where
+    R: Files + AllocGlobal,
+    M: Write,
+    ensures status { IsStatus result }
+    ensures grows { Grows (M.contents msgs.old) (M.contents msgs.new) }
+    ensures quiet { result ≡ 0 → Keeps (M.contents msgs.old) (M.contents msgs.new) }
+{
+    let (file, length) = match open_measured(rt, data) {
+        Ok(opened) => opened,
+        Err(_) => return cannot_open(data, msgs),
+    };
+    match settings_of(&line.raw(false), length, None) {
+        Ok(settings) => {
+            let source = FileSource::new(file, length);
+            compare(rt, &VerifyInput::Given(&settings), source, hash, msgs)
+        }
+        Err(fault) => refused_option(rt.alloc(), &fault, msgs),
+    }
+}
+
+/// Opens HASH and compares it.
+fn compare<R, F, M>(
+    rt: &R,
+    input: &VerifyInput,
+    source: FileSource<F>,
+    hash: &str,
+    msgs: &mut M,
+) -> u8
+where
+    R: Files + AllocGlobal,
+    F: Read + Drop,
+    M: Write,
+    ensures status { IsStatus result }
+    ensures grows { Grows (M.contents msgs.old) (M.contents msgs.new) }
+    ensures quiet { result ≡ 0 → Keeps (M.contents msgs.old) (M.contents msgs.new) }
+{
+    let mut source = source;
+    match File::open(rt, hash) {
+        Ok(file) => run_verify(
+            rt.alloc(),
+            input,
+            &mut source,
+            &mut FileDevice::new(file),
+            msgs,
+        ),
+        Err(_) => cannot_open(hash, msgs),
+    }
+}
