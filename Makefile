@@ -5,7 +5,7 @@ PREFIX = /usr/local
 DESTDIR =
 SUFFIX = -proved
 
-.PHONY: run programs gate check-programs interop bench bench_bare install clean help
+.PHONY: run programs test check gate check-programs interop bench bench_bare install clean help
 
 # Builds the programs and runs the main job on a real file.
 run: programs
@@ -16,6 +16,14 @@ programs:
 	./build.sh fsverity_cli fsverity
 	./build.sh veritysetup_cli veritysetup
 
+# All tests: the gate, then the programs that it built, the documents' examples, and Debian's programs beside them.
+test:
+	tests/all.sh
+
+# The same without the gate: nothing is proved anew.
+check: programs
+	tests/all.sh --without-gate
+
 # The gate: every proof from nothing, the edits that must be refused, the tests, and the programs' stored runs.
 gate:
 	rt ci
@@ -24,12 +32,11 @@ gate:
 check-programs: programs
 	tests/programs.sh
 
-# Compares the programs with Debian's packages cryptsetup-bin and fsverity, which have to be installed.
+# Compares the programs with Debian's packages cryptsetup-bin and fsverity, which have to be installed, over every
+# combination of the settings; `make test` goes over fewer.
 interop: programs
-	tests/interop/fsverity.sh
-	tests/interop/superblock.sh
-	tests/interop/format.sh
-	tests/interop/verify.sh
+	SETTINGS=all tests/run.sh tests/interop/differences.sh tests/interop/superblock.sh tests/interop/fsverity.sh \
+	    tests/interop/format.sh tests/interop/verify.sh
 
 # Measures throughput and peak memory.
 bench: programs bench_bare
@@ -55,9 +62,11 @@ clean:
 help:
 	@echo 'make run             builds the programs and prints the digest of a file'
 	@echo 'make programs        proves and builds bin/fsverity and bin/veritysetup'
+	@echo 'make test            all tests: the gate, the programs as a user runs them, documents, comparisons'
+	@echo 'make check           all tests but the gate'
 	@echo 'make gate            every proof from nothing, wrong bodies, tests, stored runs'
 	@echo 'make check-programs  runs the programs as a user would'
-	@echo "make interop         compares them with Debian's programs"
+	@echo "make interop         compares them with Debian's programs, over all settings"
 	@echo 'make bench           measures throughput and peak memory'
 	@echo 'make install         installs programs and manual pages (PREFIX, DESTDIR, SUFFIX)'
 	@echo 'make clean           removes what was built'

@@ -8,8 +8,8 @@ cd "$(dirname "$0")/.."
 has_program fsverity
 has_program veritysetup
 has_program bench_bare
-needs veritysetup cryptsetup-bin
-needs fsverity fsverity
+needs_other veritysetup cryptsetup-bin
+needs_other fsverity fsverity
 needs /usr/bin/time time
 
 size=${SIZE:-32}

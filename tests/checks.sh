@@ -2,16 +2,29 @@
 # Expected digests come from sha256sum over stated bytes, never from the programs.
 
 BIN=${BIN:-bin}
+PATH=$PATH:/usr/sbin:/sbin
+LEFT_OUT=77
 checked=0
 failed=0
 scratch=$(mktemp -d)
 trap 'rm -rf "$scratch"' EXIT
 
-# needs PROGRAM PACKAGE: stops where a tool is missing that this script compares with. Nothing is installed.
+# needs PROGRAM PACKAGE: ends with status LEFT_OUT where a tool is missing that this script needs. Nothing is installed.
 needs() {
-    PATH=$PATH:/usr/sbin
     if ! command -v "$1" >/dev/null; then
-        echo "$0: $1 is not installed (Debian: $2), so nothing was compared" >&2
+        echo "$0 was left out: $1 is not installed (Debian: $2)"
+        exit $LEFT_OUT
+    fi
+}
+
+# needs_other PROGRAM PACKAGE: the same for a program to compare with. It must not be the one under test, by a link or as a
+# copy, nor another build of it, which can't tell its version as the other does.
+needs_other() {
+    local other
+    needs "$1" "$2"
+    other=$(realpath "$(type -P "$1")")
+    if [ "$other" = "$(realpath "$BIN/$1")" ] || cmp -s "$other" "$BIN/$1" || ! "$other" --version >/dev/null 2>&1; then
+        echo "$0: $other is this project's own $1, so nothing was compared" >&2
         exit 1
     fi
 }
@@ -142,8 +155,9 @@ flip() {
     set_byte "$1" "$2" "$(printf '%02x' $((old ^ $3)))"
 }
 
-# finish: says how many checks there were, and ends with 1 where one failed.
+# finish: says how many checks passed and failed, and answers 1 where one failed or none was made.
 finish() {
-    echo "$0: $checked checks, $failed failed"
-    [ "$failed" -eq 0 ]
+    echo "$0:"
+    echo "$((checked - failed)) passed, $failed failed"
+    [ "$failed" -eq 0 ] && [ "$checked" -gt 0 ]
 }

@@ -2,13 +2,13 @@
 # Compares bin/veritysetup format with the veritysetup of Debian's package cryptsetup-bin: both make the same image, the
 # other program's verify accepts ours, and the report's values are those of its dump. Over algorithms, block sizes,
 # salts, numbers of blocks and hash types, with a given number of blocks, at hash offsets, without a superblock, and with
-# data and hash area in one file; some minutes.
+# data and hash area in one file. SETTINGS=all takes every combination, for a minute or two.
 set -u
 cd "$(dirname "$0")/../.."
 . tests/checks.sh
 . tests/interop/settings.sh
 has_program veritysetup
-needs veritysetup cryptsetup-bin
+needs_other veritysetup cryptsetup-bin
 
 sample $((4097 * 4096)) >"$scratch/all"
 own=$scratch/own.img

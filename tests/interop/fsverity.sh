@@ -6,7 +6,7 @@ set -u
 cd "$(dirname "$0")/../.."
 . tests/checks.sh
 has_program fsverity
-needs fsverity fsverity
+needs_other fsverity fsverity
 needs openssl openssl
 
 salts=('' ab 0011223344556677 00112233445566778899aabbccddeeff00112233445566778899aabbccddeeff)

@@ -1,33 +1,42 @@
 # The settings over which bin/veritysetup and Debian's veritysetup are compared. Sourced after tests/checks.sh.
 
 UUID=00112233-4455-4677-8899-aabbccddeeff
-hash_types=(1 0)
 block_sizes=(512 1024 4096)
 salts=(- ab "$(seq -s '' 1000 1015)" "$(seq -s '' 1000 1127)")
 block_counts=(1 2 16 17 128 129 256 257 4097)
+
+# taken EVEN THIRD: of a setting with these two sums of its values' places in their lists, whether it is compared. SETTINGS=all
+# takes every combination. Else it is one in six, and any two values of a setting still come together.
+taken() {
+    [ "${SETTINGS:-}" = all ] || { [ $(($1 % 2)) -eq 0 ] && [ $(($2 % 3)) -eq 0 ]; }
+}
 
 # each_setting FUNCTION: calls it with ALGORITHM DATA-BLOCK HASH-BLOCK SALT BLOCKS HASH-TYPE for each setting: SHA-256 and
 # SHA-512 with all block sizes, no salt, 1, 32 and 256 bytes of salt, and all numbers of blocks; SHA-1, SHA-224 and SHA-384,
 # whose slots can be wider than digests, with fewer.
 each_setting() {
-    local algorithm data_block hash_block salt blocks hash_type
-    for hash_type in "${hash_types[@]}"; do
-        for algorithm in sha256 sha512; do
-            for data_block in "${block_sizes[@]}"; do
-                for hash_block in "${block_sizes[@]}"; do
-                    for salt in "${salts[@]}"; do
-                        for blocks in "${block_counts[@]}"; do
-                            "$1" "$algorithm" "$data_block" "$hash_block" "$salt" "$blocks" "$hash_type"
+    local long=(sha256 sha512) other=(sha1 sha224 sha384) few=(1 2 17 129 257) t a d h s b
+    for t in 0 1; do
+        for a in "${!long[@]}"; do
+            for d in "${!block_sizes[@]}"; do
+                for h in "${!block_sizes[@]}"; do
+                    for s in "${!salts[@]}"; do
+                        for b in "${!block_counts[@]}"; do
+                            if taken $((t + a + s + b)) $((d + h + b)); then
+                                "$1" "${long[a]}" "${block_sizes[d]}" "${block_sizes[h]}" "${salts[s]}" "${block_counts[b]}" "$t"
+                            fi
                         done
                     done
                 done
             done
         done
-        for algorithm in sha1 sha224 sha384; do
-            for hash_block in "${block_sizes[@]}"; do
-                for salt in - "${salts[2]}"; do
-                    for blocks in 1 2 17 129 257; do
-                        "$1" "$algorithm" 512 "$hash_block" "$salt" "$blocks" "$hash_type"
+        for a in "${!other[@]}"; do
+            for h in "${!block_sizes[@]}"; do
+                for s in 0 2; do
+                    for b in "${!few[@]}"; do
+                        if taken $((t + s / 2 + b)) $((a + h + b)); then
+                            "$1" "${other[a]}" 512 "${block_sizes[h]}" "${salts[s]}" "${few[b]}" "$t"
+                        fi
                     done
                 done
             done
@@ -43,15 +52,17 @@ areas=('superblock 512' 'superblock 4096' 'superblock 1049088' 'bare 0' 'bare 40
 # each_area FUNCTION: calls it with AREA OFFSET ALGORITHM DATA-BLOCK HASH-BLOCK SALT BLOCKS HASH-TYPE for each area and some
 # settings.
 each_area() {
-    local area algorithm hash_block blocks hash_type
-    for area in "${areas[@]}"; do
-        for algorithm in sha256 sha1; do
-            for hash_block in "${block_sizes[@]}"; do
-                for blocks in 1 2 17 257; do
-                    for hash_type in "${hash_types[@]}"; do
-                        if [ "$blocks" -eq 1 ] && [ $((${area#* } % 4096)) -ne 0 ]; then continue; fi
+    local algorithms=(sha256 sha1) counts=(1 2 17 257) i area a h b t
+    for i in "${!areas[@]}"; do
+        area=${areas[i]}
+        for a in "${!algorithms[@]}"; do
+            for h in "${!block_sizes[@]}"; do
+                for b in "${!counts[@]}"; do
+                    for t in 1 0; do
+                        if [ "${counts[b]}" -eq 1 ] && [ $((${area#* } % 4096)) -ne 0 ]; then continue; fi
+                        if ! taken $((i + a + b + t)) $((i + h + b)); then continue; fi
                         # shellcheck disable=SC2086
-                        "$1" $area "$algorithm" 1024 "$hash_block" "${salts[2]}" "$blocks" "$hash_type"
+                        "$1" $area "${algorithms[a]}" 1024 "${block_sizes[h]}" "${salts[2]}" "${counts[b]}" "$t"
                     done
                 done
             done

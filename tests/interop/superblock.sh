@@ -6,7 +6,7 @@ cd "$(dirname "$0")/../.."
 . tests/checks.sh
 . tests/programs/images.sh
 has_program veritysetup
-needs veritysetup cryptsetup-bin
+needs_other veritysetup cryptsetup-bin
 
 zeros 4096 >"$scratch/data"
 superblock 4096 4096 1 '' >"$scratch/stated"

@@ -1,0 +1,50 @@
+# Runs the examples of documents word for word. Sourced after tests/checks.sh.
+
+# lacking COMMAND: prints the first program of those that the examples use beside coreutils and isn't installed.
+lacking() {
+    local name
+    for name in mke2fs openssl xxd; do
+        if grep -qw "$name" <<<"$1" && ! command -v "$name" >/dev/null; then
+            echo "$name"
+            return
+        fi
+    done
+}
+
+# run_example COMMAND EXPECTED: runs a command in this shell, so that its variables stay for the next, and compares what it
+# prints on both streams. Where a program is missing, the rest of the group is left out with it.
+run_example() {
+    if [ -z "$missing" ]; then missing=$(lacking "$1"); fi
+    if [ -n "$missing" ]; then
+        echo "left out: $missing is not installed: $1"
+        return
+    fi
+    eval "$1" >"$scratch/.shown" 2>&1 </dev/null
+    is_text "$document: $1" "$2" "$scratch/.shown"
+}
+
+# run_examples DOCUMENT FILE: FILE has commands after '$ ', what they print below each, and a line '%' before each group of
+# them. A backslash at a line's end carries a command on. Sets `examples`, how many there are.
+run_examples() {
+    local document=$1 line command='' expected='' missing=''
+    examples=0
+    while IFS= read -r line; do
+        if [[ $command == *\\ && -z $expected ]]; then
+            command+=$'\n'$line
+            continue
+        fi
+        case $line in
+        '$ '* | %)
+            if [ -n "$command" ]; then run_example "$command" "${expected%$'\n'}"; fi
+            command='' expected=''
+            if [ "$line" = % ]; then
+                missing=
+            else
+                command=${line#\$ }
+                examples=$((examples + 1))
+            fi
+            ;;
+        *) expected+=$line$'\n' ;;
+        esac
+    done < <(cat "$2" && echo %)
+}

@@ -1,0 +1,26 @@
+#!/bin/bash
+# Runs the examples of README.md word for word, in a folder of their own with bin/ linked into it, and compares what they
+# print with what the README shows. An example is a run of indented lines with '$ ' before each command.
+set -u
+cd "$(dirname "$0")/.."
+. tests/checks.sh
+. tests/examples.sh
+has_program fsverity
+has_program veritysetup
+
+# The README's examples; each section is a group of its own.
+awk '
+    /^## / { print "%" }
+    /^    \$ / { shown = 1 }
+    !/^    / { shown = 0 }
+    shown { print substr($0, 5) }
+' README.md >"$scratch/examples"
+
+commands=$(grep -c '^ *\$ ' README.md)
+mkdir "$scratch/run"
+ln -s "$(realpath "$BIN")" "$scratch/run/bin"
+cd "$scratch/run" || exit 1
+run_examples README.md "$scratch/examples"
+same 'the number of commands in README.md' "$commands" "$examples"
+cd - >/dev/null || exit 1
+finish
