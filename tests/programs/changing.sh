@@ -1,0 +1,84 @@
+#!/bin/bash
+# Files that become shorter or longer while the programs read them. The programs are stopped by a signal meanwhile, so it is
+# known how much they have read.
+set -u
+cd "$(dirname "$0")/../.."
+. tests/checks.sh
+. tests/programs/images.sh
+. tests/programs/running.sh
+has_program fsverity
+has_program veritysetup
+
+data=$scratch/data.img
+hash=$scratch/hash.img
+size=$((512 << 20))
+block=4096
+options=(--salt=- --uuid "$UUID")
+
+# level COUNT FILE: a hash block of so many digests of one block.
+level() {
+    for _ in $(seq "$1"); do bytes "$(sha256 "$2")"; done
+    zeros $((block - 32 * $1))
+}
+
+# The root hash of so many zeros: 131072 data blocks, 1024 and 8 and 1 hash blocks, which hold 128, 128 and 8 digests.
+root_of_zeros() {
+    zeros $block >"$scratch/0"
+    level 128 "$scratch/0" >"$scratch/1"
+    level 128 "$scratch/1" >"$scratch/2"
+    level 8 "$scratch/2" >"$scratch/3"
+    sha256 "$scratch/3"
+}
+
+# anew: zeros of the full size, which take no room.
+anew() {
+    rm -f "$data"
+    truncate -s $size "$data"
+}
+
+# shrinks NAME STATUS FRONT BACK COMMAND..: the data is cut within a block that the command has not come to; its message is
+# FRONT, the number of that block, and BACK.
+shrinks() {
+    local name=$1 status=$2 front=$3 back=$4 last
+    shift 4
+    anew
+    stopped_in "$data" "$@"
+    last=$((at / block + 3))
+    truncate -s $((last * block + 5)) "$data"
+    kill -CONT "$pid"
+    ended "$name" "$status" '' "$front$last$back"
+}
+
+# grows NAME OUT COMMAND..: the data gets a block and some bytes more while the command reads it, which changes nothing.
+grows() {
+    local name=$1 out=$2
+    shift 2
+    anew
+    stopped_in "$data" "$@"
+    if [ "$at" -gt 0 ] && [ "$at" -lt $size ]; then pass; else fail "$name: stopped within the data" "at byte $at"; fi
+    sample 5000 >>"$data"
+    kill -CONT "$pid"
+    ended "$name" 0 "$out" ''
+}
+
+root=$(root_of_zeros)
+short='Data ends before the end of block '
+
+shrinks 'format of data that becomes shorter' 4 "$short" . "$BIN/veritysetup" format "${options[@]}" "$data" "$hash"
+runs 'format of data that becomes shorter: no superblock' 1 '' 'No verity superblock.' "$BIN/veritysetup" dump "$hash"
+grows 'format of data that becomes longer' "$(report "$hash" $block $block $((size / block)) - "$root")" \
+    "$BIN/veritysetup" format "${options[@]}" "$data" "$hash"
+grows 'verify of data that becomes longer' '' "$BIN/veritysetup" verify "$data" "$hash" "$root"
+shrinks 'verify of data that becomes shorter' 4 "$short" . "$BIN/veritysetup" verify "$data" "$hash" "$root"
+
+# The descriptor of fs-verity: version 1, SHA-256, blocks of two to the 12, no salt, the size, the root hash.
+{
+    bytes 01010c0000000000
+    little_endian 8 $size
+    bytes "$root"
+    zeros 208
+} >"$scratch/descriptor"
+grows 'digest of a file that becomes longer' "sha256:$(sha256 "$scratch/descriptor") $data" "$BIN/fsverity" digest "$data"
+shrinks 'digest of a file that becomes shorter' 1 'fsverity: file ends before the end of block ' ": $data." \
+    "$BIN/fsverity" digest "$data"
+finish
