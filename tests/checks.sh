@@ -137,10 +137,11 @@ sha256() {
     sha256sum <"$1" | cut -c1-64
 }
 
-# digests FILE SIZE: writes the SHA-256 digests of a file's blocks of SIZE bytes, one after another.
+# digests FILE SIZE [PROGRAM]: writes the digests of a file's blocks of SIZE bytes, one after another, as sha256sum or
+# another such program gives them.
 digests() {
     local digest
-    split -b "$2" --filter=sha256sum "$1" | while read -r digest _; do bytes "$digest"; done
+    split -b "$2" --filter="${3:-sha256sum}" "$1" | while read -r digest _; do bytes "$digest"; done
 }
 
 # set_byte FILE OFFSET HEX: overwrites one byte.

@@ -1,5 +1,5 @@
 #!/bin/bash
-# Runs bin/veritysetup format as a user would.
+# Runs bin/veritysetup format as a user would: images, files, memory and streams.
 set -u
 cd "$(dirname "$0")/../.."
 . tests/checks.sh
@@ -50,74 +50,6 @@ salted_image() {
     same_bytes 'a salt: the hash file' "$scratch/expected" "$hash"
 }
 
-# Salt and UUID are drawn where they are not given: two runs differ, and dump shows a UUID of version 4.
-drawn() {
-    rm -f "$hash" "$scratch/other.img"
-    "$veritysetup" format "$data" "$hash" >"$scratch/first"
-    "$veritysetup" format "$data" "$scratch/other.img" >"$scratch/second"
-    if grep -qE "^Salt: +$TAB[0-9a-f]{64}$" "$scratch/first"; then pass; else fail 'a drawn salt' "$(cat "$scratch/first")"; fi
-    if grep -qE "^UUID: +$TAB[0-9a-f]{8}-[0-9a-f]{4}-4[0-9a-f]{3}-[89ab][0-9a-f]{3}-[0-9a-f]{12}$" "$scratch/first"; then
-        pass
-    else
-        fail 'a drawn UUID' "$(cat "$scratch/first")"
-    fi
-    for label in Salt UUID; do
-        if [ "$(grep "^$label" "$scratch/first")" != "$(grep "^$label" "$scratch/second")" ]; then
-            pass
-        else
-            fail "two runs draw one $label" "$(grep "^$label" "$scratch/first")"
-        fi
-    done
-}
-
-# refuses NAME TEXT WORD..: an option is refused and no HASH file is made.
-refuses() {
-    local name=$1 text=$2
-    shift 2
-    rm -f "$hash"
-    runs "$name" 1 '' "$text" "$veritysetup" format "$@" "$data" "$hash"
-    absent "$name" "$hash"
-}
-
-# no_number and no_block_size NAME OPTION TEXT: a text that the option does not take.
-no_number() {
-    refuses "$1" "Option --$2 is not a number." "--$2=$3"
-}
-
-no_block_size() {
-    refuses "$1" "Option --$2 is not a valid block size." "--$2=$3"
-}
-
-options() {
-    local digits
-    digits=$(printf '%0514d' 0)
-    no_number 'an empty number' data-block-size ''
-    no_number 'a number with a sign' data-block-size +512
-    no_number 'a number above the largest' hash-block-size 18446744073709551616
-    no_number 'a hash type that is no number' format x
-    no_block_size 'a block size that is no power of two' data-block-size 768
-    no_block_size 'a block size of two to the 64 less one' data-block-size 18446744073709551615
-    no_block_size 'a block size below the least' hash-block-size 256
-    no_block_size 'a block size above the largest' hash-block-size 1048576
-    refuses 'a hash type that there is not' 'Hash type must be 0 or 1.' --format 2
-    refuses 'an unknown hash algorithm' 'Unknown hash algorithm.' --hash md5
-    refuses 'a hash algorithm in capitals' 'Unknown hash algorithm.' --hash SHA256
-    refuses 'a salt of an odd number of digits' 'Salt is not valid.' --salt abc
-    refuses 'a salt that is not hexadecimal' 'Salt is not valid.' --salt zz
-    refuses 'a salt of 257 bytes' 'Salt is not valid.' --salt "$digits"
-    refuses 'a UUID that is none' 'UUID is not valid.' --uuid 00112233
-    refuses 'a number before an algorithm' 'Option --format is not a number.' --hash md5 --format x --data-block-size x
-    refuses 'an algorithm before a hash type' 'Unknown hash algorithm.' --format 2 --hash md5
-    refuses 'a block size before a salt' 'Option --data-block-size is not a valid block size.' --salt abc --data-block-size 3
-    refuses 'a salt before a UUID' 'Salt is not valid.' --uuid x --salt x
-
-    rm -f "$hash"
-    runs 'a salt of 256 bytes' 0 any '' "$veritysetup" format --salt "${digits:2}" "$data" "$hash"
-    rm -f "$hash"
-    runs 'an empty salt' 0 "$(report "$hash" 512 512 17 - "$root")" '' \
-        "$veritysetup" format "${image_17_options[@]/--salt=-/--salt=}" "$data" "$hash"
-}
-
 files() {
     local short
     for size in 0 511 4095; do
@@ -158,17 +90,6 @@ areas() {
     { zeros 1024 && cat "$image"; } >"$scratch/expected"
     runs 'an offset' 0 any '' "$veritysetup" format --hash-offset 1024 "${image_17_options[@]}" "$data" "$hash"
     same_bytes 'an offset: zeros before it' "$scratch/expected" "$hash"
-
-    refuses 'an offset that is no number' 'Option --hash-offset is not a number.' --hash-offset 0x200
-    refuses 'an offset that is no multiple of 512' 'Hash offset is not valid.' --hash-offset 100
-    refuses 'a UUID before an offset' 'UUID is not valid.' --hash-offset 100 --uuid x
-    refuses 'an offset within a hash block, without a superblock' 'Hash offset is not valid.' \
-        --no-superblock --hash-offset 512
-    refuses 'an offset of which the superblock passes the limit' 'Data or hash area is too large.' \
-        --hash-offset 9223372036854775296
-    refuses 'an offset past the limit' 'Data or hash area is too large.' --hash-offset 18446744073709551104
-    refuses 'an offset of which the tree passes the limit' 'Data or hash area is too large.' \
-        --hash-offset 9223372036854774784 "${image_17_options[@]}"
 }
 
 # Data and hash area in one file, by whichever names: the hash area has to stand after the covered data.
@@ -232,37 +153,10 @@ memory() {
         --data-block-size 524288 --hash-block-size 524288 "$scratch/large" "$hash"
 }
 
-# command_line NAME WORD..: the words are refused, with some text on standard error alone, and no HASH file is made.
-command_line() {
-    local name=$1
-    shift
-    rm -f "$hash"
-    runs "$name" 1 '' any "$veritysetup" "$@"
-    absent "$name" "$hash"
-}
-
-command_lines() {
-    command_line 'no words'
-    command_line 'an unknown command' open "$data" "$hash"
-    command_line 'no files' format
-    command_line 'one file' format "$data"
-    command_line 'three files' format "$data" "$hash" "$hash"
-    command_line 'an unknown option' format --fec-roots 2 "$data" "$hash"
-    command_line 'an option without its value' format "$data" "$hash" --salt
-    command_line 'an option given twice' format --hash sha256 --hash sha256 "$data" "$hash"
-    command_line 'a help option' --help
-    command_line 'a help command' help
-    command_line 'help of a command' format --help
-    command_line 'a file name that is no text' format "$data" $'\xff\xfe'
-}
-
 images
-drawn
-options
 areas
 one_file
 files
 outputs
 memory
-command_lines
 finish

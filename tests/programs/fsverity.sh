@@ -1,33 +1,11 @@
 #!/bin/bash
-# Runs bin/fsverity as a user would: SHA-256, blocks of 4096 and no salt, where no option says otherwise.
+# Runs bin/fsverity as a user would: files, output files, memory and streams, with SHA-256, blocks of 4096 and no salt.
 set -u
 cd "$(dirname "$0")/../.."
 . tests/checks.sh
+. tests/programs/digests.sh
 has_program fsverity
 fsverity=$BIN/fsverity
-
-# root FILE: the root hash of a file that is not empty, level by level.
-root() {
-    cp "$1" "$scratch/level"
-    truncate -s %4096 "$scratch/level"
-    while [ "$(stat -c %s "$scratch/level")" -gt 4096 ]; do
-        digests "$scratch/level" 4096 >"$scratch/above"
-        truncate -s %4096 "$scratch/above"
-        mv "$scratch/above" "$scratch/level"
-    done
-    sha256 "$scratch/level"
-}
-
-# digest ROOT SIZE: the file digest, SHA-256 of the descriptor of 256 bytes.
-digest() {
-    {
-        bytes 01010c0000000000
-        little_endian 8 "$2"
-        bytes "$1"
-        zeros 208
-    } >"$scratch/descriptor"
-    sha256 "$scratch/descriptor"
-}
 
 # prints_digest_of_size SIZE: the line of a file of so many bytes.
 prints_digest_of_size() {
@@ -95,78 +73,6 @@ outputs() {
         bash -c '"$1" digest "$2" 2>&-' - "$fsverity" "$scratch/missing"
     runs 'all streams closed' 1 '' '' \
         bash -c '"$1" digest "$2" <&- >&- 2>&-' - "$fsverity" "$scratch/file"
-}
-
-# refuses NAME TEXT WORD..: an option is refused before any file is opened, so a missing file is not spoken of.
-refuses() {
-    local name=$1 text=$2
-    shift 2
-    runs "$name" 2 '' "fsverity: $text" "$fsverity" digest "$@" "$scratch/missing"
-}
-
-options() {
-    local salt32 salt33
-    salt32=$(printf '%064d' 0)
-    salt33=${salt32}00
-    refuses 'an unknown hash algorithm' 'unknown hash algorithm.' --hash-alg md5
-    refuses 'a hash algorithm in capitals' 'unknown hash algorithm.' --hash-alg SHA256
-    refuses 'an algorithm before a block size' 'unknown hash algorithm.' --block-size 1 --hash-alg md5
-    refuses 'a block size that is no number' 'block size is not valid.' --block-size 4k
-    refuses 'a block size with a sign' 'block size is not valid.' --block-size=+4096
-    refuses 'an empty block size' 'block size is not valid.' --block-size=
-    refuses 'a block size that is no power of two' 'block size is not valid.' --block-size 4095
-    refuses 'a block size above the largest' 'block size is not valid.' --block-size 1048576
-    refuses 'a block size of two to the 64' 'block size is not valid.' --block-size 18446744073709551616
-    refuses 'a block size below two digests of SHA-256' 'block size is not valid.' --block-size 32
-    refuses 'a block size below two digests of SHA-512' 'block size is not valid.' --hash-alg sha512 --block-size 64
-    refuses 'a block size before a salt' 'block size is not valid.' --salt zz --block-size 3
-    refuses 'a salt of 33 bytes' 'salt is not valid.' --salt "$salt33"
-    refuses 'a salt of an odd number of digits' 'salt is not valid.' --salt abc
-    refuses 'a salt that is not hexadecimal' 'salt is not valid.' --salt zz
-    refuses 'a hyphen as a salt' 'salt is not valid.' --salt=-
-
-    runs 'options that are accepted' 1 '' "fsverity: cannot open $scratch/missing." \
-        "$fsverity" digest --hash-alg=sha512 --block-size=00128 --salt="$salt32" "$scratch/missing"
-    : >"$scratch/empty"
-    runs 'an empty salt' 0 "sha256:$(digest "$(printf '%064d' 0)" 0) $scratch/empty" '' \
-        "$fsverity" digest --salt= "$scratch/empty"
-    salted_example
-}
-
-# One byte, blocks of 1024, a salt of 2 bytes: the salt is filled up to 64 bytes before the block.
-salted_example() {
-    local root
-    printf a >"$scratch/one"
-    {
-        bytes abcd
-        zeros 62
-        printf a
-        zeros 1023
-    } >"$scratch/block"
-    root=$(sha256 "$scratch/block")
-    {
-        bytes 01010a0200000000
-        little_endian 8 1
-        bytes "$root"
-        zeros 32
-        bytes abcd
-        zeros 174
-    } >"$scratch/descriptor"
-    runs 'a salt and a block size' 0 "sha256:$(sha256 "$scratch/descriptor") $scratch/one" '' \
-        "$fsverity" digest "$scratch/one" --salt ABcd --block-size 1024
-}
-
-# Forms of the line: the digest alone, and the formatted digest, which a signature signs.
-forms() {
-    local digest signed
-    : >"$scratch/empty"
-    digest=$(digest "$(printf '%064d' 0)" 0)
-    signed=465356657269747901002000$digest
-    runs 'a compact line' 0 "$digest" '' "$fsverity" digest --compact "$scratch/empty"
-    runs 'a formatted digest' 0 "$signed $scratch/empty" '' "$fsverity" digest --for-builtin-sig "$scratch/empty"
-    runs 'a compact formatted digest' 0 "$signed" '' "$fsverity" digest --compact "$scratch/empty" --for-builtin-sig
-    runs 'a compact line of each of two files' 0 "$digest
-$digest" '' "$fsverity" digest "$scratch/empty" --compact /dev/null
 }
 
 # The tree and the descriptor of a file, as sha256sum makes them.
@@ -240,6 +146,13 @@ named_twice() {
     loses_nothing 'the input file as the tree file' "$input" --out-merkle-tree "$input" "$input"
     loses_nothing 'the input file as the descriptor file' "$input" --out-descriptor "$input" "$input"
     loses_nothing 'the input file by another path' "$scratch/./input" --out-merkle-tree "$scratch/./input" "$input"
+    ln -s . "$scratch/folder_link"
+    loses_nothing 'the input file through a linked folder' "$scratch/folder_link/input" \
+        --out-merkle-tree "$scratch/folder_link/input" "$input"
+    fsverity=$(realpath "$fsverity")
+    cd "$scratch" || exit 1
+    loses_nothing 'the input file by a relative path' input --out-descriptor input "$input"
+    cd - >/dev/null || exit 1
     loses_nothing 'a hard link to the input file' "$scratch/hard" --out-descriptor "$scratch/hard" "$input"
     loses_nothing 'a symbolic link to the input file' "$scratch/soft" \
         --out-merkle-tree "$other" --out-descriptor "$scratch/soft" "$input"
@@ -256,41 +169,12 @@ named_twice() {
         --out-merkle-tree "$scratch/dangling" --out-descriptor "$scratch/unmade" "$input"
 }
 
-# command_line NAME WORD..: the words are refused, with some text on standard error alone.
-command_line() {
-    local name=$1
-    shift
-    runs "$name" 2 '' any "$fsverity" "$@"
-}
-
-command_lines() {
-    : >"$scratch/empty"
-    command_line 'no words'
-    command_line 'an unknown command' measure "$scratch/empty"
-    command_line 'no file' digest
-    command_line 'an unknown option' digest --sloth "$scratch/empty"
-    command_line 'an option without its value' digest "$scratch/empty" --salt
-    command_line 'an option given twice' digest --salt ab --salt ab "$scratch/empty"
-    command_line 'a flag given twice' digest --compact --compact "$scratch/empty"
-    command_line 'a flag with a value' digest --compact=yes "$scratch/empty"
-    command_line 'a help option' --help
-    command_line 'a short help option' -h
-    command_line 'a help command' help
-    command_line 'help of a command' digest --help
-    command_line 'a file name that is no text' digest $'\xff\xfe'
-    command_line 'a word that is no text' $'\xff' "$scratch/empty"
-    runs 'a file name after two hyphens' 1 '' 'fsverity: cannot open --salt.' "$fsverity" digest -- --salt
-}
-
 files
 several_files
 files_that_fail
 outputs
 memory
-options
-forms
 output_files
 output_files_that_fail
 named_twice
-command_lines
 finish

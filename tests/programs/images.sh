@@ -2,15 +2,17 @@
 
 UUID=00112233-4455-4677-8899-aabbccddeeff
 TAB=$(printf '\t')
+# The hash function of the images, sha256 or sha512.
+ALGORITHM=${ALGORITHM:-sha256}
 
-# superblock DATA-BLOCK HASH-BLOCK BLOCKS SALT-HEX: the 512 bytes of a superblock of SHA-256, hash type 1, UUID as above.
+# superblock DATA-BLOCK HASH-BLOCK BLOCKS SALT-HEX: the 512 bytes of a superblock of hash type 1, function and UUID as above.
 superblock() {
     printf verity
     zeros 2
     little_endian 4 1
     little_endian 4 1
     bytes "${UUID//-/}"
-    printf sha256
+    printf %s "$ALGORITHM"
     zeros 26
     little_endian 4 "$1"
     little_endian 4 "$2"
@@ -29,7 +31,7 @@ report() {
     echo "Data blocks:     $TAB$4"
     echo "Data block size: $TAB$2"
     echo "Hash block size: $TAB$3"
-    echo "Hash algorithm:  ${TAB}sha256"
+    echo "Hash algorithm:  $TAB$ALGORITHM"
     echo "Salt:            $TAB$5"
     if [ $# -gt 5 ]; then echo "Root hash:       $TAB$6"; fi
 }

@@ -1,0 +1,117 @@
+#!/bin/bash
+# Runs both programs with SHA-512 as a user would: an image of 17 data blocks in each hash type, and digests with and without
+# a salt, whose bytes come from sha512sum.
+set -u
+cd "$(dirname "$0")/../.."
+. tests/checks.sh
+ALGORITHM=sha512
+. tests/programs/images.sh
+has_program fsverity
+has_program veritysetup
+veritysetup=$BIN/veritysetup
+
+data=$scratch/data.img
+hash=$scratch/hash.img
+image=$scratch/image.img
+
+# sha512 FILE..: the digest of joined files, in hexadecimal.
+sha512() {
+    cat "$@" | sha512sum | cut -c1-128
+}
+
+# salted BLOCK: the digest of a block with the bytes $before it and those $after it.
+salted() {
+    { bytes "$before" && cat "$1" && bytes "$after"; } | sha512sum | cut -c1-128
+}
+
+# level FILE FULL: the salted digests of a file's blocks of 512 bytes, and zeros up to FULL bytes.
+level() {
+    local part
+    rm -f "$scratch"/part.*
+    split -b 512 -a 4 "$1" "$scratch/part."
+    { for part in "$scratch"/part.*; do bytes "$(salted "$part")"; done && zeros "$2"; } | head -c "$2"
+}
+
+# image_of SALT: the image of 17 data blocks; eight digests fill a hash block, so there are three and one. Sets `root`.
+image_of() {
+    sample 8704 >"$data"
+    level "$data" 1536 >"$scratch/level0"
+    level "$scratch/level0" 512 >"$scratch/level1"
+    { superblock 512 512 17 "$1" && cat "$scratch/level1" "$scratch/level0"; } >"$image"
+    root=$(salted "$scratch/level1")
+}
+
+# changed OFFSET TEXT: verify names the block of a changed byte of the hash file.
+changed() {
+    cp "$image" "$hash"
+    flip "$hash" "$1" 1
+    runs "byte $1 of the hash file" 2 '' "Verification failed: $2" "$veritysetup" verify "$data" "$hash" "$root"
+}
+
+options=(--hash sha512 --data-block-size 512 --hash-block-size 512 --uuid "$UUID")
+
+current() {
+    before=abcdef after=
+    image_of abcdef
+    runs 'format' 0 "$(report "$hash" 512 512 17 abcdef "$root")" '' \
+        "$veritysetup" format "${options[@]}" --salt=abcdef "$data" "$hash"
+    same_bytes 'format: the hash file' "$image" "$hash"
+    runs 'dump' 0 "$(report "$image" 512 512 17 abcdef)" '' "$veritysetup" dump "$image"
+    runs 'verify' 0 '' '' "$veritysetup" verify "$data" "$image" "$root"
+    runs 'verify: another root hash' 2 '' "Verification failed: root hash is $root." \
+        "$veritysetup" verify "$data" "$image" "$(printf '%0128d' 0)"
+    runs 'verify: a root hash of SHA-256' 1 '' 'Root hash is not valid.' \
+        "$veritysetup" verify "$data" "$image" "${root:64}"
+    changed 512 'level 1 block 0, child 0.'
+    changed 703 'level 1 block 0, child 2.'
+    changed 704 'level 1 block 0, spare bytes.'
+    changed 1024 'level 0 block 0, child 0.'
+    changed 2111 'level 0 block 2, child 16.'
+    changed 2112 'level 0 block 2, spare bytes.'
+}
+
+# In hash type 0 the salt comes after the block. Digests of 64 bytes stand without gaps in both types.
+original() {
+    before='' after=abcdef
+    image_of abcdef
+    set_byte "$image" 12 00
+    rm -f "$hash"
+    runs 'hash type 0' 0 any '' "$veritysetup" format "${options[@]}" --format 0 --salt=abcdef "$data" "$hash"
+    same_bytes 'hash type 0: the hash file' "$image" "$hash"
+    runs 'hash type 0: verify' 0 '' '' "$veritysetup" verify "$data" "$image" "$root"
+}
+
+# described SIZE ROOT SALT: the file digest of blocks of 4096, SHA-512 of the descriptor of 256 bytes.
+described() {
+    {
+        bytes "01020c$(printf %02x $((${#3} / 2)))00000000"
+        little_endian 8 "$1"
+        bytes "$2$3"
+        zeros $((32 - ${#3} / 2 + 144))
+    } >"$scratch/descriptor"
+    sha512 "$scratch/descriptor"
+}
+
+digests_of_files() {
+    local file=$scratch/two
+    sample 4097 >"$file"
+    cp "$file" "$scratch/whole"
+    truncate -s %4096 "$scratch/whole"
+    { digests "$scratch/whole" 4096 sha512sum && zeros 3968; } >"$scratch/tree"
+    runs 'digest' 0 "sha512:$(described 4097 "$(sha512 "$scratch/tree")" '') $file" '' \
+        "$BIN/fsverity" digest --hash-alg sha512 --out-merkle-tree "$scratch/made" "$file"
+    same_bytes 'digest: the tree file' "$scratch/tree" "$scratch/made"
+
+    printf a >"$scratch/one"
+    # A salt is filled up to 128 bytes before the block.
+    { bytes abcd && zeros 126 && printf a && zeros 4095; } >"$scratch/salted"
+    runs 'digest with a salt' 0 "sha512:$(described 1 "$(sha512 "$scratch/salted")" abcd) $scratch/one" '' \
+        "$BIN/fsverity" digest --hash-alg sha512 --salt abcd "$scratch/one"
+    runs 'the formatted digest' 0 "465356657269747902004000$(described 1 "$(sha512 "$scratch/salted")" abcd)" '' \
+        "$BIN/fsverity" digest --hash-alg sha512 --salt abcd --compact --for-builtin-sig "$scratch/one"
+}
+
+current
+original
+digests_of_files
+finish
