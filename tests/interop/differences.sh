@@ -1,0 +1,80 @@
+#!/bin/bash
+# Checks docs/DIFFERENCES.md: for each row of its tables both programs are run, ours and Debian's, and do what their columns
+# say. A row without checks fails, and so do checks without a row, and a row of README.md's table that isn't one of these.
+set -u
+cd "$(dirname "$0")/../.."
+. tests/checks.sh
+. tests/programs/images.sh
+has_program fsverity
+has_program veritysetup
+needs_other veritysetup cryptsetup-bin
+needs_other fsverity fsverity
+
+# The versions that the tables speak of.
+versions="$(veritysetup --version | cut -d' ' -f2) $(fsverity --version | cut -d' ' -f2)"
+if [ "$versions" != '2.6.1 v1.5' ]; then
+    echo "$0: the tables are about cryptsetup 2.6.1 and fsverity 1.5, and these are $versions, so they were left out"
+    exit $LEFT_OUT
+fi
+
+rows=()
+
+# row FIRST-CELL: what follows are the checks of this row.
+row() {
+    row=$1
+    rows+=("$1")
+    rm -f "$scratch/hash" "$scratch/their_hash"
+}
+
+# theirs and ours STATUS OUT ERR COMMAND..: what Debian's program does, and what ours does, as `runs` has it.
+theirs() {
+    runs "$row: Debian's" "$@"
+}
+
+ours() {
+    runs "$row: here" "$@"
+}
+
+# refused COMMAND..: ours refuses its options or its words, and says why on standard error alone.
+refused() {
+    local status=1
+    case $1 in */fsverity) status=2 ;; esac
+    ours $status '' any "$@"
+}
+
+# says WORD..: the last command said these words, on one of both streams.
+says() {
+    if grep -qF -- "$*" "$scratch/.out" "$scratch/.err"; then
+        pass
+    else
+        fail "$row: what was said" "expected: $*" "found:    $(cat "$scratch/.out" "$scratch/.err")"
+    fi
+}
+
+# says_not WORD..: it didn't say them.
+says_not() {
+    if grep -qF -- "$*" "$scratch/.out" "$scratch/.err"; then fail "$row: $*" "found: $(cat "$scratch/.out")"; else pass; fi
+}
+
+# size BYTES FILE: how long a file is.
+size() {
+    same "$row: size of ${2##*/}" "$1" "$(stat -c %s "$2")"
+}
+
+# table FILE: the first cells of its tables' rows.
+table() {
+    sed -n 's/^| \([^|][^|]*\) |.*$/\1/p' "$1" | sort
+}
+
+. tests/interop/differences/veritysetup.sh
+. tests/interop/differences/command_lines.sh
+. tests/interop/differences/fsverity.sh
+. tests/interop/differences/in_both.sh
+
+same 'the rows of docs/DIFFERENCES.md' "$(table docs/DIFFERENCES.md)" "$(printf '%s\n' "${rows[@]}" | sort)"
+sed -n "/^## Beside Debian's programs/,/^## Building/p" README.md | grep '^| [^|]' >"$scratch/readme"
+while IFS= read -r line; do
+    if grep -qFx -- "$line" docs/DIFFERENCES.md; then pass; else fail 'a row of README.md' "not in docs/DIFFERENCES.md: $line"; fi
+done <"$scratch/readme"
+if [ -s "$scratch/readme" ]; then pass; else fail 'the table of README.md' 'it was not found'; fi
+finish

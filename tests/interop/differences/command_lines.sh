@@ -1,0 +1,110 @@
+# The rows of docs/DIFFERENCES.md on command lines and files of veritysetup. Sourced by
+# tests/interop/differences.sh after veritysetup.sh.
+
+# prints_uuid STATUS TEXT VALUE: ours takes a text as UUID, and prints it so; theirs ends with a status.
+prints_uuid() {
+    rm -f "$hash" "$their_hash"
+    theirs "$1" "$([ "$1" -eq 0 ] && echo any)" "$([ "$1" -eq 0 ] || echo any)" \
+        veritysetup format --uuid "$2" "$data" "$their_hash"
+    if [ "$1" -eq 0 ]; then says "UUID:            $TAB$2"; fi
+    ours 0 any '' "$veritysetup" format --uuid "$2" "$data" "$hash"
+    says "UUID:            $TAB$UUID"
+}
+
+row 'a refused UUID'
+theirs 1 '' any veritysetup format --uuid x "$data" "$their_hash"
+size 8192 "$their_hash"
+refused "$veritysetup" format --uuid x "$data" "$hash"
+absent "$row: HASH" "$hash"
+
+row 'forms of a UUID'
+prints_uuid 0 "$UUID"
+prints_uuid 0 "${UUID^^}"
+prints_uuid 1 "{$UUID}"
+prints_uuid 1 "${UUID//-/}"
+prints_uuid 1 "urn:uuid:$UUID"
+
+row 'hash functions'
+for name in md5 sha3-256 ripemd160; do
+    theirs 0 any '' veritysetup format --hash "$name" "$data" "$their_hash"
+    refused "$veritysetup" format --hash "$name" "$data" "$hash"
+done
+for name in sha256 sha512 sha384 sha224 sha1; do
+    ours 0 any '' "$veritysetup" format --hash "$name" "$data" "$hash"
+done
+
+row 'the name of a hash function in capitals'
+theirs 0 any '' veritysetup format --hash SHA256 "$data" "$their_hash"
+refused "$veritysetup" format --hash SHA256 "$data" "$hash"
+
+row 'block sizes above the page size'
+large=$(($(getconf PAGE_SIZE) * 2))
+theirs 0 any any veritysetup format --data-block-size "$large" "$data" "$their_hash"
+says WARNING
+ours 0 any '' "$veritysetup" format --data-block-size "$large" "$data" "$hash"
+
+row 'mode of a new HASH'
+for mask in 022 027; do
+    rm -f "$hash" "$their_hash"
+    (umask $mask && veritysetup format "$data" "$their_hash" && "$veritysetup" format "$data" "$hash") >/dev/null
+    same "$row: Debian's, with a umask of $mask" 600 "$(stat -c %a "$their_hash")"
+    same "$row: here, with a umask of $mask" "$(printf %o $((0666 & ~0$mask)))" "$(stat -c %a "$hash")"
+done
+
+row 'HASH that can'\''t be made, or that can be read and not written'
+mkdir -m 555 "$scratch/closed"
+for folder in missing closed; do
+    theirs 1 '' any as_user veritysetup format "$data" "$scratch/$folder/hash"
+    ours 4 '' "Cannot open $scratch/$folder/hash." as_user "$scratch/ours" format "$data" "$scratch/$folder/hash"
+done
+cp "$data" "$scratch/kept"
+chmod 444 "$scratch/kept"
+theirs 1 '' any as_user veritysetup format "$data" "$scratch/kept"
+ours 4 '' "Cannot open $scratch/kept." as_user "$scratch/ours" format "$data" "$scratch/kept"
+same_bytes "$row: it stays" "$data" "$scratch/kept"
+rm "$scratch/kept"
+
+row '`/dev/null` as HASH'
+theirs 4 '' any veritysetup format "$data" /dev/null
+ours 0 any '' "$veritysetup" format "$data" /dev/null
+
+row '`/dev/null` as DATA, or in `dump`'
+theirs 4 '' any veritysetup format /dev/null "$their_hash"
+theirs 4 '' any veritysetup dump /dev/null
+ours 1 '' 'No data blocks.' "$veritysetup" format /dev/null "$hash"
+ours 1 '' 'Superblock is too short.' "$veritysetup" dump /dev/null
+
+row '`veritysetup`: an option given twice'
+theirs 0 any '' veritysetup format --hash sha1 --hash sha512 "$data" "$their_hash"
+says "Hash algorithm:  ${TAB}sha512"
+refused "$veritysetup" format --hash sha1 --hash sha512 "$data" "$hash"
+
+row 'options before the command'
+theirs 0 any '' veritysetup --hash sha512 format "$data" "$their_hash"
+says "Hash algorithm:  ${TAB}sha512"
+refused "$veritysetup" --hash sha512 format "$data" "$hash"
+
+row 'more words than the command has'
+both_format
+theirs 0 any '' veritysetup format "$data" "$their_hash" more
+theirs 0 any '' veritysetup dump "$hash" more
+theirs 0 '' '' veritysetup verify "$data" "$hash" "$root" more
+refused "$veritysetup" format "$data" "$hash" more
+refused "$veritysetup" dump "$hash" more
+refused "$veritysetup" verify "$data" "$hash" "$root" more
+
+row '`veritysetup`: a name that isn'\''t UTF-8'
+cp "$data" "$scratch/"$'\xff'
+theirs 0 any '' veritysetup format "$scratch/"$'\xff' "$their_hash"
+refused "$veritysetup" format "$scratch/"$'\xff' "$hash"
+
+row '`veritysetup`: what else there is'
+theirs 0 any '' veritysetup --help
+theirs 0 any '' veritysetup --version
+theirs 0 any '' veritysetup format -h sha1 -s ab --root-hash-file "$scratch/root" "$data" "$their_hash"
+theirs 0 '' '' veritysetup verify --root-hash-file "$scratch/root" "$data" "$their_hash"
+for words in --help --version "format -s ab $data $hash" "format --root-hash-file $scratch/root $data $hash" \
+    "format --fec-device $scratch/fec $data $hash" "open $data name $hash $root" 'close name' 'status name'; do
+    # shellcheck disable=SC2086
+    refused "$veritysetup" $words
+done

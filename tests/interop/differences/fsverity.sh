@@ -1,0 +1,91 @@
+# The rows of docs/DIFFERENCES.md on fsverity. Sourced by tests/interop/differences.sh.
+
+fsverity=$BIN/fsverity
+input=$scratch/input
+sample 9000 >"$input"
+printf a >"$scratch/first"
+: >"$scratch/empty"
+none=3d248ca542a24fc62d1c43b916eae5016878e2533c88238480b26128a1f1af95
+
+row '`digest` of a pipe'
+mkfifo "$scratch/pipe"
+# Opened for reading and writing first, so that nobody waits.
+theirs 0 "sha256:$none $scratch/pipe" '' bash -c 'exec 9<>"$1"; fsverity digest "$1"' - "$scratch/pipe"
+ours 1 '' "fsverity: cannot open $scratch/pipe." bash -c 'exec 9<>"$1"; "$2" digest "$1"' - "$scratch/pipe" "$fsverity"
+
+row 'block sizes above 524288'
+theirs 0 any '' fsverity digest --block-size 1048576 "$input"
+refused "$fsverity" digest --block-size 1048576 "$input"
+
+row 'a refused salt length, or a block size below twice the digest'
+for option in --block-size=32 "--salt=$(printf '%066d' 0)"; do
+    theirs 1 '' any fsverity digest "$option" "$input"
+    refused "$fsverity" digest "$option" "$input"
+done
+
+row 'a block size with a sign, as `+4096`'
+theirs 0 any '' fsverity digest --block-size=+4096 "$input"
+refused "$fsverity" digest --block-size=+4096 "$input"
+
+row '`fsverity`: the report can'\''t be written, as on a full device'
+theirs 0 '' '' bash -c 'fsverity digest "$1" >/dev/full' - "$input"
+ours 1 '' 'fsverity: cannot write output.' bash -c '"$2" digest "$1" >/dev/full' - "$input" "$fsverity"
+
+row 'an output file that is the input'
+cp "$input" "$scratch/lost"
+theirs 0 "sha256:$none $scratch/lost" '' fsverity digest --out-merkle-tree "$scratch/lost" "$scratch/lost"
+size 0 "$scratch/lost"
+cp "$input" "$scratch/kept"
+ours 1 '' "fsverity: cannot open $scratch/kept." "$fsverity" digest --out-merkle-tree "$scratch/kept" "$scratch/kept"
+same_bytes "$row: here" "$input" "$scratch/kept"
+
+row 'one output file for both'
+cp "$input" "$scratch/both"
+theirs 0 any '' fsverity digest --out-merkle-tree "$scratch/both" --out-descriptor "$scratch/both" "$input"
+# The tree of three blocks is one block: the descriptor's 256 bytes stand over its first ones.
+size 4096 "$scratch/both"
+cp "$input" "$scratch/both"
+ours 1 '' "fsverity: cannot open $scratch/both." \
+    "$fsverity" digest --out-merkle-tree "$scratch/both" --out-descriptor "$scratch/both" "$input"
+same_bytes "$row: here" "$input" "$scratch/both"
+
+row 'output files and several inputs'
+for file in "$input" "$scratch/first"; do
+    fsverity digest --out-descriptor "$scratch/part" "$file" >/dev/null
+    cat "$scratch/part" >>"$scratch/parts"
+done
+theirs 0 any '' fsverity digest --out-descriptor "$scratch/all" "$input" "$scratch/first"
+same_bytes "$row: Debian's" "$scratch/parts" "$scratch/all"
+refused "$fsverity" digest --out-descriptor "$scratch/unmade" "$input" "$scratch/first"
+absent "$row: here" "$scratch/unmade"
+
+row 'an input that can'\''t be opened'
+theirs 1 '' any fsverity digest --out-descriptor "$scratch/made" "$scratch/missing"
+size 0 "$scratch/made"
+ours 1 '' "fsverity: cannot open $scratch/missing." "$fsverity" digest --out-descriptor "$scratch/unmade" "$scratch/missing"
+absent "$row: here" "$scratch/unmade"
+
+row 'an output file that can'\''t be opened'
+theirs 2 '' any fsverity digest --out-descriptor "$scratch/none/file" "$input"
+ours 1 '' "fsverity: cannot open $scratch/none/file." "$fsverity" digest --out-descriptor "$scratch/none/file" "$input"
+
+row 'a shortened option, as `--hash-al`'
+theirs 0 any '' fsverity digest --hash-al=sha512 "$input"
+refused "$fsverity" digest --hash-al=sha512 "$input"
+
+row 'a flag given twice, as `--compact --compact`'
+theirs 0 any '' fsverity digest --compact --compact "$input"
+refused "$fsverity" digest --compact --compact "$input"
+
+row '`fsverity`: a name that isn'\''t UTF-8'
+cp "$input" "$scratch/"$'\xfe'
+theirs 0 any '' fsverity digest "$scratch/"$'\xfe'
+refused "$fsverity" digest "$scratch/"$'\xfe'
+
+row '`fsverity`: what else there is'
+theirs 0 any '' fsverity --help
+theirs 0 any '' fsverity --version
+for words in --help --version "enable $input" "measure $input" "sign $input $scratch/signature"; do
+    # shellcheck disable=SC2086
+    refused "$fsverity" $words
+done

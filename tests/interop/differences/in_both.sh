@@ -1,0 +1,59 @@
+# The rows of docs/DIFFERENCES.md on what both programs do. Sourced by tests/interop/differences.sh.
+
+# both STATUS OUT PROGRAM WORD..: the two programs of this name end with this status and output; the word HASH stands for each
+# one's own hash file.
+both() {
+    local status=$1 out=$2 err=any name=$3
+    shift 3
+    if [ "$status" -eq 0 ]; then err=; fi
+    theirs "$status" "$out" "$err" "$name" "${@/#HASH/$their_hash}"
+    ours "$status" "$out" "$err" "$BIN/$name" "${@/#HASH/$hash}"
+}
+
+row 'data and hash area in one file, under whichever names, where they overlap'
+cp "$data" "$scratch/file"
+ln -s file "$scratch/link"
+ln "$scratch/file" "$scratch/hard"
+for name in file link hard ./file; do
+    for place in '' --no-superblock '--data-blocks 17 --hash-offset 4096' '--data-blocks 10 --hash-offset 8192'; do
+        # shellcheck disable=SC2086
+        both 1 '' veritysetup format $place "$scratch/file" "$scratch/$name"
+        same_bytes "$row: $name $place" "$data" "$scratch/file"
+    done
+done
+
+row 'other options of `verify` with a superblock than `--hash-offset`'
+both_format
+both 0 '' veritysetup verify --hash no --salt x --data-blocks 0 --data-block-size 768 "$data" HASH "$root"
+
+row 'a tail of DATA that is no whole block'
+both_format
+mv "$hash" "$scratch/image"
+{ cat "$data" && echo tail; } >"$scratch/longer"
+both 0 any veritysetup format "${fixed[@]}" "$scratch/longer" HASH
+same_bytes "$row: Debian's" "$scratch/image" "$their_hash"
+same_bytes "$row: here" "$scratch/image" "$hash"
+
+row 'bytes of HASH outside superblock and tree'
+sample 20000 >"$hash"
+sample 20000 >"$their_hash"
+sample 20000 >"$scratch/expected"
+dd if="$scratch/image" of="$scratch/expected" conv=notrunc status=none
+# Between superblock and tree they are the old ones too.
+dd if="$hash" of="$scratch/expected" bs=512 skip=1 seek=1 count=7 conv=notrunc status=none
+both 0 any veritysetup format "${fixed[@]}" "$data" HASH
+same_bytes "$row: Debian's" "$scratch/expected" "$their_hash"
+same_bytes "$row: here" "$scratch/expected" "$hash"
+
+row 'a root hash in capitals'
+both_format
+both 0 '' veritysetup verify "$data" HASH "${root^^}"
+
+row 'a pipe as DATA'
+for program in veritysetup "$veritysetup"; do
+    runs "$row: $program" 4 '' any \
+        bash -c 'exec 9<>"$1"; "$2" format "$1" "$3"' - "$scratch/pipe" "$program" "$hash"
+done
+
+row '`fsverity digest` of several files, of which one can'\''t be opened'
+both 1 "sha256:$none $scratch/empty" fsverity digest "$scratch/empty" "$scratch/missing" "$input"
