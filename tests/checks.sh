@@ -17,8 +17,8 @@ needs() {
     fi
 }
 
-# needs_other PROGRAM PACKAGE: the same for a program to compare with. It must not be the one under test, by a link or as a
-# copy, nor another build of it, which can't tell its version as the other does.
+# needs_other PROGRAM PACKAGE: the same for a program to compare with. It must not be the one under test, by a link or
+# as a copy, nor another build of it, which can't tell its version as the other does.
 needs_other() {
     local other
     needs "$1" "$2"
@@ -67,7 +67,8 @@ absent() {
 }
 
 # runs NAME STATUS OUT ERR COMMAND..: a command ends with this status, standard output and standard error. OUT and ERR
-# are whole texts without the last newline, or `any` for some text, or for ERR `any-of A|B|..` with the messages allowed.
+# are whole texts without the last newline, or `any` for some text, or for ERR `any-of A|B|..` with the messages
+# allowed.
 runs() {
     local name=$1 status=$2 out=$3 err=$4 found_status=0
     shift 4

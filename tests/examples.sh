@@ -11,8 +11,8 @@ lacking() {
     done
 }
 
-# run_example COMMAND EXPECTED: runs a command in this shell, so that its variables stay for the next, and compares what it
-# prints on both streams. Where a program is missing, the rest of the group is left out with it.
+# run_example COMMAND EXPECTED: runs a command in this shell, so that its variables stay for the next, and compares what
+# it prints on both streams. Where a program is missing, the rest of the group is left out with it.
 run_example() {
     if [ -z "$missing" ]; then missing=$(lacking "$1"); fi
     if [ -n "$missing" ]; then
@@ -23,8 +23,8 @@ run_example() {
     is_text "$document: $1" "$2" "$scratch/.shown"
 }
 
-# run_examples DOCUMENT FILE: FILE has commands after '$ ', what they print below each, and a line '%' before each group of
-# them. A backslash at a line's end carries a command on. Sets `examples`, how many there are.
+# run_examples DOCUMENT FILE: FILE has commands after '$ ', what they print below each, and a line '%' before each group
+# of them. A backslash at a line's end carries a command on. Sets `examples`, how many there are.
 run_examples() {
     local document=$1 line command='' expected='' missing=''
     examples=0

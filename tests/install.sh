@@ -1,6 +1,6 @@
 #!/bin/bash
-# Runs `make install` into a folder, and compares the files there, their modes and bytes with what README.md says; man finds
-# the pages there.
+# Runs `make install` into a folder, and compares the files there, their modes and bytes with what README.md says; man
+# finds the pages there.
 set -u
 cd "$(dirname "$0")/.."
 . tests/checks.sh

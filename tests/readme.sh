@@ -1,6 +1,6 @@
 #!/bin/bash
-# Runs the examples of README.md word for word, in a folder of their own with bin/ linked into it, and compares what they
-# print with what the README shows. An example is a run of indented lines with '$ ' before each command.
+# Runs the examples of README.md word for word, in a folder of their own with bin/ linked into it, and compares what
+# they print with what the README shows. An example is a run of indented lines with '$ ' before each command.
 set -u
 cd "$(dirname "$0")/.."
 . tests/checks.sh

@@ -1,6 +1,7 @@
 #!/bin/bash
-# Checks docs/DIFFERENCES.md: for each row of its tables both programs are run, ours and Debian's, and do what their columns
-# say. A row without checks fails, and so do checks without a row, and a row of README.md's table that isn't one of these.
+# Checks docs/DIFFERENCES.md: for each row of its tables both programs are run, ours and Debian's, and do what their
+# columns say. A row without checks fails, and so do checks without a row, and a row of README.md's table that isn't one
+# of these.
 set -u
 cd "$(dirname "$0")/../.."
 . tests/checks.sh
@@ -53,7 +54,11 @@ says() {
 
 # says_not WORD..: it didn't say them.
 says_not() {
-    if grep -qF -- "$*" "$scratch/.out" "$scratch/.err"; then fail "$row: $*" "found: $(cat "$scratch/.out")"; else pass; fi
+    if grep -qF -- "$*" "$scratch/.out" "$scratch/.err"; then
+        fail "$row: $*" "found: $(cat "$scratch/.out")"
+    else
+        pass
+    fi
 }
 
 # size BYTES FILE: how long a file is.
@@ -71,10 +76,15 @@ table() {
 . tests/interop/differences/fsverity.sh
 . tests/interop/differences/in_both.sh
 
-same 'the rows of docs/DIFFERENCES.md' "$(table docs/DIFFERENCES.md)" "$(printf '%s\n' "${rows[@]}" | sort)"
+same 'rows without checks' '' "$(comm -23 <(table docs/DIFFERENCES.md) <(printf '%s\n' "${rows[@]}" | sort))"
+same 'checks without a row' '' "$(comm -13 <(table docs/DIFFERENCES.md) <(printf '%s\n' "${rows[@]}" | sort))"
 sed -n "/^## Beside Debian's programs/,/^## Building/p" README.md | grep '^| [^|]' >"$scratch/readme"
 while IFS= read -r line; do
-    if grep -qFx -- "$line" docs/DIFFERENCES.md; then pass; else fail 'a row of README.md' "not in docs/DIFFERENCES.md: $line"; fi
+    if grep -qFx -- "$line" docs/DIFFERENCES.md; then
+        pass
+    else
+        fail 'a row of README.md' "not in docs/DIFFERENCES.md: $line"
+    fi
 done <"$scratch/readme"
 if [ -s "$scratch/readme" ]; then pass; else fail 'the table of README.md' 'it was not found'; fi
 finish

@@ -1,8 +1,8 @@
 #!/bin/bash
 # Compares bin/veritysetup format with the veritysetup of Debian's package cryptsetup-bin: both make the same image, the
 # other program's verify accepts ours, and the report's values are those of its dump. Over algorithms, block sizes,
-# salts, numbers of blocks and hash types, with a given number of blocks, at hash offsets, without a superblock, and with
-# data and hash area in one file. SETTINGS=all takes every combination, for a minute or two.
+# salts, numbers of blocks and hash types, with a given number of blocks, at hash offsets, without a superblock, and
+# with data and hash area in one file. SETTINGS=all takes every combination, for a minute or two.
 set -u
 cd "$(dirname "$0")/../.."
 . tests/checks.sh
@@ -60,8 +60,8 @@ covers() {
         "$(sed -n 's/^Root hash:[[:space:]]*//p' "$scratch/own.txt")"
 }
 
-# at_area AREA OFFSET ALGORITHM DATA-BLOCK HASH-BLOCK SALT BLOCKS HASH-TYPE: both programs make the same image there, the
-# bytes before it stay, and the other verify accepts ours.
+# at_area AREA OFFSET ALGORITHM DATA-BLOCK HASH-BLOCK SALT BLOCKS HASH-TYPE: both programs make the same image there,
+# the bytes before it stay, and the other verify accepts ours.
 at_area() {
     local name="$*" data=$scratch/data place=(--hash-offset "$2") root
     local options=(--hash "$3" --format "$8" --data-block-size "$4" --hash-block-size "$5" --salt="$6")

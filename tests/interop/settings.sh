@@ -5,15 +5,15 @@ block_sizes=(512 1024 4096)
 salts=(- ab "$(seq -s '' 1000 1015)" "$(seq -s '' 1000 1127)")
 block_counts=(1 2 16 17 128 129 256 257 4097)
 
-# taken EVEN THIRD: of a setting with these two sums of its values' places in their lists, whether it is compared. SETTINGS=all
-# takes every combination. Else it is one in six, and any two values of a setting still come together.
+# taken EVEN THIRD: of a setting with these two sums of its values' places in their lists, whether it is compared.
+# SETTINGS=all takes every combination. Else it is one in six, and any two values of a setting still come together.
 taken() {
     [ "${SETTINGS:-}" = all ] || { [ $(($1 % 2)) -eq 0 ] && [ $(($2 % 3)) -eq 0 ]; }
 }
 
-# each_setting FUNCTION: calls it with ALGORITHM DATA-BLOCK HASH-BLOCK SALT BLOCKS HASH-TYPE for each setting: SHA-256 and
-# SHA-512 with all block sizes, no salt, 1, 32 and 256 bytes of salt, and all numbers of blocks; SHA-1, SHA-224 and SHA-384,
-# whose slots can be wider than digests, with fewer.
+# each_setting FUNCTION: calls it with ALGORITHM DATA-BLOCK HASH-BLOCK SALT BLOCKS HASH-TYPE for each setting: SHA-256
+# and SHA-512 with all block sizes, no salt, 1, 32 and 256 bytes of salt, and all numbers of blocks; SHA-1, SHA-224 and
+# SHA-384, whose slots can be wider than digests, with fewer.
 each_setting() {
     local long=(sha256 sha512) other=(sha1 sha224 sha384) few=(1 2 17 129 257) t a d h s b
     for t in 0 1; do
@@ -23,7 +23,8 @@ each_setting() {
                     for s in "${!salts[@]}"; do
                         for b in "${!block_counts[@]}"; do
                             if taken $((t + a + s + b)) $((d + h + b)); then
-                                "$1" "${long[a]}" "${block_sizes[d]}" "${block_sizes[h]}" "${salts[s]}" "${block_counts[b]}" "$t"
+                                "$1" "${long[a]}" "${block_sizes[d]}" "${block_sizes[h]}" "${salts[s]}" \
+                                    "${block_counts[b]}" "$t"
                             fi
                         done
                     done
@@ -44,13 +45,13 @@ each_setting() {
     done
 }
 
-# The hash areas over which they are compared, with `superblock` or `bare` before the hash offset. Without a superblock the
-# other program rounds an offset down that is no multiple of the hash block size; here it is refused. And it can't write a
-# superblock alone, which is that of a single data block, at an offset that is no multiple of 4096.
+# The hash areas over which they are compared, with `superblock` or `bare` before the hash offset. Without a superblock
+# the other program rounds an offset down that is no multiple of the hash block size; here it is refused. And it can't
+# write a superblock alone, which is that of a single data block, at an offset that is no multiple of 4096.
 areas=('superblock 512' 'superblock 4096' 'superblock 1049088' 'bare 0' 'bare 4096' 'bare 1048576')
 
-# each_area FUNCTION: calls it with AREA OFFSET ALGORITHM DATA-BLOCK HASH-BLOCK SALT BLOCKS HASH-TYPE for each area and some
-# settings.
+# each_area FUNCTION: calls it with AREA OFFSET ALGORITHM DATA-BLOCK HASH-BLOCK SALT BLOCKS HASH-TYPE for each area and
+# some settings.
 each_area() {
     local algorithms=(sha256 sha1) counts=(1 2 17 257) i area a h b t
     for i in "${!areas[@]}"; do

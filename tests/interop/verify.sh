@@ -1,8 +1,8 @@
 #!/bin/bash
 # Images that the veritysetup of Debian's package cryptsetup-bin makes are accepted by bin/veritysetup verify, and one
 # changed bit anywhere in the covered data or in a hash block is refused with the block that tests/interop/expected.py
-# names, a computation of its own. Over the settings of format.sh, at hash offsets and without a superblock. SETTINGS=all
-# takes every combination, for some six minutes.
+# names, a computation of its own. Over the settings of format.sh, at hash offsets and without a superblock.
+# SETTINGS=all takes every combination, for some six minutes.
 set -u
 cd "$(dirname "$0")/../.."
 . tests/checks.sh
@@ -25,8 +25,8 @@ below() {
 place=()
 expected_place=()
 
-# refused NAME CHANGE..: for each change, `data OFFSET MASK` or `hash OFFSET MASK`, the bits of the mask are turned in that
-# byte, verify names the block that is expected, and the bits are turned back.
+# refused NAME CHANGE..: for each change, `data OFFSET MASK` or `hash OFFSET MASK`, the bits of the mask are turned in
+# that byte, verify names the block that is expected, and the bits are turned back.
 refused() {
     local name=$1 expected change file offset mask
     shift

@@ -1,6 +1,6 @@
 #!/bin/bash
-# Files that become shorter or longer while the programs read them. The programs are stopped by a signal meanwhile, so it is
-# known how much they have read.
+# Files that become shorter or longer while the programs read them. The programs are stopped by a signal meanwhile, so
+# it is known how much they have read.
 set -u
 cd "$(dirname "$0")/../.."
 . tests/checks.sh
@@ -36,8 +36,8 @@ anew() {
     truncate -s $size "$data"
 }
 
-# shrinks NAME STATUS FRONT BACK COMMAND..: the data is cut within a block that the command has not come to; its message is
-# FRONT, the number of that block, and BACK.
+# shrinks NAME STATUS FRONT BACK COMMAND..: the data is cut within a block that the command has not come to; its message
+# is FRONT, the number of that block, and BACK.
 shrinks() {
     local name=$1 status=$2 front=$3 back=$4 last
     shift 4
@@ -78,7 +78,8 @@ shrinks 'verify of data that becomes shorter' 4 "$short" . "$BIN/veritysetup" ve
     bytes "$root"
     zeros 208
 } >"$scratch/descriptor"
-grows 'digest of a file that becomes longer' "sha256:$(sha256 "$scratch/descriptor") $data" "$BIN/fsverity" digest "$data"
+grows 'digest of a file that becomes longer' "sha256:$(sha256 "$scratch/descriptor") $data" \
+    "$BIN/fsverity" digest "$data"
 shrinks 'digest of a file that becomes shorter' 1 'fsverity: file ends before the end of block ' ": $data." \
     "$BIN/fsverity" digest "$data"
 finish

@@ -14,7 +14,11 @@ hash=$scratch/hash.img
 
 # report_has NAME LABEL PATTERN: a line of the report in $scratch/.out.
 report_has() {
-    if grep -qE "^$2: +$TAB$3$" "$scratch/.out"; then pass; else fail "$1" "expected: $2 $3" "found: $(cat "$scratch/.out")"; fi
+    if grep -qE "^$2: +$TAB$3$" "$scratch/.out"; then
+        pass
+    else
+        fail "$1" "expected: $2 $3" "found:    $(cat "$scratch/.out")"
+    fi
 }
 
 # drawn NAME LABEL.. -- OPTION..: values that are not given are drawn: those of two runs differ.

@@ -5,7 +5,8 @@ TAB=$(printf '\t')
 # The hash function of the images, sha256 or sha512.
 ALGORITHM=${ALGORITHM:-sha256}
 
-# superblock DATA-BLOCK HASH-BLOCK BLOCKS SALT-HEX: the 512 bytes of a superblock of hash type 1, function and UUID as above.
+# superblock DATA-BLOCK HASH-BLOCK BLOCKS SALT-HEX: the 512 bytes of a superblock of hash type 1, function and UUID as
+# above.
 superblock() {
     printf verity
     zeros 2

@@ -1,6 +1,6 @@
 #!/bin/bash
-# Runs of bin/veritysetup format that a signal ends: a fresh hash file has no superblock then, and an older image keeps its
-# superblock, on a tree of which verify names the first block that is not its own.
+# Runs of bin/veritysetup format that a signal ends: a fresh hash file has no superblock then, and an older image keeps
+# its superblock, on a tree of which verify names the first block that is not its own.
 set -u
 cd "$(dirname "$0")/../.."
 . tests/checks.sh
@@ -24,8 +24,8 @@ image() {
 older_root=$(image "$older" "$scratch/older.img")
 newer_root=$(image "$newer" "$scratch/newer.img")
 
-# The start of a command that can't write past byte 5120 of a file, where the sixth hash block of level 0 ends. The next word
-# is `killed` where such a write ends it by a signal, or `refused` where the write alone is refused.
+# The start of a command that can't write past byte 5120 of a file, where the sixth hash block of level 0 ends. The next
+# word is `killed` where such a write ends it by a signal, or `refused` where the write alone is refused.
 limited=(bash -c 'ulimit -c 0; ulimit -f 5; if [ "$0" = refused ]; then trap "" XFSZ; fi; exec "$@"')
 
 # formats NAME HOW STATUS ERR: the limited run of format over the newer data.
@@ -34,8 +34,8 @@ formats() {
     { runs "$1" "$3" '' "$4" "${limited[@]}" "$2" "$veritysetup" format "${options[@]}" "$newer" "$hash"; } 2>/dev/null
 }
 
-# cut_off NAME HOW STATUS ERR: format of the newer data ends at the seventh hash block of level 0, on a fresh hash file and
-# over the older image.
+# cut_off NAME HOW STATUS ERR: format of the newer data ends at the seventh hash block of level 0, on a fresh hash file
+# and over the older image.
 cut_off() {
     rm -f "$hash"
     formats "$1, a fresh hash file" "$2" "$3" "$4"

@@ -39,6 +39,7 @@ runs 'digest' 0 "sha256:3d248ca542a24fc62d1c43b916eae5016878e2533c88238480b26128
 
 # No report lands in the image where standard streams are closed.
 rm "$hash"
-runs 'all streams closed' 4 '' '' bash -c '"$@" <&- >&- 2>&-' - "${veritysetup[@]}" format "${image_17_options[@]}" "$data" "$hash"
+runs 'all streams closed' 4 '' '' \
+    bash -c '"$@" <&- >&- 2>&-' - "${veritysetup[@]}" format "${image_17_options[@]}" "$data" "$hash"
 same_bytes 'all streams closed: the hash file' "$image" "$hash"
 finish

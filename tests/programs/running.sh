@@ -47,8 +47,8 @@ is_stopped() {
     grep -q '^State:[[:space:]]*T' "/proc/$pid/status"
 }
 
-# stopped_in FILE COMMAND..: starts a command and stops it while it reads a file. Sets `pid`, and `at` to how many bytes of
-# the file it has read.
+# stopped_in FILE COMMAND..: starts a command and stops it while it reads a file. Sets `pid`, and `at` to how many bytes
+# of the file it has read.
 stopped_in() {
     local file=$1
     shift

@@ -1,6 +1,6 @@
 #!/bin/bash
-# Runs both programs with SHA-512 as a user would: an image of 17 data blocks in each hash type, and digests with and without
-# a salt, whose bytes come from sha512sum.
+# Runs both programs with SHA-512 as a user would: an image of 17 data blocks in each hash type, and digests with and
+# without a salt, whose bytes come from sha512sum.
 set -u
 cd "$(dirname "$0")/../.."
 . tests/checks.sh

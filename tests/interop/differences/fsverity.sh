@@ -62,7 +62,8 @@ absent "$row: here" "$scratch/unmade"
 row 'an input that can'\''t be opened'
 theirs 1 '' any fsverity digest --out-descriptor "$scratch/made" "$scratch/missing"
 size 0 "$scratch/made"
-ours 1 '' "fsverity: cannot open $scratch/missing." "$fsverity" digest --out-descriptor "$scratch/unmade" "$scratch/missing"
+ours 1 '' "fsverity: cannot open $scratch/missing." \
+    "$fsverity" digest --out-descriptor "$scratch/unmade" "$scratch/missing"
 absent "$row: here" "$scratch/unmade"
 
 row 'an output file that can'\''t be opened'

@@ -1,7 +1,7 @@
 # The rows of docs/DIFFERENCES.md on what both programs do. Sourced by tests/interop/differences.sh.
 
-# both STATUS OUT PROGRAM WORD..: the two programs of this name end with this status and output; the word HASH stands for each
-# one's own hash file.
+# both STATUS OUT PROGRAM WORD..: the two programs of this name end with this status and output; the word HASH stands
+# for each one's own hash file.
 both() {
     local status=$1 out=$2 err=any name=$3
     shift 3

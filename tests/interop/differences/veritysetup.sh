@@ -24,7 +24,8 @@ both_format() {
     root=$(sed -n 's/^Root hash:[[:space:]]*//p' "$scratch/report")
 }
 
-# spoilt OFFSET HEX TEXT: both dumps refuse the image with this byte: theirs with a text, ours with the one that follows.
+# spoilt OFFSET HEX TEXT: both dumps refuse the image with this byte: theirs with a text, ours with the one that
+# follows.
 spoilt() {
     cp "$scratch/image" "$hash"
     set_byte "$hash" "$1" "$2"
@@ -175,6 +176,8 @@ theirs 0 '' '' bash -c 'veritysetup format "$@" >/dev/full' - "$data" "$their_ha
 ours 4 '' 'Cannot write output.' bash -c '"$@" >/dev/full' - "$veritysetup" format "$data" "$hash"
 
 row 'a refused salt, hash function, block size or hash type, or no whole block of data'
-for option in --salt=zz --hash=no --data-block-size=768 --hash-block-size=256 --format=2; do makes_none "$option" "$data"; done
+for option in --salt=zz --hash=no --data-block-size=768 --hash-block-size=256 --format=2; do
+    makes_none "$option" "$data"
+done
 head -c 4095 "$data" >"$scratch/short"
 makes_none "$scratch/short"

@@ -1,0 +1,74 @@
+#!/bin/bash
+# Checks the manual pages: mandoc has nothing to say of them, their examples run, and their lists of messages are those
+# of the programs' sources.
+set -u
+cd "$(dirname "$0")/.."
+. tests/checks.sh
+. tests/examples.sh
+has_program fsverity
+has_program veritysetup
+
+# section PAGE NAME: the lines of a section of a page.
+section() {
+    awk -v name="$2" '/^\.Sh / { inside = $0 == ".Sh " name } inside' "$1"
+}
+
+# page_examples PAGE: its examples as `run_examples` takes them, in one group.
+page_examples() {
+    section "$1" EXAMPLES | awk '
+        /^\.Bd -literal/ { shown = 1; next }
+        /^\.Ed/ { shown = 0 }
+        shown { gsub(/\\e/, "\\"); print }
+    '
+}
+
+# told PAGE: the messages that a page lists, with `_` for each name or number in them.
+told() {
+    section "$1" DIAGNOSTICS | sed -n 's/^\.It //p' |
+        sed -E 's/--X\b/--_/; s/\b(PATH|NAME|[A-Z])\b/_/g' | sort -u
+}
+
+# meant CRATE: the messages in a crate's sources: texts that end with a full stop and a new line, alone or in pieces.
+meant() {
+    sed -E 's/^ *\/\/.*//' crates/"$1"/src/*.rt |
+        sed -nE -e 's/tell_pieces\(&\["([^"]*)", [a-z]+, "([^"]*)"\]/"\1_\2"/' -e 's/.*"([^"]*)\\n".*/\1/p' |
+        sed -E 's/\{[^}]*\}/_/g' | grep '\.$' | sort -u
+}
+
+# messages PAGE CRATE: the two lists are one.
+messages() {
+    same "$1: messages that $2 doesn't have" '' "$(comm -23 <(told "$1") <(meant "$2"))"
+    same "$1: messages of $2 that it lacks" '' "$(comm -13 <(told "$1") <(meant "$2"))"
+    if [ "$(told "$1" | wc -l)" -ge 10 ]; then pass; else fail "$1: its messages" "found: $(told "$1")"; fi
+}
+
+messages man/veritysetup.8 veritysetup
+messages man/fsverity.1 fsverity
+if command -v mandoc >/dev/null; then
+    same 'mandoc -T lint' '' "$(mandoc -T lint -W style man/*.[18] 2>/dev/null)"
+else
+    echo 'left out: mandoc is not installed'
+fi
+
+# The examples run with the programs on the path, in a folder that has what they speak of.
+mkdir "$scratch/bin" "$scratch/run" "$scratch/run/files"
+ln -s "$(realpath "$BIN")"/{fsverity,veritysetup} "$scratch/bin"
+PATH=$scratch/bin:$PATH
+for page in veritysetup.8 fsverity.1; do page_examples "man/$page" >"$scratch/$page"; done
+cd "$scratch/run" || exit 1
+if command -v openssl >/dev/null; then
+    openssl req -newkey rsa:2048 -nodes -keyout key.pem -x509 -out cert.pem -subj /CN=test 2>/dev/null
+fi
+for page in veritysetup.8 fsverity.1; do
+    run_examples "man/$page" "$scratch/$page"
+    if [ "$examples" -ge 4 ]; then pass; else fail "man/$page" "found: $examples examples"; fi
+done
+# The signed bytes are the formatted digest's.
+if [ -e one.sig ]; then
+    bytes "$(fsverity digest --compact --for-builtin-sig one)" >expected
+    runs 'the signature' 0 '' any \
+        openssl smime -verify -inform DER -in one.sig -content expected -certfile cert.pem -noverify -binary -out signed
+    same_bytes 'the signature' expected signed
+fi
+cd - >/dev/null || exit 1
+finish
