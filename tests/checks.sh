@@ -12,7 +12,7 @@ trap 'rm -rf "$scratch"' EXIT
 # needs PROGRAM PACKAGE: ends with status LEFT_OUT where a tool is missing that this script needs. Nothing is installed.
 needs() {
     if ! command -v "$1" >/dev/null; then
-        echo "$0 was left out: $1 is not installed (Debian: $2)"
+        echo "$0: $1 is not installed (Debian: $2)"
         exit $LEFT_OUT
     fi
 }

@@ -14,9 +14,10 @@ lacking() {
 # run_example COMMAND EXPECTED: runs a command in this shell, so that its variables stay for the next, and compares what
 # it prints on both streams. Where a program is missing, the rest of the group is left out with it.
 run_example() {
-    if [ -z "$missing" ]; then missing=$(lacking "$1"); fi
+    if [ -n "$missing" ]; then return; fi
+    missing=$(lacking "$1")
     if [ -n "$missing" ]; then
-        echo "left out: $missing is not installed: $1"
+        echo "left out: $document, from '${1%%$'\n'*}' on: $missing is not installed"
         return
     fi
     eval "$1" >"$scratch/.shown" 2>&1 </dev/null

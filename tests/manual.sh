@@ -22,9 +22,10 @@ page_examples() {
     '
 }
 
-# told PAGE: the messages that a page lists, with `_` for each name or number in them.
+# told PAGE: the messages of its own that a page lists, with `_` for each name or number in them. They end with a full
+# stop; those on command lines, which clap words, don't.
 told() {
-    section "$1" DIAGNOSTICS | sed -n 's/^\.It //p' |
+    section "$1" DIAGNOSTICS | sed -n 's/^\.It \(.*\.\)$/\1/p' |
         sed -E 's/--X\b/--_/; s/\b(PATH|NAME|[A-Z])\b/_/g' | sort -u
 }
 

@@ -23,4 +23,12 @@ cd "$scratch/run" || exit 1
 run_examples README.md "$scratch/examples"
 same 'the number of commands in README.md' "$commands" "$examples"
 cd - >/dev/null || exit 1
+
+# What the documents name is there: targets of the Makefile, and other documents.
+for target in $(grep -ohE '(^    |`)make [a-z-]+' README.md CONTRIBUTING.md | sed 's/.*make //' | sort -u); do
+    if make -n "$target" >/dev/null 2>&1; then pass; else fail "make $target" 'a document names it'; fi
+done
+for file in $(sed -nE 's/.*\]\(([^)#]+)\).*/\1/p' README.md CONTRIBUTING.md | sort -u); do
+    if [ -e "$file" ]; then pass; else fail "$file" 'a document names it'; fi
+done
 finish

@@ -12,10 +12,11 @@ failed=0
 left_out=()
 broken=()
 
-# count PART STATUS: adds what the part's last line says.
+# count PART STATUS: adds what the part's last line says, and keeps the lines of what it left out.
 count() {
-    local last good bad
+    local last good bad line
     last=$(tail -n 1 "$log")
+    while IFS= read -r line; do left_out+=("${line#left out: }"); done < <(grep '^left out: ' "$log")
     if [[ $last =~ ^([0-9]+)\ passed,\ ([0-9]+)\ failed$ ]]; then
         good=${BASH_REMATCH[1]} bad=${BASH_REMATCH[2]}
         passed=$((passed + good))

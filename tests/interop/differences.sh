@@ -14,7 +14,7 @@ needs_other fsverity fsverity
 # The versions that the tables speak of.
 versions="$(veritysetup --version | cut -d' ' -f2) $(fsverity --version | cut -d' ' -f2)"
 if [ "$versions" != '2.6.1 v1.5' ]; then
-    echo "$0: the tables are about cryptsetup 2.6.1 and fsverity 1.5, and these are $versions, so they were left out"
+    echo "$0: the tables are about cryptsetup 2.6.1 and fsverity 1.5, and these are $versions"
     exit $LEFT_OUT
 fi
 

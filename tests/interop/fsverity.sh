@@ -7,7 +7,6 @@ cd "$(dirname "$0")/../.."
 . tests/checks.sh
 has_program fsverity
 needs_other fsverity fsverity
-needs openssl openssl
 
 salts=('' ab 0011223344556677 00112233445566778899aabbccddeeff00112233445566778899aabbccddeeff)
 sizes=(0 1 127 128 4095 4096 4097 65536 1000003)
@@ -84,5 +83,5 @@ signatures() {
 }
 
 over_settings
-signatures
+if command -v openssl >/dev/null; then signatures; else echo 'left out: signatures: openssl is not installed'; fi
 finish

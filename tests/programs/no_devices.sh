@@ -12,7 +12,7 @@ bare=(unshare --mount)
 if [ "$(id -u)" -ne 0 ]; then bare=(unshare --map-root-user --mount); fi
 bare+=(sh -c 'mount -t tmpfs none /dev && exec "$@"' -)
 if ! "${bare[@]}" test ! -e /dev/null 2>/dev/null; then
-    echo "$0: /dev can't be hidden here, so runs without device files were left out"
+    echo "$0: /dev can't be hidden here"
     exit $LEFT_OUT
 fi
 
