@@ -3,6 +3,10 @@
 
 BIN=${BIN:-bin}
 PATH=$PATH:/usr/sbin:/sbin
+# What the user has set changes nothing here.
+export LC_ALL=C
+umask 022
+unset MAKEFLAGS MFLAGS MAKELEVEL
 LEFT_OUT=77
 checked=0
 failed=0
