@@ -163,7 +163,7 @@ fn a_refusal_makes_no_file(rt: HostRuntime) -> Result<(), Fail> {
 }
 
 /// Runs the program where there are no random bytes.
-fn run_without_random(alloc: Global, disk: &Disk, words: &str) -> Said {
+fn run_without_random<'a>(alloc: Global, disk: &'a Disk, words: &'a str) -> Said {
     let mut runtime = MemoryRuntime::new(alloc, disk, words);
     runtime.random = &[];
     said_by(alloc, &runtime)
