@@ -11,10 +11,9 @@ ghost use Rattle.veritysetup.specs.Outcomes.{printed};
 ghost use Rattle.command_line.specs.Printing.{AppendsFront};
 
 use crate::messages::{OUT_OF_MEMORY, OUTPUT_UNWRITTEN, SUPERBLOCK_UNWRITTEN, build_message};
-use crate::printing::{PrintFault, print_report};
 use crate::reports::{report, report_bare};
 use crate::settings::Settings;
-use command_line::{tell, tell_text};
+use command_line::{PrintFault, print_whole, tell, tell_text};
 use std::alloc::{AllocError, Global};
 use std::io::Write;
 use verity_format::write_superblock;
@@ -131,7 +130,7 @@ fn format<S: Source, D: Device, O: Write>(
         Ok(()) => {}
         Err(Failed) => return Err(FormatFault::Superblock),
     }
-    match print_report(settings_report(alloc, settings, &root, hash_path), out) {
+    match print_whole(settings_report(alloc, settings, &root, hash_path), out) {
         Ok(()) => Ok(()),
         Err(fault) => Err(FormatFault::Report(fault)),
     }
