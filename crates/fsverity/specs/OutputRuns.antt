@@ -27,6 +27,17 @@ pub record OutputTask : Type 0 where
   pub wants_tree : Bool
   pub wants_descriptor : Bool
 
+-- the task with these parts
+abbrev pub output_task : Settings → Form → List ℕ → ℕ → Bool → Bool → OutputTask
+output_task settings form name size wants_tree wants_descriptor = record {
+  settings = settings;
+  form = form;
+  name = name;
+  size = size;
+  wants_tree = wants_tree;
+  wants_descriptor = wants_descriptor;
+}
+
 -- what the writers of the descriptor and the line hold before and after, where that is known
 pub record Written : Type 0 where
   pub descriptor_before : Option (List ℕ)

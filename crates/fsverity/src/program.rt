@@ -26,14 +26,15 @@ const FAILED: u8 = 1;
 const REFUSED: u8 = 2;
 
 /// Carries out the command line of a runtime (fsverity(1)): what it prints goes to `out`, messages go to `msgs` as far
-/// as that takes them. The answer is the status: 0 done, 1 a file failed, the output could not be written or there was no
-/// memory, 2 the command line or an option is refused, and no file has been opened then.
+/// as that takes them. The answer is the status: 0 done, 1 a file failed, the output could not be written or there was
+/// no memory, 2 the command line or an option is refused, and no file has been opened then.
 pub fn run_program<R: Identities + Env + AllocGlobal, O: Write, M: Write>(
     rt: &R,
     out: &mut O,
     msgs: &mut M,
 ) -> u8
-    ensures { result ≤ 2 }
+    ensures status { result ≤ 2 }
+    ensures quiet { result ≡ 0 → msgs.new ≡ msgs.old }
 {
     match given_words(rt) {
         Ok(words) => run_words(rt, words.as_slice(), out, msgs),
@@ -49,7 +50,8 @@ fn run_words<R: Identities + AllocGlobal, O: Write, M: Write>(
     out: &mut O,
     msgs: &mut M,
 ) -> u8
-    ensures { result ≤ 2 }
+    ensures status { result ≤ 2 }
+    ensures quiet { result ≡ 0 → msgs.new ≡ msgs.old }
 {
     let Ok(texts) = texts_of(rt.alloc(), words) else {
         return end(FAILED, OUT_OF_MEMORY, msgs);
@@ -72,6 +74,7 @@ fn run_line<R: Identities + AllocGlobal, O: Write, M: Write>(
     msgs: &mut M,
 ) -> u8
     ensures status { result ≤ 2 }
+    ensures quiet { result ≡ 0 → msgs.new ≡ msgs.old }
     ensures refused { IfErr (settings_of line.now) (λ fault. (result ≡ 2) × (out.new ≡ out.old)
         × AppendsFront (option_text fault) (M.contents msgs.old) (M.contents msgs.new)) }
     ensures accepted { IfOk (settings_of line.now) (λ _. result ≤ 1) }
