@@ -7,8 +7,9 @@ SUFFIX = -proved
 
 .PHONY: run programs gate check-programs interop bench bench_bare install clean help
 
-# Builds the programs and runs the main job on a real file.
-run: programs
+# Proves and builds the one program that this needs, and prints the digest of a real file.
+run:
+	./build.sh fsverity_cli fsverity
 	bin/fsverity digest README.md
 
 # Proves and builds bin/fsverity and bin/veritysetup.
@@ -53,7 +54,7 @@ clean:
 	rm -rf bin crates/*/out
 
 help:
-	@echo 'make run             builds the programs and prints the digest of a file'
+	@echo 'make run             proves and builds fsverity, and prints the digest of a file'
 	@echo 'make programs        proves and builds bin/fsverity and bin/veritysetup'
 	@echo 'make gate            every proof from nothing, wrong bodies, tests, stored runs'
 	@echo 'make check-programs  runs the programs as a user would'
