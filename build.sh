@@ -8,12 +8,21 @@ built=crates/$crate/out/$crate
 log=$(mktemp)
 trap 'rm -f "$log"' EXIT
 
+# Reads what `rt` says, and names each crate that it has proved.
+name_proved() {
+    local first second name=
+    while read -r first second _; do
+        case $first in
+        crate) name=${second%:} ;;
+        logic=proved) echo "    $name is proved" ;;
+        esac
+    done
+}
+
 echo "bin/$program: proving what has changed, and building"
 # `rt run` proves, builds and then runs. Run without arguments the program may refuse: what counts is that it was built.
 rm -f "$built"
-(cd "crates/$crate" && rt run </dev/null 2>&1) | tee "$log" | awk '
-    /^crate / { name = $2; sub(":", "", name) }
-    /^logic=proved/ { print "    " name " is proved"; fflush() }' || true
+(cd "crates/$crate" && rt run </dev/null 2>&1) | tee "$log" | name_proved || true
 if [ ! -x "$built" ]; then
     cat "$log"
     echo "build.sh: $crate is not proved or not built" >&2
