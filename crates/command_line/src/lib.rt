@@ -27,5 +27,5 @@ pub use numbers::{DEFAULT_BLOCK_SIZE, number_or, read_number};
 pub use print_fault::{PrintFault, print_whole};
 pub use printing::{tell, tell_pieces, tell_text};
 pub use salts::read_salt;
-pub use system_words::{NOT_TEXT, given_words};
+pub use system_words::{WordsFault, given_words, not_text_message};
 pub use texts::{text_of, texts_of};

@@ -2,7 +2,7 @@
 ghost use Rattle.std.specs.Prelude.{◌≡◌, ◌≤◌, IfErr, IfOk};
 ghost use Rattle.command_line.specs.Printing.{AppendsFront};
 ghost use Rattle.fsverity.specs.CommandLines.{settings_of};
-ghost use Rattle.fsverity.specs.Messages.{option_text};
+ghost use Rattle.fsverity.specs.Messages.{option_text, words_status, words_text};
 ghost use Rattle.fsverity.specs.Runs.{run_fault_text};
 ghost use Rattle.fsverity.specs.declared.run_fault.RunFault.TheVariants.{NotOpened};
 
@@ -13,11 +13,12 @@ use crate::{
     read_words, run_digest,
 };
 use command_line::{
-    Identities, NOT_TEXT, NULL_DEVICE, NullFiles, given_words, tell_text, texts_of,
+    Identities, NULL_DEVICE, NullFiles, WordsFault, given_words, not_text_message, tell, tell_text,
+    texts_of,
 };
 use std::alloc::Global;
 use std::env::Env;
-use std::io::{ErrorKind, Write};
+use std::io::Write;
 
 /// The status of a file that fails, and of out of memory.
 const FAILED: u8 = 1;
@@ -38,8 +39,22 @@ pub fn run_program<R: Identities + Env + AllocGlobal, O: Write, M: Write>(
 {
     match given_words(rt) {
         Ok(words) => run_words(rt, words.as_slice(), out, msgs),
-        Err(error) if error.kind() == ErrorKind::OutOfMemory => end(FAILED, OUT_OF_MEMORY, msgs),
-        Err(_) => end(REFUSED, NOT_TEXT, msgs),
+        Err(fault) => refused_words(rt.alloc(), &fault, msgs),
+    }
+}
+
+/// The words of the command line can't be had: one is no text, or there is no memory for them.
+fn refused_words<M: Write>(alloc: Global, fault: &WordsFault, msgs: &mut M) -> u8
+    ensures status { result ≡ words_status fault.now }
+    ensures bound { result ≤ 2 }
+    ensures message { AppendsFront (words_text fault.now) (M.contents msgs.old) (M.contents msgs.new) }
+{
+    match fault {
+        WordsFault::NotText(number, word) => {
+            tell(not_text_message(alloc, *number, word.as_slice()), msgs);
+            REFUSED
+        }
+        WordsFault::Memory => end(FAILED, OUT_OF_MEMORY, msgs),
     }
 }
 
