@@ -7,8 +7,9 @@ SUFFIX = -proved
 
 .PHONY: run programs test check gate check-programs interop bench bench_bare install clean help
 
-# Builds the programs and runs the main job on a real file.
-run: programs
+# Proves and builds the one program that this needs, and prints the digest of a real file.
+run:
+	./build.sh fsverity_cli fsverity
 	bin/fsverity digest README.md
 
 # Proves and builds bin/fsverity and bin/veritysetup.
@@ -60,7 +61,7 @@ clean:
 	rm -rf bin crates/*/out
 
 help:
-	@echo 'make run             builds the programs and prints the digest of a file'
+	@echo 'make run             proves and builds fsverity, and prints the digest of a file'
 	@echo 'make programs        proves and builds bin/fsverity and bin/veritysetup'
 	@echo 'make test            all tests: the gate, the programs as a user runs them, documents, comparisons'
 	@echo 'make check           all tests but the gate'

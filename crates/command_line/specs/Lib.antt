@@ -3,3 +3,4 @@ pub mod Arguments
 pub mod LineFaults
 pub mod Printing
 pub mod NullFiles
+pub mod SystemWords

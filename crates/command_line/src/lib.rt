@@ -1,5 +1,5 @@
 //! What the two programs share of their command lines: option texts and defaults, the words that the system gave, the
-//! arguments that clap reads, the printing of messages, and the opening of files.
+//! arguments that clap reads, the printing of texts and messages, and the opening of files.
 #![tactic(auto)]
 
 mod algorithms;
@@ -10,6 +10,7 @@ mod files;
 mod line_fault;
 mod null_files;
 mod numbers;
+mod print_fault;
 mod printing;
 mod salts;
 mod system_words;
@@ -23,7 +24,8 @@ pub use files::{open_measured, open_writable};
 pub use line_fault::LineFault;
 pub use null_files::{NULL_DEVICE, NullFiles};
 pub use numbers::{DEFAULT_BLOCK_SIZE, number_or, read_number};
+pub use print_fault::{PrintFault, print_whole};
 pub use printing::{tell, tell_pieces, tell_text};
 pub use salts::read_salt;
-pub use system_words::{NOT_TEXT, given_words};
+pub use system_words::{WordsFault, given_words, not_text_message};
 pub use texts::{text_of, texts_of};

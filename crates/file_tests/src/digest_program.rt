@@ -1,7 +1,7 @@
 //! The program fsverity over a runtime in memory: what is opened when, the lines, every message of its own, and the
 //! statuses.
 use crate::digest::descriptor;
-use fixtures::{Said, Shape, data, filled};
+use fixtures::{NO_TEXT, Said, Shape, data, filled};
 use fsverity::run_program;
 use memory_runtime::{Call, Disk, Kind, MemoryRuntime};
 use sha2::{Digest as Hasher, Sha256, Sha512};
@@ -146,14 +146,18 @@ fn a_word_that_is_no_text_is_refused(rt: HostRuntime) -> Result<(), Fail> {
     let alloc = rt.alloc();
     let disk = disk(alloc)?;
     let mut memory = MemoryRuntime::new(alloc, &disk, "fsverity digest");
-    memory.last_word = Some(&[0xff]);
-    let mut out = Vec::new(alloc);
-    let mut msgs = Vec::new(alloc);
-    let status = run_program(&memory, &mut out, &mut msgs);
-    let text = b"error: invalid UTF-8 was detected in one or more arguments\n";
-    assert_eq!(rt; status, 2);
-    assert_eq!(rt; msgs.as_slice(), text.as_slice());
-    assert!(rt; out.is_empty());
+    let long = b"\xff".repeat(alloc, 1000)?;
+    let digits = "\\xff".repeat(alloc, 1000)?;
+    for (word, shown) in [NO_TEXT, (long.as_slice(), digits.as_str())] {
+        memory.last_word = Some(word);
+        let mut out = Vec::new(alloc);
+        let mut msgs = Vec::new(alloc);
+        let status = run_program(&memory, &mut out, &mut msgs);
+        let text = format!(in alloc; "error: argument 2 is not UTF-8: {shown}\n")?;
+        assert_eq!(rt; status, 2);
+        assert_eq!(rt; msgs.as_slice(), text.as_bytes());
+        assert!(rt; out.is_empty());
+    }
     assert_eq!(rt; disk.opened()?.as_str(), "");
     Ok(())
 }

@@ -1,7 +1,6 @@
 pub mod Options
 pub mod Lines
 pub mod Messages
-pub mod Printing
 pub mod Opening
 pub mod Digests
 pub mod Runs

@@ -3,6 +3,9 @@
 use Rattle.std.specs.Prelude.{ℕ, List, [], ◌∷◌, codes}
 use Rattle.std.specs.List.{concat}
 use Rattle.std.specs.Fmt.{decimal}
+use Rattle.command_line.specs.SystemWords.{not_text}
+use Rattle.command_line.specs.declared.system_words.WordsFault.{WordsFault}
+use Rattle.command_line.specs.declared.system_words.WordsFault.TheVariants.{NotText, Memory as NoMemory}
 use Rattle.fsverity.specs.declared.digest_fault.DigestFault.{DigestFault}
 use Rattle.fsverity.specs.declared.digest_fault.DigestFault.TheVariants.{TooLarge, SourceShort, SourceFailed, DeviceFailed, Memory}
 use Rattle.fsverity.specs.declared.option_fault.FsOptionFault.{FsOptionFault}
@@ -25,3 +28,12 @@ option_text UnknownHash = codes "fsverity: unknown hash algorithm.\n"
 option_text BadBlockSize = codes "fsverity: block size is not valid.\n"
 option_text BadSalt = codes "fsverity: salt is not valid.\n"
 option_text OneFileOnly = codes "fsverity: output files need exactly one input file.\n"
+
+-- why the words of the command line can't be had, and the status that goes with it
+abbrev pub words_text : WordsFault → List ℕ
+words_text (NotText number word) = not_text number word.items
+words_text NoMemory = codes "fsverity: out of memory.\n"
+
+abbrev pub words_status : WordsFault → ℕ
+words_status (NotText number word) = 2
+words_status NoMemory = 1

@@ -2,7 +2,7 @@
 -- the tree, then the descriptor, then the line. Nothing that comes after the first fault is written.
 use Rattle.std.specs.Prelude.{◌≡◌, ◌↔◌, ℕ, ◌<◌, Bool, true, false, List, [], length, take, codes, Option, Result, Ok, Err, IsTrue}
 use Rattle.std.specs.Io.KnownBytes.{Appends, Keeps}
-use Rattle.command_line.specs.Printing.{AppendsFront}
+use Rattle.command_line.specs.Printing.{AppendsFront, Prints}
 use Rattle.verity_format.specs.Descriptors.{descriptor_text, digest_of_file}
 use Rattle.verity_io.specs.Counting.{Change, Counts}
 use Rattle.verity_io.specs.Reading.{HasRead}
@@ -10,11 +10,10 @@ use Rattle.verity_plan.specs.Settings.{Settings}
 use Rattle.fsverity.specs.Digests.{FaultsIn, Stands, described, device_failed, is_too_large, root_of_file, source_failed, with_tree}
 use Rattle.fsverity.specs.Lines.{line}
 use Rattle.fsverity.specs.Messages.{fault_text}
-use Rattle.fsverity.specs.Printing.{Prints}
 use Rattle.fsverity.specs.declared.digest_fault.DigestFault.{DigestFault}
 use Rattle.fsverity.specs.declared.digest_fault.DigestFault.TheVariants.{TooLarge}
 use Rattle.fsverity.specs.declared.digest_lines.Form.{Form}
-use Rattle.fsverity.specs.declared.line_printing.PrintFault.TheVariants.{Memory, Output}
+use Rattle.command_line.specs.declared.print_fault.PrintFault.TheVariants.{Memory, Output}
 use Rattle.fsverity.specs.declared.output_fault.OutputFault.{OutputFault}
 use Rattle.fsverity.specs.declared.output_fault.OutputFault.TheVariants.{Digest, Descriptor, Line}
 
@@ -27,6 +26,17 @@ pub record OutputTask : Type 0 where
   pub size : ℕ
   pub wants_tree : Bool
   pub wants_descriptor : Bool
+
+-- the task with these parts
+abbrev pub output_task : Settings → Form → List ℕ → ℕ → Bool → Bool → OutputTask
+output_task settings form name size wants_tree wants_descriptor = record {
+  settings = settings;
+  form = form;
+  name = name;
+  size = size;
+  wants_tree = wants_tree;
+  wants_descriptor = wants_descriptor;
+}
 
 -- what the writers of the descriptor and the line hold before and after, where that is known
 pub record Written : Type 0 where

@@ -22,13 +22,12 @@ mod run_fault;
 mod running;
 mod words;
 
-pub use command_line::LineFault;
+pub use command_line::{LineFault, PrintFault};
 pub use digest_fault::{DigestFault, OUT_OF_MEMORY, digest_message};
 pub use digest_lines::{Form, digest_line};
 pub use digesting::{FileDigest, digest_file, digest_file_with_tree};
 pub use file_opener::FileOpener;
 pub use fused_opener::FusedOpener;
-pub use line_printing::PrintFault;
 pub use memory_opener::MemoryOpener;
 pub use opener::Opener;
 pub use option_fault::{FsOptionFault, option_message};

@@ -3,22 +3,13 @@ ghost use Rattle.std.specs.Prelude.{◌≡◌, length};
 ghost use Rattle.verity_hash.specs.declared.salting.SaltRule.TheVariants.{PaddedBefore};
 ghost use Rattle.verity_plan.specs.Settings.{digest_len};
 ghost use Rattle.fsverity.specs.Lines.{line};
-ghost use Rattle.fsverity.specs.Printing.{Prints};
+ghost use Rattle.command_line.specs.Printing.{Prints};
 
 use crate::{FileDigest, Form, digest_line};
+use command_line::{PrintFault, print_whole};
 use std::alloc::Global;
 use std::io::Write;
-use verity_format::{PutFault, put_all};
 use verity_tree::TreeSettings;
-
-/// Why a line is not printed whole.
-#[derive(Clone, Copy, Debug, PartialEq, Eq)]
-pub enum PrintFault {
-    /// There is no memory for its text.
-    Memory,
-    /// Only so many of its bytes, fewer than all, were taken.
-    Output(usize),
-}
 
 /// Makes the line of a file whole, and then writes it.
 pub(crate) fn print_line<W: Write>(
@@ -36,11 +27,8 @@ pub(crate) fn print_line<W: Write>(
 {
     // Its contract says that the settings are valid, so that the algorithm is one of fs-verity's.
     let _valid = settings.data_block();
-    match digest_line(alloc, form, settings.algorithm(), &made.digest, name) {
-        Ok(text) => match put_all(out, text.as_bytes()) {
-            Ok(()) => Ok(()),
-            Err(PutFault(taken)) => Err(PrintFault::Output(taken)),
-        },
-        Err(_) => Err(PrintFault::Memory),
-    }
+    print_whole(
+        digest_line(alloc, form, settings.algorithm(), &made.digest, name),
+        out,
+    )
 }

@@ -29,7 +29,8 @@ pub struct DigestOptions<'a> {
 /// then the salt (Linux kernel, fs-verity page, "FS_IOC_ENABLE_VERITY"), then an output file with more than one input.
 pub fn digest_settings(options: &DigestOptions<'_>) -> Result<TreeSettings, FsOptionFault>
     ensures value { result ≡ fs_settings (option_copied options.now.hash_alg)
-        (option_copied options.now.block_size) (option_copied options.now.salt) options.now.files options.now.out_files }
+        (option_copied options.now.block_size) (option_copied options.now.salt)
+        options.now.files options.now.out_files }
     ensures rule { IfOk result (λ settings. settings.rule ≡ PaddedBefore) }
 {
     let algorithm = algorithm(options.hash_alg).ok_or(FsOptionFault::UnknownHash)?;

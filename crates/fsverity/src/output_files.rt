@@ -1,5 +1,6 @@
 //! The output files of a run.
-ghost use Rattle.std.specs.Prelude.{◌≡◌, ◌⊎◌, ◌||◌, IfErr, IfOk, IfSome, IsSome, IsTrue, None, Some, false, is_some, option_map, option_copied, string_bytes};
+ghost use Rattle.std.specs.Prelude.{◌≡◌, ◌⊎◌, ◌||◌, None, Some, IfErr, IfOk, IfSome, IsSome, IsTrue, false, is_some};
+ghost use Rattle.std.specs.Prelude.{option_map, option_copied, string_bytes};
 
 use crate::Line;
 use command_line::{FileIdentity, Identities, text_of};

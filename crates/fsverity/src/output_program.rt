@@ -32,7 +32,8 @@ pub(crate) fn digest_to<R: Identities + AllocGlobal, O: Write, M: Write>(
     msgs: &mut M,
 ) -> u8
     requires { settings.now.rule ≡ PaddedBefore }
-    ensures { result ≤ 1 }
+    ensures status { result ≤ 1 }
+    ensures quiet { result ≡ 0 → msgs.new ≡ msgs.old }
 {
     let alloc = rt.alloc();
     let (file, size) = match open_measured(rt, name) {
@@ -79,7 +80,8 @@ fn write_to<S: Source, D: Device, F: Write + Drop, O: Write, M: Write>(
     msgs: &mut M,
 ) -> u8
     requires { input.old.settings.now.rule ≡ PaddedBefore }
-    ensures { result ≤ 1 }
+    ensures status { result ≤ 1 }
+    ensures quiet { result ≡ 0 → msgs.new ≡ msgs.old }
 {
     match descriptor {
         Some(mut file) => run_digest_to(

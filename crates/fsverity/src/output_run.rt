@@ -5,7 +5,7 @@ ghost use Rattle.verity_plan.specs.Settings.{digest_len};
 ghost use Rattle.verity_io.specs.Counting.{Counts, change};
 ghost use Rattle.fsverity.specs.Digests.{Digests, IsDescribed, Stands, device_failed, is_too_large, source_failed};
 ghost use Rattle.fsverity.specs.OutputRuns.{IsWritten, OutputRun, Reads, Wanted, WritesTexts, WritesTree};
-ghost use Rattle.fsverity.specs.OutputRuns.{digested, written};
+ghost use Rattle.fsverity.specs.OutputRuns.{digested, output_task, written};
 ghost use Rattle.fsverity.specs.OutputSteps.{PutsDescriptor};
 ghost use Rattle.fsverity.specs.declared.digest_fault.DigestFault.TheVariants.{TooLarge};
 
@@ -55,7 +55,8 @@ fn put_descriptor<W: Write>(
     descriptor: &mut W,
 ) -> Result<(), PutFault>
     ensures kept { wanted ≡ false → descriptor.new ≡ descriptor.old }
-    ensures put { PutsDescriptor made.now.descriptor wanted result (W.contents descriptor.old) (W.contents descriptor.new) }
+    ensures put { PutsDescriptor made.now.descriptor wanted result
+        (W.contents descriptor.old) (W.contents descriptor.new) }
 {
     if wanted {
         put_all(descriptor, &made.descriptor)
@@ -84,32 +85,13 @@ fn write_outputs<S: Source, D: Device, W: Write, O: Write>(
     ensures tree_kept { want_tree ≡ false → tree.new ≡ tree.old }
     ensures descriptor_kept { want_descriptor ≡ false → descriptor.new ≡ descriptor.old }
     ensures too_large { (digested result ≡ Err TooLarge) ↔ IsTrue (is_too_large settings.now size) }
-    ensures read { S.tells source.old → Reads (record {
-      settings = settings.now;
-      form = form;
-      name = name.now;
-      size = size;
-      wants_tree = want_tree;
-      wants_descriptor = want_descriptor;
-    })
+    ensures read { S.tells source.old
+        → Reads (output_task settings.now form name.now size want_tree want_descriptor)
         (digested result) (S.remaining source.old) (S.remaining source.new) }
-    ensures stands { S.tells source.old → D.tells tree.old → WritesTree (record {
-      settings = settings.now;
-      form = form;
-      name = name.now;
-      size = size;
-      wants_tree = want_tree;
-      wants_descriptor = want_descriptor;
-    })
+    ensures stands { S.tells source.old → D.tells tree.old
+        → WritesTree (output_task settings.now form name.now size want_tree want_descriptor)
         (S.remaining source.old) (digested result) (D.content tree.old) (D.content tree.new) }
-    ensures written { WritesTexts (record {
-      settings = settings.now;
-      form = form;
-      name = name.now;
-      size = size;
-      wants_tree = want_tree;
-      wants_descriptor = want_descriptor;
-    })
+    ensures written { WritesTexts (output_task settings.now form name.now size want_tree want_descriptor)
         result (S.tells source.old) (S.remaining source.old)
         (written W.contents O.contents descriptor.old descriptor.new out.old out.new) }
     ensures source_count { Counts (source_failed (digested result)) (S.failures source.old) (S.failures source.new) }
@@ -133,8 +115,8 @@ fn write_outputs<S: Source, D: Device, W: Write, O: Write>(
 /// level first at its start, then the 256 bytes of the descriptor to `descriptor`, then the line to `out` (fsverity(1),
 /// "--out-merkle-tree", "--out-descriptor"). What is not wanted stays.
 ///
-/// The status is 0 where all is written. The first fault ends the run with status 1: its message goes to `msgs` as far as
-/// that takes it, and nothing that comes later is written. The caller sees to settings of fs-verity.
+/// The status is 0 where all is written. The first fault ends the run with status 1: its message goes to `msgs` as
+/// far as that takes it, and nothing that comes later is written. The caller sees to settings of fs-verity.
 pub fn run_digest_to<S: Source, D: Device, W: Write, O: Write, M: Write>(
     alloc: Global,
     settings: &TreeSettings,
@@ -160,28 +142,14 @@ pub fn run_digest_to<S: Source, D: Device, W: Write, O: Write, M: Write>(
     ensures quiet { result ≡ 0 → msgs.new ≡ msgs.old }
 
     // Status 0: the file was read once, and what is wanted is written.
-    ensures all { result ≡ 0 → S.tells source.old → IsWritten (record {
-      settings = settings.now;
-      form = form;
-      name = name.now;
-      size = size;
-      wants_tree = want_tree;
-      wants_descriptor = want_descriptor;
-    })
+    ensures all { result ≡ 0 → S.tells source.old
+        → IsWritten (output_task settings.now form name.now size want_tree want_descriptor)
         (change S.tells S.remaining S.failures source.old source.new)
         (change D.tells D.content D.failures tree.old tree.new)
         (written W.contents O.contents descriptor.old descriptor.new out.old out.new) }
 
     // Each status: one outcome says what became of source, tree, descriptor, out and msgs, and which count rose.
-    ensures run { OutputRun (record {
-      settings = settings.now;
-      form = form;
-      name = name.now;
-      size = size;
-      wants_tree = want_tree;
-      wants_descriptor = want_descriptor;
-    })
-        result
+    ensures run { OutputRun (output_task settings.now form name.now size want_tree want_descriptor) result
         (change S.tells S.remaining S.failures source.old source.new)
         (change D.tells D.content D.failures tree.old tree.new)
         (record {

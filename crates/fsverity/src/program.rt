@@ -2,7 +2,7 @@
 ghost use Rattle.std.specs.Prelude.{◌≡◌, ◌≤◌, IfErr, IfOk};
 ghost use Rattle.command_line.specs.Printing.{AppendsFront};
 ghost use Rattle.fsverity.specs.CommandLines.{settings_of};
-ghost use Rattle.fsverity.specs.Messages.{option_text};
+ghost use Rattle.fsverity.specs.Messages.{option_text, words_status, words_text};
 ghost use Rattle.fsverity.specs.Runs.{run_fault_text};
 ghost use Rattle.fsverity.specs.declared.run_fault.RunFault.TheVariants.{NotOpened};
 
@@ -13,11 +13,12 @@ use crate::{
     read_words, run_digest,
 };
 use command_line::{
-    Identities, NOT_TEXT, NULL_DEVICE, NullFiles, given_words, tell_text, texts_of,
+    Identities, NULL_DEVICE, NullFiles, WordsFault, given_words, not_text_message, tell, tell_text,
+    texts_of,
 };
 use std::alloc::Global;
 use std::env::Env;
-use std::io::{ErrorKind, Write};
+use std::io::Write;
 
 /// The status of a file that fails, and of out of memory.
 const FAILED: u8 = 1;
@@ -26,19 +27,34 @@ const FAILED: u8 = 1;
 const REFUSED: u8 = 2;
 
 /// Carries out the command line of a runtime (fsverity(1)): what it prints goes to `out`, messages go to `msgs` as far
-/// as that takes them. The answer is the status: 0 done, 1 a file failed, the output could not be written or there was no
-/// memory, 2 the command line or an option is refused, and no file has been opened then.
+/// as that takes them. The answer is the status: 0 done, 1 a file failed, the output could not be written or there was
+/// no memory, 2 the command line or an option is refused, and no file has been opened then.
 pub fn run_program<R: Identities + Env + AllocGlobal, O: Write, M: Write>(
     rt: &R,
     out: &mut O,
     msgs: &mut M,
 ) -> u8
-    ensures { result ≤ 2 }
+    ensures status { result ≤ 2 }
+    ensures quiet { result ≡ 0 → msgs.new ≡ msgs.old }
 {
     match given_words(rt) {
         Ok(words) => run_words(rt, words.as_slice(), out, msgs),
-        Err(error) if error.kind() == ErrorKind::OutOfMemory => end(FAILED, OUT_OF_MEMORY, msgs),
-        Err(_) => end(REFUSED, NOT_TEXT, msgs),
+        Err(fault) => refused_words(rt.alloc(), &fault, msgs),
+    }
+}
+
+/// The words of the command line can't be had: one is no text, or there is no memory for them.
+fn refused_words<M: Write>(alloc: Global, fault: &WordsFault, msgs: &mut M) -> u8
+    ensures status { result ≡ words_status fault.now }
+    ensures bound { result ≤ 2 }
+    ensures message { AppendsFront (words_text fault.now) (M.contents msgs.old) (M.contents msgs.new) }
+{
+    match fault {
+        WordsFault::NotText(number, word) => {
+            tell(not_text_message(alloc, *number, word.as_slice()), msgs);
+            REFUSED
+        }
+        WordsFault::Memory => end(FAILED, OUT_OF_MEMORY, msgs),
     }
 }
 
@@ -49,7 +65,8 @@ fn run_words<R: Identities + AllocGlobal, O: Write, M: Write>(
     out: &mut O,
     msgs: &mut M,
 ) -> u8
-    ensures { result ≤ 2 }
+    ensures status { result ≤ 2 }
+    ensures quiet { result ≡ 0 → msgs.new ≡ msgs.old }
 {
     let Ok(texts) = texts_of(rt.alloc(), words) else {
         return end(FAILED, OUT_OF_MEMORY, msgs);
@@ -72,6 +89,7 @@ fn run_line<R: Identities + AllocGlobal, O: Write, M: Write>(
     msgs: &mut M,
 ) -> u8
     ensures status { result ≤ 2 }
+    ensures quiet { result ≡ 0 → msgs.new ≡ msgs.old }
     ensures refused { IfErr (settings_of line.now) (λ fault. (result ≡ 2) × (out.new ≡ out.old)
         × AppendsFront (option_text fault) (M.contents msgs.old) (M.contents msgs.new)) }
     ensures accepted { IfOk (settings_of line.now) (λ _. result ≤ 1) }

@@ -27,7 +27,8 @@ impl RunFault {
     /// Writes the message of the fault at the file of this name, as far as memory and the writer take it. That a file
     /// can't be opened is written without memory. The answer says whether the writer took all of it.
     pub(crate) fn tell<W: Write>(&self, alloc: Global, name: &str, msgs: &mut W) -> bool
-        ensures whole { IsTrue result → Appends (W.contents msgs.old) (W.contents msgs.new) (run_fault_text self.now name.now) }
+        ensures whole { IsTrue result
+            → Appends (W.contents msgs.old) (W.contents msgs.new) (run_fault_text self.now name.now) }
         ensures front { AppendsFront (run_fault_text self.now name.now) (W.contents msgs.old) (W.contents msgs.new) }
     {
         match self {

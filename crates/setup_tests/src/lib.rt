@@ -13,6 +13,8 @@ mod formatting;
 #[cfg(test)]
 mod hash_types;
 #[cfg(test)]
+mod host_files;
+#[cfg(test)]
 mod images;
 #[cfg(test)]
 mod messages;

@@ -1,7 +1,7 @@
 //! The program over files in memory: what its options choose, its own messages, and what stands after it.
 use crate::images::{Image, image_17, image_of};
 use crate::reports::{REPORT_17, Report};
-use fixtures::{Narrow, Said, filled};
+use fixtures::{NO_TEXT, Narrow, Said, filled};
 use memory_runtime::{Call, Disk, Kind, MemoryRuntime};
 use std::alloc::Global;
 use std::io;
@@ -163,7 +163,7 @@ fn a_refusal_makes_no_file(rt: HostRuntime) -> Result<(), Fail> {
 }
 
 /// Runs the program where there are no random bytes.
-fn run_without_random(alloc: Global, disk: &Disk, words: &str) -> Said {
+fn run_without_random<'a>(alloc: Global, disk: &'a Disk, words: &'a str) -> Said {
     let mut runtime = MemoryRuntime::new(alloc, disk, words);
     runtime.random = &[];
     said_by(alloc, &runtime)
@@ -197,11 +197,12 @@ fn refused_words_open_no_file(rt: HostRuntime) -> Result<(), Fail> {
     assert!(rt; text.as_str().starts_with("error: "));
     assert!(rt; text.as_str().ends_with(" DATA HASH\n"));
     let mut runtime = MemoryRuntime::new(alloc, &disk, "veritysetup format data");
-    runtime.last_word = Some(&[0xff]);
+    let (word, shown) = NO_TEXT;
+    let message = format!(in alloc; "error: argument 3 is not UTF-8: {shown}\n")?;
+    runtime.last_word = Some(word);
     let said = said_by(alloc, &runtime);
     assert_eq!(rt; said.status, 1);
-    let message = b"error: invalid UTF-8 was detected in one or more arguments\n".as_slice();
-    assert_eq!(rt; said.msgs.as_slice(), message);
+    assert_eq!(rt; said.msgs.as_slice(), message.as_bytes());
     assert!(rt; disk.opened()?.as_str().is_empty());
     Ok(())
 }

@@ -9,7 +9,7 @@ use Rattle.veritysetup.specs.Outcomes.{Printed, message_of, status_of}
 use Rattle.veritysetup.specs.Programs.{CommandRun, Grows}
 use Rattle.veritysetup.specs.declared.format_run.FormatFault.{FormatFault}
 use Rattle.veritysetup.specs.declared.format_run.FormatFault.TheVariants.{Store, Build, Superblock, Report}
-use Rattle.veritysetup.specs.declared.printing.PrintFault.TheVariants.{Memory, Output}
+use Rattle.command_line.specs.declared.print_fault.PrintFault.TheVariants.{Memory, Output}
 
 -- no byte is added to a writer that nothing was written to
 pub nothing_added : (held : Option (List ℕ)) → Appends held held []

@@ -6,14 +6,13 @@ use Rattle.verity_format.specs.Superblocks.{IsSuperblock}
 use Rattle.verity_io.specs.Counting.{Change, Counts}
 use Rattle.veritysetup.specs.Messages.{super_text, unread_superblock_text, memory_text, unwritten_output_text}
 use Rattle.veritysetup.specs.Outcomes.{Printed, status_of, message_of}
-use Rattle.command_line.specs.Printing.{AppendsFront}
-use Rattle.veritysetup.specs.Printing.{Prints}
+use Rattle.command_line.specs.Printing.{AppendsFront, Prints}
 use Rattle.veritysetup.specs.Reports.{report_text, uuid_text}
 use Rattle.veritysetup.specs.StoredSuperblock.{header, ReadsSuperblock, is_unread}
 use Rattle.veritysetup.specs.declared.dump_run.DumpFault.{DumpFault}
 use Rattle.veritysetup.specs.declared.dump_run.DumpFault.TheVariants.{Superblock, Report}
-use Rattle.veritysetup.specs.declared.printing.PrintFault.{PrintFault}
-use Rattle.veritysetup.specs.declared.printing.PrintFault.TheVariants.{Memory, Output}
+use Rattle.command_line.specs.declared.print_fault.PrintFault.{PrintFault}
+use Rattle.command_line.specs.declared.print_fault.PrintFault.TheVariants.{Memory, Output}
 use Rattle.veritysetup.specs.declared.stored_superblock.StoredFault.TheVariants.{Unread, Refused}
 
 -- the status of a fault

@@ -14,12 +14,11 @@ use Rattle.veritysetup.specs.Chosen.{Chosen}
 use Rattle.veritysetup.specs.Images.{image, superblock_for}
 use Rattle.veritysetup.specs.Messages.{build_text, memory_text, unwritten_output_text, unwritten_superblock_text}
 use Rattle.veritysetup.specs.Outcomes.{Printed, status_of, message_of}
-use Rattle.command_line.specs.Printing.{AppendsFront}
-use Rattle.veritysetup.specs.Printing.{Prints}
+use Rattle.command_line.specs.Printing.{AppendsFront, Prints}
 use Rattle.veritysetup.specs.Reports.{bare_text, report_text, uuid_text}
 use Rattle.veritysetup.specs.declared.format_run.FormatFault.{FormatFault}
 use Rattle.veritysetup.specs.declared.format_run.FormatFault.TheVariants.{Store, Build, Superblock, Report}
-use Rattle.veritysetup.specs.declared.printing.PrintFault.TheVariants.{Memory, Output}
+use Rattle.command_line.specs.declared.print_fault.PrintFault.TheVariants.{Memory, Output}
 
 -- the status of a fault
 abbrev pub fault_status : FormatFault → ℕ

@@ -9,7 +9,6 @@ pub mod RawWords
 pub mod Messages
 pub mod Reports
 pub mod ReportSteps
-pub mod Printing
 pub mod Outcomes
 pub mod StoredSuperblock
 pub mod DumpRun

@@ -3,6 +3,10 @@
 use Rattle.std.specs.Prelude.{◌≡◌, ◌≤◌, ◌⊎◌, ℕ, List, [], ◌∷◌, codes, Option}
 use Rattle.std.specs.Io.KnownBytes.{Appends, Keeps}
 use Rattle.std.specs.List.{concat}
+use Rattle.command_line.specs.SystemWords.{not_text}
+use Rattle.command_line.specs.declared.system_words.WordsFault.{WordsFault}
+use Rattle.command_line.specs.declared.system_words.WordsFault.TheVariants.{NotText, Memory}
+use Rattle.veritysetup.specs.Messages.{memory_text}
 use Rattle.veritysetup.specs.Outcomes.{Printed}
 
 -- a file that can't be opened, or whose length can't be found
@@ -20,6 +24,15 @@ no_random_text = codes "Cannot get random bytes.\n"
 -- a command line without a file that it must have
 abbrev pub incomplete_text : List ℕ
 incomplete_text = codes "error: the command line is not complete\n"
+
+-- the words of the command line can't be had
+abbrev pub words_text : WordsFault → List ℕ
+words_text (NotText number word) = not_text number word.items
+words_text Memory = memory_text
+
+abbrev pub words_status : WordsFault → ℕ
+words_status (NotText number word) = 1
+words_status Memory = 3
 
 -- 0 done, 1 refused, 2 verification failed, 3 out of memory, 4 a file that can't be opened, read or written
 abbrev pub IsStatus : ℕ → Type 0

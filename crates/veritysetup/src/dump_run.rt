@@ -7,10 +7,9 @@ ghost use Rattle.veritysetup.specs.Outcomes.{printed};
 ghost use Rattle.command_line.specs.Printing.{AppendsFront};
 
 use crate::messages::{OUT_OF_MEMORY, OUTPUT_UNWRITTEN, SUPERBLOCK_UNREAD, super_message};
-use crate::printing::{PrintFault, print_report};
 use crate::reports::report;
 use crate::stored_superblock::{StoredFault, stored_superblock};
-use command_line::{tell, tell_text};
+use command_line::{PrintFault, print_whole, tell, tell_text};
 use std::alloc::Global;
 use std::io::Write;
 use verity_tree::Device;
@@ -72,7 +71,7 @@ fn dump<D: Device, O: Write>(
         Ok(superblock) => superblock,
         Err(fault) => return Err(DumpFault::Superblock(fault)),
     };
-    match print_report(report(alloc, &superblock, None, hash_path), out) {
+    match print_whole(report(alloc, &superblock, None, hash_path), out) {
         Ok(()) => Ok(()),
         Err(fault) => Err(DumpFault::Report(fault)),
     }

@@ -5,16 +5,17 @@ ghost use Rattle.verity_io.specs.Counting.{Counts, CountsFailure, change};
 ghost use Rattle.verity_io.specs.Writing.{Spoiled};
 ghost use Rattle.verity_plan.specs.Plans.{superblock_size};
 ghost use Rattle.verity_tree.specs.Levels.{data_blocks};
-ghost use Rattle.veritysetup.specs.FormatRun.{FormatRun, IsFormatted, PrintsReport, Reads, Writes, device_failed, fault_status, fault_text, format_report, root_above, source_failed};
+ghost use Rattle.veritysetup.specs.FormatRun.{FormatRun, IsFormatted, PrintsReport, Reads, Writes};
+ghost use Rattle.veritysetup.specs.FormatRun.{device_failed, fault_status, fault_text, format_report, root_above};
+ghost use Rattle.veritysetup.specs.FormatRun.{source_failed};
 ghost use Rattle.veritysetup.specs.Images.{with_superblock};
 ghost use Rattle.veritysetup.specs.Outcomes.{printed};
 ghost use Rattle.command_line.specs.Printing.{AppendsFront};
 
 use crate::messages::{OUT_OF_MEMORY, OUTPUT_UNWRITTEN, SUPERBLOCK_UNWRITTEN, build_message};
-use crate::printing::{PrintFault, print_report};
 use crate::reports::{report, report_bare};
 use crate::settings::Settings;
-use command_line::{tell, tell_text};
+use command_line::{PrintFault, print_whole, tell, tell_text};
 use std::alloc::{AllocError, Global};
 use std::io::Write;
 use verity_format::write_superblock;
@@ -131,7 +132,7 @@ fn format<S: Source, D: Device, O: Write>(
         Ok(()) => {}
         Err(Failed) => return Err(FormatFault::Superblock),
     }
-    match print_report(settings_report(alloc, settings, &root, hash_path), out) {
+    match print_whole(settings_report(alloc, settings, &root, hash_path), out) {
         Ok(()) => Ok(()),
         Err(fault) => Err(FormatFault::Report(fault)),
     }

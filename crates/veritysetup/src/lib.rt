@@ -14,7 +14,6 @@ mod option_numbers;
 mod options;
 mod parameters;
 mod parsed_line;
-mod printing;
 mod program;
 mod program_messages;
 mod random_bytes;

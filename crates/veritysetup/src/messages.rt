@@ -1,6 +1,7 @@
 //! Messages, one line each.
 ghost use Rattle.std.specs.Prelude.{◌≡◌, IfOk, string_bytes};
-ghost use Rattle.veritysetup.specs.Messages.{option_text, super_text, short_text, unread_text, build_text, difference_text, compare_text};
+ghost use Rattle.veritysetup.specs.Messages.{option_text, super_text, short_text, unread_text, build_text};
+ghost use Rattle.veritysetup.specs.Messages.{difference_text, compare_text};
 
 use crate::{OptionFault, OptionName};
 use std::alloc::{AllocError, Global};

@@ -32,7 +32,7 @@ where
 {
     let words = match given_words(rt) {
         Ok(words) => words,
-        Err(error) => return refused_words(&error, msgs),
+        Err(fault) => return refused_words(rt.alloc(), &fault, msgs),
     };
     match texts_of(rt.alloc(), words.as_slice()) {
         Ok(texts) => run_words(rt, texts.as_slice(), out, msgs),

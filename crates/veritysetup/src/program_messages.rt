@@ -2,14 +2,13 @@
 ghost use Rattle.std.specs.Prelude.{◌≡◌};
 ghost use Rattle.command_line.specs.Printing.{AppendsFront};
 ghost use Rattle.veritysetup.specs.Messages.{memory_text, option_text};
-ghost use Rattle.veritysetup.specs.Programs.{IsRefusal, incomplete_text, no_random_text, unopened_text, unwritten_text};
+ghost use Rattle.veritysetup.specs.Programs.{IsRefusal, incomplete_text, no_random_text, unopened_text, unwritten_text, words_status, words_text};
 
 use crate::messages::{OUT_OF_MEMORY, option_message};
 use crate::options::OptionFault;
-use command_line::{LineFault, NOT_TEXT, tell, tell_pieces, tell_text};
+use command_line::{LineFault, WordsFault, not_text_message, tell, tell_pieces, tell_text};
 use std::alloc::Global;
-use std::io;
-use std::io::{ErrorKind, Write};
+use std::io::Write;
 
 /// The file could not be opened, or its length not be found.
 pub fn cannot_open<M: Write>(path: &str, msgs: &mut M) -> u8
@@ -65,15 +64,19 @@ pub fn incomplete_line<M: Write>(msgs: &mut M) -> u8
     1
 }
 
-/// The words of the command line can't be had: there is no memory for them, or one is no text.
-pub fn refused_words<M: Write>(error: &io::Error, msgs: &mut M) -> u8
-    ensures { IsRefusal result }
+/// The words of the command line can't be had: one is no text, or there is no memory for them.
+pub fn refused_words<M: Write>(alloc: Global, fault: &WordsFault, msgs: &mut M) -> u8
+    ensures status { result ≡ words_status fault.now }
+    ensures refusal { IsRefusal result }
+    ensures message { AppendsFront (words_text fault.now) (M.contents msgs.old) (M.contents msgs.new) }
 {
-    if error.kind() == ErrorKind::OutOfMemory {
-        return out_of_memory(msgs);
+    match fault {
+        WordsFault::NotText(number, word) => {
+            tell(not_text_message(alloc, *number, word.as_slice()), msgs);
+            1
+        }
+        WordsFault::Memory => out_of_memory(msgs),
     }
-    tell_text(NOT_TEXT, msgs);
-    1
 }
 
 /// The command line is refused, with `clap`'s text, or there is no memory for it.

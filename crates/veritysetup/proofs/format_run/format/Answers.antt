@@ -18,16 +18,16 @@ pub returns-in-Err-build-clause-printed : goal.returns-in-Err-build-clause-print
 returns-in-Err-build-clause-printed g c =
     (root_above c.args.settings.now (g.S.Source.remaining c.args.source.now), λ told. refl, kept _)
 
-pub returns-in-Ok-print_report-clause-printed : goal.returns-in-Ok-print_report-clause-printed
-returns-in-Ok-print_report-clause-printed g c = (
+pub returns-in-Ok-print_whole-clause-printed : goal.returns-in-Ok-print_whole-clause-printed
+returns-in-Ok-print_whole-clause-printed g c = (
   c.in-Ok-build.root,
   λ told. by_plan _ _ _ _ (c.in-Ok-build.ensures.read told).0 c.plan-plan.ensures.value,
-  c.in-Ok-print_report.ensures _ c.settings_report.ensures,
+  c.in-Ok-print_whole.ensures _ c.settings_report.ensures,
 )
 
 pub returns-clause-printed : goal.returns-clause-printed
 returns-clause-printed g c = (
   c.in-Ok-build.root,
   λ told. by_plan _ _ _ _ (c.in-Ok-build.ensures.read told).0 c.plan-plan.ensures.value,
-  c.in-Err-print_report.ensures _ c.settings_report.ensures,
+  c.in-Err-print_whole.ensures _ c.settings_report.ensures,
 )
