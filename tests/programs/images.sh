@@ -3,7 +3,7 @@
 UUID=00112233-4455-4677-8899-aabbccddeeff
 TAB=$(printf '\t')
 # The hash function of the images, sha256 or sha512.
-ALGORITHM=${ALGORITHM:-sha256}
+ALGORITHM=sha256
 
 # superblock DATA-BLOCK HASH-BLOCK BLOCKS SALT-HEX: the 512 bytes of a superblock of hash type 1, function and UUID as
 # above.

@@ -4,8 +4,8 @@
 set -u
 cd "$(dirname "$0")/../.."
 . tests/checks.sh
-ALGORITHM=sha512
 . tests/programs/images.sh
+ALGORITHM=sha512
 has_program fsverity
 has_program veritysetup
 veritysetup=$BIN/veritysetup
