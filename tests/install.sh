@@ -36,7 +36,7 @@ finds_page() {
 
 installs plain usr/local -proved
 installs named usr '' PREFIX=/usr SUFFIX=
-if command -v man >/dev/null; then
+if man --version 2>/dev/null | grep -q '^man [0-9]'; then
     finds_page "$scratch/plain/usr/local/share/man" 1 fsverity-proved
     finds_page "$scratch/plain/usr/local/share/man" 8 veritysetup-proved
 else

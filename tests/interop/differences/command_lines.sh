@@ -52,17 +52,26 @@ for mask in 022 027; do
 done
 
 row 'HASH that can'\''t be made, or that can be read and not written'
+theirs 1 '' any veritysetup format "$data" "$scratch/missing/hash"
+ours 4 '' "Cannot open $scratch/missing/hash." "$veritysetup" format "$data" "$scratch/missing/hash"
 mkdir -m 555 "$scratch/closed"
-for folder in missing closed; do
-    theirs 1 '' any as_user veritysetup format "$data" "$scratch/$folder/hash"
-    ours 4 '' "Cannot open $scratch/$folder/hash." as_user "$scratch/ours" format "$data" "$scratch/$folder/hash"
-done
 cp "$data" "$scratch/kept"
 chmod 444 "$scratch/kept"
-theirs 1 '' any as_user veritysetup format "$data" "$scratch/kept"
-ours 4 '' "Cannot open $scratch/kept." as_user "$scratch/ours" format "$data" "$scratch/kept"
+chmod 755 "$scratch"
+cp "$veritysetup" "$scratch/ours"
+# Modes of files count for a user who isn't root.
+user=()
+if [ "$(id -u)" -eq 0 ]; then user=(setpriv --reuid=65534 --regid=65534 --clear-groups); fi
+if "${user[@]}" "$scratch/ours" verify "$data" "$data" 00 2>&1 | grep -q 'No verity superblock'; then
+    for file in "$scratch/closed/hash" "$scratch/kept"; do
+        theirs 1 '' any "${user[@]}" veritysetup format "$data" "$file"
+        ours 4 '' "Cannot open $file." "${user[@]}" "$scratch/ours" format "$data" "$file"
+    done
+else
+    echo 'left out: files that another user than root may not write: no program runs as such a user here'
+fi
 same_bytes "$row: it stays" "$data" "$scratch/kept"
-rm "$scratch/kept"
+rm -f "$scratch/kept"
 
 row '`/dev/null` as HASH'
 theirs 4 '' any veritysetup format "$data" /dev/null

@@ -9,13 +9,6 @@ sample 69632 >"$data"
 sample 4096 >"$one"
 fixed=(--salt=ab --uuid "$UUID")
 
-# as_user COMMAND..: a command by a user who isn't root, for whom modes of files count.
-as_user() {
-    if [ "$(id -u)" -ne 0 ]; then "$@"; else setpriv --reuid=65534 --regid=65534 --clear-groups "$@"; fi
-}
-chmod 755 "$scratch"
-cp "$veritysetup" "$scratch/ours"
-
 # both_format OPTION..: the two programs' images of the data, which are one; sets `root`.
 both_format() {
     veritysetup format "${fixed[@]}" "$@" "$data" "$their_hash" >"$scratch/their_report"
