@@ -2,7 +2,7 @@
 # Images that the veritysetup of Debian's package cryptsetup-bin makes are accepted by bin/veritysetup verify, and one
 # changed bit anywhere in the covered data or in a hash block is refused with the block that tests/interop/expected.py
 # names, a computation of its own. Over the settings of format.sh, at hash offsets and without a superblock.
-# SETTINGS=all takes every combination, for some six minutes.
+# SETTINGS=all takes every combination, for some six minutes. Needs python3.
 set -u
 cd "$(dirname "$0")/../.."
 . tests/checks.sh
