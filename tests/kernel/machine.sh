@@ -1,0 +1,70 @@
+# The virtual machine of tests/kernel.sh: which kernel runs in it, what is packed into it, how it is started. Sourced after
+# tests/checks.sh.
+
+# The guest's files, and the seconds after which a guest that hasn't ended has failed.
+guest=$scratch/guest
+time_limit=900
+
+# find_kernel: KERNEL, or the newest kernel in /boot, and MODULES, or the modules that Debian's package puts beside it. Sets
+# `kernel`, `modules` and `release`.
+find_kernel() {
+    kernel=${KERNEL:-$(find /boot -name 'vmlinuz-*' | sort -V | tail -n 1)}
+    release=${kernel##*/vmlinuz-}
+    modules=${MODULES:-$(dirname "$kernel")/../lib/modules/$release}
+    if [ -r "$kernel" ] && [ -d "$modules" ]; then return; fi
+    cat >&2 <<END
+$0: no kernel: '$kernel', or its modules '$modules', can't be read. Any of Debian's for amd64 will do. Without installing one:
+    apt-get download \$(apt-cache depends linux-image-cloud-amd64 | sed -n 's/.*Depends: //p')
+    dpkg -x linux-image-*.deb FOLDER
+    make kernel KERNEL=\$(echo FOLDER/boot/vmlinuz-*)
+MODULES=FOLDER names the modules where they aren't at ../lib/modules/VERSION from vmlinuz-VERSION.
+END
+    exit 1
+}
+
+# since MAJOR MINOR: whether the kernel is of that version or a later one.
+since() {
+    printf '%s\n' "$1.$2" "$release" | sort -V -C
+}
+
+# put_program NAME: a program and the libraries that it is linked with, for the guest.
+put_program() {
+    local program library
+    program=$(command -v "$1")
+    install -D "$program" "$guest/bin/$1"
+    for library in $(ldd "$program" 2>/dev/null | grep -o '/[^ ]*'); do
+        install -D "$library" "$guest$library"
+    done
+}
+
+# put_module NAME: a module after those that it depends on, unless the kernel has it built in.
+put_module() {
+    local name=$1 file plain=$guest/modules/$1.ko depends
+    file=$(find "$modules/" -name "$name.ko*" | head -n 1)
+    if [ -z "$file" ] || [ -e "$plain" ]; then return; fi
+    case $file in
+    *.xz) xz -dc "$file" ;;
+    *.zst) zstd -dc "$file" ;;
+    *) cat "$file" ;;
+    esac >"$plain"
+    IFS=, read -ra depends <<<"$(sed -zn 's/^depends=//p' "$plain" | tr -d '\0')"
+    for name in "${depends[@]}"; do put_module "$name"; done
+    echo "$1.ko" >>"$guest/modules/order"
+}
+
+# pack: puts programs and modules beside the images and the plan, and makes one archive of all.
+pack() {
+    local name
+    mkdir -p "$guest/modules" "$guest/dev" "$guest/proc" "$guest/sys"
+    for name in busybox dd dmsetup veritysetup fsverity; do put_program "$name"; done
+    for name in loop dm-mod dm-verity sha1_generic sha256_generic sha512_generic crc32c_generic ext4; do put_module "$name"; done
+    cp tests/kernel/init "$guest/init"
+    (cd "$guest" && find . | busybox cpio -o -H newc -R 0:0) >"$scratch/archive" 2>"$scratch/.cpio"
+}
+
+# boot: runs the guest to its end. Its console goes to one file, and what it found to another.
+boot() {
+    timeout "$time_limit" qemu-system-x86_64 -accel tcg -m 1024 -nodefaults -display none -no-reboot \
+        -kernel "$kernel" -initrd "$scratch/archive" -append 'console=ttyS0 panic=-1 quiet' \
+        -serial "file:$scratch/console" -serial "file:$scratch/found" </dev/null
+}
