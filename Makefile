@@ -5,7 +5,7 @@ PREFIX = /usr/local
 DESTDIR =
 SUFFIX = -proved
 
-.PHONY: run programs gate check-programs interop bench bench_bare install clean help
+.PHONY: run programs gate check-programs interop kernel bench bench_bare install clean help
 
 # Builds the programs and runs the main job on a real file.
 run: programs
@@ -30,6 +30,10 @@ interop: programs
 	tests/interop/superblock.sh
 	tests/interop/format.sh
 	tests/interop/verify.sh
+
+# The Linux kernel opens the images, in a virtual machine. KERNEL=FILE and MODULES=FOLDER take a kernel that isn't in /boot.
+kernel: programs
+	tests/kernel.sh
 
 # Measures throughput and peak memory.
 bench: programs bench_bare
@@ -58,6 +62,7 @@ help:
 	@echo 'make gate            every proof from nothing, wrong bodies, tests, stored runs'
 	@echo 'make check-programs  runs the programs as a user would'
 	@echo "make interop         compares them with Debian's programs"
+	@echo 'make kernel          has the Linux kernel open the images, in a virtual machine (KERNEL, MODULES)'
 	@echo 'make bench           measures throughput and peak memory'
 	@echo 'make install         installs programs and manual pages (PREFIX, DESTDIR, SUFFIX)'
 	@echo 'make clean           removes what was built'
