@@ -14,13 +14,15 @@ mkdir -p "$guest/modules" "$guest/dev" "$guest/proc" "$guest/sys" "$guest/mnt"
 # find_kernel: KERNEL, or the newest kernel in /boot, and MODULES, or the modules that Debian's package puts beside it. Sets
 # `kernel`, `modules` and `release`.
 find_kernel() {
+    local missing=
     kernel=${KERNEL:-$(find /boot -name 'vmlinuz-*' | sort -V | tail -n 1)}
     release=${kernel##*/vmlinuz-}
     modules=${MODULES:-$(dirname "$kernel")/../lib/modules/$release}
     if [ -r "$kernel" ] && [ -d "$modules" ]; then return; fi
+    if [ -n "$kernel" ]; then missing="$kernel or the folder of its modules, $modules"; fi
     cat >&2 <<END
-$0: no kernel: '$kernel' or the folder of its modules '$modules' can't be read, so nothing was compared.
-One of Debian's (linux-image-cloud-amd64, linux-image-amd64) can be had without installing it:
+$0: ${missing:-a kernel in /boot} can't be read, so nothing was compared.
+One of Debian's kernels (linux-image-cloud-amd64, linux-image-amd64) can be had without installing it:
     apt-get download \$(apt-cache depends linux-image-cloud-amd64 | sed -n 's/.*Depends: //p')
     dpkg -x linux-image-*.deb FOLDER
     make kernel KERNEL=\$(echo FOLDER/boot/vmlinuz-*)
@@ -98,6 +100,6 @@ compare() {
         if [ -n "${found[$name]-}" ]; then same "$name" "${expected[$name]}" "${found[$name]}"; else open=$((open + 1)); fi
     done
     if [ "$open" -gt 0 ]; then
-        fail 'the guest' "$open of ${#names[@]} answers are missing; its console ends with:" "$(tail -n 12 "$scratch/console")"
+        fail 'the guest' "$open of ${#names[@]} answers are missing; its console ends with:" "$(tail -n 40 "$scratch/console")"
     fi
 }
