@@ -5,7 +5,7 @@ PREFIX = /usr/local
 DESTDIR =
 SUFFIX = -proved
 
-.PHONY: run programs test check gate check-programs interop bench bench_bare install clean help
+.PHONY: run programs test check gate check-programs interop kernel bench bench_bare install clean help
 
 # Proves and builds the one program that this needs, and prints the digest of a real file.
 run:
@@ -39,6 +39,10 @@ interop: programs
 	SETTINGS=all tests/run.sh tests/interop/differences.sh tests/interop/superblock.sh tests/interop/fsverity.sh \
 	    tests/interop/format.sh tests/interop/verify.sh
 
+# The Linux kernel opens the images, in a virtual machine. KERNEL=FILE and MODULES=FOLDER take a kernel that isn't in /boot.
+kernel: programs
+	tests/kernel.sh
+
 # Measures throughput and peak memory.
 bench: programs bench_bare
 	bench/bench.sh
@@ -68,6 +72,7 @@ help:
 	@echo 'make gate            every proof from nothing, wrong bodies, tests, stored runs'
 	@echo 'make check-programs  runs the programs as a user would'
 	@echo "make interop         compares them with Debian's programs, over all settings"
+	@echo 'make kernel          has the Linux kernel open the images, in a virtual machine (KERNEL, MODULES)'
 	@echo 'make bench           measures throughput and peak memory'
 	@echo 'make install         installs programs and manual pages (PREFIX, DESTDIR, SUFFIX)'
 	@echo 'make clean           removes what was built'
