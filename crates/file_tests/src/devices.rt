@@ -7,11 +7,11 @@ use verity_tree::{
 };
 
 /// A file whose every second read or write is interrupted. A read gives one byte, a write takes one and none past `room`,
-/// and no place above `top` can be reached. A byte `!` can't be read.
+/// and no offset above `top` can be reached. A byte `!` can't be read.
 #[derive(Drop)]
 struct Unsteady {
     bytes: Vec<u8>,
-    place: u64,
+    offset: u64,
     top: u64,
     room: usize,
     interrupted: bool,
@@ -21,7 +21,7 @@ impl Unsteady {
     fn new(bytes: Vec<u8>) -> Self {
         Unsteady {
             bytes,
-            place: 0,
+            offset: 0,
             top: 100,
             room: 100,
             interrupted: false,
@@ -41,18 +41,18 @@ impl Unsteady {
 impl Seek for Unsteady {
     fn seek(&mut self, to: SeekFrom) -> io::Result<u64> {
         match to {
-            SeekFrom::Start(at) if at <= self.top => self.place = at,
-            SeekFrom::End(0) => self.place = self.bytes.len() as u64,
+            SeekFrom::Start(at) if at <= self.top => self.offset = at,
+            SeekFrom::End(0) => self.offset = self.bytes.len() as u64,
             _ => return Err(io::Error::from(ErrorKind::InvalidInput)),
         }
-        Ok(self.place)
+        Ok(self.offset)
     }
 }
 
 impl Read for Unsteady {
     fn read(&mut self, buf: &mut [u8]) -> io::Result<usize> {
         self.interrupt()?;
-        let at = self.place as usize;
+        let at = self.offset as usize;
         if buf.is_empty() || at >= self.bytes.len() {
             return Ok(0);
         }
@@ -60,7 +60,7 @@ impl Read for Unsteady {
             return Err(io::Error::from(ErrorKind::PermissionDenied));
         }
         buf[0] = self.bytes[at];
-        self.place += 1;
+        self.offset += 1;
         Ok(1)
     }
 }
@@ -68,7 +68,7 @@ impl Read for Unsteady {
 impl Write for Unsteady {
     fn write(&mut self, buf: &[u8]) -> io::Result<usize> {
         self.interrupt()?;
-        let at = self.place as usize;
+        let at = self.offset as usize;
         if buf.is_empty() || at >= self.room {
             return Ok(0);
         }
@@ -76,7 +76,7 @@ impl Write for Unsteady {
             self.bytes.resize(at + 1, 0)?;
         }
         self.bytes[at] = buf[0];
-        self.place += 1;
+        self.offset += 1;
         Ok(1)
     }
 
@@ -103,7 +103,7 @@ fn a_file_gives_its_length_and_no_more(rt: HostRuntime) -> Result<(), Fail> {
 }
 
 #[test]
-fn a_file_is_read_and_written_at_any_place(rt: HostRuntime) -> Result<(), Fail> {
+fn a_file_is_read_and_written_at_any_offset(rt: HostRuntime) -> Result<(), Fail> {
     let mut buf = [9u8; 4];
     let mut device = FileDevice::new(Unsteady::new(b"ab".to_vec(rt.alloc())?));
     assert_eq!(rt; device.write_at(4, b"wxyz"), Ok(()));
@@ -118,7 +118,7 @@ fn a_file_is_read_and_written_at_any_place(rt: HostRuntime) -> Result<(), Fail> 
 }
 
 #[test]
-fn a_refused_place_lies_past_the_end(rt: HostRuntime) -> Result<(), Fail> {
+fn a_refused_offset_lies_past_the_end(rt: HostRuntime) -> Result<(), Fail> {
     let mut buf = [9u8; 1];
     let mut file = Unsteady::new(b"abcd".to_vec(rt.alloc())?);
     file.top = 2;

@@ -1,11 +1,13 @@
 //! Digests of files and their descriptors, and the options. Expected digests are those of sha2 over stated bytes.
 use fixtures::{Shape, block, data, filled};
-use fsverity::{DigestFault, DigestOptions, FsOptionFault, digest_file, digest_settings};
+use fsverity::{
+    DigestFault, DigestOptions, FsOptionFault, digest_file, digest_file_with_tree, digest_settings,
+};
 use sha2::{Digest as Hasher, Sha256, Sha512};
 use std::alloc::{AllocError, Global};
 use std::test::Fail;
 use verity_hash::Algorithm;
-use verity_tree::MemorySource;
+use verity_tree::{MemoryDevice, MemorySource};
 
 /// No option is given.
 pub const DEFAULTS: DigestOptions<'static> = DigestOptions {
@@ -36,8 +38,9 @@ fn roots_of_levels(rt: HostRuntime) -> Result<(), Fail> {
     let shape = Shape::new(alloc, Algorithm::Sha256, (4096, 4096), (128, 32));
     for (len, levels) in [(1, 0), (4096, 0), (4097, 1), (524288, 1), (524289, 2)] {
         let bytes = data(alloc, len)?;
-        let root = shape.tree(alloc, bytes.as_slice(), levels)?.root;
-        let expected = descriptor(alloc, &[1, 1, 12, 0], len as u64, root.as_slice(), &[])?;
+        let tree = shape.tree(alloc, bytes.as_slice(), levels)?;
+        let root = tree.root.as_slice();
+        let expected = descriptor(alloc, &[1, 1, 12, 0], len as u64, root, &[])?;
         let mut source = MemorySource::new(bytes.as_slice());
         let made = digest_file(alloc, &settings, len as u64, &mut source)?;
         assert_eq!(rt; made.descriptor.as_slice(), expected.as_slice(), "at {len}");
@@ -47,6 +50,15 @@ fn roots_of_levels(rt: HostRuntime) -> Result<(), Fail> {
             "at {len}"
         );
         assert!(rt; source.rest().is_empty(), "at {len}");
+        let mut source = MemorySource::new(bytes.as_slice());
+        let mut device = MemoryDevice::new(Vec::new(alloc));
+        let again = digest_file_with_tree(alloc, &settings, len as u64, &mut source, &mut device)?;
+        assert_eq!(rt; again, made, "at {len}");
+        assert_eq!(rt;
+            device.bytes(),
+            tree.image(alloc, 0)?.as_slice(),
+            "at {len}"
+        );
     }
     Ok(())
 }

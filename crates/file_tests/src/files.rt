@@ -1,4 +1,4 @@
-//! Files, sources and writers at large places, with long blocks and many interrupts.
+//! Files, sources and writers at large offsets, with long blocks and many interrupts.
 use std::alloc::{AllocError, Global};
 use std::io;
 use std::io::{ErrorKind, Read, Seek, SeekFrom, Write};
@@ -6,7 +6,7 @@ use std::test::Fail;
 use verity_format::put_all;
 use verity_tree::{Device, Failed, FileDevice, FileSource, Source};
 
-/// A place that no u32 holds.
+/// An offset that no u32 holds.
 const FAR: u64 = 5_000_000_000;
 
 /// How often a call is interrupted before it goes through.
@@ -18,7 +18,7 @@ const INTERRUPTS: u32 = 1000;
 struct Sparse {
     first: u64,
     bytes: Vec<u8>,
-    place: u64,
+    offset: u64,
     piece: usize,
     interrupts: u32,
     interrupted: u32,
@@ -29,7 +29,7 @@ impl Sparse {
         Sparse {
             first,
             bytes,
-            place: first,
+            offset: first,
             piece,
             interrupts,
             interrupted: 0,
@@ -43,21 +43,21 @@ impl Sparse {
             return Err(io::Error::from(ErrorKind::Interrupted));
         }
         self.interrupted = 0;
-        if self.place < self.first {
+        if self.offset < self.first {
             return Err(io::Error::from(ErrorKind::InvalidInput));
         }
-        Ok((self.place - self.first) as usize)
+        Ok((self.offset - self.first) as usize)
     }
 }
 
 impl Seek for Sparse {
     fn seek(&mut self, to: SeekFrom) -> io::Result<u64> {
         match to {
-            SeekFrom::Start(at) => self.place = at,
-            SeekFrom::End(0) => self.place = self.first.saturating_add(self.bytes.len() as u64),
+            SeekFrom::Start(at) => self.offset = at,
+            SeekFrom::End(0) => self.offset = self.first.saturating_add(self.bytes.len() as u64),
             _ => return Err(io::Error::from(ErrorKind::InvalidInput)),
         }
-        Ok(self.place)
+        Ok(self.offset)
     }
 }
 
@@ -69,7 +69,7 @@ impl Read for Sparse {
         }
         let count = buf.len().min(self.bytes.len() - at).min(self.piece);
         buf[..count].copy_from_slice(&self.bytes[at..at + count]);
-        self.place = self.place.saturating_add(count as u64);
+        self.offset = self.offset.saturating_add(count as u64);
         Ok(count)
     }
 }
@@ -83,7 +83,7 @@ impl Write for Sparse {
             self.bytes.resize(end, 0)?;
         }
         self.bytes[at..end].copy_from_slice(&buf[..count]);
-        self.place = self.place.saturating_add(count as u64);
+        self.offset = self.offset.saturating_add(count as u64);
         Ok(count)
     }
 
@@ -102,7 +102,7 @@ fn counted(alloc: Global, len: usize) -> Result<Vec<u8>, AllocError> {
 }
 
 #[test]
-fn long_blocks_stand_at_far_places(rt: HostRuntime) -> Result<(), Fail> {
+fn long_blocks_stand_at_far_offsets(rt: HostRuntime) -> Result<(), Fail> {
     let alloc = rt.alloc();
     for piece in [usize::MAX, 70_000, 1_000] {
         let block = counted(alloc, 70_000)?;

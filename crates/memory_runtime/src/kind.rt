@@ -9,6 +9,6 @@ pub enum Kind {
     Block,
     /// A character device, as the null device.
     Character,
-    /// A pipe, in which no place can be sought.
+    /// A pipe, in which no offset can be sought.
     Pipe,
 }

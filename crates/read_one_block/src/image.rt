@@ -133,7 +133,7 @@ pub fn read_path<D: Device>(
     Ok(())
 }
 
-/// Reads bytes from a place on until the buffer is full, with zeros where the device ends.
+/// Reads bytes from an offset on until the buffer is full, with zeros where the device ends.
 fn read_filled<D: Device>(device: &mut D, at: u64, buf: &mut [u8]) -> Result<(), Failed>
     ensures told { D.tells device.old → D.tells device.new }
     ensures same { D.tells device.old → D.content device.new ≡ D.content device.old }

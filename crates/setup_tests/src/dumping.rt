@@ -1,20 +1,13 @@
 //! What dump prints of a superblock, and what it says of bytes that are none.
 use crate::images::image_17;
-use crate::reports::{REPORT_17, Report};
+use crate::reports::{REPORT_1, REPORT_17, Report};
 use fixtures::{Field, lay, one_block};
 use std::alloc::{AllocError, Global};
 use std::test::Fail;
 use verity_format::read_superblock;
 use verity_hash::Digest;
 use verity_tree::{Device, Fused, MemoryDevice};
-use veritysetup::{report, run_dump};
-
-/// The report of the superblock of one block.
-const REPORT_1: Report<'static> = Report {
-    blocks: 1,
-    sizes: (4096, 4096),
-    ..REPORT_17
-};
+use veritysetup::{report, report_bare, run_dump};
 
 /// The status of a run of dump, what it prints, and its message.
 fn dumped<D: Device>(alloc: Global, device: &mut D) -> (u8, Vec<u8>, Vec<u8>) {
@@ -24,7 +17,7 @@ fn dumped<D: Device>(alloc: Global, device: &mut D) -> (u8, Vec<u8>, Vec<u8>) {
     (status, out, msgs)
 }
 
-/// The superblock of one block of 4096 bytes, with other bytes at some places, cut to a length.
+/// The superblock of one block of 4096 bytes, with other bytes at some offsets, cut to a length.
 fn changed(alloc: Global, changes: &[Field<'_>], len: usize) -> Result<Vec<u8>, AllocError> {
     let mut bytes = one_block();
     lay(&mut bytes, changes);
@@ -129,5 +122,11 @@ fn a_root_hash_is_reported_last(rt: HostRuntime) -> Result<(), Fail> {
     let root = Digest::from_bytes(&[0xab; 32]).ok_or("a root hash")?;
     let text = report(alloc, &superblock, Some(&root), "hash.img")?;
     assert_eq!(rt; text, REPORT_1.with_root(alloc, &[0xab; 32])?);
+    let bare = Report {
+        uuid: "-",
+        ..REPORT_1
+    };
+    let text = report_bare(alloc, &superblock, Some(&root), "hash.img")?;
+    assert_eq!(rt; text, bare.with_root(alloc, &[0xab; 32])?);
     Ok(())
 }

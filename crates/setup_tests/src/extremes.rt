@@ -1,14 +1,13 @@
 //! Runs with no option at all, and with the largest blocks, the longest salt and the longest path.
 use crate::images::{formatted, formatted_at, image_of};
-use crate::reports::Report;
+use crate::program_runs::{disk_of, run};
+use crate::reports::{REPORT_1, Report};
 use crate::setup_options::{DEFAULTS, counted};
 use fixtures::{Shape, lay, one_block};
 use std::test::Fail;
 use verity_hash::Algorithm;
 use verity_tree::{MemoryDevice, MemorySource};
-use veritysetup::{
-    OptionFault, RawOptions, VerifyInput, option_message, run_dump, run_verify, settings_of,
-};
+use veritysetup::{OptionFault, RawOptions, VerifyInput, run_dump, run_verify, settings_of};
 
 /// The UUID of `counted()` in bytes.
 const DRAWN: [u8; 16] = [
@@ -47,13 +46,38 @@ fn one_block_of_zeros_by_default(rt: HostRuntime) -> Result<(), Fail> {
 }
 
 #[test]
+fn one_block_of_zeros_without_a_salt(rt: HostRuntime) -> Result<(), Fail> {
+    let alloc = rt.alloc();
+    let disk = disk_of(alloc, &[0; 4096])?;
+    let words = "format --salt=- --uuid 00112233-4455-4677-8899-aabbccddeeff data hash.img";
+    let said = run(alloc, &disk, words)?;
+    let shape = Shape::new(alloc, Algorithm::Sha256, (4096, 4096), (128, 32));
+    let tree = shape.tree(alloc, &[0; 4096], 0)?;
+    let report = REPORT_1.with_root(alloc, tree.root.as_slice())?;
+    assert_eq!(rt; said.status, 0);
+    assert_eq!(rt; said.out.as_slice(), report.as_bytes());
+    assert!(rt; said.msgs.is_empty());
+    assert_eq!(rt;
+        disk.bytes_of("hash.img")?.as_slice(),
+        one_block().as_slice()
+    );
+    Ok(())
+}
+
+#[test]
 fn no_data_by_default(rt: HostRuntime) -> Result<(), Fail> {
+    let alloc = rt.alloc();
+    let zeros = [0; 4096];
     for length in [0, 1, 4095] {
         let fault = settings_of(&DEFAULTS, length, Some(&counted())).err();
         assert_eq!(rt; fault, Some(OptionFault::NoData), "at {length}");
+        let disk = disk_of(alloc, zeros.get(..length as usize).unwrap_or(&zeros))?;
+        let said = run(alloc, &disk, "format data hash")?;
+        assert_eq!(rt; said.status, 1, "at {length}");
+        assert_eq!(rt; said.msgs.as_slice(), b"No data blocks.\n".as_slice());
+        assert!(rt; said.out.is_empty(), "at {length}");
+        assert!(rt; !disk.has("hash")?, "at {length}");
     }
-    let message = option_message(rt.alloc(), &OptionFault::NoData)?;
-    assert_eq!(rt; message.as_str(), "No data blocks.\n");
     Ok(())
 }
 

@@ -21,6 +21,13 @@ pub const REPORT_17: Report<'static> = Report {
     salt: "-",
 };
 
+/// The report of one block of 4096 bytes, hash blocks of 4096, without a salt.
+pub const REPORT_1: Report<'static> = Report {
+    blocks: 1,
+    sizes: (4096, 4096),
+    ..REPORT_17
+};
+
 impl Report<'_> {
     /// The report that dump prints.
     pub fn text(&self, alloc: Global) -> Result<String, AllocError> {

@@ -19,16 +19,16 @@ fn verdict<S: Source, D: Device>(
     (status, msgs)
 }
 
-/// The first bytes, up to a length, with one bit changed at some places.
+/// The first bytes, up to a length, with one bit changed at some offsets.
 fn changed(
     alloc: Global,
     bytes: &[u8],
-    places: &[usize],
+    offsets: &[usize],
     len: usize,
 ) -> Result<Vec<u8>, AllocError> {
     let mut copy = bytes[..len.min(bytes.len())].to_vec(alloc)?;
-    for place in places {
-        flip(&mut copy, *place);
+    for offset in offsets {
+        flip(&mut copy, *offset);
     }
     Ok(copy)
 }
@@ -42,7 +42,7 @@ const FIRST_CHILD: Verdict = (2, "Verification failed: level 0 block 0, child 0.
 
 const LAST_CHILD: Verdict = (2, "Verification failed: level 0 block 1, child 16.\n");
 
-/// Places changed in the data and the data's length, places changed in the device and its length, the verdict.
+/// Offsets changed in the data and the data's length, offsets changed in the device and its length, the verdict.
 const CHANGES: [(&[usize], usize, &[usize], usize, Verdict); 16] = [
     (&[], 8704, &[], 2048, RIGHT),
     (&[8192], 8704, &[], 2048, LAST_CHILD),
@@ -109,9 +109,9 @@ fn changes_are_found(rt: HostRuntime) -> Result<(), Fail> {
     let alloc = rt.alloc();
     let image = image_17(alloc)?;
     let root = hex::encode(alloc, image.root.as_slice())?;
-    for (data_places, data_len, places, len, (status, message)) in CHANGES {
-        let data = changed(alloc, image.data.as_slice(), data_places, data_len)?;
-        let bytes = changed(alloc, image.device.as_slice(), places, len)?;
+    for (data_offsets, data_len, offsets, len, (status, message)) in CHANGES {
+        let data = changed(alloc, image.data.as_slice(), data_offsets, data_len)?;
+        let bytes = changed(alloc, image.device.as_slice(), offsets, len)?;
         let mut source = MemorySource::new(data.as_slice());
         let mut device = MemoryDevice::new(bytes);
         let (found, msgs) = verdict(alloc, root.as_str(), &mut source, &mut device);
@@ -168,16 +168,16 @@ fn earlier_differences_come_before_a_failed_read(rt: HostRuntime) -> Result<(), 
     let alloc = rt.alloc();
     let image = image_17(alloc)?;
     let root = hex::encode(alloc, image.root.as_slice())?;
-    for (place, (status, message)) in [
+    for (offset, (status, message)) in [
         (1024, FIRST_CHILD),
         (1536, (4, "Cannot read data block 16.\n")),
     ] {
-        let bytes = changed(alloc, image.device.as_slice(), &[place], 2048)?;
+        let bytes = changed(alloc, image.device.as_slice(), &[offset], 2048)?;
         let mut source = Fused::new(MemorySource::new(image.data.as_slice()), 17);
         let mut device = MemoryDevice::new(bytes);
         let (found, msgs) = verdict(alloc, root.as_str(), &mut source, &mut device);
         assert_eq!(rt; msgs.as_slice(), message.as_bytes());
-        assert_eq!(rt; found, status, "at {place}");
+        assert_eq!(rt; found, status, "at {offset}");
     }
     Ok(())
 }

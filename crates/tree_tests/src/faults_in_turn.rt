@@ -92,7 +92,7 @@ fn closed_after(order: &[Closed], blocks: usize) -> usize {
     order.iter().filter(|closed| closed.2 <= blocks).count()
 }
 
-/// What a build left behind.
+/// What stands after a build.
 #[derive(Drop)]
 struct Outcome {
     /// The answer.

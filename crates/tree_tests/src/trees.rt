@@ -164,7 +164,7 @@ fn trees_are_built(rt: HostRuntime) -> Result<(), Fail> {
     Ok(())
 }
 
-/// The bytes from one place to another, or none where there are fewer.
+/// The bytes from one offset to another, or none where there are fewer.
 fn part(bytes: &[u8], from: usize, to: usize) -> &[u8] {
     bytes.get(from..to).unwrap_or(&[])
 }
