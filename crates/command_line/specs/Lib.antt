@@ -4,3 +4,4 @@ pub mod LineFaults
 pub mod Printing
 pub mod NullFiles
 pub mod SystemWords
+pub mod Showing

@@ -2,7 +2,7 @@
 //! statuses.
 use crate::digest::descriptor;
 use fixtures::{NO_TEXT, Said, Shape, data, filled};
-use fsverity::run_program;
+use fsverity::{ProgressLine, run_program};
 use memory_runtime::{Call, Disk, Kind, MemoryRuntime};
 use sha2::{Digest as Hasher, Sha256, Sha512};
 use std::alloc::{AllocError, Global};
@@ -27,7 +27,8 @@ pub fn run(alloc: Global, disk: &Disk, words: &str) -> Said {
     let memory = MemoryRuntime::new(alloc, disk, words);
     let mut out = Vec::new(alloc);
     let mut msgs = Vec::new(alloc);
-    let status = run_program(&memory, &mut out, &mut msgs);
+    let progress = ProgressLine::new(&memory);
+    let status = run_program(&memory, &progress, &mut out, &mut msgs);
     Said { status, out, msgs }
 }
 
@@ -152,7 +153,8 @@ fn a_word_that_is_no_text_is_refused(rt: HostRuntime) -> Result<(), Fail> {
         memory.last_word = Some(word);
         let mut out = Vec::new(alloc);
         let mut msgs = Vec::new(alloc);
-        let status = run_program(&memory, &mut out, &mut msgs);
+        let progress = ProgressLine::new(&memory);
+        let status = run_program(&memory, &progress, &mut out, &mut msgs);
         let text = format!(in alloc; "error: argument 2 is not UTF-8: {shown}\n")?;
         assert_eq!(rt; status, 2);
         assert_eq!(rt; msgs.as_slice(), text.as_bytes());

@@ -25,4 +25,6 @@ mod output_program;
 #[cfg(test)]
 mod output_runs;
 #[cfg(test)]
+mod progress;
+#[cfg(test)]
 mod stating_opener;

@@ -2,28 +2,30 @@
 ghost use Rattle.std.specs.Prelude.{◌≡◌, ◌≤◌, ◌+◌, ℕ, List, [], length};
 
 use crate::opener::Opener;
-use command_line::open_measured;
+use command_line::{Onlooker, ProgressLine, Shown, open_measured};
 use std::rt::Files;
 use verity_tree::{Failed, FileSource};
 
-/// Opens files of the system by their names. It does not tell them.
+/// Opens files of the system by their names, and shows how far the reading of each is. It does not tell them.
 #[derive(Drop)]
 pub struct FileOpener<'a, R> {
     rt: &'a R,
+    progress: &'a ProgressLine<'a, R>,
     names: &'a [&'a str],
     next: usize,
     failures: u64,
 }
 
-impl<'a, R: Files> FileOpener<'a, R> {
+impl<'a, R: Files + Onlooker> FileOpener<'a, R> {
     /// An opener of the files of these names, none of which is opened yet.
-    pub fn new(rt: &'a R, names: &'a [&'a str]) -> Self
+    pub fn new(rt: &'a R, progress: &'a ProgressLine<'a, R>, names: &'a [&'a str]) -> Self
         ensures count { ⟦<FileOpener<'a, R> as Opener>⟧.count result ≡ length names.now }
         ensures next { ⟦<FileOpener<'a, R> as Opener>⟧.next result ≡ 0 }
         ensures failures { ⟦<FileOpener<'a, R> as Opener>⟧.failures result ≡ 0 }
     {
         FileOpener {
             rt,
+            progress,
             names,
             next: 0,
             failures: 0,
@@ -31,8 +33,8 @@ impl<'a, R: Files> FileOpener<'a, R> {
     }
 }
 
-impl<'a, R: Files> Opener for FileOpener<'a, R> {
-    type Stream = FileSource<R::File>;
+impl<'a, R: Files + Onlooker> Opener for FileOpener<'a, R> {
+    type Stream = FileSource<Shown<'a, R, R::File>>;
 
     ghost count = { λ o. length o.names.now };
 
@@ -46,11 +48,14 @@ impl<'a, R: Files> Opener for FileOpener<'a, R> {
 
     ghost counted = { λ _ untold. absurd untold };
 
-    fn start(&mut self) -> Result<(u64, FileSource<R::File>), Failed> {
+    fn start(&mut self) -> Result<(u64, FileSource<Shown<'a, R, R::File>>), Failed> {
         let name = self.names[self.next];
         self.next += 1;
         match open_measured(self.rt, name) {
-            Ok((file, length)) => Ok((length, FileSource::new(file, length))),
+            Ok((file, length)) => {
+                let shown = Shown::new(file, length, self.progress);
+                Ok((length, FileSource::new(shown, length)))
+            }
             Err(_) => {
                 self.failures = self.failures.saturating_add(1);
                 Err(Failed)
@@ -58,7 +63,7 @@ impl<'a, R: Files> Opener for FileOpener<'a, R> {
         }
     }
 
-    fn end(&mut self, stream: FileSource<R::File>) {
+    fn end(&mut self, stream: FileSource<Shown<'a, R, R::File>>) {
         self.failures = self.failures.saturating_add(stream.failures());
     }
 }

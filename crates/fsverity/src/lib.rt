@@ -22,7 +22,7 @@ mod run_fault;
 mod running;
 mod words;
 
-pub use command_line::{LineFault, PrintFault};
+pub use command_line::{Cleared, LineFault, PrintFault, ProgressLine};
 pub use digest_fault::{DigestFault, OUT_OF_MEMORY, digest_message};
 pub use digest_lines::{Form, digest_line};
 pub use digesting::{FileDigest, digest_file, digest_file_with_tree};

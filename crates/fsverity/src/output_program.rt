@@ -5,7 +5,7 @@ ghost use Rattle.verity_hash.specs.declared.salting.SaltRule.TheVariants.{Padded
 use crate::output_files::{OutputFiles, OutputNames};
 use crate::program::cannot_open;
 use crate::{Form, run_digest_to};
-use command_line::{Identities, open_measured};
+use command_line::{Identities, Onlooker, ProgressLine, Shown, open_measured};
 use std::alloc::Global;
 use std::io::Write;
 use verity_tree::{Device, FileDevice, FileSource, Nowhere, Source, TreeSettings};
@@ -22,8 +22,9 @@ struct Input<'a, S> {
 
 /// `fsverity digest` of one file, with output files: the input file is opened and its length is found, and then the
 /// output files are opened.
-pub(crate) fn digest_to<R: Identities + AllocGlobal, O: Write, M: Write>(
+pub(crate) fn digest_to<R: Identities + Onlooker + AllocGlobal, O: Write, M: Write>(
     rt: &R,
+    progress: &ProgressLine<'_, R>,
     settings: &TreeSettings,
     form: Form,
     name: &str,
@@ -44,7 +45,7 @@ pub(crate) fn digest_to<R: Identities + AllocGlobal, O: Write, M: Write>(
         Ok(files) => files,
         Err(refused) => return cannot_open(alloc, refused, msgs),
     };
-    let source = FileSource::new(file, size);
+    let source = FileSource::new(Shown::new(file, size, progress), size);
     let mut input = Input {
         settings,
         form,

@@ -13,8 +13,8 @@ use crate::{
     read_words, run_digest,
 };
 use command_line::{
-    Identities, NULL_DEVICE, NullFiles, WordsFault, given_words, not_text_message, tell, tell_text,
-    texts_of,
+    Identities, NULL_DEVICE, NullFiles, Onlooker, ProgressLine, WordsFault, given_words,
+    not_text_message, tell, tell_text, texts_of,
 };
 use std::alloc::Global;
 use std::env::Env;
@@ -27,20 +27,24 @@ const FAILED: u8 = 1;
 const REFUSED: u8 = 2;
 
 /// Carries out the command line of a runtime (fsverity(1)): what it prints goes to `out`, messages go to `msgs` as far
-/// as that takes them. The answer is the status: 0 done, 1 a file failed, the output could not be written or there was
-/// no memory, 2 the command line or an option is refused, and no file has been opened then.
-pub fn run_program<R: Identities + Env + AllocGlobal, O: Write, M: Write>(
+/// as that takes them; how far long work is stands in `progress` meanwhile, which is erased in the end. The answer is
+/// the status: 0 done, 1 a file failed, the output could not be written or there was no memory, 2 the command line or an
+/// option is refused, and no file has been opened then.
+pub fn run_program<R: Identities + Onlooker + Env + AllocGlobal, O: Write, M: Write>(
     rt: &R,
+    progress: &ProgressLine<'_, R>,
     out: &mut O,
     msgs: &mut M,
 ) -> u8
     ensures status { result ≤ 2 }
     ensures quiet { result ≡ 0 → msgs.new ≡ msgs.old }
 {
-    match given_words(rt) {
-        Ok(words) => run_words(rt, words.as_slice(), out, msgs),
+    let status = match given_words(rt) {
+        Ok(words) => run_words(rt, progress, words.as_slice(), out, msgs),
         Err(fault) => refused_words(rt.alloc(), &fault, msgs),
-    }
+    };
+    progress.erase();
+    status
 }
 
 /// The words of the command line can't be had: one is no text, or there is no memory for them.
@@ -59,8 +63,9 @@ fn refused_words<M: Write>(alloc: Global, fault: &WordsFault, msgs: &mut M) -> u
 }
 
 /// Reads the words of the command line and carries them out.
-fn run_words<R: Identities + AllocGlobal, O: Write, M: Write>(
+fn run_words<R: Identities + Onlooker + AllocGlobal, O: Write, M: Write>(
     rt: &R,
+    progress: &ProgressLine<'_, R>,
     words: &[String],
     out: &mut O,
     msgs: &mut M,
@@ -72,7 +77,7 @@ fn run_words<R: Identities + AllocGlobal, O: Write, M: Write>(
         return end(FAILED, OUT_OF_MEMORY, msgs);
     };
     match read_words(rt.alloc(), texts.as_slice()) {
-        Ok(line) => run_line(rt, &line, out, msgs),
+        Ok(line) => run_line(rt, progress, &line, out, msgs),
         Err(LineFault::Refused(error)) => {
             let _ = write!(msgs, "{error}");
             REFUSED
@@ -82,8 +87,9 @@ fn run_words<R: Identities + AllocGlobal, O: Write, M: Write>(
 }
 
 /// `fsverity digest`. A refused option has its message and status 2.
-fn run_line<R: Identities + AllocGlobal, O: Write, M: Write>(
+fn run_line<R: Identities + Onlooker + AllocGlobal, O: Write, M: Write>(
     rt: &R,
+    progress: &ProgressLine<'_, R>,
     line: &Line,
     out: &mut O,
     msgs: &mut M,
@@ -108,10 +114,19 @@ fn run_line<R: Identities + AllocGlobal, O: Write, M: Write>(
     let outputs = OutputNames::of_line(line);
     match names.as_slice() {
         [name] if outputs.are_given() => {
-            digest_to(rt, &settings, line.form(), name, outputs, out, msgs)
+            digest_to(
+                rt,
+                progress,
+                &settings,
+                line.form(),
+                name,
+                outputs,
+                out,
+                msgs,
+            )
         }
         names => {
-            let mut opener = FileOpener::new(rt, names);
+            let mut opener = FileOpener::new(rt, progress, names);
             run_digest(
                 rt.alloc(),
                 &settings,

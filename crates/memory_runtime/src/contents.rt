@@ -23,6 +23,10 @@ pub struct Contents {
     pub refused: Vec<String>,
     /// What was opened, a line each.
     pub opened: String,
+    /// What was written to standard error.
+    pub standard_error: Vec<u8>,
+    /// How often the clock was read.
+    pub clock_reads: u64,
     pub calls: Calls,
 }
 
@@ -33,6 +37,8 @@ impl Contents {
             files: Vec::new(alloc),
             refused: Vec::new(alloc),
             opened: String::new(alloc),
+            standard_error: Vec::new(alloc),
+            clock_reads: 0,
             calls: Calls::NONE,
         }
     }

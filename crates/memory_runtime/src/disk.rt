@@ -123,6 +123,11 @@ impl Disk {
         Ok(String::from_str(self.alloc, self.seen()?.opened.as_str())?)
     }
 
+    /// What was written to standard error.
+    pub fn standard_error(&self) -> io::Result<Vec<u8>> {
+        Ok(self.seen()?.standard_error.to_vec(self.alloc)?)
+    }
+
     /// How often a call was made, over all files.
     pub fn calls(&self, call: Call) -> io::Result<u64> {
         Ok(self.seen()?.calls.count(call).made)

@@ -8,9 +8,11 @@ mod disk;
 mod file;
 mod kind;
 mod runtime;
+mod standard_error;
 
 pub use call::Call;
 pub use disk::Disk;
 pub use file::MemoryFile;
 pub use kind::Kind;
 pub use runtime::MemoryRuntime;
+pub use standard_error::StandardError;

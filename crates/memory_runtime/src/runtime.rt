@@ -3,14 +3,17 @@ ghost use Rattle.std.specs.Io.{WritesAtMost};
 
 use crate::disk::{Disk, refused};
 use crate::file::MemoryFile;
-use command_line::{FileIdentity, Identities};
+use crate::standard_error::StandardError;
+use command_line::{FileIdentity, Identities, Onlooker};
 use std::alloc::{Allocator, Global};
 use std::env::{Env, FillError};
+use std::fmt::Display;
 use std::fs::{Metadata, OpenOptions};
 use std::io;
-use std::io::{Empty, ErrorKind};
+use std::io::{Empty, Eprint, ErrorKind, Write};
 use std::random::RandomSource;
 use std::rt::Files;
+use std::time::{Clock, Duration};
 
 /// A runtime over a disk. What isn't named here is refused, as directories and environment variables.
 #[derive(Clone, Copy)]
@@ -23,11 +26,13 @@ pub struct MemoryRuntime<'a> {
     pub last_word: Option<&'a [u8]>,
     /// The random bytes, which are given over and over. With none they are refused.
     pub random: &'a [u8],
+    /// After how many bytes a line that says how far work is is written again, where standard error is a terminal.
+    pub step: Option<u64>,
 }
 
 impl<'a> MemoryRuntime<'a> {
     /// A runtime with these words of the command line, the program's name first and a space between two. A word written
-    /// '' is empty. Its random bytes are all 7.
+    /// '' is empty. Its random bytes are all 7, and standard error is no terminal.
     pub fn new(alloc: Global, disk: &'a Disk, words: &'a str) -> Self {
         MemoryRuntime {
             alloc,
@@ -35,6 +40,7 @@ impl<'a> MemoryRuntime<'a> {
             words,
             last_word: None,
             random: &[7],
+            step: None,
         }
     }
 }
@@ -146,5 +152,34 @@ impl Identities for MemoryRuntime<'_> {
 
     fn file_identity(&self, file: &Self::File) -> Option<FileIdentity> {
         self.disk.identity(file.number())
+    }
+}
+
+/// Each time that the clock is read half a second has passed.
+impl Clock for MemoryRuntime<'_> {
+    fn monotonic(&self) -> io::Result<Duration> {
+        let mut contents = self.disk.changed()?;
+        contents.clock_reads = contents.clock_reads.saturating_add(1);
+        Ok(Duration::from_millis(contents.clock_reads.saturating_mul(500)))
+    }
+
+    fn since_1970(&self) -> io::Result<Duration> {
+        refused(ErrorKind::Unsupported)
+    }
+}
+
+impl Eprint for MemoryRuntime<'_> {
+    fn eprint<D: Display + Drop>(&self, value: D) -> io::Result<()> {
+        write!(StandardError::new(self.disk), "{value}")
+    }
+
+    fn eprintln<D: Display + Drop>(&self, value: D) -> io::Result<()> {
+        writeln!(StandardError::new(self.disk), "{value}")
+    }
+}
+
+impl Onlooker for MemoryRuntime<'_> {
+    fn step(&self) -> Option<u64> {
+        self.step
     }
 }

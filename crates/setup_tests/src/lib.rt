@@ -27,6 +27,8 @@ mod program_files;
 #[cfg(test)]
 mod program_runs;
 #[cfg(test)]
+mod progress;
+#[cfg(test)]
 mod reports;
 #[cfg(test)]
 mod setup_options;

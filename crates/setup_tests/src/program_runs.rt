@@ -6,7 +6,7 @@ use memory_runtime::{Call, Disk, Kind, MemoryRuntime};
 use std::alloc::Global;
 use std::io;
 use std::test::Fail;
-use veritysetup::run_program;
+use veritysetup::{ProgressLine, run_program};
 
 /// The options of the image of 17 blocks.
 pub const OPTIONS_17: &str =
@@ -24,7 +24,8 @@ pub fn disk_of(alloc: Global, data: &[u8]) -> io::Result<Disk> {
 pub fn said_by(alloc: Global, runtime: &MemoryRuntime<'_>) -> Said {
     let mut out = Vec::new(alloc);
     let mut msgs = Vec::new(alloc);
-    let status = run_program(runtime, &mut out, &mut msgs);
+    let progress = ProgressLine::new(runtime);
+    let status = run_program(runtime, &progress, &mut out, &mut msgs);
     Said { status, out, msgs }
 }
 
@@ -248,7 +249,8 @@ fn a_failed_run_is_not_synced(rt: HostRuntime) -> Result<(), Fail> {
     let runtime = MemoryRuntime::new(alloc, &disk, words.as_str());
     let mut out = Narrow::new(Vec::new(alloc), 10, 7);
     let mut msgs = Vec::new(alloc);
-    assert_eq!(rt; run_program(&runtime, &mut out, &mut msgs), 4);
+    let progress = ProgressLine::new(&runtime);
+    assert_eq!(rt; run_program(&runtime, &progress, &mut out, &mut msgs), 4);
     assert_eq!(rt; msgs.as_slice(), b"Cannot write output.\n".as_slice());
     assert_eq!(rt; disk.calls(Call::Sync)?, 0);
     Ok(())

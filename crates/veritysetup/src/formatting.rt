@@ -8,20 +8,30 @@ use crate::options::RawOptions;
 use crate::program_messages::{cannot_open, cannot_write, no_random_bytes, refused_option};
 use crate::random_bytes::draw;
 use crate::settings::{Settings, settings_of};
-use command_line::{Identities, is_same_file, open_measured, open_writable};
+use command_line::{
+    Identities, Onlooker, ProgressLine, Shown, is_same_file, open_measured, open_writable,
+};
 use rand::rngs::StdRng;
 use std::alloc::AllocGlobal;
 use std::io;
-use std::io::{Read, Write};
+use std::io::Write;
 use std::random::RandomSource;
 use std::rt::Files;
-use verity_tree::{Failed, FileDevice, FileSource};
+use verity_tree::{Failed, FileDevice, FileSource, Source};
 
 /// Makes the hash device of a data file. HASH is opened only once the options are read, so a refused option leaves no
 /// new file. Before it is opened the system is asked whether it is DATA by another name.
-pub fn format<R, O, M>(rt: &R, line: &Line, data: &str, hash: &str, out: &mut O, msgs: &mut M) -> u8
+pub fn format<R, O, M>(
+    rt: &R,
+    progress: &ProgressLine<'_, R>,
+    line: &Line,
+    data: &str,
+    hash: &str,
+    out: &mut O,
+    msgs: &mut M,
+) -> u8
 where
-    R: Identities + RandomSource + AllocGlobal,
+    R: Identities + Onlooker + RandomSource + AllocGlobal,
     O: Write,
     M: Write,
     ensures { CommandRun result (printed O.contents M.contents out.old out.new msgs.old msgs.new) }
@@ -36,14 +46,10 @@ where
         Err(_) => return no_random_bytes(msgs),
     };
     match settings_of(&raw, length, random.as_ref()) {
-        Ok(settings) => make(
-            rt,
-            &settings,
-            FileSource::new(file, length),
-            hash,
-            out,
-            msgs,
-        ),
+        Ok(settings) => {
+            let source = FileSource::new(Shown::new(file, length, progress), length);
+            make(rt, &settings, source, hash, out, msgs)
+        }
         Err(fault) => refused_option(rt.alloc(), &fault, msgs),
     }
 }
@@ -58,17 +64,17 @@ fn random_bytes<R: RandomSource>(rt: &R, raw: &RawOptions) -> io::Result<Option<
 }
 
 /// Opens HASH, makes it, and asks the system to keep it.
-fn make<R, F, O, M>(
+fn make<R, S, O, M>(
     rt: &R,
     settings: &Settings,
-    source: FileSource<F>,
+    source: S,
     hash: &str,
     out: &mut O,
     msgs: &mut M,
 ) -> u8
 where
     R: Files + AllocGlobal,
-    F: Read + Drop,
+    S: Source + Drop,
     O: Write,
     M: Write,
     ensures { CommandRun result (printed O.contents M.contents out.old out.new msgs.old msgs.new) }

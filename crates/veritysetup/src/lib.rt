@@ -29,7 +29,7 @@ mod verify_run;
 mod verifying;
 mod words;
 
-pub use command_line::LineFault;
+pub use command_line::{Cleared, LineFault, ProgressLine};
 pub use command_name::CommandName;
 pub use dump_run::run_dump;
 pub use format_run::run_format;

@@ -9,25 +9,33 @@ use crate::program_messages::{cannot_open, refused_option};
 use crate::settings::settings_of;
 use crate::verify_input::VerifyInput;
 use crate::verify_run::run_verify;
-use command_line::open_measured;
+use command_line::{Onlooker, ProgressLine, Shown, open_measured};
 use std::alloc::AllocGlobal;
 use std::fs::File;
-use std::io::{Read, Write};
+use std::io::Write;
 use std::rt::Files;
-use verity_tree::{FileDevice, FileSource};
+use verity_tree::{FileDevice, FileSource, Source};
 
 /// Verifies a hash device against a data file and a root hash. With a superblock no option but the hash offset is
 /// looked at, before any file is opened; without one all are, once DATA's length is known and before HASH is opened.
-pub fn verify<R, M>(rt: &R, line: &Line, data: &str, hash: &str, root: &str, msgs: &mut M) -> u8
+pub fn verify<R, M>(
+    rt: &R,
+    progress: &ProgressLine<'_, R>,
+    line: &Line,
+    data: &str,
+    hash: &str,
+    root: &str,
+    msgs: &mut M,
+) -> u8
 where
-    R: Files + AllocGlobal,
+    R: Files + Onlooker + AllocGlobal,
     M: Write,
     ensures status { IsStatus result }
     ensures grows { Grows (M.contents msgs.old) (M.contents msgs.new) }
     ensures quiet { result ≡ 0 → Keeps (M.contents msgs.old) (M.contents msgs.new) }
 {
     if line.no_superblock {
-        return verify_bare(rt, line, data, hash, msgs);
+        return verify_bare(rt, progress, line, data, hash, msgs);
     }
     let offset = match offset_of(&line.raw(false)) {
         Ok(offset) => offset,
@@ -35,7 +43,7 @@ where
     };
     match open_measured(rt, data) {
         Ok((file, length)) => {
-            let source = FileSource::new(file, length);
+            let source = FileSource::new(Shown::new(file, length, progress), length);
             compare(
                 rt,
                 &VerifyInput::Stored { offset, root },
@@ -49,9 +57,16 @@ where
 }
 
 /// Verifies a hash device without a superblock, by the options.
-fn verify_bare<R, M>(rt: &R, line: &Line, data: &str, hash: &str, msgs: &mut M) -> u8
+fn verify_bare<R, M>(
+    rt: &R,
+    progress: &ProgressLine<'_, R>,
+    line: &Line,
+    data: &str,
+    hash: &str,
+    msgs: &mut M,
+) -> u8
 where
-    R: Files + AllocGlobal,
+    R: Files + Onlooker + AllocGlobal,
     M: Write,
     ensures status { IsStatus result }
     ensures grows { Grows (M.contents msgs.old) (M.contents msgs.new) }
@@ -63,7 +78,7 @@ where
     };
     match settings_of(&line.raw(false), length, None) {
         Ok(settings) => {
-            let source = FileSource::new(file, length);
+            let source = FileSource::new(Shown::new(file, length, progress), length);
             compare(rt, &VerifyInput::Given(&settings), source, hash, msgs)
         }
         Err(fault) => refused_option(rt.alloc(), &fault, msgs),
@@ -71,16 +86,10 @@ where
 }
 
 /// Opens HASH and compares it.
-fn compare<R, F, M>(
-    rt: &R,
-    input: &VerifyInput,
-    source: FileSource<F>,
-    hash: &str,
-    msgs: &mut M,
-) -> u8
+fn compare<R, S, M>(rt: &R, input: &VerifyInput, source: S, hash: &str, msgs: &mut M) -> u8
 where
     R: Files + AllocGlobal,
-    F: Read + Drop,
+    S: Source + Drop,
     M: Write,
     ensures status { IsStatus result }
     ensures grows { Grows (M.contents msgs.old) (M.contents msgs.new) }

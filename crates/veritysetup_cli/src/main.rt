@@ -2,8 +2,11 @@
 #![tactic(auto)]
 
 use std::process::ExitCode;
-use veritysetup::run_program;
+use veritysetup::{Cleared, ProgressLine, run_program};
 
 fn main(rt: HostRuntime) -> ExitCode {
-    ExitCode::from(run_program(&rt, &mut rt.stdout(), &mut rt.stderr()))
+    let progress = ProgressLine::new(&rt);
+    let mut out = Cleared::new(&progress, rt.stdout());
+    let mut msgs = Cleared::new(&progress, rt.stderr());
+    ExitCode::from(run_program(&rt, &progress, &mut out, &mut msgs))
 }
