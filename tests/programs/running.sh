@@ -47,15 +47,21 @@ is_stopped() {
     grep -q '^State:[[:space:]]*T' "/proc/$pid/status"
 }
 
-# stopped_in FILE COMMAND..: starts a command and stops it while it reads a file. Sets `pid`, and `at` to how many bytes
-# of the file it has read.
-stopped_in() {
-    local file=$1
-    shift
-    starts "$@"
-    waits_for has_read "$file"
-    kill -STOP "$pid" 2>/dev/null
-    waits_for is_stopped
-    at=$(read_so_far "$file")
+# is_within FILE: the process has read a part of a file. Sets `at` to how many bytes of it.
+is_within() {
+    at=$(read_so_far "$1")
     at=${at:-0}
+    [ "$at" -gt 0 ] && [ "$at" -lt "$(stat -c %s "$1")" ]
+}
+
+# stopped_in FILE COMMAND..: starts a command and stops it while it reads a file. Sets `pid`, and `at` to how many bytes
+# of the file it has read. A command that was through before it could be stopped is started again, a few times.
+stopped_in() {
+    local file=$1 tries=5
+    shift
+    until starts "$@" && waits_for has_read "$file" && kill -STOP "$pid" && waits_for is_stopped && is_within "$file"; do
+        tries=$((tries - 1))
+        if [ "$tries" -eq 0 ]; then return; fi
+        { kill -KILL "$pid"; wait "$pid"; } 2>/dev/null
+    done
 }
