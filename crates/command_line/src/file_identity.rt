@@ -1,4 +1,5 @@
 //! Which file a path or an opened file is, so that two names of one file are found.
+ghost use Rattle.std.specs.Prelude.{◌≡◌, None, false, IsSome, IsTrue};
 
 use std::fs::{Metadata, OpenFile};
 use std::os::unix::fs::{FileTypeExt, MetadataExt};
@@ -52,10 +53,16 @@ impl Identities for HostRuntime {
     }
 }
 
+/// Whether the system tells that two files are one.
+pub fn are_one(one: Option<FileIdentity>, other: Option<FileIdentity>) -> bool
+    ensures known { one ≡ None → result ≡ false }
+    ensures same { IsTrue result → one ≡ other }
+    ensures equal { IsSome one → one ≡ other → IsTrue result }
+{
+    one.is_some() && one == other
+}
+
 /// Whether the system tells that a path leads to the file that was opened.
 pub fn is_same_file<R: Identities>(rt: &R, file: &R::File, path: &str) -> bool {
-    match (rt.file_identity(file), rt.path_identity(path)) {
-        (Some(opened), Some(named)) => opened == named,
-        _ => false,
-    }
+    are_one(rt.file_identity(file), rt.path_identity(path))
 }

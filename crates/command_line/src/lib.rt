@@ -22,7 +22,7 @@ mod texts;
 pub use algorithms::algorithm_or_default;
 pub use arguments::{flag, option, program, word, words};
 pub use copies::{copied_value, copied_values, is_given};
-pub use file_identity::{FileIdentity, Identities, is_same_file};
+pub use file_identity::{FileIdentity, Identities, are_one, is_same_file};
 pub use files::{open_measured, open_writable};
 pub use line_fault::LineFault;
 pub use null_files::{NULL_DEVICE, NullFiles};

@@ -3,7 +3,7 @@ ghost use Rattle.std.specs.Prelude.{◌≡◌, ◌⊎◌, ◌||◌, None, Some, 
 ghost use Rattle.std.specs.Prelude.{option_map, option_copied, string_bytes};
 
 use crate::Line;
-use command_line::{FileIdentity, Identities, text_of};
+use command_line::{FileIdentity, Identities, are_one, text_of};
 use std::fs::File;
 use std::rt::Files;
 
@@ -94,15 +94,6 @@ fn identity_of<R: Identities>(rt: &R, name: Option<&str>) -> Option<FileIdentity
     ensures { name.entry ≡ None → result ≡ None }
 {
     rt.path_identity(name?)
-}
-
-/// Whether the system tells that two files are one.
-fn are_one(one: Option<FileIdentity>, other: Option<FileIdentity>) -> bool
-    ensures known { one ≡ None → result ≡ false }
-    ensures same { IsTrue result → one ≡ other }
-    ensures equal { IsSome one → one ≡ other → IsTrue result }
-{
-    one.is_some() && one == other
 }
 
 /// The output file of a name, made or cut to nothing. The error is the name.
