@@ -1,9 +1,9 @@
 #!/bin/bash
-# Runs the Linux kernel, in a virtual machine without hardware support, over images of bin/veritysetup: it opens each as a
-# dm-verity device and hands out the data, and after a change of one bit, in the data or in any level of the tree, all blocks
-# but those beneath. And what the kernel's fs-verity measures of files is what bin/fsverity digest prints. Nothing is
-# installed, and root isn't needed. BIN=FOLDER takes the programs of another folder, KERNEL=FILE and MODULES=FOLDER a kernel
-# that isn't in /boot. About ten minutes.
+# Runs the Linux kernel, in a virtual machine without hardware support, over images of bin/veritysetup: it opens each as
+# a dm-verity device and hands out the data, and after a change of one bit, in the data or in any level of the tree, all
+# blocks but those beneath. And what the kernel's fs-verity measures of files is what bin/fsverity digest prints.
+# Nothing is installed, and root isn't needed. BIN=FOLDER takes the programs of another folder, KERNEL=FILE and
+# MODULES=FOLDER a kernel that isn't in /boot. About ten minutes.
 set -u
 cd "$(dirname "$0")/.."
 . tests/checks.sh
@@ -54,12 +54,13 @@ sizes() {
     ask_each
 }
 
-# areas: the superblock at hash offsets, none at all, and both behind the data in its own file.
+# areas: the superblock at hash offsets, none at all, and both right behind the data in its own file.
 areas() {
     local area hash_size count
-    for area in 'superblock 512' 'superblock 4096' 'superblock 1049088' 'bare 0' 'bare 4096' 'bare 1048576' 'behind 1052672'; do
-        for hash_size in 512 1024 4096; do
-            for count in 1 17 257; do
+    for hash_size in 512 1024 4096; do
+        for count in 1 17 257; do
+            for area in 'superblock 512' 'superblock 4096' 'superblock 1049088' 'bare 0' 'bare 4096' 'bare 1048576' \
+                "behind $((count * 1024))"; do
                 # An area is two words.
                 # shellcheck disable=SC2086
                 image $area sha256 1 1024 $hash_size "${salts[1]}" $count

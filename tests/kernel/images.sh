@@ -10,9 +10,10 @@ fan_out() {
     esac
 }
 
-# image PLACE OFFSET FUNCTION HASH-TYPE DATA-BLOCK HASH-BLOCK SALT BLOCKS: makes an image, at a place of these: `superblock`,
-# `bare` for none, `behind` for one behind the data, in its own file. Sets `name`, the settings by their names, `data` and `hash`
-# for the files, `root`, `tree` for the byte at which the tree begins, and `place` for the options that tell where it is.
+# image PLACE OFFSET FUNCTION HASH-TYPE DATA-BLOCK HASH-BLOCK SALT BLOCKS: makes an image, with one of these places:
+# `superblock`, `bare` for none, `behind` for one behind the data in its own file. Sets `name`, the settings by their
+# names, `data` and `hash` for the files, `root`, `tree` for the byte at which the tree begins, and `where` for the
+# options that say where it is.
 image() {
     local offset=$2 settings
     function=$3 hash_type=$4 data_block=$5 hash_block=$6 salt=$7 blocks=$8
@@ -22,12 +23,12 @@ image() {
     hash=$guest/images/$number/hash
     hash_device=/dev/loop1
     tree=$(((offset + 512 + hash_block - 1) / hash_block * hash_block))
-    place=(--hash-offset "$offset")
+    where=(--hash-offset "$offset")
     settings=(--hash "$3" --format "$4" --data-block-size "$5" --hash-block-size "$6" --salt "$7" --data-blocks "$8")
     case $1 in
     bare)
         tree=$offset
-        place+=(--no-superblock)
+        where+=(--no-superblock)
         ;;
     behind)
         hash=$data
@@ -37,9 +38,10 @@ image() {
     mkdir -p "${data%/*}"
     # Where the number of blocks is odd there is a tail, which isn't covered.
     sample $((blocks * data_block + blocks % 2 * 512)) >"$data"
-    "$BIN/veritysetup" format "${settings[@]}" "${place[@]}" "$data" "$hash" >"$scratch/report" || fail "$name" 'no image'
+    "$BIN/veritysetup" format "${settings[@]}" "${where[@]}" "$data" "$hash" >"$scratch/report" ||
+        fail "$name" 'no image was made'
     root=$(sed -n 's/^Root hash:[[:space:]]*//p' "$scratch/report")
-    if [ "$1" = bare ]; then place+=("${settings[@]}"); fi
+    if [ "$1" = bare ]; then where+=("${settings[@]}"); fi
 }
 
 # without FIRST END: what `whole` of the guest prints where the blocks from FIRST on and before END are refused.
@@ -53,8 +55,9 @@ without() {
 
 # by_table ROOT SALT: sets `command` to what opens the image by the kernel's own form of the settings.
 by_table() {
-    local table="0 $((blocks * data_block / 512)) verity $hash_type /dev/loop0 $hash_device $data_block $hash_block $blocks"
-    command=(opened "$data_block" dmsetup create image --readonly --table "$table $((tree / hash_block)) $function $1 $2")
+    local table="0 $((blocks * data_block / 512)) verity $hash_type /dev/loop0 $hash_device"
+    table+=" $data_block $hash_block $blocks $((tree / hash_block)) $function $1 $2"
+    command=(opened "$data_block" dmsetup create image --readonly --table "$table")
 }
 
 # padded SIZE: has the hash device made longer.
@@ -76,12 +79,12 @@ ask_each() {
     ask "$name: table" "$all" "${command[@]}"
     ask_changes
     # veritysetup wants a hash device that is longer than the hash offset.
-    if [ "$(stat -c %s "$hash")" -le "${place[1]}" ]; then padded $((tree + 512)); fi
-    ask "$name: open" "$all" opened "$data_block" veritysetup open "${place[@]}" /dev/loop0 image "$hash_device" "$root"
+    if [ "$(stat -c %s "$hash")" -le "${where[1]}" ]; then padded $((tree + 512)); fi
+    ask "$name: open" "$all" opened "$data_block" veritysetup open "${where[@]}" /dev/loop0 image "$hash_device" "$root"
 }
 
-# ask_changes: asks for the image with one bit turned in a data block, which is refused then, and in the last hash block of each
-# level, with which all data blocks beneath are.
+# ask_changes: asks for the image with one bit turned in a data block, which is refused then, and in the last hash block
+# of each level, with which all data blocks beneath are.
 ask_changes() {
     local fan counts=() count=$blocks at=$tree level middle=$((blocks / 2))
     ask "$name: data" "$(without $middle $((middle + 1)))" changed data $((middle * data_block + 7)) "${command[@]}"

@@ -11,13 +11,13 @@ declare -A expected=()
 
 mkdir -p "$guest/modules" "$guest/dev" "$guest/proc" "$guest/sys" "$guest/mnt"
 
-# find_kernel: KERNEL, or the newest kernel in /boot, and MODULES, or the modules that Debian's package puts beside it. Sets
-# `kernel`, `modules` and `release`.
+# find_kernel: KERNEL, or the newest kernel in /boot, and MODULES, or the modules that Debian's package puts beside it.
+# Sets `kernel`, `modules` and `release`.
 find_kernel() {
     local missing=
     kernel=${KERNEL:-$(find /boot -name 'vmlinuz-*' | sort -V | tail -n 1)}
-    release=${kernel##*/vmlinuz-}
-    modules=${MODULES:-$(dirname "$kernel")/../lib/modules/$release}
+    modules=${MODULES:-$(dirname "$kernel")/../lib/modules/${kernel##*/vmlinuz-}}
+    release=$(basename "$modules")
     if [ -r "$kernel" ] && [ -d "$modules" ]; then return; fi
     if [ -n "$kernel" ]; then missing="$kernel or the folder of its modules, $modules"; fi
     cat >&2 <<END
@@ -78,7 +78,9 @@ ask() {
 pack() {
     local name
     for name in busybox dd dmsetup veritysetup fsverity; do put_program "$name"; done
-    for name in loop dm-mod dm-verity sha1_generic sha256_generic sha512_generic crc32c_generic ext4; do put_module "$name"; done
+    for name in loop dm-mod dm-verity sha1_generic sha256_generic sha512_generic crc32c_generic ext4; do
+        put_module "$name"
+    done
     cp tests/kernel/init "$guest/init"
     (cd "$guest" && find . | busybox cpio -o -H newc -R 0:0) >"$scratch/archive" 2>"$scratch/.cpio"
 }
@@ -97,9 +99,14 @@ compare() {
     local -A found=()
     while IFS=$'\t' read -r name text; do found[${name:-none}]=${text% }; done <"$scratch/answers"
     for name in "${names[@]}"; do
-        if [ -n "${found[$name]-}" ]; then same "$name" "${expected[$name]}" "${found[$name]}"; else open=$((open + 1)); fi
+        if [ -n "${found[$name]-}" ]; then
+            same "$name" "${expected[$name]}" "${found[$name]}"
+        else
+            open=$((open + 1))
+        fi
     done
     if [ "$open" -gt 0 ]; then
-        fail 'the guest' "$open of ${#names[@]} answers are missing; its console ends with:" "$(tail -n 40 "$scratch/console")"
+        fail 'the guest' "$open of ${#names[@]} answers are missing; its console ends with:" \
+            "$(tail -n 40 "$scratch/console")"
     fi
 }
