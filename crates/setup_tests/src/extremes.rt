@@ -1,8 +1,7 @@
 //! Runs with no option at all, and with the largest blocks, the longest salt and the longest path.
 use crate::images::{formatted, formatted_at, image_of};
-use crate::reports::Report;
 use crate::setup_options::{DEFAULTS, counted};
-use fixtures::{Shape, lay, one_block};
+use fixtures::{REPORT_17, Report, Shape, lay, one_block};
 use std::test::Fail;
 use verity_hash::Algorithm;
 use verity_tree::{MemoryDevice, MemorySource};
@@ -37,6 +36,7 @@ fn one_block_of_zeros_by_default(rt: HostRuntime) -> Result<(), Fail> {
         blocks: 1,
         sizes: (4096, 4096),
         salt: "000102030405060708090a0b0c0d0e0f101112131415161718191a1b1c1d1e1f",
+        ..REPORT_17
     };
     let report = report.with_root(alloc, tree.root.as_slice())?;
     assert_eq!(rt; said.status, 0);
@@ -82,6 +82,7 @@ fn the_largest_image_is_made_and_accepted(rt: HostRuntime) -> Result<(), Fail> {
         blocks: 2,
         sizes: (524_288, 524_288),
         salt: digits.as_str(),
+        ..REPORT_17
     };
     let text = report.with_root(alloc, image.root.as_slice())?;
     assert_eq!(rt; said.status, 0);

@@ -19,13 +19,9 @@ mod messages;
 #[cfg(test)]
 mod offsets;
 #[cfg(test)]
-mod outputs;
-#[cfg(test)]
 mod program_files;
 #[cfg(test)]
 mod program_runs;
-#[cfg(test)]
-mod reports;
 #[cfg(test)]
 mod setup_options;
 #[cfg(test)]
