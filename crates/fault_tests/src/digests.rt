@@ -116,7 +116,7 @@ impl Settings {
         let options = self.options;
         let mut words = format!(in alloc; "fsverity digest {options}{}", form.0)?;
         let mut steps = Steps::new(alloc);
-        let mut files = Vec::new(alloc);
+        let mut files: Files = Vec::new(alloc);
         steps.begin("fsverity: cannot open /dev/null.\n")?;
         for file in named {
             let name = file.name;
@@ -147,7 +147,7 @@ impl Settings {
         let name = file.name;
         let mut words = format!(in alloc; "fsverity digest {options}{} {name}", form.0)?;
         let mut steps = Steps::new(alloc);
-        let mut files = Vec::new(alloc);
+        let mut files: Files = Vec::new(alloc);
         files.push((name, data(alloc, file.length)?))?;
         files.push(("tree", vec![in alloc; 77u8; 5000]?))?;
         steps.begin("fsverity: cannot open /dev/null.\n")?;

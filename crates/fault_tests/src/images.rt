@@ -1,7 +1,7 @@
 //! The commands of veritysetup over images of some settings, and the steps that each takes.
 use crate::scene::{Program, STEADY, Scene};
 use crate::steps::{Effect, Extent, Files, Pass, Steps};
-use fixtures::{REPORT_17, Report, Shape, Tree, data, superblock};
+use fixtures::{REPORT_17, Report, Shape, Tree, data, salt_text, superblock};
 use memory_runtime::Call;
 use std::alloc::{AllocError, Global};
 use verity_hash::Algorithm;
@@ -60,19 +60,19 @@ impl Setup {
 
     /// The report, with the root hash where it is given.
     fn report(&self, alloc: Global, root: Option<&[u8]>) -> Result<String, AllocError> {
-        let salt = hex::encode(alloc, self.salt)?;
+        let salt = salt_text(alloc, self.salt)?;
         let report = Report {
-            uuid: self.superblock.map_or("-", |_| REPORT_17.uuid),
+            path: HASH,
+            uuid: if self.superblock.is_some() {
+                REPORT_17.uuid
+            } else {
+                "-"
+            },
             hash_type: self.hash_type,
             blocks: self.blocks,
             sizes: self.sizes,
             algorithm: self.algorithm.name(),
-            salt: if self.salt.is_empty() {
-                "-"
-            } else {
-                salt.as_str()
-            },
-            ..REPORT_17
+            salt: salt.as_str(),
         };
         match root {
             Some(root) => report.with_root(alloc, root),
@@ -107,7 +107,7 @@ impl Setup {
         }
         steps.prints(self.report(alloc, Some(tree.root.as_slice()))?)?;
         steps.call(Call::Sync, "Cannot write hash.img.\n", Effect::Nothing)?;
-        let mut files = Vec::new(alloc);
+        let mut files: Files = Vec::new(alloc);
         files.push(("data", self.data(alloc)?))?;
         if let Some(length) = self.before {
             files.push((HASH, vec![in alloc; 77u8; length]?))?;

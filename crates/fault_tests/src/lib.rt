@@ -6,9 +6,13 @@
 #[cfg(test)]
 mod digests;
 #[cfg(test)]
+mod hostile;
+#[cfg(test)]
 mod images;
 #[cfg(test)]
 mod scene;
+#[cfg(test)]
+mod second_reading;
 #[cfg(test)]
 mod setups;
 #[cfg(test)]

@@ -1,7 +1,7 @@
 //! Runs with no option at all, and with the largest blocks, the longest salt and the longest path.
 use crate::images::{formatted, formatted_at, image_of};
 use crate::setup_options::{DEFAULTS, counted};
-use fixtures::{REPORT_17, Report, Shape, lay, one_block};
+use fixtures::{Report, Shape, lay, one_block};
 use std::test::Fail;
 use verity_hash::Algorithm;
 use verity_tree::{MemoryDevice, MemorySource};
@@ -36,7 +36,8 @@ fn one_block_of_zeros_by_default(rt: HostRuntime) -> Result<(), Fail> {
         blocks: 1,
         sizes: (4096, 4096),
         salt: "000102030405060708090a0b0c0d0e0f101112131415161718191a1b1c1d1e1f",
-        ..REPORT_17
+        hash_type: 1,
+        algorithm: "sha256",
     };
     let report = report.with_root(alloc, tree.root.as_slice())?;
     assert_eq!(rt; said.status, 0);
@@ -82,7 +83,8 @@ fn the_largest_image_is_made_and_accepted(rt: HostRuntime) -> Result<(), Fail> {
         blocks: 2,
         sizes: (524_288, 524_288),
         salt: digits.as_str(),
-        ..REPORT_17
+        hash_type: 1,
+        algorithm: "sha256",
     };
     let text = report.with_root(alloc, image.root.as_slice())?;
     assert_eq!(rt; said.status, 0);

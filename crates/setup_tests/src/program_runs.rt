@@ -87,7 +87,7 @@ fn reports_show_the_options(rt: HostRuntime) -> Result<(), Fail> {
 }
 
 /// Words, status and message.
-const REFUSED: [(&str, u8, &str); 16] = [
+const REFUSED: [(&str, u8, &str); 17] = [
     (
         "format --data-block-size 513 data hash",
         1,
@@ -123,6 +123,11 @@ const REFUSED: [(&str, u8, &str); 16] = [
     ("format --data-blocks 0 data hash", 1, "No data blocks.\n"),
     (
         "format --hash-offset 9223372036854775296 data hash",
+        1,
+        "Data or hash area is too large.\n",
+    ),
+    (
+        "format --data-block-size 512 --data-blocks 18014398509481984 data hash",
         1,
         "Data or hash area is too large.\n",
     ),
