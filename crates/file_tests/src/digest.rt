@@ -1,10 +1,9 @@
 //! Digests of files and their descriptors, and the options. Expected digests are those of sha2 over stated bytes.
-use fixtures::{Shape, block, data, filled};
+use fixtures::{Shape, block, data, descriptor, filled};
 use fsverity::{
     DigestFault, DigestOptions, FsOptionFault, digest_file, digest_file_with_tree, digest_settings,
 };
 use sha2::{Digest as Hasher, Sha256, Sha512};
-use std::alloc::{AllocError, Global};
 use std::test::Fail;
 use verity_hash::Algorithm;
 use verity_tree::{MemoryDevice, MemorySource};
@@ -17,19 +16,6 @@ pub const DEFAULTS: DigestOptions<'static> = DigestOptions {
     files: 1,
     out_files: false,
 };
-
-/// A descriptor: its first four bytes, the size, the root hash, the salt.
-pub fn descriptor(
-    alloc: Global,
-    head: &[u8],
-    size: u64,
-    root: &[u8],
-    salt: &[u8],
-) -> Result<Vec<u8>, AllocError> {
-    let front = filled(alloc, &[head], 8)?;
-    let middle = filled(alloc, &[front.as_slice(), &size.to_le_bytes(), root], 80)?;
-    filled(alloc, &[middle.as_slice(), salt], 256)
-}
 
 #[test]
 fn roots_of_levels(rt: HostRuntime) -> Result<(), Fail> {

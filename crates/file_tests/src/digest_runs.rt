@@ -2,9 +2,9 @@
 //! stated bytes.
 ghost use Rattle.std.specs.Prelude.{◌≡◌, length};
 
-use crate::digest::{DEFAULTS, descriptor};
+use crate::digest::DEFAULTS;
 use crate::stating_opener::StatingOpener;
-use fixtures::{Narrow, data, filled};
+use fixtures::{data, descriptor, filled};
 use fsverity::{
     Form, FusedOpener, MemoryOpener, OUT_OF_MEMORY, Opener, digest_settings, run_digest,
 };
@@ -135,24 +135,5 @@ fn a_failed_read_ends_a_run(rt: HostRuntime) -> Result<(), Fail> {
     assert_eq!(rt; status, 1);
     assert_eq!(rt; out.as_slice(), empty_line(alloc, "empty")?.as_bytes());
     assert_eq!(rt; msgs.as_slice(), text.as_slice());
-    Ok(())
-}
-
-#[test]
-fn a_full_output_ends_a_run(rt: HostRuntime) -> Result<(), Fail> {
-    let alloc = rt.alloc();
-    let one = empty_line(alloc, "one")?;
-    let two = empty_line(alloc, "two")?;
-    let lines = filled(alloc, &[one.as_bytes(), two.as_bytes()], 0)?;
-    for room in [0, 1, 75, 76, 77, 151] {
-        let files = [Some(b"".as_slice()), Some(b"")];
-        let mut opener = MemoryOpener::new(&files);
-        let mut out = Narrow::new(Vec::new(alloc), room, 7);
-        let (status, msgs) = run(alloc, &["one", "two"], &mut opener, &mut out)?;
-        let text = b"fsverity: cannot write output.\n";
-        assert_eq!(rt; status, 1, "at {room}");
-        assert_eq!(rt; msgs.as_slice(), text.as_slice(), "at {room}");
-        assert_eq!(rt; Some(out.bytes.as_slice()), lines.get(..room), "at {room}");
-    }
     Ok(())
 }

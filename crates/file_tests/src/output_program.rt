@@ -2,7 +2,7 @@
 //! that no file is lost that is named twice.
 use crate::digest_program::{NULLS, disk, expected, run};
 use fixtures::data;
-use memory_runtime::{Call, Disk, Kind};
+use memory_runtime::{Disk, Kind};
 use std::alloc::Global;
 use std::io;
 use std::test::Fail;
@@ -171,30 +171,6 @@ fn nothing_is_opened_after_a_refusal(rt: HostRuntime) -> Result<(), Fail> {
         assert_eq!(rt; said.msgs.as_slice(), text.as_bytes());
         assert_eq!(rt; disk.opened()?, *opened, "at {refused}");
         assert!(rt; !disk.has("made")?, "at {refused}");
-    }
-    Ok(())
-}
-
-#[test]
-fn writes_that_fail_have_messages(rt: HostRuntime) -> Result<(), Fail> {
-    let alloc = rt.alloc();
-    let cases = [
-        (1, 0, "cannot write tree block 0 of level 0"),
-        (2, 4096, "cannot write descriptor"),
-    ];
-    for (number, len, text) in cases {
-        let disk = disk(alloc)?;
-        disk.fail(Call::Write, number)?;
-        let words = "fsverity digest --out-merkle-tree tree --out-descriptor made two";
-        let said = run(alloc, &disk, words);
-        assert_eq!(rt; said.status, 1, "at {text}");
-        assert!(rt; said.out.is_empty(), "at {text}");
-        assert_eq!(rt;
-            said.msgs.as_slice(),
-            format!(in alloc; "fsverity: {text}.\n")?.as_bytes()
-        );
-        assert_eq!(rt; disk.bytes_of("tree")?.len(), len, "at {text}");
-        assert!(rt; disk.bytes_of("made")?.is_empty(), "at {text}");
     }
     Ok(())
 }

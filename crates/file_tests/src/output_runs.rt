@@ -1,14 +1,14 @@
 //! Runs of digest with output files, in memory: the tree, the descriptor and the line, and what stands after each
 //! fault. Expected bytes are laid out by the kernel's page on fs-verity, with digests of sha2.
-use crate::digest::{DEFAULTS, descriptor};
-use fixtures::{Narrow, Shape, data};
+use crate::digest::DEFAULTS;
+use fixtures::{Narrow, Shape, data, descriptor};
 use fsverity::{DigestOptions, Form, digest_settings, run_digest_to};
 use sha2::{Digest as Hasher, Sha256, Sha512};
 use std::alloc::{AllocError, Global};
 use std::io::Write;
 use std::test::Fail;
 use verity_hash::Algorithm;
-use verity_tree::{Device, Fused, MemoryDevice, MemorySource, Source};
+use verity_tree::{Device, MemoryDevice, MemorySource, Source};
 
 /// What a run should write.
 #[derive(Drop)]
@@ -174,69 +174,6 @@ fn what_is_not_wanted_stays(rt: HostRuntime) -> Result<(), Fail> {
     Ok(())
 }
 
-/// Runs digest over a file of 524289 bytes, whose tree has three blocks, where a read or a write of the tree fails.
-fn run_failing(alloc: Global, read: u64, write: u64) -> Result<(u8, Vec<u8>, Vec<u8>), Fail> {
-    let bytes = data(alloc, 524_289)?;
-    let mut source = Fused::new(MemorySource::new(bytes.as_slice()), read);
-    let mut tree = Fused::new(MemoryDevice::new(Vec::new(alloc)), write);
-    let mut descriptor = Vec::new(alloc);
-    let mut out = Vec::new(alloc);
-    let (status, msgs) = run(
-        alloc,
-        &mut source,
-        524_289,
-        &mut tree,
-        &mut descriptor,
-        &mut out,
-    )?;
-    descriptor.extend_from_slice(out.as_slice())?;
-    Ok((status, msgs, descriptor))
-}
-
-#[test]
-fn reads_and_writes_of_the_tree_fail(rt: HostRuntime) -> Result<(), Fail> {
-    let alloc = rt.alloc();
-    let cases = [
-        (1, 0, "fsverity: cannot read block 0: a b.\n"),
-        (3, 0, "fsverity: cannot read block 2: a b.\n"),
-        (129, 0, "fsverity: cannot read block 128: a b.\n"),
-        (0, 1, "fsverity: cannot write tree block 0 of level 0.\n"),
-        (0, 2, "fsverity: cannot write tree block 1 of level 0.\n"),
-        (0, 3, "fsverity: cannot write tree block 0 of level 1.\n"),
-    ];
-    for (read, write, text) in cases {
-        let (status, msgs, later) = run_failing(alloc, read, write)?;
-        assert_eq!(rt; status, 1, "at {text}");
-        assert_eq!(rt; msgs.as_slice(), text.as_bytes());
-        assert!(rt; later.is_empty(), "at {text}");
-    }
-    Ok(())
-}
-
-#[test]
-fn blocks_that_closed_before_a_fault_stand(rt: HostRuntime) -> Result<(), Fail> {
-    let alloc = rt.alloc();
-    let bytes = data(alloc, 524_289)?;
-    let wanted = expected_of(alloc, bytes.as_slice(), 2)?;
-    let mut source = Fused::new(MemorySource::new(bytes.as_slice()), 129);
-    let mut tree = MemoryDevice::new(Vec::new(alloc));
-    let mut descriptor = Vec::new(alloc);
-    let mut out = Vec::new(alloc);
-    let (status, _) = run(
-        alloc,
-        &mut source,
-        524_289,
-        &mut tree,
-        &mut descriptor,
-        &mut out,
-    )?;
-    assert_eq!(rt; status, 1);
-    assert_eq!(rt; tree.bytes().len(), 8192);
-    assert_eq!(rt; tree.bytes().get(4096..), wanted.tree.get(4096..8192));
-    assert_eq!(rt; tree.bytes().get(..4096), Some([0; 4096].as_slice()));
-    Ok(())
-}
-
 #[test]
 fn stated_sizes_that_are_wrong(rt: HostRuntime) -> Result<(), Fail> {
     let alloc = rt.alloc();
@@ -301,41 +238,6 @@ fn a_full_descriptor_file_ends_a_run(rt: HostRuntime) -> Result<(), Fail> {
         );
         assert_eq!(rt; tree.bytes(), wanted.tree.as_slice(), "at {room}");
         assert!(rt; out.is_empty(), "at {room}");
-    }
-    Ok(())
-}
-
-#[test]
-fn a_full_output_ends_a_run(rt: HostRuntime) -> Result<(), Fail> {
-    let alloc = rt.alloc();
-    let bytes = data(alloc, 4097)?;
-    let wanted = expected_of(alloc, bytes.as_slice(), 1)?;
-    for room in [0, 1, 75] {
-        let mut source = MemorySource::new(bytes.as_slice());
-        let mut tree = MemoryDevice::new(Vec::new(alloc));
-        let mut descriptor = Vec::new(alloc);
-        let mut out = Narrow::new(Vec::new(alloc), room, 7);
-        let (status, msgs) = run(
-            alloc,
-            &mut source,
-            4097,
-            &mut tree,
-            &mut descriptor,
-            &mut out,
-        )?;
-        let text = b"fsverity: cannot write output.\n";
-        assert_eq!(rt; status, 1, "at {room}");
-        assert_eq!(rt; msgs.as_slice(), text.as_slice(), "at {room}");
-        assert_eq!(rt;
-            Some(out.bytes.as_slice()),
-            wanted.line.as_bytes().get(..room),
-            "at {room}"
-        );
-        assert_eq!(rt;
-            descriptor.as_slice(),
-            wanted.descriptor.as_slice(),
-            "at {room}"
-        );
     }
     Ok(())
 }

@@ -1,8 +1,9 @@
-//! Calls of opened files, counted.
+//! Calls of a disk and of opened files, counted.
 
-/// A call of an opened file.
+/// A call of a disk or of an opened file.
 #[derive(Clone, Copy, Debug, PartialEq, Eq)]
 pub enum Call {
+    Open,
     Read,
     Write,
     Seek,
@@ -32,6 +33,7 @@ impl Count {
 /// The calls of all files.
 #[derive(Clone, Copy)]
 pub struct Calls {
+    opens: Count,
     reads: Count,
     writes: Count,
     seeks: Count,
@@ -41,6 +43,7 @@ pub struct Calls {
 impl Calls {
     /// None was made, and none fails.
     pub const NONE: Calls = Calls {
+        opens: Count::NONE,
         reads: Count::NONE,
         writes: Count::NONE,
         seeks: Count::NONE,
@@ -49,6 +52,7 @@ impl Calls {
 
     pub fn count(&self, call: Call) -> Count {
         match call {
+            Call::Open => self.opens,
             Call::Read => self.reads,
             Call::Write => self.writes,
             Call::Seek => self.seeks,
@@ -59,6 +63,7 @@ impl Calls {
     /// Counts a call. The answer is whether it fails.
     pub fn fails(&mut self, call: Call) -> bool {
         match call {
+            Call::Open => self.opens.fails(),
             Call::Read => self.reads.fails(),
             Call::Write => self.writes.fails(),
             Call::Seek => self.seeks.fails(),
@@ -69,6 +74,7 @@ impl Calls {
     /// Lets the call of this number fail.
     pub fn set_failing(&mut self, call: Call, number: u64) {
         match call {
+            Call::Open => self.opens.failing = number,
             Call::Read => self.reads.failing = number,
             Call::Write => self.writes.failing = number,
             Call::Seek => self.seeks.failing = number,

@@ -1,5 +1,5 @@
 //! What stands on a disk, and what was done to it.
-use crate::call::Calls;
+use crate::call::{Call, Calls};
 use crate::kind::Kind;
 use std::alloc::{AllocError, Global};
 use std::fs::OpenOptions;
@@ -94,7 +94,7 @@ impl Contents {
     /// number.
     pub fn open(&mut self, alloc: Global, how: &OpenOptions, name: &str) -> io::Result<usize> {
         self.write_down(how, name)?;
-        if self.is_refused(name) {
+        if self.calls.fails(Call::Open) || self.is_refused(name) {
             return Err(io::Error::from(ErrorKind::PermissionDenied));
         }
         let Some(number) = self.number_of(name) else {

@@ -1,7 +1,6 @@
 //! What dump prints of a superblock, and what it says of bytes that are none.
 use crate::images::image_17;
-use crate::reports::{REPORT_1, REPORT_17, Report};
-use fixtures::{Field, lay, one_block};
+use fixtures::{Field, REPORT_1, REPORT_17, Report, lay, one_block};
 use std::alloc::{AllocError, Global};
 use std::test::Fail;
 use verity_format::read_superblock;

@@ -1,9 +1,8 @@
 //! Runs with no option at all, and with the largest blocks, the longest salt and the longest path.
 use crate::images::{formatted, formatted_at, image_of};
 use crate::program_runs::{disk_of, run};
-use crate::reports::{REPORT_1, Report};
 use crate::setup_options::{DEFAULTS, counted};
-use fixtures::{Shape, lay, one_block};
+use fixtures::{REPORT_1, Report, Shape, lay, one_block};
 use std::test::Fail;
 use verity_hash::Algorithm;
 use verity_tree::{MemoryDevice, MemorySource};
@@ -36,6 +35,8 @@ fn one_block_of_zeros_by_default(rt: HostRuntime) -> Result<(), Fail> {
         blocks: 1,
         sizes: (4096, 4096),
         salt: "000102030405060708090a0b0c0d0e0f101112131415161718191a1b1c1d1e1f",
+        hash_type: 1,
+        algorithm: "sha256",
     };
     let report = report.with_root(alloc, tree.root.as_slice())?;
     assert_eq!(rt; said.status, 0);
@@ -106,6 +107,8 @@ fn the_largest_image_is_made_and_accepted(rt: HostRuntime) -> Result<(), Fail> {
         blocks: 2,
         sizes: (524_288, 524_288),
         salt: digits.as_str(),
+        hash_type: 1,
+        algorithm: "sha256",
     };
     let text = report.with_root(alloc, image.root.as_slice())?;
     assert_eq!(rt; said.status, 0);

@@ -1,7 +1,6 @@
 //! Images that format makes, against trees of lists by `sha2`, and what it leaves after a fault.
 use crate::images::{SMALL, formatted, image_17, image_of};
-use crate::reports::{REPORT_17, Report};
-use fixtures::{filled, lay};
+use fixtures::{REPORT_17, Report, filled, lay};
 use std::test::Fail;
 use verity_tree::{MemoryDevice, MemorySource};
 use veritysetup::settings_of;

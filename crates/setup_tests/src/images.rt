@@ -1,5 +1,5 @@
 //! Images of hash devices, made by format, and made by `sha2`.
-use fixtures::{Said, Shape, UUID, block, data, filled};
+use fixtures::{Said, Shape, data, filled, superblock};
 use std::alloc::{AllocError, Global};
 use verity_hash::Algorithm;
 use verity_tree::{Device, Source};
@@ -38,18 +38,7 @@ pub fn image_of(
     levels: usize,
 ) -> Result<Image, AllocError> {
     let data = data(alloc, blocks.saturating_mul(data_block))?;
-    let superblock: [u8; 512] = block(&[
-        (0, b"verity"),
-        (8, &[1]),
-        (12, &[1]),
-        (16, &UUID),
-        (32, b"sha256"),
-        (64, &(data_block as u64).to_le_bytes()),
-        (68, &(hash_block as u64).to_le_bytes()),
-        (72, &blocks.to_le_bytes()),
-        (80, &salt.len().to_le_bytes()),
-        (88, salt),
-    ]);
+    let superblock = superblock(1, b"sha256", (data_block, hash_block), blocks, salt);
     let gap = if levels == 0 { 0 } else { hash_block };
     let front = filled(alloc, &[&superblock], gap)?;
     let slots = (hash_block / 32, 32);

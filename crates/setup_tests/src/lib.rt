@@ -21,15 +21,11 @@ mod messages;
 #[cfg(test)]
 mod offsets;
 #[cfg(test)]
-mod outputs;
-#[cfg(test)]
 mod program_files;
 #[cfg(test)]
 mod program_runs;
 #[cfg(test)]
 mod progress;
-#[cfg(test)]
-mod reports;
 #[cfg(test)]
 mod setup_options;
 #[cfg(test)]

@@ -1,8 +1,7 @@
 //! Hash areas at an offset, without a superblock, and in one file with the data.
 use crate::images::{SMALL, formatted, image_17};
-use crate::reports::{REPORT_17, Report};
 use crate::setup_options::DEFAULTS;
-use fixtures::filled;
+use fixtures::{REPORT_17, Report, filled};
 use std::alloc::{AllocError, Global};
 use std::test::Fail;
 use verity_tree::{MemoryDevice, MemorySource};

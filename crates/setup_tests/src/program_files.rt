@@ -1,8 +1,7 @@
 //! The program over files in memory: which are opened when, and two names of one file.
 use crate::images::image_17;
 use crate::program_runs::{OPTIONS_17, disk_of, run};
-use crate::reports::REPORT_17;
-use fixtures::filled;
+use fixtures::{REPORT_17, filled};
 use memory_runtime::{Call, Disk, Kind};
 use std::alloc::Global;
 use std::io;

@@ -1,7 +1,6 @@
 //! The program over files in memory: what its options choose, its own messages, and what stands after it.
-use crate::images::{Image, image_17, image_of};
-use crate::reports::{REPORT_17, Report};
-use fixtures::{NO_TEXT, Narrow, Said, filled};
+use crate::images::image_of;
+use fixtures::{NO_TEXT, REPORT_17, Report, Said, filled};
 use memory_runtime::{Call, Disk, Kind, MemoryRuntime};
 use std::alloc::Global;
 use std::io;
@@ -89,7 +88,7 @@ fn reports_show_the_options(rt: HostRuntime) -> Result<(), Fail> {
 }
 
 /// Words, status and message.
-const REFUSED: [(&str, u8, &str); 16] = [
+const REFUSED: [(&str, u8, &str); 17] = [
     (
         "format --data-block-size 513 data hash",
         1,
@@ -125,6 +124,11 @@ const REFUSED: [(&str, u8, &str); 16] = [
     ("format --data-blocks 0 data hash", 1, "No data blocks.\n"),
     (
         "format --hash-offset 9223372036854775296 data hash",
+        1,
+        "Data or hash area is too large.\n",
+    ),
+    (
+        "format --data-block-size 512 --data-blocks 18014398509481984 data hash",
         1,
         "Data or hash area is too large.\n",
     ),
@@ -205,53 +209,5 @@ fn refused_words_open_no_file(rt: HostRuntime) -> Result<(), Fail> {
     assert_eq!(rt; said.status, 1);
     assert_eq!(rt; said.msgs.as_slice(), message.as_bytes());
     assert!(rt; disk.opened()?.as_str().is_empty());
-    Ok(())
-}
-
-/// Formats the image of 17 blocks.
-fn format_17(alloc: Global, disk: &Disk) -> io::Result<Said> {
-    let words = format!(in alloc; "format {OPTIONS_17} data hash.img")?;
-    run(alloc, disk, words.as_str())
-}
-
-#[test]
-fn an_image_is_synced(rt: HostRuntime) -> Result<(), Fail> {
-    let alloc = rt.alloc();
-    let Image { data, device, root } = image_17(alloc)?;
-    let report = REPORT_17.with_root(alloc, root.as_slice())?;
-    for (failing, status, message) in [(0, 0, ""), (1, 4, "Cannot write hash.img.\n")] {
-        let disk = disk_of(alloc, data.as_slice())?;
-        disk.fail(Call::Sync, failing)?;
-        let said = format_17(alloc, &disk)?;
-        assert_eq!(rt; said.status, status);
-        assert_eq!(rt; said.msgs.as_slice(), message.as_bytes());
-        assert_eq!(rt; said.out.as_slice(), report.as_bytes());
-        assert_eq!(rt; disk.calls(Call::Sync)?, 1);
-        assert_eq!(rt; disk.bytes_of("hash.img")?.as_slice(), device.as_slice());
-    }
-    Ok(())
-}
-
-#[test]
-fn a_failed_run_is_not_synced(rt: HostRuntime) -> Result<(), Fail> {
-    let alloc = rt.alloc();
-    let image = image_17(alloc)?;
-    let disk = disk_of(alloc, image.data.as_slice())?;
-    disk.fail(Call::Write, 4)?;
-    let said = format_17(alloc, &disk)?;
-    assert_eq!(rt; said.status, 4);
-    assert_eq!(rt;
-        said.msgs.as_slice(),
-        b"Cannot write superblock.\n".as_slice()
-    );
-    assert_eq!(rt; disk.calls(Call::Sync)?, 0);
-    let words = format!(in alloc; "veritysetup format {OPTIONS_17} data hash.img")?;
-    let runtime = MemoryRuntime::new(alloc, &disk, words.as_str());
-    let mut out = Narrow::new(Vec::new(alloc), 10, 7);
-    let mut msgs = Vec::new(alloc);
-    let progress = ProgressLine::new(&runtime);
-    assert_eq!(rt; run_program(&runtime, &progress, &mut out, &mut msgs), 4);
-    assert_eq!(rt; msgs.as_slice(), b"Cannot write output.\n".as_slice());
-    assert_eq!(rt; disk.calls(Call::Sync)?, 0);
     Ok(())
 }

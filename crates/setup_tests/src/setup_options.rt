@@ -201,3 +201,29 @@ fn options_are_refused(rt: HostRuntime) {
         assert_eq!(rt; found, fault, "at {texts:?}");
     }
 }
+
+#[test]
+fn salts_are_hexadecimal(rt: HostRuntime) -> Result<(), Fail> {
+    let longer = "ab".repeat(rt.alloc(), 257)?;
+    let longest = longer.as_str().get(..512).unwrap_or("");
+    let cases: [(&str, Option<&[u8]>); 6] = [
+        ("abc", None),
+        ("zz", None),
+        (longer.as_str(), None),
+        (longest, Some(&[0xab; 256])),
+        ("AB", Some(&[0xab])),
+        ("", Some(&[])),
+    ];
+    for (text, salt) in cases {
+        let raw = RawOptions {
+            salt: Some(text),
+            ..SMALL
+        };
+        let settings = settings_of(&raw, 8704, None);
+        assert_eq!(rt; settings.is_ok(), salt.is_some(), "at {text}");
+        if let Ok(settings) = settings {
+            assert_eq!(rt; Some(settings.plan().settings().salt()), salt, "at {text}");
+        }
+    }
+    Ok(())
+}

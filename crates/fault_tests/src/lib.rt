@@ -1,0 +1,21 @@
+//! Each fault in turn: every call of a program's files fails once, its output and its messages end at each place, and
+//! superblocks are changed byte by byte. What each fault leaves is told by lists of steps and by trees of plain bytes,
+//! with digests of `sha1` and `sha2`.
+#![tactic(auto)]
+
+#[cfg(test)]
+mod digests;
+#[cfg(test)]
+mod hostile;
+#[cfg(test)]
+mod images;
+#[cfg(test)]
+mod scene;
+#[cfg(test)]
+mod second_reading;
+#[cfg(test)]
+mod setups;
+#[cfg(test)]
+mod steps;
+#[cfg(test)]
+mod trials;

@@ -1,0 +1,106 @@
+//! Each fault of veritysetup in turn.
+use crate::images::Setup;
+use memory_runtime::Call;
+use std::test::Fail;
+use verity_hash::Algorithm;
+
+/// 17 and 257 blocks of 512 bytes; every option, over a hash device that holds other bytes; and no superblock.
+const SETUPS: [Setup; 4] = [
+    Setup {
+        options: "--data-block-size 512 --hash-block-size 512 --salt=-",
+        hash_type: 1,
+        algorithm: Algorithm::Sha256,
+        sizes: (512, 512),
+        slots: (16, 32),
+        salt: b"",
+        blocks: 17,
+        levels: 2,
+        superblock: Some(0),
+        tree_at: 512,
+        more: 0,
+        before: None,
+    },
+    Setup {
+        options: "--data-block-size 512 --hash-block-size 512 --salt=-",
+        hash_type: 1,
+        algorithm: Algorithm::Sha256,
+        sizes: (512, 512),
+        slots: (16, 32),
+        salt: b"",
+        blocks: 257,
+        levels: 3,
+        superblock: Some(0),
+        tree_at: 512,
+        more: 0,
+        before: None,
+    },
+    Setup {
+        options: "--hash sha512 --format 0 --data-block-size 1024 --hash-block-size 512 --data-blocks 9 --salt abcd --hash-offset 1536",
+        hash_type: 0,
+        algorithm: Algorithm::Sha512,
+        sizes: (1024, 512),
+        slots: (8, 64),
+        salt: b"\xab\xcd",
+        blocks: 9,
+        levels: 2,
+        superblock: Some(1536),
+        tree_at: 2048,
+        more: 1027,
+        before: Some(4000),
+    },
+    Setup {
+        options: "--no-superblock --hash sha1 --format 1 --data-block-size 512 --hash-block-size 512 --salt abcdef --hash-offset 1024",
+        hash_type: 1,
+        algorithm: Algorithm::Sha1,
+        sizes: (512, 512),
+        slots: (16, 32),
+        salt: b"\xab\xcd\xef",
+        blocks: 18,
+        levels: 2,
+        superblock: None,
+        tree_at: 1024,
+        more: 511,
+        before: Some(100),
+    },
+];
+
+#[test]
+fn each_call_of_format_fails_in_turn(rt: HostRuntime) -> Result<(), Fail> {
+    let alloc = rt.alloc();
+    for setup in &SETUPS {
+        let scene = setup.format(alloc)?;
+        assert_eq!(rt; scene.wrong_call(alloc)?, None, "at {}", setup.blocks);
+    }
+    Ok(())
+}
+
+#[test]
+fn each_call_of_verify_fails_in_turn(rt: HostRuntime) -> Result<(), Fail> {
+    let alloc = rt.alloc();
+    for setup in &SETUPS {
+        let scene = setup.verify(alloc)?;
+        assert_eq!(rt; scene.wrong_call(alloc)?, None, "at {}", setup.blocks);
+        let wrong = scene.wrong_message(alloc, Call::Read)?;
+        assert_eq!(rt; wrong, None, "at {}", setup.blocks);
+    }
+    Ok(())
+}
+
+#[test]
+fn an_output_ends_at_each_place(rt: HostRuntime) -> Result<(), Fail> {
+    let alloc = rt.alloc();
+    for setup in &SETUPS {
+        let scene = setup.format(alloc)?;
+        let wrong = scene.wrong_output(alloc)?;
+        assert_eq!(rt; wrong, None, "at {}", setup.blocks);
+        let wrong = scene.wrong_message(alloc, Call::Write)?;
+        assert_eq!(rt; wrong, None, "at {}", setup.blocks);
+        if setup.superblock.is_some() {
+            let scene = setup.dump(alloc)?;
+            assert_eq!(rt; scene.wrong_call(alloc)?, None, "at {}", setup.blocks);
+            let wrong = scene.wrong_output(alloc)?;
+            assert_eq!(rt; wrong, None, "at {}", setup.blocks);
+        }
+    }
+    Ok(())
+}

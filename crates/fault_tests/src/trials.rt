@@ -1,0 +1,76 @@
+//! Every fault of a run in turn, beside how the run ends by its steps.
+use crate::scene::{Ending, STEADY, Scene, Trial};
+use memory_runtime::Call;
+use std::alloc::Global;
+use std::test::Fail;
+
+/// A trial that ends otherwise than by the steps, and how.
+type Wrong = Option<(Call, usize, &'static str)>;
+
+impl Scene {
+    /// What differs, in a trial, from how the run ends by its steps. The files that are looked at are those of a run that
+    /// goes through.
+    fn wrong(
+        &self,
+        alloc: Global,
+        trial: &Trial,
+        whole: &Ending,
+    ) -> Result<Option<&'static str>, Fail> {
+        let expected = self.ending(alloc, trial)?;
+        let (found, made) = self.run(alloc, trial, whole)?;
+        let (call, number) = trial.failing;
+        let last = self.count(call);
+        if number > last && made != last as u64 {
+            return Ok(Some("how often is called"));
+        }
+        Ok(expected.differs(&found))
+    }
+
+    /// The first call of a file whose failing ends otherwise than it should. Each of a kind fails in turn, and one more
+    /// than there are, so that nothing fails.
+    pub fn wrong_call(&self, alloc: Global) -> Result<Wrong, Fail> {
+        let whole = self.ending(alloc, &STEADY)?;
+        for call in [Call::Open, Call::Read, Call::Write, Call::Seek, Call::Sync] {
+            for number in 0..=self.count(call) {
+                let mut trial = STEADY;
+                trial.failing = (call, number.saturating_add(1));
+                if let Some(what) = self.wrong(alloc, &trial, &whole)? {
+                    return Ok(Some((call, number.saturating_add(1), what)));
+                }
+            }
+        }
+        Ok(None)
+    }
+
+    /// The first length at which a full output ends a run otherwise than it should: it fails, or takes nothing. Each
+    /// fifth length is tried.
+    pub fn wrong_output(&self, alloc: Global) -> Result<Wrong, Fail> {
+        let whole = self.ending(alloc, &STEADY)?;
+        for takes_nothing in [false, true] {
+            for room in (0..=whole.out.len()).step_by(5) {
+                let mut trial = STEADY;
+                trial.room = room;
+                trial.takes_nothing = takes_nothing;
+                if let Some(what) = self.wrong(alloc, &trial, &whole)? {
+                    return Ok(Some((Call::Write, room, what)));
+                }
+            }
+        }
+        Ok(None)
+    }
+
+    /// The first length at which full messages end a run otherwise than they should, where this call fails first.
+    pub fn wrong_message(&self, alloc: Global, call: Call) -> Result<Wrong, Fail> {
+        let whole = self.ending(alloc, &STEADY)?;
+        let mut trial = STEADY;
+        trial.failing = (call, 1);
+        let length = self.ending(alloc, &trial)?.msgs.len();
+        for room in 0..=length {
+            trial.message_room = room;
+            if let Some(what) = self.wrong(alloc, &trial, &whole)? {
+                return Ok(Some((call, room, what)));
+            }
+        }
+        Ok(None)
+    }
+}
