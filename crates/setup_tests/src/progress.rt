@@ -48,7 +48,7 @@ fn a_terminal_is_told_how_far_it_is(rt: HostRuntime) -> Result<(), Fail> {
     let alloc = rt.alloc();
     let mut data = vec![in alloc; 5u8; 4 * MIB + 4096]?;
     let disk = disk_of(alloc, data.as_slice())?;
-    disk.make("small", data[..4 * MIB].to_vec(alloc)?)?;
+    disk.make("small", vec![in alloc; 5u8; 4 * MIB]?)?;
     if let Some(byte) = data.get_mut(700 * 4096) {
         *byte = 0;
     }
