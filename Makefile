@@ -5,7 +5,7 @@ PREFIX = /usr/local
 DESTDIR =
 SUFFIX = -proved
 
-.PHONY: run programs gate check-programs interop bench bench_bare install clean help
+.PHONY: run programs gate check-programs out-of-memory interop bench bench_bare install clean help
 
 # Builds the programs and runs the main job on a real file.
 run: programs
@@ -23,6 +23,10 @@ gate:
 # Runs the programs as a user would. Needs no other tool.
 check-programs: programs
 	tests/programs.sh
+
+# Refuses each request for memory in turn, of the run functions and of the programs. Needs a C compiler.
+out-of-memory: programs
+	tests/memory.sh
 
 # Compares the programs with Debian's packages cryptsetup-bin and fsverity, which have to be installed.
 interop: programs
@@ -57,6 +61,7 @@ help:
 	@echo 'make programs        proves and builds bin/fsverity and bin/veritysetup'
 	@echo 'make gate            every proof from nothing, wrong bodies, tests, stored runs'
 	@echo 'make check-programs  runs the programs as a user would'
+	@echo 'make out-of-memory   refuses each request for memory in turn'
 	@echo "make interop         compares them with Debian's programs"
 	@echo 'make bench           measures throughput and peak memory'
 	@echo 'make install         installs programs and manual pages (PREFIX, DESTDIR, SUFFIX)'
