@@ -5,7 +5,7 @@ PREFIX = /usr/local
 DESTDIR =
 SUFFIX = -proved
 
-.PHONY: run programs test check gate check-programs interop kernel bench bench_bare install clean help
+.PHONY: run programs test check gate check-programs out-of-memory interop kernel bench bench_bare install clean help
 
 # Proves and builds the one program that this needs, and prints the digest of a real file.
 run:
@@ -32,6 +32,10 @@ gate:
 # Runs the programs as a user would. Needs no other tool.
 check-programs: programs
 	tests/programs.sh
+
+# Refuses each request for memory in turn, of the run functions and of the programs. Needs a C compiler.
+out-of-memory: programs
+	tests/memory.sh
 
 # Compares the programs with Debian's packages cryptsetup-bin and fsverity, which have to be installed, over every
 # combination of the settings; `make test` goes over fewer.
@@ -71,6 +75,7 @@ help:
 	@echo 'make check           all tests but the gate'
 	@echo 'make gate            every proof from nothing, wrong bodies, tests, stored runs'
 	@echo 'make check-programs  runs the programs as a user would'
+	@echo 'make out-of-memory   refuses each request for memory in turn'
 	@echo "make interop         compares them with Debian's programs, over all settings"
 	@echo 'make kernel          has the Linux kernel open the images, in a virtual machine (KERNEL, MODULES)'
 	@echo 'make bench           measures throughput and peak memory'

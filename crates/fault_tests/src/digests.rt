@@ -134,8 +134,8 @@ impl Settings {
     }
 
     /// Digest of a file with output files, `tree` and `made`: the file is opened, and the output files that are wanted,
-    /// which are emptied; the data is read once, and each block of the tree is written as it closes, then the descriptor,
-    /// then the line is printed.
+    /// which are emptied; the data is read once, and each block of the tree is written as it closes, then the
+    /// descriptor, then the line is printed.
     fn digest_to(
         &self,
         alloc: Global,

@@ -170,8 +170,8 @@ fn the_largest_numbers_are_read(rt: HostRuntime) -> Result<(), Fail> {
     Ok(())
 }
 
-/// Numbers that follow no short pattern, always the same from one seed: Knuth's linear congruential generator of 64 bits,
-/// of which the high half is given.
+/// Numbers that follow no short pattern, always the same from one seed: Knuth's linear congruential generator of 64
+/// bits, of which the high half is given.
 #[derive(Clone, Copy)]
 struct Numbers {
     state: u64,

@@ -37,6 +37,9 @@ pub struct Trial {
     pub takes_nothing: bool,
 }
 
+/// The kinds of calls.
+pub const CALLS: [Call; 5] = [Call::Open, Call::Read, Call::Write, Call::Seek, Call::Sync];
+
 /// Nothing fails.
 pub const STEADY: Trial = Trial {
     failing: (Call::Open, 0),
@@ -53,8 +56,8 @@ pub struct Ending {
     pub msgs: Vec<u8>,
     /// The files then.
     pub files: Files,
-    /// How many writes and syncs of files were called.
-    pub calls: (u64, u64),
+    /// How often each of `CALLS` was made.
+    pub calls: [u64; 5],
 }
 
 impl Program {
@@ -99,10 +102,10 @@ impl Ending {
                 Ok((room < text.len()).then_some(program.unwritten()))
             }
             Step::Calls(call, message, effect) => {
-                match call {
-                    Call::Write => self.calls.0 = self.calls.0.saturating_add(1),
-                    Call::Sync => self.calls.1 = self.calls.1.saturating_add(1),
-                    Call::Open | Call::Read | Call::Seek => {}
+                for (kind, made) in CALLS.iter().zip(self.calls.iter_mut()) {
+                    if kind == call {
+                        *made = made.saturating_add(1);
+                    }
                 }
                 if trial.failing == (*call, number) {
                     return Ok(Some(message.as_bytes()));
@@ -113,21 +116,32 @@ impl Ending {
         }
     }
 
-    /// What differs first from another ending.
-    pub fn differs(&self, other: &Ending) -> Option<&'static str> {
-        if self.status != other.status {
+    /// What differs first from how a run ended, where each call is made just as often, or each but openings and seeks.
+    pub fn differs(&self, found: &Ending, with_all_calls: bool) -> Option<&'static str> {
+        if self.status != found.status {
             Some("the status")
-        } else if self.msgs != other.msgs {
+        } else if self.msgs != found.msgs {
             Some("the messages")
-        } else if self.out != other.out {
+        } else if self.out != found.out {
             Some("the output")
-        } else if self.files != other.files {
+        } else if self.files != found.files {
             Some("the files")
-        } else if self.calls != other.calls {
-            Some("how often is written and synced")
+        } else if !self.has_calls_of(found, with_all_calls) {
+            Some("the number of calls")
         } else {
             None
         }
+    }
+
+    /// Whether each call is made just as often, or each but openings and seeks.
+    fn has_calls_of(&self, found: &Ending, with_all_calls: bool) -> bool {
+        for ((kind, one), other) in CALLS.iter().zip(self.calls).zip(found.calls) {
+            let may_differ = !with_all_calls && matches!(kind, Call::Open | Call::Seek);
+            if one != other && !may_differ {
+                return false;
+            }
+        }
+        true
     }
 }
 
@@ -153,7 +167,7 @@ impl Scene {
             out: Vec::new(alloc),
             msgs: Vec::new(alloc),
             files: copied(alloc, &self.files)?,
-            calls: (0, 0),
+            calls: [0; 5],
         };
         for (done, step) in self.steps.iter().enumerate() {
             let before = self.steps.get(..done).unwrap_or(&[]);
@@ -180,9 +194,8 @@ impl Scene {
         Ok(disk)
     }
 
-    /// Runs the program. The files looked at afterwards are those of an ending. The last number is how often the kind of
-    /// call was made that fails.
-    pub fn run(&self, alloc: Global, trial: &Trial, watched: &Ending) -> io::Result<(Ending, u64)> {
+    /// Runs the program. The files that are looked at afterwards are those of an ending.
+    pub fn run(&self, alloc: Global, trial: &Trial, watched: &Ending) -> io::Result<Ending> {
         let disk = self.disk(alloc)?;
         disk.fail(trial.failing.0, trial.failing.1 as u64)?;
         let runtime = MemoryRuntime::new(alloc, &disk, self.words.as_str());
@@ -202,15 +215,17 @@ impl Scene {
                 files.push((*name, disk.bytes_of(name)?))?;
             }
         }
-        let calls = (disk.calls(Call::Write)?, disk.calls(Call::Sync)?);
-        let ending = Ending {
+        let mut calls = [0; 5];
+        for (kind, made) in CALLS.iter().zip(calls.iter_mut()) {
+            *made = disk.calls(*kind)?;
+        }
+        Ok(Ending {
             status,
             out: out.bytes,
             msgs: msgs.bytes,
             files,
             calls,
-        };
-        Ok((ending, disk.calls(trial.failing.0)?))
+        })
     }
 }
 

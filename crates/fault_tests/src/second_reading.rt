@@ -1,5 +1,5 @@
-//! A second reading of the superblock, by a table of its fields (cryptsetup's on-disk format page, "dm-verity header"), in
-//! the order in which they are looked at.
+//! A second reading of the superblock, by a table of its fields (cryptsetup's on-disk format page, "dm-verity header"),
+//! in the order in which they are looked at.
 use fixtures::{Report, salt_text};
 use std::alloc::{AllocError, Global};
 

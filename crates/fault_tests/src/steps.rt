@@ -1,4 +1,4 @@
-//! A run as a list of steps: which call each makes, what the message is where that call fails, and what the step leaves.
+//! A run as a list of steps: which call each makes, what the message is where that call fails, and what it leaves.
 use fixtures::{Tree, lay};
 use memory_runtime::Call;
 use std::alloc::{AllocError, Global};

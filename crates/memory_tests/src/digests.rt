@@ -1,12 +1,11 @@
 //! Digest of files, and of one file with output files.
 use crate::outcome::Outcome;
-use fixtures::{Shape, data, descriptor};
+use crate::zeros::{ZEROS, hash_blocks};
+use fixtures::block;
 use fsverity::{
     DigestOptions, Form, MemoryOpener, OUT_OF_MEMORY, digest_settings, run_digest, run_digest_to,
 };
-use sha2::{Digest as Hasher, Sha256};
 use std::alloc::{AllocError, Global};
-use verity_hash::Algorithm;
 use verity_tree::{MemoryDevice, MemorySource};
 
 const OPTIONS: DigestOptions<'static> = DigestOptions {
@@ -17,30 +16,27 @@ const OPTIONS: DigestOptions<'static> = DigestOptions {
     out_files: false,
 };
 
-/// What a run needs, made before it: a file of 17 blocks of 512 bytes, its tree, its descriptor and its line, and places
-/// for what the run writes.
+/// The line of the file.
+const LINE: &str = "sha256:4d34b73f5fb775acc90bebf257de81c1531dd6a51a600ee3b09488d0413c52f2 a\n";
+
+/// The root hash in the descriptor.
+const ROOT_BYTES: [u8; 32] = [
+    0x55, 0x75, 0x11, 0x25, 0x53, 0x34, 0xc3, 0x23, 0xfa, 0x73, 0x4a, 0x4c, 0xbd, 0xb3, 0x01, 0xaa,
+    0x58, 0x88, 0x32, 0xec, 0x08, 0xa4, 0x25, 0x46, 0xe0, 0xce, 0x94, 0x9d, 0x5e, 0xa4, 0x9c, 0xe5,
+];
+
+/// What a run needs, made before it: places for what the run writes and says.
 #[derive(Drop)]
 struct Prepared {
-    data: Vec<u8>,
     tree: Vec<u8>,
-    descriptor: Vec<u8>,
-    line: String,
     made: Vec<u8>,
     out: Vec<u8>,
     msgs: Vec<u8>,
 }
 
 fn prepare(alloc: Global) -> Result<Prepared, AllocError> {
-    let data = data(alloc, 8704)?;
-    let shape = Shape::new(alloc, Algorithm::Sha256, (512, 512), (16, 32));
-    let tree = shape.tree(alloc, data.as_slice(), 2)?;
-    let descriptor = descriptor(alloc, &[1, 1, 9, 0], 8704, tree.root.as_slice(), &[])?;
-    let digits = hex::encode(alloc, &Sha256::digest(descriptor.as_slice()))?;
     Ok(Prepared {
-        data,
-        tree: tree.image(alloc, 0)?,
-        descriptor,
-        line: format!(in alloc; "sha256:{digits} a\n")?,
+        tree: [77; 1536].to_vec(alloc)?,
         made: Vec::with_capacity(alloc, 1000)?,
         out: Vec::with_capacity(alloc, 1000)?,
         msgs: Vec::with_capacity(alloc, 1000)?,
@@ -57,7 +53,7 @@ fn digest(alloc: Global) -> Outcome {
     let (Ok(mut made), Ok(settings)) = (prepare(alloc), digest_settings(&OPTIONS)) else {
         return Outcome::Unprepared;
     };
-    let files = [Some(made.data.as_slice()), Some(made.data.as_slice())];
+    let files = [Some(ZEROS.as_slice()), Some(ZEROS.as_slice())];
     let mut opener = MemoryOpener::new(&files);
     let status = run_digest(
         alloc,
@@ -68,7 +64,7 @@ fn digest(alloc: Global) -> Outcome {
         &mut made.out,
         &mut made.msgs,
     );
-    let line = made.line.as_bytes();
+    let line = LINE.as_bytes();
     let (lines, rest) = made.out.as_slice().as_chunks::<74>();
     let are_lines = rest.is_empty() && lines.iter().all(|other| other.as_slice() == line);
     if is_out_of_memory(status, made.msgs.as_slice()) {
@@ -77,18 +73,13 @@ fn digest(alloc: Global) -> Outcome {
     Outcome::whole(status == 0 && are_lines && lines.len() == 2)
 }
 
-/// Digests the file with both output files. Out of memory leaves nothing written, or
-/// the tree and the descriptor.
+/// Digests the file with both output files. Out of memory leaves nothing written, or the tree and the descriptor.
 fn digest_to(alloc: Global) -> Outcome {
-    let (Ok(mut made), Ok(settings), Ok(before)) = (
-        prepare(alloc),
-        digest_settings(&OPTIONS),
-        vec![in alloc; 77u8; 1536],
-    ) else {
+    let (Ok(mut made), Ok(settings)) = (prepare(alloc), digest_settings(&OPTIONS)) else {
         return Outcome::Unprepared;
     };
-    let mut source = MemorySource::new(made.data.as_slice());
-    let mut tree = MemoryDevice::new(before);
+    let mut source = MemorySource::new(&ZEROS);
+    let mut tree = MemoryDevice::new(made.tree);
     let status = run_digest_to(
         alloc,
         &settings,
@@ -103,15 +94,21 @@ fn digest_to(alloc: Global) -> Outcome {
         &mut made.out,
         &mut made.msgs,
     );
-    let is_written = tree.bytes() == made.tree.as_slice()
-        && made.made.as_slice() == made.descriptor.as_slice();
+    let [upper, full, last] = hash_blocks();
+    let area: [u8; 1536] = block(&[(0, &upper), (512, &full), (1024, &last)]);
+    let descriptor: [u8; 256] = block(&[
+        (0, &[1, 1, 9, 0, 0, 0, 0, 0, 0, 0x22]),
+        (16, &ROOT_BYTES),
+    ]);
+    let is_written = tree.bytes() == area.as_slice()
+        && made.made.as_slice() == descriptor.as_slice();
     let is_untouched = tree.bytes() == [77; 1536].as_slice()
         && made.made.is_empty()
         && source.rest().len() == 8704;
     if is_out_of_memory(status, made.msgs.as_slice()) {
         return Outcome::refused(made.out.is_empty() && (is_written || is_untouched));
     }
-    Outcome::whole(status == 0 && is_written && made.out.as_slice() == made.line.as_bytes())
+    Outcome::whole(status == 0 && is_written && made.out.as_slice() == LINE.as_bytes())
 }
 
 /// Digests a file that is absent. Where the message finds no memory the status stays.

@@ -1,8 +1,8 @@
 //! Format, dump and verify of an image of 17 blocks.
 use crate::outcome::Outcome;
-use fixtures::{REPORT_17, Shape, data, filled, superblock};
+use crate::zeros::{ROOT, ZEROS, hash_blocks};
+use fixtures::{block, superblock};
 use std::alloc::{AllocError, Global};
-use verity_hash::Algorithm;
 use verity_tree::{MemoryDevice, MemorySource};
 use veritysetup::{RawOptions, VerifyInput, run_dump, run_format, run_verify, settings_of};
 
@@ -20,34 +20,42 @@ const OPTIONS: RawOptions<'static> = RawOptions {
     same_file: false,
 };
 
-/// What a run needs, made before it: data, the hash device that stands for it, the report, the root hash's digits, and
-/// places for what the run prints and says.
+/// The report, without the root hash.
+const DUMP: &str = "VERITY header information for hash.img
+UUID:            \t00112233-4455-4677-8899-aabbccddeeff
+Hash type:       \t1
+Data blocks:     \t17
+Data block size: \t512
+Hash block size: \t512
+Hash algorithm:  \tsha256
+Salt:            \t-
+";
+
+/// What a run needs, made before it: the hash device of 17 blocks of zeros, and places for what it prints and says.
 #[derive(Drop)]
 struct Prepared {
-    data: Vec<u8>,
     device: Vec<u8>,
-    report: String,
-    dump: String,
-    root: String,
     out: Vec<u8>,
     msgs: Vec<u8>,
 }
 
 fn prepare(alloc: Global) -> Result<Prepared, AllocError> {
-    let data = data(alloc, 8704)?;
-    let shape = Shape::new(alloc, Algorithm::Sha256, (512, 512), (16, 32));
-    let tree = shape.tree(alloc, data.as_slice(), 2)?;
-    let front = superblock(1, b"sha256", (512, 512), 17, &[]);
-    let area = tree.image(alloc, 0)?;
     Ok(Prepared {
-        data,
-        device: filled(alloc, &[&front, area.as_slice()], 0)?,
-        report: REPORT_17.with_root(alloc, tree.root.as_slice())?,
-        dump: REPORT_17.text(alloc)?,
-        root: hex::encode(alloc, tree.root.as_slice())?,
+        device: image().to_vec(alloc)?,
         out: Vec::with_capacity(alloc, 1000)?,
         msgs: Vec::with_capacity(alloc, 1000)?,
     })
+}
+
+/// The hash device: superblock, level 1, level 0.
+fn image() -> [u8; 2048] {
+    let [upper, full, last] = hash_blocks();
+    block(&[
+        (0, &superblock(1, b"sha256", (512, 512), 17, &[])),
+        (512, &upper),
+        (1024, &full),
+        (1536, &last),
+    ])
 }
 
 /// Whether a run ended in want of memory, with its status and its message.
@@ -55,18 +63,27 @@ fn is_out_of_memory(status: u8, msgs: &[u8]) -> bool {
     status == 3 && msgs == b"Out of memory.\n".as_slice()
 }
 
-/// Formats a device that holds other bytes. Out of memory leaves it untouched, and nothing is read, or the whole image, and
-/// nothing is printed.
+/// Whether a text is the report with the root hash.
+fn is_report(text: &[u8]) -> bool {
+    match text.strip_prefix(DUMP.as_bytes()) {
+        Some(line) => {
+            line.strip_prefix(b"Root hash:       \t".as_slice())
+                .and_then(|rest| rest.strip_suffix(b"\n".as_slice()))
+                == Some(ROOT.as_bytes())
+        }
+        None => false,
+    }
+}
+
+/// Formats a device that holds other bytes. Out of memory leaves it untouched, and nothing is read, or the whole image,
+/// and nothing is printed.
 fn format(alloc: Global) -> Outcome {
-    let (Ok(mut made), Ok(settings), Ok(before)) = (
-        prepare(alloc),
-        settings_of(&OPTIONS, 8704, None),
-        vec![in alloc; 77u8; 2048],
-    ) else {
+    let (Ok(mut made), Ok(settings)) = (prepare(alloc), settings_of(&OPTIONS, 8704, None)) else {
         return Outcome::Unprepared;
     };
-    let mut source = MemorySource::new(made.data.as_slice());
-    let mut device = MemoryDevice::new(before);
+    made.device.fill(77);
+    let mut source = MemorySource::new(&ZEROS);
+    let mut device = MemoryDevice::new(made.device);
     let status = run_format(
         alloc,
         &settings,
@@ -76,12 +93,12 @@ fn format(alloc: Global) -> Outcome {
         &mut made.out,
         &mut made.msgs,
     );
-    let is_whole = device.bytes() == made.device.as_slice() && source.rest().is_empty();
+    let is_whole = device.bytes() == image().as_slice() && source.rest().is_empty();
     let is_untouched = device.bytes() == [77; 2048].as_slice() && source.rest().len() == 8704;
     if is_out_of_memory(status, made.msgs.as_slice()) {
         return Outcome::refused(made.out.is_empty() && (is_whole || is_untouched));
     }
-    Outcome::whole(status == 0 && is_whole && made.out.as_slice() == made.report.as_bytes())
+    Outcome::whole(status == 0 && is_whole && is_report(made.out.as_slice()))
 }
 
 /// Dumps the image.
@@ -101,7 +118,7 @@ fn dump(alloc: Global) -> Outcome {
     if is_out_of_memory(status, made.msgs.as_slice()) {
         return Outcome::refused(made.out.is_empty());
     }
-    Outcome::whole(status == 0 && made.out.as_slice() == made.dump.as_bytes())
+    Outcome::whole(status == 0 && made.out.as_slice() == DUMP.as_bytes())
 }
 
 /// Verifies the image, of which a byte is changed where that is asked for. Where the message finds no memory the status
@@ -113,11 +130,11 @@ fn verify(alloc: Global, changes: bool) -> Outcome {
     if changes && let Some(byte) = made.device.get_mut(1536) {
         *byte ^= 1;
     }
-    let mut source = MemorySource::new(made.data.as_slice());
+    let mut source = MemorySource::new(&ZEROS);
     let mut device = MemoryDevice::new(made.device);
     let input = VerifyInput::Stored {
         offset: 0,
-        root: made.root.as_str(),
+        root: ROOT,
     };
     let status = run_verify(alloc, &input, &mut source, &mut device, &mut made.msgs);
     if is_out_of_memory(status, made.msgs.as_slice()) {
