@@ -107,8 +107,8 @@ refuse() {
     echo "$name: $((number - 1)) requests"
 }
 
-# What veritysetup says where it finds no memory, the second while it reads its command line.
-setup_endings='3 Out of memory.|1 error: out of memory'
+# What veritysetup says where it finds no memory.
+setup_endings='3 Out of memory.'
 
 formats() {
     refuse 'format' 0 "$setup_endings" "$veritysetup" format "${image_17_options[@]}" "$data" "$made/hash.img"
@@ -135,8 +135,8 @@ verifies() {
         "$veritysetup" verify "${bare_options[@]}" "$data" "$scratch/bare.img" "$root"
 }
 
-# What fsverity says where it finds no memory, the second while it reads its command line.
-file_endings='1 fsverity: out of memory.|2 error: out of memory'
+# What fsverity says where it finds no memory.
+file_endings='1 fsverity: out of memory.'
 
 digests_of_files() {
     prints_lines=yes

@@ -1,6 +1,8 @@
 //! Why a command line is refused.
-ghost use Rattle.std.specs.Prelude.{◌≡◌};
+ghost use Rattle.std.specs.Prelude.{◌≡◌, ◌↔◌, IsTrue};
+ghost use Rattle.command_line.specs.LineFaults.{IsMemory};
 
+use clap::error::ErrorKind;
 use std::alloc::AllocError;
 use thiserror::Error;
 
@@ -16,6 +18,18 @@ pub enum LineFault {
 }
 
 ghost use Rattle.command_line.specs.declared.line_fault.LineFault.{LineFault};
+
+impl LineFault {
+    /// Whether there was not enough memory, for clap or for the copies of the words.
+    pub fn is_memory(&self) -> bool
+        ensures { IsTrue result ↔ IsMemory self.now }
+    {
+        match self {
+            LineFault::Refused(error) => error.kind() == ErrorKind::OutOfMemory,
+            LineFault::Memory => true,
+        }
+    }
+}
 
 impl From<AllocError> for LineFault {
     ghost from_gives = { λ _ f. f ≡ LineFault.Memory };

@@ -1,5 +1,6 @@
 //! The program, over any runtime.
-ghost use Rattle.std.specs.Prelude.{◌≡◌, ◌≤◌, IfErr, IfOk};
+ghost use Rattle.std.specs.Prelude.{◌≡◌, ◌⊎◌, ◌≤◌, IfErr, IfOk};
+ghost use Rattle.command_line.specs.LineFaults.{IsMemory};
 ghost use Rattle.command_line.specs.Printing.{AppendsFront};
 ghost use Rattle.fsverity.specs.CommandLines.{settings_of};
 ghost use Rattle.fsverity.specs.Messages.{option_text, words_status, words_text};
@@ -78,12 +79,20 @@ fn run_words<R: Identities + Onlooker + AllocGlobal, O: Write, M: Write>(
     };
     match read_words(rt.alloc(), texts.as_slice()) {
         Ok(line) => run_line(rt, progress, &line, out, msgs),
-        Err(LineFault::Refused(error)) => {
-            let _ = write!(msgs, "{error}");
-            REFUSED
-        }
-        Err(LineFault::Memory) => end(FAILED, OUT_OF_MEMORY, msgs),
+        Err(fault) => refused_line(&fault, msgs),
     }
+}
+
+/// The command line is refused, with `clap`'s text, or there is no memory for it.
+fn refused_line<M: Write>(fault: &LineFault, msgs: &mut M) -> u8
+    ensures status { (result ≡ 1) ⊎ (result ≡ 2) }
+    ensures memory { IsMemory fault.now → result ≡ 1 }
+{
+    if fault.is_memory() {
+        return end(FAILED, OUT_OF_MEMORY, msgs);
+    }
+    let _ = write!(msgs, "{fault}");
+    REFUSED
 }
 
 /// `fsverity digest`. A refused option has its message and status 2.

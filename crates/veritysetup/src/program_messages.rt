@@ -1,8 +1,10 @@
 //! Messages of the program's own, one line each. The answer is the status that goes with each.
 ghost use Rattle.std.specs.Prelude.{◌≡◌};
+ghost use Rattle.command_line.specs.LineFaults.{IsMemory};
 ghost use Rattle.command_line.specs.Printing.{AppendsFront};
 ghost use Rattle.veritysetup.specs.Messages.{memory_text, option_text};
-ghost use Rattle.veritysetup.specs.Programs.{IsRefusal, incomplete_text, no_random_text, unopened_text, unwritten_text, words_status, words_text};
+ghost use Rattle.veritysetup.specs.Programs.{IsRefusal, words_status, words_text};
+ghost use Rattle.veritysetup.specs.Programs.{incomplete_text, no_random_text, unopened_text, unwritten_text};
 
 use crate::messages::{OUT_OF_MEMORY, option_message};
 use crate::options::OptionFault;
@@ -81,13 +83,12 @@ pub fn refused_words<M: Write>(alloc: Global, fault: &WordsFault, msgs: &mut M) 
 
 /// The command line is refused, with `clap`'s text, or there is no memory for it.
 pub fn refused_line<M: Write>(fault: &LineFault, msgs: &mut M) -> u8
-    ensures { IsRefusal result }
+    ensures refusal { IsRefusal result }
+    ensures memory { IsMemory fault.now → result ≡ 3 }
 {
-    match fault {
-        LineFault::Refused(error) => {
-            let _ = write!(msgs, "{error}");
-            1
-        }
-        LineFault::Memory => out_of_memory(msgs),
+    if fault.is_memory() {
+        return out_of_memory(msgs);
     }
+    let _ = write!(msgs, "{fault}");
+    1
 }
