@@ -23,14 +23,19 @@ judge_tests() {
     local line name=
     while IFS= read -r line; do
         case $line in
-        'test result:'*) ;;
-        'test '*' ... ok') pass ;;
-        'test '*' ... FAILED') name=${line#test } name=${name% ...*} ;;
+        'test '*)
+            # A test that failed and doesn't say how it ended.
+            if [ -n "$name" ]; then fail "request $1 of $name" "$(tail -n 5 "$2")"; fi
+            name=
+            case $line in
+            *' ... ok') pass ;;
+            *' ... FAILED') name=${line#test } name=${name% ...*} ;;
+            esac
+            ;;
         *'left: Refused' | *'left: Unprepared') pass && name= ;;
         *'left: '*) fail "request $1 of $name" "found: ${line##* }" && name= ;;
         esac
     done <"$2"
-    if [ -n "$name" ]; then fail "request $1 of $name" "$(tail -n 5 "$2")"; fi
 }
 
 run_functions() {
