@@ -106,7 +106,7 @@ const SIZE: Option<&'static str> = Some("512");
 const WORD: Option<&'static str> = Some("x");
 
 /// Options, and the first fault of them.
-const REFUSED: [(Texts, Option<OptionFault>); 21] = [
+const REFUSED: [(Texts, Option<OptionFault>); 23] = [
     (
         [WORD, WORD, WORD, WORD, WORD, WORD],
         Some(OptionFault::BadNumber(OptionName::Format)),
@@ -173,6 +173,14 @@ const REFUSED: [(Texts, Option<OptionFault>); 21] = [
     (
         [None, None, Some("1048576"), SIZE, DASH, None],
         Some(OptionFault::BadBlockSize(OptionName::DataBlockSize)),
+    ),
+    (
+        [None, None, Some("18446744073709551615"), SIZE, DASH, None],
+        Some(OptionFault::BadBlockSize(OptionName::DataBlockSize)),
+    ),
+    (
+        [None, None, Some("18446744073709551616"), SIZE, DASH, None],
+        Some(OptionFault::BadNumber(OptionName::DataBlockSize)),
     ),
     (
         [None, None, SIZE, Some("18446744073709551615"), DASH, None],
