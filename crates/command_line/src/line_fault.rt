@@ -4,6 +4,7 @@ ghost use Rattle.command_line.specs.LineFaults.{IsMemory};
 
 use clap::error::ErrorKind;
 use std::alloc::AllocError;
+use std::io::Write;
 use thiserror::Error;
 
 /// Why a command line is refused.
@@ -27,6 +28,17 @@ impl LineFault {
         match self {
             LineFault::Refused(error) => error.kind() == ErrorKind::OutOfMemory,
             LineFault::Memory => true,
+        }
+    }
+
+    /// Writes why the line is refused, as far as the writer takes it: clap's text, and then the usage where that text
+    /// ends without it, as for an option without a value at the end of the line.
+    pub fn tell<W: Write>(&self, usage: &str, msgs: &mut W) {
+        let _ = write!(msgs, "{self}");
+        if let LineFault::Refused(error) = self
+            && error.kind() == ErrorKind::InvalidValue
+        {
+            let _ = write!(msgs, "\nUsage: {usage}\n");
         }
     }
 }

@@ -87,7 +87,7 @@ fn each_call_of_verify_fails_in_turn(rt: HostRuntime) -> Result<(), Fail> {
 }
 
 #[test]
-fn an_output_ends_at_each_place(rt: HostRuntime) -> Result<(), Fail> {
+fn an_output_ends_at_each_fifth_place(rt: HostRuntime) -> Result<(), Fail> {
     let alloc = rt.alloc();
     for setup in &SETUPS {
         let scene = setup.format(alloc)?;

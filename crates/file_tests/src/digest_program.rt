@@ -128,6 +128,7 @@ fn refused_lines_open_nothing(rt: HostRuntime) -> Result<(), Fail> {
         "fsverity",
         "fsverity digest",
         "fsverity digest --sloth two",
+        "fsverity digest two --salt",
         "fsverity --help",
     ] {
         let disk = disk(alloc)?;

@@ -1,5 +1,5 @@
 //! The program, over any runtime.
-ghost use Rattle.std.specs.Prelude.{◌≡◌, ◌⊎◌, ◌≤◌, IfErr, IfOk};
+ghost use Rattle.std.specs.Prelude.{◌≡◌, ◌⊎◌, ◌≤◌, IfErr, IfOk, codes};
 ghost use Rattle.command_line.specs.LineFaults.{IsMemory};
 ghost use Rattle.command_line.specs.Printing.{AppendsFront};
 ghost use Rattle.fsverity.specs.CommandLines.{settings_of};
@@ -9,6 +9,7 @@ ghost use Rattle.fsverity.specs.declared.run_fault.RunFault.TheVariants.{NotOpen
 
 use crate::output_files::OutputNames;
 use crate::output_program::digest_to;
+use crate::words::USAGE;
 use crate::{
     FileOpener, Line, LineFault, OUT_OF_MEMORY, RunFault, digest_settings, option_message,
     read_words, run_digest,
@@ -83,15 +84,17 @@ fn run_words<R: Identities + Onlooker + AllocGlobal, O: Write, M: Write>(
     }
 }
 
-/// The command line is refused, with `clap`'s text, or there is no memory for it.
+/// The command line is refused, with `clap`'s text and the usage, or there is no memory for it.
 fn refused_line<M: Write>(fault: &LineFault, msgs: &mut M) -> u8
     ensures status { (result ≡ 1) ⊎ (result ≡ 2) }
-    ensures memory { IsMemory fault.now → result ≡ 1 }
+    ensures memory { IsMemory fault.now → (result ≡ 1)
+        × AppendsFront (codes "fsverity: out of memory.\n") (M.contents msgs.old) (M.contents msgs.new) }
+    ensures refused { (IsMemory fault.now → ⊥) → result ≡ 2 }
 {
     if fault.is_memory() {
         return end(FAILED, OUT_OF_MEMORY, msgs);
     }
-    let _ = write!(msgs, "{fault}");
+    fault.tell(USAGE, msgs);
     REFUSED
 }
 

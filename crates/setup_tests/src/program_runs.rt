@@ -196,11 +196,24 @@ fn no_random_bytes_make_no_file(rt: HostRuntime) -> Result<(), Fail> {
 fn refused_words_open_no_file(rt: HostRuntime) -> Result<(), Fail> {
     let alloc = rt.alloc();
     let disk = disk_of(alloc, &[5; 8192])?;
-    let said = run(alloc, &disk, "format data")?;
-    assert_eq!(rt; said.status, 1);
-    let text = String::from_utf8(said.msgs)?;
-    assert!(rt; text.as_str().starts_with("error: "));
-    assert!(rt; text.as_str().ends_with(" DATA HASH\n"));
+    for (words, usage) in [
+        ("format data", " DATA HASH\n"),
+        ("format data hash --salt", " [--no-superblock] DATA HASH\n"),
+        (
+            "dump hash --hash-offset",
+            "\n\nUsage: veritysetup dump [--hash-offset BYTES] HASH\n",
+        ),
+        (
+            "verify data hash 00 --salt",
+            " [--no-superblock] DATA HASH ROOT\n",
+        ),
+    ] {
+        let said = run(alloc, &disk, words)?;
+        assert_eq!(rt; said.status, 1, "at {words}");
+        let text = String::from_utf8(said.msgs)?;
+        assert!(rt; text.as_str().starts_with("error: "), "at {words}");
+        assert!(rt; text.as_str().ends_with(usage), "at {words}");
+    }
     let mut runtime = MemoryRuntime::new(alloc, &disk, "veritysetup format data");
     let (word, shown) = NO_TEXT;
     let message = format!(in alloc; "error: argument 3 is not UTF-8: {shown}\n")?;

@@ -228,7 +228,12 @@ fn salts_are_hexadecimal(rt: HostRuntime) -> Result<(), Fail> {
             ..SMALL
         };
         let settings = settings_of(&raw, 8704, None);
-        assert_eq!(rt; settings.is_ok(), salt.is_some(), "at {text}");
+        let fault = if salt.is_some() {
+            None
+        } else {
+            Some(OptionFault::BadSalt)
+        };
+        assert_eq!(rt; settings.as_ref().err().copied(), fault, "at {text}");
         if let Ok(settings) = settings {
             assert_eq!(rt; Some(settings.plan().settings().salt()), salt, "at {text}");
         }

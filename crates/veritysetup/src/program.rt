@@ -10,7 +10,7 @@ use crate::program_messages::{
     cannot_open, incomplete_line, out_of_memory, refused_line, refused_words,
 };
 use crate::verifying::verify;
-use crate::words::read_words;
+use crate::words::{read_words, usage_of};
 use crate::{CommandName, Line};
 use command_line::{
     Identities, NULL_DEVICE, NullFiles, Onlooker, ProgressLine, given_words, texts_of,
@@ -63,7 +63,7 @@ where
 {
     let line = match read_words(rt.alloc(), words) {
         Ok(line) => line,
-        Err(fault) => return refused_line(&fault, msgs),
+        Err(fault) => return refused_line(&fault, usage_of(words), msgs),
     };
     let null_files = NullFiles::open(rt);
     if !null_files.are_open() {

@@ -81,14 +81,16 @@ pub fn refused_words<M: Write>(alloc: Global, fault: &WordsFault, msgs: &mut M) 
     }
 }
 
-/// The command line is refused, with `clap`'s text, or there is no memory for it.
-pub fn refused_line<M: Write>(fault: &LineFault, msgs: &mut M) -> u8
+/// The command line is refused, with `clap`'s text and the usage, or there is no memory for it.
+pub fn refused_line<M: Write>(fault: &LineFault, usage: &str, msgs: &mut M) -> u8
     ensures refusal { IsRefusal result }
-    ensures memory { IsMemory fault.now → result ≡ 3 }
+    ensures memory { IsMemory fault.now → (result ≡ 3)
+        × AppendsFront memory_text (M.contents msgs.old) (M.contents msgs.new) }
+    ensures refused { (IsMemory fault.now → ⊥) → result ≡ 1 }
 {
     if fault.is_memory() {
         return out_of_memory(msgs);
     }
-    let _ = write!(msgs, "{fault}");
+    fault.tell(usage, msgs);
     1
 }

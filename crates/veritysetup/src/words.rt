@@ -24,11 +24,27 @@ const FORMAT_USAGE: &str =
            [--hash-block-size BYTES] [--data-blocks NUMBER] [--salt HEX] [--uuid UUID]
            [--hash-offset BYTES] [--no-superblock] DATA HASH";
 
+/// The usage text of `dump`.
+const DUMP_USAGE: &str = "veritysetup dump [--hash-offset BYTES] HASH";
+
 /// The usage text of `verify`.
 const VERIFY_USAGE: &str =
     "veritysetup verify [--hash NAME] [--format TYPE] [--data-block-size BYTES]
            [--hash-block-size BYTES] [--data-blocks NUMBER] [--salt HEX]
            [--hash-offset BYTES] [--no-superblock] DATA HASH ROOT";
+
+/// The usage text of the command that a command line names, or of all where it names none.
+pub(crate) fn usage_of(words: &[&str]) -> &'static str {
+    match words.get(1) {
+        Some(name) => match CommandName::from_name(name) {
+            Some(CommandName::Format) => FORMAT_USAGE,
+            Some(CommandName::Dump) => DUMP_USAGE,
+            Some(CommandName::Verify) => VERIFY_USAGE,
+            None => USAGE,
+        },
+        None => USAGE,
+    }
+}
 
 /// Adds the options for what a tree is made by.
 fn with_tree_options<'a>(alloc: Global, command: Command<'a>) -> Result<Command<'a>, AllocError>
@@ -64,9 +80,7 @@ fn format_command<'a>(alloc: Global) -> Result<Command<'a>, AllocError>
 fn dump_command<'a>(alloc: Global) -> Result<Command<'a>, AllocError>
     ensures { IfOk result (Defines dump_app) }
 {
-    let command = Command::new(alloc, "dump").override_usage(
-        "veritysetup dump [--hash-offset BYTES] HASH",
-    );
+    let command = Command::new(alloc, "dump").override_usage(DUMP_USAGE);
     with_offset_option(alloc, command)?.arg(word(alloc, "HASH"))
 }
 
