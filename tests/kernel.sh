@@ -38,11 +38,13 @@ functions() {
     done
 }
 
-# sizes: all sizes of data blocks and hash blocks, and an image of three levels with blocks of 4096.
+# sizes: all other sizes of data blocks and hash blocks, and an image of three levels with blocks of 4096.
 sizes() {
     local data_size hash_size fan count
     for data_size in 512 1024 2048 4096; do
         for hash_size in 512 1024 2048 4096; do
+            # Those of `functions`.
+            if [ "$data_size $hash_size" = '512 512' ]; then continue; fi
             fan=$(fan_out sha256 $hash_size)
             for count in 1 "$fan" $((fan + 1)); do
                 image superblock 0 sha256 1 $data_size $hash_size "${salts[2]}" "$count"

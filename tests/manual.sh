@@ -1,6 +1,6 @@
 #!/bin/bash
 # Checks the manual pages: mandoc has nothing to say of them, their examples run, and their lists of messages are those
-# of the programs' sources.
+# of the programs' sources, each under the status that docs/DEFINITIONS.md gives it.
 set -u
 cd "$(dirname "$0")/.."
 . tests/checks.sh
@@ -22,11 +22,33 @@ page_examples() {
     '
 }
 
-# told PAGE: the messages of its own that a page lists, with `_` for each name or number in them. They end with a full
-# stop; those on command lines, which clap words, don't.
+# blanked: messages, one a line, with `_` for each name or number in them.
+blanked() {
+    sed -E 's/\b(DATA|HASH|NAME|PATH|ROOT|WORD|[A-Z])\b/_/g' | sort -u
+}
+
+# told PAGE: the messages that a page lists and that end with a full stop.
 told() {
-    section "$1" DIAGNOSTICS | sed -n 's/^\.It \(.*\.\)$/\1/p' |
-        sed -E 's/--X\b/--_/; s/\b(PATH|NAME|[A-Z])\b/_/g' | sort -u
+    section "$1" DIAGNOSTICS | sed -n 's/^\.It \(.*\.\)$/\1/p' | blanked
+}
+
+# told_statuses PAGE: each message of a page after the status under which it stands.
+told_statuses() {
+    section "$1" DIAGNOSTICS | awk '
+        /^\.Ss Status [0-9]$/ { status = $3 }
+        sub(/^\.It /, "") { print status, $0 }
+    ' | blanked
+}
+
+# defined_statuses PROGRAM: each message of a program after its status, as the tables of docs/DEFINITIONS.md have them.
+# A table is that of the command that the text before it names.
+defined_statuses() {
+    awk -F '|' -v program="$1" '
+        /^## / { inside = $0 == "## Messages and statuses" }
+        !inside { next }
+        /^[^|]/ && match($0, /`[a-z]+ [a-z]+`/) { name = substr($0, RSTART + 1); sub(/ .*/, "", name) }
+        name == program && $3 ~ /^ `.*` $/ { gsub(/[ `]*$|^[ `]*/, "", $3); print $4 + 0, $3 }
+    ' docs/DEFINITIONS.md | blanked
 }
 
 # meant CRATE: the messages in a crate's sources: texts that end with a full stop and a new line, alone or in pieces.
@@ -41,6 +63,7 @@ messages() {
     same "$1: messages that $2 doesn't have" '' "$(comm -23 <(told "$1") <(meant "$2"))"
     same "$1: messages of $2 that it lacks" '' "$(comm -13 <(told "$1") <(meant "$2"))"
     if [ "$(told "$1" | wc -l)" -ge 10 ]; then pass; else fail "$1: its messages" "found: $(told "$1")"; fi
+    same "$1: messages with their statuses" "$(defined_statuses "$2")" "$(told_statuses "$1")"
 }
 
 messages man/veritysetup.8 veritysetup

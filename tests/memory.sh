@@ -17,10 +17,21 @@ cc -shared -fPIC -O1 -o "$refuser" tests/refuse_memory.c || exit 1
 # The most requests of a run, so that a count that doesn't end is found.
 most=2000
 
-# judge_tests NUMBER LOG: each test of the run functions is whole, or says that a request was refused and all is as it
-# may be then.
+# tests_of CRATE: the names of a crate's tests, as a run of them tells them.
+tests_of() {
+    awk '
+        FNR == 1 { module = FILENAME; sub(/.*\//, "", module); sub(/\.rt$/, "", module) }
+        wanted { name = $0; sub(/.*fn /, "", name); sub(/\(.*/, "", name); print module "::" name }
+        { wanted = /^#\[test\]/ }
+    ' crates/"$1"/src/*.rt | sort
+}
+
+# judge_tests NUMBER LOG: all tests of the run functions have run, and each is whole, or says that a request was refused
+# and all is as it may be then.
 judge_tests() {
     local line name=
+    same "request $1: the tests that have run" "$(tests_of memory_tests)" \
+        "$(sed -nE 's/^test (.*) \.\.\. (ok|FAILED)$/\1/p' "$2" | sort)"
     while IFS= read -r line; do
         case $line in
         'test '*)
@@ -38,6 +49,12 @@ judge_tests() {
     done <"$2"
 }
 
+# some_refused NAME COUNT: so many requests were refused in turn; where it is none, nothing was tried.
+some_refused() {
+    if [ "$2" -gt 0 ]; then pass; else fail "$1" 'expected: requests that are refused' 'found:    none'; fi
+    echo "$1: $2 requests"
+}
+
 run_functions() {
     local number=1 log=$scratch/log
     while [ $number -le 100 ]; do
@@ -48,7 +65,7 @@ run_functions() {
         fi
         judge_tests $number "$log"
         if grep -q '^test result: ok' "$log"; then
-            echo "run functions: $((number - 1)) requests"
+            some_refused 'the run functions' $((number - 1))
             return
         fi
         number=$((number + 1))
@@ -109,7 +126,7 @@ refuse() {
     same "$name: status in the end" "$status" "$found"
     same_bytes "$name: output in the end" "$scratch/whole_out" "$scratch/out"
     same_bytes "$name: messages in the end" "$scratch/whole_err" "$scratch/err"
-    echo "$name: $((number - 1)) requests"
+    some_refused "$name" $((number - 1))
 }
 
 # What veritysetup says where it finds no memory.

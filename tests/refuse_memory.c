@@ -8,6 +8,12 @@
 #include <stdlib.h>
 #include <unistd.h>
 
+/* `next`: the C library's function of a name. */
+#define NEXT(name) \
+	static __typeof__(name) *next; \
+	if (!next) \
+		next = (__typeof__(name) *)dlsym(RTLD_NEXT, #name)
+
 static int refuses(void)
 {
 	static long requests;
@@ -23,18 +29,30 @@ static int refuses(void)
 
 void *malloc(size_t size)
 {
-	static void *(*next)(size_t);
-
-	if (!next)
-		next = dlsym(RTLD_NEXT, "malloc");
+	NEXT(malloc);
 	return refuses() ? NULL : next(size);
+}
+
+void *calloc(size_t count, size_t size)
+{
+	NEXT(calloc);
+	return refuses() ? NULL : next(count, size);
 }
 
 void *realloc(void *block, size_t size)
 {
-	static void *(*next)(void *, size_t);
-
-	if (!next)
-		next = dlsym(RTLD_NEXT, "realloc");
+	NEXT(realloc);
 	return refuses() ? NULL : next(block, size);
+}
+
+void *aligned_alloc(size_t alignment, size_t size)
+{
+	NEXT(aligned_alloc);
+	return refuses() ? NULL : next(alignment, size);
+}
+
+int posix_memalign(void **block, size_t alignment, size_t size)
+{
+	NEXT(posix_memalign);
+	return refuses() ? ENOMEM : next(block, alignment, size);
 }

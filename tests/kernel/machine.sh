@@ -67,8 +67,13 @@ plan() {
     echo >>"$guest/plan"
 }
 
-# ask NAME TEXT COMMAND..: has the guest run a command that is expected to print the text.
+# ask NAME TEXT COMMAND..: has the guest run a command that is expected to print the text. A name that is asked twice
+# would have one answer for both, and is a failure.
 ask() {
+    if [ -n "${expected[$1]-}" ]; then
+        fail "$1" 'it is asked twice'
+        return
+    fi
     names+=("$1")
     expected[$1]=$2
     plan tell "$1" "${@:3}"
