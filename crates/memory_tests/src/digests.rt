@@ -43,7 +43,7 @@ fn prepare(alloc: Global) -> Result<Prepared, AllocError> {
     })
 }
 
-/// Whether a run ended in want of memory, with its status and its message.
+/// Whether a run ended out of memory, with its status and its message.
 fn is_out_of_memory(status: u8, msgs: &[u8]) -> bool {
     status == 1 && msgs == OUT_OF_MEMORY.as_bytes()
 }

@@ -58,7 +58,7 @@ fn image() -> [u8; 2048] {
     ])
 }
 
-/// Whether a run ended in want of memory, with its status and its message.
+/// Whether a run ended out of memory, with its status and its message.
 fn is_out_of_memory(status: u8, msgs: &[u8]) -> bool {
     status == 3 && msgs == b"Out of memory.\n".as_slice()
 }
