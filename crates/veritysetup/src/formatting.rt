@@ -47,7 +47,8 @@ where
     };
     match settings_of(&raw, length, random.as_ref()) {
         Ok(settings) => {
-            let source = FileSource::new(Shown::new(file, length, progress), length);
+            let shown = Shown::new(file, settings.plan().wanted(), progress);
+            let source = FileSource::new(shown, length);
             make(rt, &settings, source, hash, out, msgs)
         }
         Err(fault) => refused_option(rt.alloc(), &fault, msgs),

@@ -78,7 +78,8 @@ where
     };
     match settings_of(&line.raw(false), length, None) {
         Ok(settings) => {
-            let source = FileSource::new(Shown::new(file, length, progress), length);
+            let shown = Shown::new(file, settings.plan().wanted(), progress);
+            let source = FileSource::new(shown, length);
             compare(rt, &VerifyInput::Given(&settings), source, hash, msgs)
         }
         Err(fault) => refused_option(rt.alloc(), &fault, msgs),
