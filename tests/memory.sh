@@ -17,54 +17,55 @@ cc -shared -fPIC -O1 -o "$refuser" tests/refuse_memory.c || exit 1
 # The most requests of a run, so that a count that doesn't end is found.
 most=2000
 
-# tests_of CRATE: the names of a crate's tests, as a run of them tells them.
-tests_of() {
-    awk '
-        FNR == 1 { module = FILENAME; sub(/.*\//, "", module); sub(/\.rt$/, "", module) }
-        wanted { name = $0; sub(/.*fn /, "", name); sub(/\(.*/, "", name); print module "::" name }
-        { wanted = /^#\[test\]/ }
-    ' crates/"$1"/src/*.rt | sort
-}
-
-# judge_tests NUMBER LOG: all tests of the run functions have run, and each is whole, or says that a request was refused
-# and all is as it may be then.
-judge_tests() {
-    local line name=
-    same "request $1: the tests that have run" "$(tests_of memory_tests)" \
-        "$(sed -nE 's/^test (.*) \.\.\. (ok|FAILED)$/\1/p' "$2" | sort)"
-    while IFS= read -r line; do
-        case $line in
-        'test '*)
-            # A test that failed and doesn't say how it ended.
-            if [ -n "$name" ]; then fail "request $1 of $name" "$(tail -n 5 "$2")"; fi
-            name=
-            case $line in
-            *' ... ok') pass ;;
-            *' ... FAILED') name=${line#test } name=${name% ...*} ;;
-            esac
-            ;;
-        *'left: Refused' | *'left: Unprepared') pass && name= ;;
-        *'left: '*) fail "request $1 of $name" "found: ${line##* }" && name= ;;
-        esac
-    done <"$2"
-}
-
 # some_refused NAME COUNT: so many requests were refused in turn; where it is none, nothing was tried.
 some_refused() {
     if [ "$2" -gt 0 ]; then pass; else fail "$1" 'expected: requests that are refused' 'found:    none'; fi
     echo "$1: $2 requests"
 }
 
+# How each test of the run functions ends where a request is refused, from its first request to its last. Each ends whole
+# where none is.
+declare -A endings_of=(
+    [images::format_is_whole]='Unprepared Untouched Stopped'
+    [images::dump_is_whole]='Unprepared Untouched'
+    [images::verify_is_whole]='Unprepared Untouched'
+    [images::verify_of_a_changed_image_is_whole]='Unprepared Untouched Unsaid'
+    [digests::digest_is_whole]='Unprepared Untouched Stopped'
+    [digests::digest_with_output_files_is_whole]='Unprepared Untouched Stopped'
+    [digests::digest_of_no_file_is_whole]='Unprepared Unsaid'
+)
+
+# endings_in LOG: each test that has run and how it ended, a line each.
+endings_in() {
+    awk '
+        /^test .* \.\.\. (ok|FAILED)$/ { if (name) print name, "Crashed"; name = "" }
+        /^test .* \.\.\. ok$/ { print $2, "Whole" }
+        /^test .* \.\.\. FAILED$/ { name = $2 }
+        / left: / && name { print name, $NF; name = "" }
+        END { if (name) print name, "Crashed" }
+    ' "$1"
+}
+
+# The tests' endings over all numbers, of which those that follow one another stand once.
 run_functions() {
-    local number=1 log=$scratch/log
+    local number=1 log=$scratch/log test ending
+    local -A seen=()
     while [ $number -le 100 ]; do
         (cd crates/memory_tests && rt try --test --fail-alloc $number) >"$log" 2>&1
         if ! grep -q '^test result: ' "$log"; then
             fail "request $number of the run functions" "$(tail -n 5 "$log")"
             return
         fi
-        judge_tests $number "$log"
+        endings_in "$log" >"$scratch/endings"
+        same "request $number: the tests that have run" "$(printf '%s\n' "${!endings_of[@]}" | sort)" \
+            "$(cut -d ' ' -f 1 "$scratch/endings" | sort)"
+        while read -r test ending; do
+            [[ ${seen[$test]-} = *" $ending" ]] || seen[$test]+=" $ending"
+        done <"$scratch/endings"
         if grep -q '^test result: ok' "$log"; then
+            for test in "${!endings_of[@]}"; do
+                same "$test" " ${endings_of[$test]} Whole" "${seen[$test]-}"
+            done
             some_refused 'the run functions' $((number - 1))
             return
         fi

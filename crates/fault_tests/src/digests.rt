@@ -222,6 +222,8 @@ fn each_call_of_digest_fails_in_turn(rt: HostRuntime) -> Result<(), Fail> {
             let scene = settings.digest(alloc, form, files)?;
             assert_eq!(rt; scene.wrong_call(alloc)?, None, "at {}", scene.words);
             assert_eq!(rt; scene.wrong_output(alloc)?, None, "at {}", scene.words);
+            let wrong = scene.wrong_message(alloc, Call::Read)?;
+            assert_eq!(rt; wrong, None, "at {}", scene.words);
         }
     }
     Ok(())

@@ -284,11 +284,14 @@ fn tree_lines(report: &str) -> &str {
 }
 
 #[test]
-fn random_changes_are_not_verified(rt: HostRuntime) -> Result<(), Fail> {
+fn random_changes_are_verified_or_named(rt: HostRuntime) -> Result<(), Fail> {
     let alloc = rt.alloc();
     let image = image_17(alloc, b"\xab\xcd")?;
     let whole = report(alloc, image.device.as_slice())?;
     let mut numbers = Numbers { state: 71 };
+    let mut refused_count = 0_u32;
+    let mut verified_count = 0_u32;
+    let mut differing_count = 0_u32;
     for round in 0..500 {
         let mut device = image.device.to_vec(alloc)?;
         change(&mut numbers, device.as_mut_slice());
@@ -298,14 +301,24 @@ fn random_changes_are_not_verified(rt: HostRuntime) -> Result<(), Fail> {
         let (status, msgs) = verified(alloc, image.data.as_slice(), device, image.root.as_str());
         match refused {
             Some(message) => {
+                refused_count = refused_count.saturating_add(1);
                 assert_eq!(rt; status, 1, "at {round}");
                 assert_eq!(rt; msgs.as_slice(), message.as_bytes(), "at {round}");
             }
+            None if is_same => {
+                verified_count = verified_count.saturating_add(1);
+                assert_eq!(rt; status, 0, "at {round}");
+                assert!(rt; msgs.is_empty(), "at {round}");
+            }
             None => {
-                assert_eq!(rt; status == 0, is_same, "at {round}");
-                assert_eq!(rt; msgs.is_empty(), is_same, "at {round}");
+                differing_count = differing_count.saturating_add(1);
+                assert!(rt; status == 2 || status == 4, "at {round}");
+                assert!(rt; !msgs.is_empty(), "at {round}");
             }
         }
+    }
+    for count in [refused_count, verified_count, differing_count] {
+        assert!(rt; count >= 20, "{refused_count}, {verified_count}, {differing_count}");
     }
     Ok(())
 }

@@ -13,6 +13,8 @@ pub struct Setup {
     pub options: &'static str,
     pub hash_type: u8,
     pub algorithm: Algorithm,
+    /// The name of the hash function.
+    pub name: &'static str,
     /// The sizes of a data block and a hash block.
     pub sizes: (usize, usize),
     /// The number and the width of a hash block's slots.
@@ -71,7 +73,7 @@ impl Setup {
             hash_type: self.hash_type,
             blocks: self.blocks,
             sizes: self.sizes,
-            algorithm: self.algorithm.name(),
+            algorithm: self.name,
             salt: salt.as_str(),
         };
         match root {
@@ -99,7 +101,7 @@ impl Setup {
         steps.call(Call::Open, "Cannot open hash.img.\n", Effect::Made(HASH))?;
         steps.pass(Pass::Format(HASH, self.tree_at), &tree, self.extent())?;
         if let Some(offset) = self.superblock {
-            let name = self.algorithm.name().as_bytes();
+            let name = self.name.as_bytes();
             let bytes = superblock(self.hash_type, name, self.sizes, self.blocks, self.salt);
             let put = Effect::Put(HASH, offset, bytes.to_vec(alloc)?);
             steps.call(Call::Seek, "Cannot write superblock.\n", Effect::Nothing)?;

@@ -10,6 +10,7 @@ const SETUPS: [Setup; 4] = [
         options: "--data-block-size 512 --hash-block-size 512 --salt=-",
         hash_type: 1,
         algorithm: Algorithm::Sha256,
+        name: "sha256",
         sizes: (512, 512),
         slots: (16, 32),
         salt: b"",
@@ -24,6 +25,7 @@ const SETUPS: [Setup; 4] = [
         options: "--data-block-size 512 --hash-block-size 512 --salt=-",
         hash_type: 1,
         algorithm: Algorithm::Sha256,
+        name: "sha256",
         sizes: (512, 512),
         slots: (16, 32),
         salt: b"",
@@ -38,6 +40,7 @@ const SETUPS: [Setup; 4] = [
         options: "--hash sha512 --format 0 --data-block-size 1024 --hash-block-size 512 --data-blocks 9 --salt abcd --hash-offset 1536",
         hash_type: 0,
         algorithm: Algorithm::Sha512,
+        name: "sha512",
         sizes: (1024, 512),
         slots: (8, 64),
         salt: b"\xab\xcd",
@@ -52,6 +55,7 @@ const SETUPS: [Setup; 4] = [
         options: "--no-superblock --hash sha1 --format 1 --data-block-size 512 --hash-block-size 512 --salt abcdef --hash-offset 1024",
         hash_type: 1,
         algorithm: Algorithm::Sha1,
+        name: "sha1",
         sizes: (512, 512),
         slots: (16, 32),
         salt: b"\xab\xcd\xef",
@@ -87,7 +91,7 @@ fn each_call_of_verify_fails_in_turn(rt: HostRuntime) -> Result<(), Fail> {
 }
 
 #[test]
-fn an_output_ends_at_each_fifth_place(rt: HostRuntime) -> Result<(), Fail> {
+fn the_output_of_format_ends_at_each_length(rt: HostRuntime) -> Result<(), Fail> {
     let alloc = rt.alloc();
     for setup in &SETUPS {
         let scene = setup.format(alloc)?;
@@ -95,12 +99,23 @@ fn an_output_ends_at_each_fifth_place(rt: HostRuntime) -> Result<(), Fail> {
         assert_eq!(rt; wrong, None, "at {}", setup.blocks);
         let wrong = scene.wrong_message(alloc, Call::Write)?;
         assert_eq!(rt; wrong, None, "at {}", setup.blocks);
-        if setup.superblock.is_some() {
-            let scene = setup.dump(alloc)?;
-            assert_eq!(rt; scene.wrong_call(alloc)?, None, "at {}", setup.blocks);
-            let wrong = scene.wrong_output(alloc)?;
-            assert_eq!(rt; wrong, None, "at {}", setup.blocks);
+    }
+    Ok(())
+}
+
+#[test]
+fn each_call_of_dump_fails_in_turn(rt: HostRuntime) -> Result<(), Fail> {
+    let alloc = rt.alloc();
+    for setup in &SETUPS {
+        if setup.superblock.is_none() {
+            continue;
         }
+        let scene = setup.dump(alloc)?;
+        assert_eq!(rt; scene.wrong_call(alloc)?, None, "at {}", setup.blocks);
+        let wrong = scene.wrong_output(alloc)?;
+        assert_eq!(rt; wrong, None, "at {}", setup.blocks);
+        let wrong = scene.wrong_message(alloc, Call::Read)?;
+        assert_eq!(rt; wrong, None, "at {}", setup.blocks);
     }
     Ok(())
 }

@@ -41,12 +41,11 @@ impl Scene {
         Ok(None)
     }
 
-    /// The first length at which a full output ends a run otherwise than it should: it fails, or takes nothing. Each
-    /// fifth length is tried.
+    /// The first length at which a full output ends a run otherwise than it should: it fails, or takes nothing.
     pub fn wrong_output(&self, alloc: Global) -> Result<Wrong, Fail> {
         let whole = self.ending(alloc, &STEADY)?;
         for takes_nothing in [false, true] {
-            for room in (0..=whole.out.len()).step_by(5) {
+            for room in 0..=whole.out.len() {
                 let mut trial = STEADY;
                 trial.room = room;
                 trial.takes_nothing = takes_nothing;

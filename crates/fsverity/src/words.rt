@@ -13,8 +13,9 @@ use std::alloc::{AllocError, Global};
 
 /// The usage text of the program and of its command.
 pub(crate) const USAGE: &str =
-    "fsverity digest [--hash-alg NAME] [--block-size BYTES] [--salt HEX] [--compact] [--for-builtin-sig] \
-    [--out-merkle-tree FILE] [--out-descriptor FILE] FILE...";
+    "fsverity digest [--hash-alg NAME] [--block-size BYTES] [--salt HEX]
+           [--compact] [--for-builtin-sig] [--out-merkle-tree FILE]
+           [--out-descriptor FILE] FILE...";
 
 fn digest_command<'a>(alloc: Global) -> Result<Command<'a>, AllocError>
     ensures { IfOk result (Defines digest_app) }

@@ -1,10 +1,9 @@
 //! Digest of files, and of one file with output files.
 use crate::outcome::Outcome;
-use crate::zeros::{ZEROS, hash_blocks};
+use crate::zeros::{DATA_SIZE, TREE_SIZE, tree};
 use fixtures::block;
-use fsverity::{
-    DigestOptions, Form, MemoryOpener, OUT_OF_MEMORY, digest_settings, run_digest, run_digest_to,
-};
+use fsverity::{DigestOptions, Form, MemoryOpener, digest_settings, run_digest, run_digest_to};
+use sha2::{Digest as Hasher, Sha256};
 use std::alloc::{AllocError, Global};
 use verity_tree::{MemoryDevice, MemorySource};
 
@@ -17,17 +16,12 @@ const OPTIONS: DigestOptions<'static> = DigestOptions {
 };
 
 /// The line of the file.
-const LINE: &str = "sha256:4d34b73f5fb775acc90bebf257de81c1531dd6a51a600ee3b09488d0413c52f2 a\n";
+const LINE: &str = "sha256:124501040b815e1c594d5c33a0f4983b34bed80132f220f9c7e0a345473ffa60 a\n";
 
-/// The root hash in the descriptor.
-const ROOT_BYTES: [u8; 32] = [
-    0x55, 0x75, 0x11, 0x25, 0x53, 0x34, 0xc3, 0x23, 0xfa, 0x73, 0x4a, 0x4c, 0xbd, 0xb3, 0x01, 0xaa,
-    0x58, 0x88, 0x32, 0xec, 0x08, 0xa4, 0x25, 0x46, 0xe0, 0xce, 0x94, 0x9d, 0x5e, 0xa4, 0x9c, 0xe5,
-];
-
-/// What a run needs, made before it: places for what the run writes and says.
+/// What a run needs, made before it: the file, and places for what the run writes and says.
 #[derive(Drop)]
 struct Prepared {
+    data: Vec<u8>,
     tree: Vec<u8>,
     made: Vec<u8>,
     out: Vec<u8>,
@@ -36,7 +30,8 @@ struct Prepared {
 
 fn prepare(alloc: Global) -> Result<Prepared, AllocError> {
     Ok(Prepared {
-        tree: [77; 1536].to_vec(alloc)?,
+        data: vec![in alloc; 0u8; DATA_SIZE]?,
+        tree: vec![in alloc; 77u8; TREE_SIZE]?,
         made: Vec::with_capacity(alloc, 1000)?,
         out: Vec::with_capacity(alloc, 1000)?,
         msgs: Vec::with_capacity(alloc, 1000)?,
@@ -45,15 +40,15 @@ fn prepare(alloc: Global) -> Result<Prepared, AllocError> {
 
 /// Whether a run ended out of memory, with its status and its message.
 fn is_out_of_memory(status: u8, msgs: &[u8]) -> bool {
-    status == 1 && msgs == OUT_OF_MEMORY.as_bytes()
+    status == 1 && msgs == b"fsverity: out of memory.\n".as_slice()
 }
 
-/// Digests the file twice. Out of memory leaves the lines of the files before.
+/// Digests the file twice. A refusal leaves the lines of the files before.
 fn digest(alloc: Global) -> Outcome {
     let (Ok(mut made), Ok(settings)) = (prepare(alloc), digest_settings(&OPTIONS)) else {
         return Outcome::Unprepared;
     };
-    let files = [Some(ZEROS.as_slice()), Some(ZEROS.as_slice())];
+    let files = [Some(made.data.as_slice()), Some(made.data.as_slice())];
     let mut opener = MemoryOpener::new(&files);
     let status = run_digest(
         alloc,
@@ -67,51 +62,55 @@ fn digest(alloc: Global) -> Outcome {
     let line = LINE.as_bytes();
     let (lines, rest) = made.out.as_slice().as_chunks::<74>();
     let are_lines = rest.is_empty() && lines.iter().all(|other| other.as_slice() == line);
-    if is_out_of_memory(status, made.msgs.as_slice()) {
-        return Outcome::refused(are_lines && lines.len() < 2);
+    if !is_out_of_memory(status, made.msgs.as_slice()) {
+        return Outcome::Whole.if_right(status == 0 && are_lines && lines.len() == 2);
     }
-    Outcome::whole(status == 0 && are_lines && lines.len() == 2)
+    if lines.is_empty() {
+        return Outcome::Untouched.if_right(rest.is_empty());
+    }
+    Outcome::Stopped.if_right(are_lines && lines.len() == 1)
 }
 
-/// Digests the file with both output files. Out of memory leaves nothing written, or the tree and the descriptor.
+/// Digests the file with both output files. A refused store leaves them as they are, and nothing is read; a refused line
+/// leaves the tree and the descriptor, and nothing is printed.
 fn digest_to(alloc: Global) -> Outcome {
     let (Ok(mut made), Ok(settings)) = (prepare(alloc), digest_settings(&OPTIONS)) else {
         return Outcome::Unprepared;
     };
-    let mut source = MemorySource::new(&ZEROS);
-    let mut tree = MemoryDevice::new(made.tree);
+    let data = made.data;
+    let mut source = MemorySource::new(data.as_slice());
+    let mut device = MemoryDevice::new(made.tree);
     let status = run_digest_to(
         alloc,
         &settings,
         Form::Full,
         "a",
-        8704,
+        DATA_SIZE as u64,
         &mut source,
         true,
-        &mut tree,
+        &mut device,
         true,
         &mut made.made,
         &mut made.out,
         &mut made.msgs,
     );
-    let [upper, full, last] = hash_blocks();
-    let area: [u8; 1536] = block(&[(0, &upper), (512, &full), (1024, &last)]);
-    let descriptor: [u8; 256] = block(&[
-        (0, &[1, 1, 9, 0, 0, 0, 0, 0, 0, 0x22]),
-        (16, &ROOT_BYTES),
-    ]);
-    let is_written = tree.bytes() == area.as_slice()
+    let area = tree();
+    let root = Sha256::digest(area.get(..512).unwrap_or(&[]));
+    let descriptor: [u8; 256] = block(&[(0, &[1, 1, 9, 0, 0, 0, 0, 0, 0, 2, 2]), (16, &root)]);
+    let is_written = device.bytes() == area.as_slice()
         && made.made.as_slice() == descriptor.as_slice();
-    let is_untouched = tree.bytes() == [77; 1536].as_slice()
-        && made.made.is_empty()
-        && source.rest().len() == 8704;
-    if is_out_of_memory(status, made.msgs.as_slice()) {
-        return Outcome::refused(made.out.is_empty() && (is_written || is_untouched));
+    let is_as_before = device.bytes() == [77; TREE_SIZE].as_slice() && made.made.is_empty();
+    if !is_out_of_memory(status, made.msgs.as_slice()) {
+        let is_done = status == 0 && is_written && made.out.as_slice() == LINE.as_bytes();
+        return Outcome::Whole.if_right(is_done);
     }
-    Outcome::whole(status == 0 && is_written && made.out.as_slice() == LINE.as_bytes())
+    if source.rest().len() == DATA_SIZE {
+        return Outcome::Untouched.if_right(is_as_before && made.out.is_empty());
+    }
+    Outcome::Stopped.if_right(is_written && source.rest().is_empty() && made.out.is_empty())
 }
 
-/// Digests a file that is absent. Where the message finds no memory the status stays.
+/// Digests a file that is absent.
 fn digest_nothing(alloc: Global) -> Outcome {
     let (Ok(mut made), Ok(settings)) = (prepare(alloc), digest_settings(&OPTIONS)) else {
         return Outcome::Unprepared;
@@ -126,11 +125,12 @@ fn digest_nothing(alloc: Global) -> Outcome {
         &mut made.out,
         &mut made.msgs,
     );
+    let is_refused = status == 1 && made.out.is_empty();
     if made.msgs.is_empty() {
-        return Outcome::refused(status == 1 && made.out.is_empty());
+        return Outcome::Unsaid.if_right(is_refused);
     }
     let text = b"fsverity: cannot open a.\n".as_slice();
-    Outcome::whole(status == 1 && made.out.is_empty() && made.msgs.as_slice() == text)
+    Outcome::Whole.if_right(is_refused && made.msgs.as_slice() == text)
 }
 
 #[test]

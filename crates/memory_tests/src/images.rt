@@ -1,6 +1,6 @@
-//! Format, dump and verify of an image of 17 blocks.
+//! Format, dump and verify of an image of 257 blocks.
 use crate::outcome::Outcome;
-use crate::zeros::{ROOT, ZEROS, hash_blocks};
+use crate::zeros::{DATA_SIZE, ROOT, TREE_SIZE, tree};
 use fixtures::{block, superblock};
 use std::alloc::{AllocError, Global};
 use verity_tree::{MemoryDevice, MemorySource};
@@ -24,16 +24,20 @@ const OPTIONS: RawOptions<'static> = RawOptions {
 const DUMP: &str = "VERITY header information for hash.img
 UUID:            \t00112233-4455-4677-8899-aabbccddeeff
 Hash type:       \t1
-Data blocks:     \t17
+Data blocks:     \t257
 Data block size: \t512
 Hash block size: \t512
 Hash algorithm:  \tsha256
 Salt:            \t-
 ";
 
-/// What a run needs, made before it: the hash device of 17 blocks of zeros, and places for what it prints and says.
+/// The number of the image's bytes: the superblock and the tree.
+const IMAGE_SIZE: usize = 512 + TREE_SIZE;
+
+/// What a run needs, made before it: the data, an empty hash device, and places for what the run prints and says.
 #[derive(Drop)]
 struct Prepared {
+    data: Vec<u8>,
     device: Vec<u8>,
     out: Vec<u8>,
     msgs: Vec<u8>,
@@ -41,20 +45,25 @@ struct Prepared {
 
 fn prepare(alloc: Global) -> Result<Prepared, AllocError> {
     Ok(Prepared {
-        device: image().to_vec(alloc)?,
+        data: vec![in alloc; 0u8; DATA_SIZE]?,
+        device: Vec::with_capacity(alloc, IMAGE_SIZE)?,
         out: Vec::with_capacity(alloc, 1000)?,
         msgs: Vec::with_capacity(alloc, 1000)?,
     })
 }
 
-/// The hash device: superblock, level 1, level 0.
-fn image() -> [u8; 2048] {
-    let [upper, full, last] = hash_blocks();
+/// The same with the image on the hash device.
+fn prepare_image(alloc: Global) -> Result<Prepared, AllocError> {
+    let mut made = prepare(alloc)?;
+    made.device.extend_from_slice(&image())?;
+    Ok(made)
+}
+
+/// The hash device: the superblock and the tree.
+fn image() -> [u8; IMAGE_SIZE] {
     block(&[
-        (0, &superblock(1, b"sha256", (512, 512), 17, &[])),
-        (512, &upper),
-        (1024, &full),
-        (1536, &last),
+        (0, &superblock(1, b"sha256", (512, 512), 257, &[])),
+        (512, &tree()),
     ])
 }
 
@@ -75,15 +84,17 @@ fn is_report(text: &[u8]) -> bool {
     }
 }
 
-/// Formats a device that holds other bytes. Out of memory leaves it untouched, and nothing is read, or the whole image,
+/// Formats an empty device. A refused store leaves it empty, and nothing is read; a refused report leaves the whole image,
 /// and nothing is printed.
 fn format(alloc: Global) -> Outcome {
-    let (Ok(mut made), Ok(settings)) = (prepare(alloc), settings_of(&OPTIONS, 8704, None)) else {
+    let (Ok(mut made), Ok(settings)) = (
+        prepare(alloc),
+        settings_of(&OPTIONS, DATA_SIZE as u64, None),
+    ) else {
         return Outcome::Unprepared;
     };
-    made.device.fill(77);
-    let mut source = MemorySource::new(&ZEROS);
     let mut device = MemoryDevice::new(made.device);
+    let mut source = MemorySource::new(made.data.as_slice());
     let status = run_format(
         alloc,
         &settings,
@@ -94,16 +105,19 @@ fn format(alloc: Global) -> Outcome {
         &mut made.msgs,
     );
     let is_whole = device.bytes() == image().as_slice() && source.rest().is_empty();
-    let is_untouched = device.bytes() == [77; 2048].as_slice() && source.rest().len() == 8704;
-    if is_out_of_memory(status, made.msgs.as_slice()) {
-        return Outcome::refused(made.out.is_empty() && (is_whole || is_untouched));
+    if !is_out_of_memory(status, made.msgs.as_slice()) {
+        let is_done = status == 0 && is_whole && is_report(made.out.as_slice());
+        return Outcome::Whole.if_right(is_done);
     }
-    Outcome::whole(status == 0 && is_whole && is_report(made.out.as_slice()))
+    if source.rest().len() == DATA_SIZE {
+        return Outcome::Untouched.if_right(device.bytes().is_empty() && made.out.is_empty());
+    }
+    Outcome::Stopped.if_right(is_whole && made.out.is_empty())
 }
 
 /// Dumps the image.
 fn dump(alloc: Global) -> Outcome {
-    let Ok(mut made) = prepare(alloc) else {
+    let Ok(mut made) = prepare_image(alloc) else {
         return Outcome::Unprepared;
     };
     let mut device = MemoryDevice::new(made.device);
@@ -116,38 +130,37 @@ fn dump(alloc: Global) -> Outcome {
         &mut made.msgs,
     );
     if is_out_of_memory(status, made.msgs.as_slice()) {
-        return Outcome::refused(made.out.is_empty());
+        return Outcome::Untouched.if_right(made.out.is_empty());
     }
-    Outcome::whole(status == 0 && made.out.as_slice() == DUMP.as_bytes())
+    Outcome::Whole.if_right(status == 0 && made.out.as_slice() == DUMP.as_bytes())
 }
 
-/// Verifies the image, of which a byte is changed where that is asked for. Where the message finds no memory the status
-/// stays.
+/// Verifies the image, whose last block is changed where that is asked for.
 fn verify(alloc: Global, changes: bool) -> Outcome {
-    let Ok(mut made) = prepare(alloc) else {
+    let Ok(mut made) = prepare_image(alloc) else {
         return Outcome::Unprepared;
     };
-    if changes && let Some(byte) = made.device.get_mut(1536) {
+    if changes && let Some(byte) = made.device.last_mut() {
         *byte ^= 1;
     }
-    let mut source = MemorySource::new(&ZEROS);
     let mut device = MemoryDevice::new(made.device);
+    let mut source = MemorySource::new(made.data.as_slice());
     let input = VerifyInput::Stored {
         offset: 0,
         root: ROOT,
     };
     let status = run_verify(alloc, &input, &mut source, &mut device, &mut made.msgs);
     if is_out_of_memory(status, made.msgs.as_slice()) {
-        return Outcome::refused(source.rest().len() == 8704);
+        return Outcome::Untouched.if_right(source.rest().len() == DATA_SIZE);
     }
     if !changes {
-        return Outcome::whole(status == 0 && made.msgs.is_empty());
+        return Outcome::Whole.if_right(status == 0 && made.msgs.is_empty());
     }
     if made.msgs.is_empty() {
-        return Outcome::refused(status == 2);
+        return Outcome::Unsaid.if_right(status == 2);
     }
-    let text = b"Verification failed: level 0 block 1, child 16.\n".as_slice();
-    Outcome::whole(status == 2 && made.msgs.as_slice() == text)
+    let text = b"Verification failed: level 0 block 16, spare bytes.\n".as_slice();
+    Outcome::Whole.if_right(status == 2 && made.msgs.as_slice() == text)
 }
 
 #[test]

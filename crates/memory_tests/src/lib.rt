@@ -1,6 +1,5 @@
 //! The run functions where a request for memory is refused, which `make out-of-memory` sees to: each request of each
-//! test here is refused in turn. A refusal while a test prepares itself ends it as unprepared. One within the run is
-//! answered by the status and the message of out of memory, and nothing stands half done.
+//! test here is refused in turn, first those that it prepares itself by. It knows how each test has to end then.
 #![tactic(auto)]
 
 #[cfg(test)]

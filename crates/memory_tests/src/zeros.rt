@@ -1,24 +1,42 @@
-//! The tree of 17 blocks of 512 zeros by SHA-256, in blocks of 512 bytes, made without any list.
+//! The tree of 257 blocks of 512 zeros by SHA-256, in blocks of 512 bytes, made without any list.
 use fixtures::{block, lay};
 use sha2::{Digest as Hasher, Sha256};
 
-/// The data.
-pub const ZEROS: [u8; 8704] = [0; 8704];
+/// The number of the data's bytes.
+pub const DATA_SIZE: usize = 131_584;
+
+/// The number of the tree's bytes.
+pub const TREE_SIZE: usize = 10_240;
 
 /// The root hash, by `sha256sum`.
-pub const ROOT: &str = "557511255334c323fa734a4cbdb301aa588832ec08a42546e0ce949d5ea49ce5";
+pub const ROOT: &str = "7a2b01f362ef07892bed2f35f9bd69cefb3887c9c740977d5391212b6402c9f5";
 
-/// The hash blocks: that of level 1, and the two of level 0.
-pub fn hash_blocks() -> [[u8; 512]; 3] {
-    let leaf = Sha256::digest([0_u8; 512].as_slice());
-    let mut full = [0; 512];
-    for slot in 0..16 {
-        lay(&mut full, &[(slot * 32, &leaf)]);
+/// A hash block with the digest of a child in its first slots.
+fn hash_block(child: &[u8], slots: usize) -> [u8; 512] {
+    let digest = Sha256::digest(child);
+    let mut block = [0; 512];
+    for slot in 0..slots {
+        lay(&mut block, &[(slot.saturating_mul(32), &digest)]);
     }
-    let last: [u8; 512] = block(&[(0, &leaf)]);
-    let upper = block(&[
-        (0, &Sha256::digest(full.as_slice())),
-        (32, &Sha256::digest(last.as_slice())),
+    block
+}
+
+/// The tree: the one block of level 2, the two of level 1 and the 17 of level 0, all of them full but the last.
+pub fn tree() -> [u8; TREE_SIZE] {
+    let zeros = [0; 512];
+    let full = hash_block(&zeros, 16);
+    let last = hash_block(&zeros, 1);
+    let upper_full = hash_block(&full, 16);
+    let upper_last = hash_block(&last, 1);
+    let mut tree = block(&[
+        (0, &Sha256::digest(upper_full.as_slice())),
+        (32, &Sha256::digest(upper_last.as_slice())),
+        (512, &upper_full),
+        (1024, &upper_last),
+        (9728, &last),
     ]);
-    [upper, full, last]
+    for number in 3..19usize {
+        lay(&mut tree, &[(number.saturating_mul(512), &full)]);
+    }
+    tree
 }
