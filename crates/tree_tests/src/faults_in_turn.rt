@@ -66,19 +66,14 @@ fn disks(alloc: Global, data_block: u32, hash_block: u32) -> Result<Case, Fail> 
     )
 }
 
-/// Fan-outs of 2, 4 and 8; numbers of data blocks that are no whole fours.
-fn low_fans(alloc: Global) -> Result<Vec<Expected>, Fail> {
+/// Trees with fan-outs of 2 to 128, SHA-512 and data blocks that are too large for four at a time; of the first three the
+/// numbers of data blocks are no whole fours.
+fn trees(alloc: Global) -> Result<Vec<Expected>, Fail> {
+    let wide = Case::verity(alloc, Algorithm::Sha512, b"salt", (512, 512), (8, 64))?;
     let mut cases = Vec::new(alloc);
     cases.push(prepared(alloc, files(alloc, 64)?, 64 * 101 - 9, 7)?)?;
     cases.push(prepared(alloc, files(alloc, 128)?, 128 * 103, 4)?)?;
-    cases.push(prepared(alloc, files(alloc, 256)?, 256 * 100 - 1, 3)?)?;
-    Ok(cases)
-}
-
-/// Fan-outs of 16 and 128, data blocks that are too large for four at a time, and SHA-512.
-fn high_fans(alloc: Global) -> Result<Vec<Expected>, Fail> {
-    let wide = Case::verity(alloc, Algorithm::Sha512, b"salt", (512, 512), (8, 64))?;
-    let mut cases = Vec::new(alloc);
+    cases.push(prepared(alloc, files(alloc, 256)?, 256 * 99 - 1, 3)?)?;
     cases.push(prepared(alloc, disks(alloc, 512, 512)?, 512 * 102, 2)?)?;
     cases.push(prepared(alloc, disks(alloc, 512, 4096)?, 512 * 134, 2)?)?;
     cases.push(prepared(alloc, disks(alloc, 4096, 512)?, 4096 * 18, 2)?)?;
@@ -201,8 +196,8 @@ impl Expected {
 }
 
 #[test]
-fn each_read_fails_in_turn_with_low_fans(rt: HostRuntime) -> Result<(), Fail> {
-    for expected in low_fans(rt.alloc())? {
+fn each_read_fails_in_turn(rt: HostRuntime) -> Result<(), Fail> {
+    for expected in trees(rt.alloc())? {
         let wrong = expected.wrong_read(rt.alloc())?;
         assert_eq!(rt; wrong, None, "fan-out {}", expected.case.shape.slots);
     }
@@ -210,17 +205,8 @@ fn each_read_fails_in_turn_with_low_fans(rt: HostRuntime) -> Result<(), Fail> {
 }
 
 #[test]
-fn each_read_fails_in_turn_with_high_fans(rt: HostRuntime) -> Result<(), Fail> {
-    for expected in high_fans(rt.alloc())? {
-        let wrong = expected.wrong_read(rt.alloc())?;
-        assert_eq!(rt; wrong, None, "fan-out {}", expected.case.shape.slots);
-    }
-    Ok(())
-}
-
-#[test]
-fn the_data_ends_within_each_block_in_turn_with_low_fans(rt: HostRuntime) -> Result<(), Fail> {
-    for expected in low_fans(rt.alloc())? {
+fn the_data_ends_within_each_block_in_turn(rt: HostRuntime) -> Result<(), Fail> {
+    for expected in trees(rt.alloc())? {
         let wrong = expected.wrong_end(rt.alloc())?;
         assert_eq!(rt; wrong, None, "fan-out {}", expected.case.shape.slots);
     }
@@ -228,17 +214,8 @@ fn the_data_ends_within_each_block_in_turn_with_low_fans(rt: HostRuntime) -> Res
 }
 
 #[test]
-fn the_data_ends_within_each_block_in_turn_with_high_fans(rt: HostRuntime) -> Result<(), Fail> {
-    for expected in high_fans(rt.alloc())? {
-        let wrong = expected.wrong_end(rt.alloc())?;
-        assert_eq!(rt; wrong, None, "fan-out {}", expected.case.shape.slots);
-    }
-    Ok(())
-}
-
-#[test]
-fn each_write_of_many_fails_in_turn_with_low_fans(rt: HostRuntime) -> Result<(), Fail> {
-    for expected in low_fans(rt.alloc())? {
+fn each_write_of_many_fails_in_turn(rt: HostRuntime) -> Result<(), Fail> {
+    for expected in trees(rt.alloc())? {
         let wrong = expected.wrong_write(rt.alloc())?;
         assert_eq!(rt; wrong, None, "fan-out {}", expected.case.shape.slots);
     }
@@ -246,32 +223,9 @@ fn each_write_of_many_fails_in_turn_with_low_fans(rt: HostRuntime) -> Result<(),
 }
 
 #[test]
-fn each_write_of_many_fails_in_turn_with_high_fans(rt: HostRuntime) -> Result<(), Fail> {
-    for expected in high_fans(rt.alloc())? {
-        let wrong = expected.wrong_write(rt.alloc())?;
-        assert_eq!(rt; wrong, None, "fan-out {}", expected.case.shape.slots);
-    }
-    Ok(())
-}
-
-#[test]
-fn without_a_fault_the_trees_are_equal_with_low_fans(rt: HostRuntime) -> Result<(), Fail> {
+fn without_a_fault_the_trees_are_equal(rt: HostRuntime) -> Result<(), Fail> {
     let alloc = rt.alloc();
-    for expected in low_fans(alloc)? {
-        let fan = expected.case.shape.slots;
-        let outcome = run(alloc, &expected.plan, expected.bytes.as_slice(), 0, 0)?;
-        let root = Digest::from_bytes(expected.root.as_slice()).ok_or("a root hash")?;
-        assert_eq!(rt; outcome.answer, Ok(root), "fan-out {fan}");
-        assert_eq!(rt; outcome.device, expected.image, "fan-out {fan}");
-        assert_eq!(rt; outcome.rest, 0, "fan-out {fan}");
-    }
-    Ok(())
-}
-
-#[test]
-fn without_a_fault_the_trees_are_equal_with_high_fans(rt: HostRuntime) -> Result<(), Fail> {
-    let alloc = rt.alloc();
-    for expected in high_fans(alloc)? {
+    for expected in trees(alloc)? {
         let fan = expected.case.shape.slots;
         let outcome = run(alloc, &expected.plan, expected.bytes.as_slice(), 0, 0)?;
         let root = Digest::from_bytes(expected.root.as_slice()).ok_or("a root hash")?;

@@ -1,5 +1,6 @@
 //! Changed bits of data blocks, paths and root hashes: in images of all settings each data block is accepted by its path,
-//! and each bit's change is refused at the lowest level that it reaches.
+//! and the change of each bit that it is checked by is refused at the lowest level that it reaches. Trees of two levels in
+//! pages of 4096 bytes have too many bits for that; there it is done for three of the data blocks.
 use crate::cases::Case;
 use crate::path_rows::Image;
 use fixtures::flip_bit;
@@ -7,23 +8,6 @@ use std::alloc::Global;
 use std::test::Fail;
 use verity_hash::Algorithm;
 use verity_tree::PathFault;
-
-/// In which data blocks' rows each bit is changed.
-#[derive(Clone, Copy, Debug)]
-enum Changed {
-    All,
-    /// The first, the middle and the last block's.
-    Three,
-}
-
-impl Changed {
-    fn has(self, i: usize, blocks: usize) -> bool {
-        match self {
-            Changed::All => true,
-            Changed::Three => i == 0 || i == blocks / 2 || i.saturating_add(1) == blocks,
-        }
-    }
-}
 
 /// Changes each bit of the row of data block `i`, one at a time. The answer is the first bit whose change isn't refused
 /// at its level.
@@ -39,19 +23,18 @@ fn first_wrong(image: &Image, i: usize, row: &mut [u8]) -> Result<Option<usize>,
     Ok(None)
 }
 
-/// The first data block and bit that is answered wrongly; bit 0 also where the block isn't accepted as it is.
-fn wrong_at(
+/// The first data block, from one number to before another, and the first bit that are answered wrongly; bit 0 also where
+/// the block isn't accepted as it is.
+fn wrong_between(
     alloc: Global,
     image: &Image,
-    changed: Changed,
+    from: usize,
+    to: usize,
 ) -> Result<Option<(usize, usize)>, Fail> {
-    for i in 0..image.blocks {
+    for i in from..to {
         let mut row = image.row(alloc, i)?;
         if image.answer(i, row.as_slice())? != Ok(()) {
             return Ok(Some((i, 0)));
-        }
-        if !changed.has(i, image.blocks) {
-            continue;
         }
         if let Some(bit) = first_wrong(image, i, &mut row)? {
             return Ok(Some((i, bit)));
@@ -60,15 +43,25 @@ fn wrong_at(
     Ok(None)
 }
 
+/// What an image is made for.
+#[derive(Clone, Copy, Debug)]
+enum Format {
+    /// dm-verity, hash type 1.
+    Current,
+    /// dm-verity, hash type 0.
+    Original,
+    /// fs-verity.
+    File,
+}
+
 /// The function and the salt; the sizes of data and hash blocks; the number and the width of a hash block's slots; data
-/// blocks and levels; in which rows bits are changed.
+/// blocks and levels.
 type Row = (
     Algorithm,
     &'static [u8],
     (u32, u32),
     (usize, usize),
     (usize, usize),
-    Changed,
 );
 
 const SHA1: Algorithm = Algorithm::Sha1;
@@ -81,123 +74,254 @@ const SHA384: Algorithm = Algorithm::Sha384;
 
 const SHA512: Algorithm = Algorithm::Sha512;
 
-/// Images of hash type 1.
-const CURRENT: [Row; 12] = [
-    (SHA1, b"salt", (512, 512), (16, 32), (17, 2), Changed::All),
-    (SHA224, b"salt", (512, 512), (16, 32), (17, 2), Changed::All),
-    (SHA256, b"", (512, 512), (16, 32), (257, 3), Changed::Three),
-    (SHA256, b"salt", (512, 512), (16, 32), (17, 2), Changed::All),
-    (SHA256, b"", (512, 512), (16, 32), (1, 0), Changed::All),
-    (SHA256, b"", (512, 1024), (32, 32), (33, 2), Changed::Three),
-    (SHA256, b"", (4096, 512), (16, 32), (17, 2), Changed::Three),
-    (SHA256, b"", (512, 2048), (64, 32), (65, 2), Changed::Three),
-    (
-        SHA256,
-        b"",
-        (512, 4096),
-        (128, 32),
-        (129, 2),
-        Changed::Three,
-    ),
-    (SHA384, b"salt", (512, 512), (8, 64), (9, 2), Changed::All),
-    (SHA512, b"", (512, 512), (8, 64), (65, 3), Changed::Three),
-    (SHA512, b"salt", (512, 512), (8, 64), (9, 2), Changed::All),
+const CURRENT: [Row; 7] = [
+    (SHA1, b"salt", (512, 512), (16, 32), (17, 2)),
+    (SHA224, b"salt", (512, 512), (16, 32), (17, 2)),
+    (SHA256, b"salt", (512, 512), (16, 32), (17, 2)),
+    (SHA256, b"", (512, 512), (16, 32), (1, 0)),
+    (SHA384, b"salt", (512, 512), (8, 64), (9, 2)),
+    (SHA512, b"", (512, 512), (8, 64), (65, 3)),
+    (SHA512, b"salt", (512, 512), (8, 64), (9, 2)),
 ];
 
-/// Images of hash type 0.
-const ORIGINAL: [Row; 8] = [
-    (SHA1, b"salt", (512, 512), (16, 20), (17, 2), Changed::All),
-    (SHA224, b"salt", (512, 512), (16, 28), (17, 2), Changed::All),
-    (SHA256, b"salt", (512, 512), (16, 32), (17, 2), Changed::All),
-    (SHA256, b"", (512, 512), (16, 32), (257, 3), Changed::Three),
-    (SHA1, b"", (512, 4096), (128, 20), (129, 2), Changed::Three),
-    (SHA384, b"salt", (512, 512), (8, 48), (9, 2), Changed::All),
-    (SHA384, b"", (512, 1024), (16, 48), (17, 2), Changed::All),
-    (SHA512, b"salt", (512, 512), (8, 64), (9, 2), Changed::All),
+const TWO_SIZES: [Row; 4] = [
+    (SHA256, b"", (512, 1024), (32, 32), (33, 2)),
+    (SHA256, b"", (4096, 512), (16, 32), (17, 2)),
+    (SHA256, b"", (512, 4096), (128, 32), (5, 1)),
+    (SHA512, b"salt", (1024, 4096), (64, 64), (3, 1)),
 ];
 
-/// Images of fs-verity.
-const FILES: [Row; 12] = [
-    (SHA256, b"", (64, 64), (2, 32), (9, 4), Changed::All),
-    (SHA256, b"salt", (64, 64), (2, 32), (9, 4), Changed::All),
-    (SHA256, b"salt", (128, 128), (4, 32), (17, 3), Changed::All),
-    (SHA256, b"salt", (256, 256), (8, 32), (65, 3), Changed::All),
-    (SHA256, b"", (512, 512), (16, 32), (17, 2), Changed::All),
-    (SHA256, b"", (1024, 1024), (32, 32), (33, 2), Changed::Three),
-    (SHA256, b"", (2048, 2048), (64, 32), (65, 2), Changed::Three),
-    (SHA512, b"salt", (128, 128), (2, 64), (9, 4), Changed::All),
-    (SHA512, b"", (256, 256), (4, 64), (17, 3), Changed::All),
-    (SHA512, b"salt", (512, 512), (8, 64), (9, 2), Changed::All),
-    (SHA512, b"", (1024, 1024), (16, 64), (17, 2), Changed::Three),
-    (SHA512, b"", (2048, 2048), (32, 64), (33, 2), Changed::Three),
+const ORIGINAL: [Row; 7] = [
+    (SHA1, b"salt", (512, 512), (16, 20), (17, 2)),
+    (SHA1, b"", (512, 4096), (128, 20), (5, 1)),
+    (SHA224, b"salt", (512, 512), (16, 28), (17, 2)),
+    (SHA256, b"salt", (512, 512), (16, 32), (17, 2)),
+    (SHA384, b"salt", (512, 512), (8, 48), (9, 2)),
+    (SHA384, b"", (512, 1024), (16, 48), (17, 2)),
+    (SHA512, b"salt", (512, 512), (8, 64), (9, 2)),
 ];
+
+const FILES: [Row; 10] = [
+    (SHA256, b"", (64, 64), (2, 32), (9, 4)),
+    (SHA256, b"salt", (64, 64), (2, 32), (9, 4)),
+    (SHA256, b"salt", (128, 128), (4, 32), (17, 3)),
+    (SHA256, b"salt", (256, 256), (8, 32), (65, 3)),
+    (SHA256, b"", (512, 512), (16, 32), (17, 2)),
+    (SHA256, b"", (1024, 1024), (32, 32), (33, 2)),
+    (SHA512, b"salt", (128, 128), (2, 64), (9, 4)),
+    (SHA512, b"", (256, 256), (4, 64), (17, 3)),
+    (SHA512, b"salt", (512, 512), (8, 64), (9, 2)),
+    (SHA512, b"", (1024, 1024), (16, 64), (17, 2)),
+];
+
+const LARGE_FILES: [Row; 3] = [
+    (SHA512, b"", (2048, 2048), (32, 64), (33, 2)),
+    (SHA256, b"salt", (4096, 4096), (128, 32), (3, 1)),
+    (SHA512, b"", (4096, 4096), (64, 64), (3, 1)),
+];
+
+fn image_of(alloc: Global, format: Format, row: &Row) -> Result<Image, Fail> {
+    let (algorithm, salt, sizes, slots, (blocks, levels)) = *row;
+    let case = match format {
+        Format::Current => Case::verity(alloc, algorithm, salt, sizes, slots)?,
+        Format::Original => Case::original(alloc, algorithm, salt, sizes, slots)?,
+        Format::File => Case::fsverity(alloc, algorithm, salt, sizes.0, slots)?,
+    };
+    Image::new(alloc, case, blocks, levels)
+}
+
+/// The first row that has a wrong answer.
+fn wrong_row(alloc: Global, format: Format, rows: &[Row]) -> Result<Option<Row>, Fail> {
+    for row in rows {
+        let image = image_of(alloc, format, row)?;
+        if wrong_between(alloc, &image, 0, image.blocks)?.is_some() {
+            return Ok(Some(*row));
+        }
+    }
+    Ok(None)
+}
 
 #[test]
 fn changes_under_hash_type_1_are_refused(rt: HostRuntime) -> Result<(), Fail> {
-    let alloc = rt.alloc();
-    for row in CURRENT {
-        let (algorithm, salt, sizes, slots, (blocks, levels), changed) = row;
-        let case = Case::verity(alloc, algorithm, salt, sizes, slots)?;
-        let image = Image::new(alloc, case, blocks, levels)?;
-        assert_eq!(rt; wrong_at(alloc, &image, changed)?, None, "at {row:?}");
-    }
+    assert_eq!(rt; wrong_row(rt.alloc(), Format::Current, &CURRENT)?, None);
+    Ok(())
+}
+
+#[test]
+fn changes_in_blocks_of_two_sizes_are_refused(rt: HostRuntime) -> Result<(), Fail> {
+    assert_eq!(rt; wrong_row(rt.alloc(), Format::Current, &TWO_SIZES)?, None);
     Ok(())
 }
 
 #[test]
 fn changes_under_hash_type_0_are_refused(rt: HostRuntime) -> Result<(), Fail> {
-    let alloc = rt.alloc();
-    for row in ORIGINAL {
-        let (algorithm, salt, sizes, slots, (blocks, levels), changed) = row;
-        let case = Case::original(alloc, algorithm, salt, sizes, slots)?;
-        let image = Image::new(alloc, case, blocks, levels)?;
-        assert_eq!(rt; wrong_at(alloc, &image, changed)?, None, "at {row:?}");
-    }
+    assert_eq!(rt; wrong_row(rt.alloc(), Format::Original, &ORIGINAL)?, None);
     Ok(())
 }
 
 #[test]
 fn changes_under_fs_verity_are_refused(rt: HostRuntime) -> Result<(), Fail> {
-    let alloc = rt.alloc();
-    for row in FILES {
-        let (algorithm, salt, (size, _), slots, (blocks, levels), changed) = row;
-        let case = Case::fsverity(alloc, algorithm, salt, size, slots)?;
-        let image = Image::new(alloc, case, blocks, levels)?;
-        assert_eq!(rt; wrong_at(alloc, &image, changed)?, None, "at {row:?}");
-    }
+    assert_eq!(rt; wrong_row(rt.alloc(), Format::File, &FILES)?, None);
     Ok(())
 }
 
-/// What is answered wrongly in an image of two levels, whose hash blocks have 4096 bytes.
-fn wrong_in_pages(
+#[test]
+fn changes_in_large_blocks_of_files_are_refused(rt: HostRuntime) -> Result<(), Fail> {
+    assert_eq!(rt; wrong_row(rt.alloc(), Format::File, &LARGE_FILES)?, None);
+    Ok(())
+}
+
+/// Three levels.
+const DEEP: Row = (SHA256, b"", (512, 512), (16, 32), (257, 3));
+
+/// 64 slots in a block of level 0, and one in the next.
+const WIDE: Row = (SHA256, b"", (512, 2048), (64, 32), (65, 2));
+
+/// The same with data blocks of that size.
+const WIDE_FILE: Row = (SHA256, b"", (2048, 2048), (64, 32), (65, 2));
+
+/// What is answered wrongly for the first half of an image's data blocks.
+fn wrong_in_first_half(
     alloc: Global,
-    case: Case,
-    blocks: usize,
+    format: Format,
+    row: &Row,
 ) -> Result<Option<(usize, usize)>, Fail> {
-    let image = Image::new(alloc, case, blocks, 2)?;
-    wrong_at(alloc, &image, Changed::Three)
+    let image = image_of(alloc, format, row)?;
+    wrong_between(alloc, &image, 0, image.blocks / 2)
+}
+
+/// What is answered wrongly for the others.
+fn wrong_in_second_half(
+    alloc: Global,
+    format: Format,
+    row: &Row,
+) -> Result<Option<(usize, usize)>, Fail> {
+    let image = image_of(alloc, format, row)?;
+    wrong_between(alloc, &image, image.blocks / 2, image.blocks)
 }
 
 #[test]
-fn changes_in_pages_by_sha256_are_refused(rt: HostRuntime) -> Result<(), Fail> {
-    let alloc = rt.alloc();
-    let case = Case::fsverity(alloc, SHA256, b"", 4096, (128, 32))?;
-    assert_eq!(rt; wrong_in_pages(alloc, case, 129)?, None);
+fn changes_in_the_first_half_of_a_deep_image_are_refused(rt: HostRuntime) -> Result<(), Fail> {
+    assert_eq!(rt;
+        wrong_in_first_half(rt.alloc(), Format::Current, &DEEP)?,
+        None
+    );
     Ok(())
 }
 
 #[test]
-fn changes_in_pages_by_sha512_are_refused(rt: HostRuntime) -> Result<(), Fail> {
-    let alloc = rt.alloc();
-    let case = Case::fsverity(alloc, SHA512, b"", 4096, (64, 64))?;
-    assert_eq!(rt; wrong_in_pages(alloc, case, 65)?, None);
+fn changes_in_the_second_half_of_a_deep_image_are_refused(rt: HostRuntime) -> Result<(), Fail> {
+    assert_eq!(rt;
+        wrong_in_second_half(rt.alloc(), Format::Current, &DEEP)?,
+        None
+    );
     Ok(())
 }
 
 #[test]
-fn changes_in_pages_above_small_blocks_are_refused(rt: HostRuntime) -> Result<(), Fail> {
-    let alloc = rt.alloc();
-    let case = Case::verity(alloc, SHA512, b"salt", (1024, 4096), (64, 64))?;
-    assert_eq!(rt; wrong_in_pages(alloc, case, 65)?, None);
+fn changes_in_the_first_half_under_hash_type_0_are_refused(rt: HostRuntime) -> Result<(), Fail> {
+    assert_eq!(rt;
+        wrong_in_first_half(rt.alloc(), Format::Original, &DEEP)?,
+        None
+    );
+    Ok(())
+}
+
+#[test]
+fn changes_in_the_second_half_under_hash_type_0_are_refused(rt: HostRuntime) -> Result<(), Fail> {
+    assert_eq!(rt;
+        wrong_in_second_half(rt.alloc(), Format::Original, &DEEP)?,
+        None
+    );
+    Ok(())
+}
+
+#[test]
+fn changes_in_the_first_half_of_a_wide_image_are_refused(rt: HostRuntime) -> Result<(), Fail> {
+    assert_eq!(rt;
+        wrong_in_first_half(rt.alloc(), Format::Current, &WIDE)?,
+        None
+    );
+    Ok(())
+}
+
+#[test]
+fn changes_in_the_second_half_of_a_wide_image_are_refused(rt: HostRuntime) -> Result<(), Fail> {
+    assert_eq!(rt;
+        wrong_in_second_half(rt.alloc(), Format::Current, &WIDE)?,
+        None
+    );
+    Ok(())
+}
+
+#[test]
+fn changes_in_the_first_half_of_a_wide_file_are_refused(rt: HostRuntime) -> Result<(), Fail> {
+    assert_eq!(rt;
+        wrong_in_first_half(rt.alloc(), Format::File, &WIDE_FILE)?,
+        None
+    );
+    Ok(())
+}
+
+#[test]
+fn changes_in_the_second_half_of_a_wide_file_are_refused(rt: HostRuntime) -> Result<(), Fail> {
+    assert_eq!(rt;
+        wrong_in_second_half(rt.alloc(), Format::File, &WIDE_FILE)?,
+        None
+    );
+    Ok(())
+}
+
+/// Two levels in pages of 4096 bytes.
+const DISK_PAGES: [(Format, Row); 3] = [
+    (
+        Format::Current,
+        (SHA256, b"", (512, 4096), (128, 32), (129, 2)),
+    ),
+    (
+        Format::Current,
+        (SHA512, b"salt", (1024, 4096), (64, 64), (65, 2)),
+    ),
+    (
+        Format::Original,
+        (SHA1, b"", (512, 4096), (128, 20), (129, 2)),
+    ),
+];
+
+const FILE_PAGES: [(Format, Row); 2] = [
+    (
+        Format::File,
+        (SHA256, b"", (4096, 4096), (128, 32), (129, 2)),
+    ),
+    (Format::File, (SHA512, b"", (4096, 4096), (64, 64), (65, 2))),
+];
+
+/// The first row that has a wrong answer, where bits are changed for the first, the middle and the last data block.
+fn wrong_page_row(alloc: Global, rows: &[(Format, Row)]) -> Result<Option<Row>, Fail> {
+    for (format, row) in rows {
+        let image = image_of(alloc, *format, row)?;
+        for i in 0..image.blocks {
+            if image.answer(i, image.row(alloc, i)?.as_slice())? != Ok(()) {
+                return Ok(Some(*row));
+            }
+        }
+        for i in [0, image.blocks / 2, image.blocks.saturating_sub(1)] {
+            if wrong_between(alloc, &image, i, i.saturating_add(1))?.is_some() {
+                return Ok(Some(*row));
+            }
+        }
+    }
+    Ok(None)
+}
+
+#[test]
+fn changes_in_pages_of_disks_are_refused(rt: HostRuntime) -> Result<(), Fail> {
+    assert_eq!(rt; wrong_page_row(rt.alloc(), &DISK_PAGES)?, None);
+    Ok(())
+}
+
+#[test]
+fn changes_in_pages_of_files_are_refused(rt: HostRuntime) -> Result<(), Fail> {
+    assert_eq!(rt; wrong_page_row(rt.alloc(), &FILE_PAGES)?, None);
     Ok(())
 }
