@@ -1,5 +1,5 @@
 -- A run over files, file after file.
-use Rattle.std.proofs.Common.{◌≡◌, ℕ, zero, suc, ◌+◌, ◌<◌, ◌≤◌, List, [], ◌∷◌, length, take, Bool, true, false, inl, inr, Option, Some, None, Result, Ok, Err, refl, ap, sym, subst, not, arith, ◌∙◌}
+use Rattle.std.proofs.Common.{◌≡◌, ℕ, zero, suc, ◌+◌, ◌<◌, ◌≤◌, List, [], ◌∷◌, length, take, Bool, true, false, inl, inr, Option, Some, None, Result, Ok, Err, refl, ap, sym, subst, not, arith}
 use Rattle.std.specs.Prelude.{◌↔◌, IsErr, slice_get}
 use Rattle.std.proofs.lemmas.Option.{get_or_from_slice_get}
 use Rattle.std.specs.List.{zip, prefix_len}
@@ -7,13 +7,10 @@ use Rattle.std.specs.Io.KnownBytes.{Appends}
 use Rattle.command_line.proofs.Fronts.{appends_nothing, pieces_more}
 use Rattle.verity_format.proofs.KnownLemmas.{appends_twice}
 use Rattle.verity_plan.specs.Settings.{Settings}
-use Rattle.fsverity.specs.Digests.{file_digest_of, is_too_large}
 use Rattle.fsverity.specs.Lines.{line}
 use Rattle.fsverity.specs.Opening.{OpenerChange}
 use Rattle.fsverity.specs.Runs.{HasReason, IsLargeAt, Run, StandsOf, WritesUpTo, file_line, has_digest, lines, stop}
-use Rattle.fsverity.specs.RunSteps.{HasOneAt, IsDigestAt, Step, StopsStep, WritesLine, WritesPart, WritesStep}
-use Rattle.fsverity.specs.declared.digest_lines.Form.{Form}
-use Rattle.fsverity.specs.declared.digesting.FileDigest.{FileDigest}
+use Rattle.fsverity.specs.RunSteps.{HasOneAt, Step, StopsStep, WritesLine, WritesPart, WritesStep}
 use Rattle.fsverity.specs.declared.digest_fault.DigestFault.TheVariants.{TooLarge, SourceShort, SourceFailed, DeviceFailed, Memory}
 use Rattle.fsverity.specs.declared.run_fault.RunFault.{RunFault}
 use Rattle.fsverity.specs.declared.run_fault.RunFault.TheVariants.{NotOpened, Digest, NotWritten}

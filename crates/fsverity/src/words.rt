@@ -12,8 +12,7 @@ use command_line::{copied_value, copied_values, flag, is_given, option, program,
 use std::alloc::{AllocError, Global};
 
 /// The usage text of the program and of its command.
-pub(crate) const USAGE: &str =
-    "fsverity digest [--hash-alg NAME] [--block-size BYTES] [--salt HEX]
+pub(crate) const USAGE: &str = "fsverity digest [--hash-alg NAME] [--block-size BYTES] [--salt HEX]
            [--compact] [--for-builtin-sig] [--out-merkle-tree FILE]
            [--out-descriptor FILE] FILE...";
 

@@ -1,7 +1,7 @@
 -- What the options choose, or the first fault, in this order: numbers, hash algorithm, hash type, block sizes, salt,
 -- UUID, hash offset, then whether the data makes a plan and leaves the hash area alone, and the root hash. The order is
 -- this project's own.
-use Rattle.std.specs.Prelude.{ℕ, ◌/◌, ◌&&◌, Bool, true, not, nat_lt, List, Option, Result, Ok, Err, unwrap_or, if◌then◌else◌}
+use Rattle.std.specs.Prelude.{ℕ, ◌/◌, ◌&&◌, Bool, not, nat_lt, List, Option, Result, Ok, Err, unwrap_or, if◌then◌else◌}
 use Rattle.verity_plan.specs.Settings.{rule_of, type_of_number}
 use Rattle.command_line.specs.Options.{algorithm_or_default, default_block_size, number_or, or_fault}
 use Rattle.veritysetup.specs.Options.{Texts, block_size_of, multiple_of, number_if_given, offset_unit, root_if_given, salt_or_random, uuid_or_random, uuid_where}

@@ -1,4 +1,4 @@
-use Rattle.std.proofs.Common.{◌≡◌, ◌∙◌, ap, length, rules}
+use Rattle.std.proofs.Common.{◌∙◌, ap, length, rules}
 use Rattle.verity_hash.proofs.HashLemmas.{length-hash_of}
 use Rattle.fsverity.proofs.digesting.described.Goals as goal
 

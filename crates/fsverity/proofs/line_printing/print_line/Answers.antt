@@ -1,4 +1,3 @@
-use Rattle.std.proofs.Common.{◌≡◌, ◌∙◌, ap}
 use Rattle.fsverity.proofs.FormLemmas.{fits_form}
 use Rattle.fsverity.proofs.line_printing.print_line.Goals as goal
 
