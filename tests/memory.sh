@@ -32,7 +32,7 @@ declare -A endings_of=(
     [images::verify_of_a_changed_image_is_whole]='Unprepared Untouched Unsaid'
     [digests::digest_is_whole]='Unprepared Untouched Stopped'
     [digests::digest_with_output_files_is_whole]='Unprepared Untouched Stopped'
-    [digests::digest_of_no_file_is_whole]='Unprepared Unsaid'
+    [digests::digest_of_no_file_is_whole]='Unprepared'
 )
 
 # endings_in LOG: each test that has run and how it ended, a line each.

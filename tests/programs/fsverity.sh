@@ -28,6 +28,18 @@ files() {
         "$fsverity" digest "$scratch/odd name %s"
 }
 
+# The examples of docs/DEFINITIONS.md.
+stated_digests() {
+    local name stated
+    : >"$scratch/empty"
+    printf a >"$scratch/the byte 61"
+    zeros 4097 >"$scratch/4097 zeros"
+    for name in 'empty' 'the byte 61' '4097 zeros'; do
+        stated=$(sed -nE "s/^\| $name \|.* ([0-9a-f]{64}) \|\$/\1/p" docs/DEFINITIONS.md)
+        runs "the stated digest of '$name'" 0 "sha256:$stated $scratch/$name" '' "$fsverity" digest "$scratch/$name"
+    done
+}
+
 # A run over several files ends at the first that fails, and the lines before it stand.
 several_files() {
     local none
@@ -170,6 +182,7 @@ named_twice() {
 }
 
 files
+stated_digests
 several_files
 files_that_fail
 outputs
