@@ -84,9 +84,8 @@ const CURRENT: [Row; 7] = [
     (SHA512, b"salt", (512, 512), (8, 64), (9, 2)),
 ];
 
-const TWO_SIZES: [Row; 4] = [
+const TWO_SIZES: [Row; 3] = [
     (SHA256, b"", (512, 1024), (32, 32), (33, 2)),
-    (SHA256, b"", (4096, 512), (16, 32), (17, 2)),
     (SHA256, b"", (512, 4096), (128, 32), (5, 1)),
     (SHA512, b"salt", (1024, 4096), (64, 64), (3, 1)),
 ];
@@ -114,8 +113,7 @@ const FILES: [Row; 10] = [
     (SHA512, b"", (1024, 1024), (16, 64), (17, 2)),
 ];
 
-const LARGE_FILES: [Row; 3] = [
-    (SHA512, b"", (2048, 2048), (32, 64), (33, 2)),
+const LARGE_FILES: [Row; 2] = [
     (SHA256, b"salt", (4096, 4096), (128, 32), (3, 1)),
     (SHA512, b"", (4096, 4096), (64, 64), (3, 1)),
 ];
@@ -171,39 +169,40 @@ fn changes_in_large_blocks_of_files_are_refused(rt: HostRuntime) -> Result<(), F
     Ok(())
 }
 
-/// Three levels.
+/// Larger images: three levels; data blocks larger than hash blocks; and two levels with 64 slots, and with 32.
 const DEEP: Row = (SHA256, b"", (512, 512), (16, 32), (257, 3));
 
-/// 64 slots in a block of level 0, and one in the next.
+const LARGE_DATA: Row = (SHA256, b"", (4096, 512), (16, 32), (17, 2));
+
 const WIDE: Row = (SHA256, b"", (512, 2048), (64, 32), (65, 2));
 
-/// The same with data blocks of that size.
 const WIDE_FILE: Row = (SHA256, b"", (2048, 2048), (64, 32), (65, 2));
 
-/// What is answered wrongly for the first half of an image's data blocks.
-fn wrong_in_first_half(
-    alloc: Global,
-    format: Format,
-    row: &Row,
-) -> Result<Option<(usize, usize)>, Fail> {
-    let image = image_of(alloc, format, row)?;
-    wrong_between(alloc, &image, 0, image.blocks / 2)
-}
+const LONG_FILE: Row = (SHA512, b"", (2048, 2048), (32, 64), (33, 2));
 
-/// What is answered wrongly for the others.
-fn wrong_in_second_half(
+/// What is answered wrongly for one of so many parts of an image's data blocks, counted from 0.
+fn wrong_in_part(
     alloc: Global,
     format: Format,
     row: &Row,
+    part: usize,
+    parts: usize,
 ) -> Result<Option<(usize, usize)>, Fail> {
     let image = image_of(alloc, format, row)?;
-    wrong_between(alloc, &image, image.blocks / 2, image.blocks)
+    let start = |part: usize| {
+        image
+            .blocks
+            .saturating_mul(part)
+            .checked_div(parts)
+            .unwrap_or(0)
+    };
+    wrong_between(alloc, &image, start(part), start(part.saturating_add(1)))
 }
 
 #[test]
 fn changes_in_the_first_half_of_a_deep_image_are_refused(rt: HostRuntime) -> Result<(), Fail> {
     assert_eq!(rt;
-        wrong_in_first_half(rt.alloc(), Format::Current, &DEEP)?,
+        wrong_in_part(rt.alloc(), Format::Current, &DEEP, 0, 2)?,
         None
     );
     Ok(())
@@ -212,7 +211,7 @@ fn changes_in_the_first_half_of_a_deep_image_are_refused(rt: HostRuntime) -> Res
 #[test]
 fn changes_in_the_second_half_of_a_deep_image_are_refused(rt: HostRuntime) -> Result<(), Fail> {
     assert_eq!(rt;
-        wrong_in_second_half(rt.alloc(), Format::Current, &DEEP)?,
+        wrong_in_part(rt.alloc(), Format::Current, &DEEP, 1, 2)?,
         None
     );
     Ok(())
@@ -221,7 +220,7 @@ fn changes_in_the_second_half_of_a_deep_image_are_refused(rt: HostRuntime) -> Re
 #[test]
 fn changes_in_the_first_half_under_hash_type_0_are_refused(rt: HostRuntime) -> Result<(), Fail> {
     assert_eq!(rt;
-        wrong_in_first_half(rt.alloc(), Format::Original, &DEEP)?,
+        wrong_in_part(rt.alloc(), Format::Original, &DEEP, 0, 2)?,
         None
     );
     Ok(())
@@ -230,7 +229,16 @@ fn changes_in_the_first_half_under_hash_type_0_are_refused(rt: HostRuntime) -> R
 #[test]
 fn changes_in_the_second_half_under_hash_type_0_are_refused(rt: HostRuntime) -> Result<(), Fail> {
     assert_eq!(rt;
-        wrong_in_second_half(rt.alloc(), Format::Original, &DEEP)?,
+        wrong_in_part(rt.alloc(), Format::Original, &DEEP, 1, 2)?,
+        None
+    );
+    Ok(())
+}
+
+#[test]
+fn changes_in_large_data_blocks_are_refused(rt: HostRuntime) -> Result<(), Fail> {
+    assert_eq!(rt;
+        wrong_in_part(rt.alloc(), Format::Current, &LARGE_DATA, 0, 1)?,
         None
     );
     Ok(())
@@ -239,7 +247,7 @@ fn changes_in_the_second_half_under_hash_type_0_are_refused(rt: HostRuntime) -> 
 #[test]
 fn changes_in_the_first_half_of_a_wide_image_are_refused(rt: HostRuntime) -> Result<(), Fail> {
     assert_eq!(rt;
-        wrong_in_first_half(rt.alloc(), Format::Current, &WIDE)?,
+        wrong_in_part(rt.alloc(), Format::Current, &WIDE, 0, 2)?,
         None
     );
     Ok(())
@@ -248,25 +256,43 @@ fn changes_in_the_first_half_of_a_wide_image_are_refused(rt: HostRuntime) -> Res
 #[test]
 fn changes_in_the_second_half_of_a_wide_image_are_refused(rt: HostRuntime) -> Result<(), Fail> {
     assert_eq!(rt;
-        wrong_in_second_half(rt.alloc(), Format::Current, &WIDE)?,
+        wrong_in_part(rt.alloc(), Format::Current, &WIDE, 1, 2)?,
         None
     );
     Ok(())
 }
 
 #[test]
-fn changes_in_the_first_half_of_a_wide_file_are_refused(rt: HostRuntime) -> Result<(), Fail> {
+fn changes_in_the_first_third_of_a_wide_file_are_refused(rt: HostRuntime) -> Result<(), Fail> {
     assert_eq!(rt;
-        wrong_in_first_half(rt.alloc(), Format::File, &WIDE_FILE)?,
+        wrong_in_part(rt.alloc(), Format::File, &WIDE_FILE, 0, 3)?,
         None
     );
     Ok(())
 }
 
 #[test]
-fn changes_in_the_second_half_of_a_wide_file_are_refused(rt: HostRuntime) -> Result<(), Fail> {
+fn changes_in_the_second_third_of_a_wide_file_are_refused(rt: HostRuntime) -> Result<(), Fail> {
     assert_eq!(rt;
-        wrong_in_second_half(rt.alloc(), Format::File, &WIDE_FILE)?,
+        wrong_in_part(rt.alloc(), Format::File, &WIDE_FILE, 1, 3)?,
+        None
+    );
+    Ok(())
+}
+
+#[test]
+fn changes_in_the_last_third_of_a_wide_file_are_refused(rt: HostRuntime) -> Result<(), Fail> {
+    assert_eq!(rt;
+        wrong_in_part(rt.alloc(), Format::File, &WIDE_FILE, 2, 3)?,
+        None
+    );
+    Ok(())
+}
+
+#[test]
+fn changes_in_a_file_by_sha512_are_refused(rt: HostRuntime) -> Result<(), Fail> {
+    assert_eq!(rt;
+        wrong_in_part(rt.alloc(), Format::File, &LONG_FILE, 0, 1)?,
         None
     );
     Ok(())
