@@ -27,9 +27,11 @@ some_refused() {
 # where none is.
 declare -A endings_of=(
     [images::format_is_whole]='Unprepared Untouched Stopped'
+    [images::format_of_a_tree_alone_is_whole]='Unprepared Untouched Stopped'
     [images::dump_is_whole]='Unprepared Untouched'
     [images::verify_is_whole]='Unprepared Untouched'
-    [images::verify_of_a_changed_image_is_whole]='Unprepared Untouched Unsaid'
+    [images::verify_of_a_tree_alone_is_whole]='Unprepared Untouched'
+    [images::verify_of_a_changed_image_is_whole]='Unprepared Untouched NoMessage'
     [digests::digest_is_whole]='Unprepared Untouched Stopped'
     [digests::digest_with_output_files_is_whole]='Unprepared Untouched Stopped'
     [digests::digest_of_no_file_is_whole]='Unprepared'
@@ -46,7 +48,7 @@ endings_in() {
     ' "$1"
 }
 
-# The tests' endings over all numbers, of which those that follow one another stand once.
+# The tests' endings over all numbers; equal ones in a row stand once.
 run_functions() {
     local number=1 log=$scratch/log test ending
     local -A seen=()
@@ -60,6 +62,9 @@ run_functions() {
         same "request $number: the tests that have run" "$(printf '%s\n' "${!endings_of[@]}" | sort)" \
             "$(cut -d ' ' -f 1 "$scratch/endings" | sort)"
         while read -r test ending; do
+            case $ending in
+            Wrong | Crashed) fail "request $number of $test" "found: $ending" ;;
+            esac
             [[ ${seen[$test]-} = *" $ending" ]] || seen[$test]+=" $ending"
         done <"$scratch/endings"
         if grep -q '^test result: ok' "$log"; then
@@ -86,14 +91,19 @@ ending() {
     "$@" >"$scratch/out" 2>"$scratch/err" </dev/null || found=$?
 }
 
-# stands: whether what a run left may stand where it ran out of memory: each file that it makes is as before, or empty,
-# or whole, and nothing is printed, or for fsverity whole lines of the first files.
+# stands: whether what a run left may stand where it ran out of memory: the files that it makes are all whole, or each is
+# as before, or empty where there was none; and nothing is printed, or for fsverity whole lines of the first files.
 stands() {
     local file
-    for file in "$made"/*; do
-        [ -s "$file" ] || continue
-        cmp -s "$file" "$before/${file##*/}" || cmp -s "$file" "$whole/${file##*/}" || return 1
-    done
+    if ! diff -r "$made" "$whole" >/dev/null; then
+        for file in $(ls "$made" "$before" | sed '/:$/d' | sort -u); do
+            if [ -e "$before/$file" ]; then
+                cmp -s "$made/$file" "$before/$file" || return 1
+            elif [ -s "$made/$file" ]; then
+                return 1
+            fi
+        done
+    fi
     [ ! -s "$scratch/out" ] && return
     [ "$prints_lines" = yes ] && [ -z "$(tail -c 1 "$scratch/out")" ] &&
         cmp -s -n "$(stat -c %s "$scratch/out")" "$scratch/out" "$scratch/whole_out"
@@ -165,7 +175,7 @@ digests_of_files() {
     prints_lines=yes
     refuse 'digest' 0 "$file_endings" "$fsverity" digest "$data" "$image"
     refuse 'digest in short' 0 "$file_endings" "$fsverity" digest --compact --for-builtin-sig --salt ab "$data" "$image"
-    refuse 'digest of a missing file' 1 "$file_endings|1 " "$fsverity" digest "$data" "$scratch/missing"
+    refuse 'digest of a missing file' 1 "$file_endings" "$fsverity" digest "$data" "$scratch/missing"
     refuse 'digest with output files' 0 "$file_endings" "$fsverity" digest --block-size 512 \
         --out-merkle-tree "$made/tree" --out-descriptor "$made/descriptor" "$data"
     refuse 'digest with a refused option' 2 "$file_endings" "$fsverity" digest --salt x "$data"

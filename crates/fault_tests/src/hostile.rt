@@ -106,10 +106,15 @@ fn each_byte_is_complemented(rt: HostRuntime) -> Result<(), Fail> {
                 *byte = !*byte;
             }
             assert!(rt; is_read_alike(alloc, device.as_slice())?, "at {at}");
+            let refused = refusal(alloc, device.as_slice())?;
             let (found, msgs) = verified(alloc, image.data.as_slice(), device, image.root.as_str());
             assert_eq!(rt; found, status, "at {at}");
             assert!(rt; msgs.starts_with(message.as_bytes()), "at {at}");
             assert_eq!(rt; msgs.is_empty(), status == 0, "at {at}");
+            assert_eq!(rt; refused.is_some(), status == 1, "at {at}");
+            if let Some(text) = refused {
+                assert_eq!(rt; msgs.as_slice(), text.as_bytes(), "at {at}");
+            }
         }
     }
     Ok(())
@@ -312,13 +317,20 @@ fn random_changes_are_verified_or_named(rt: HostRuntime) -> Result<(), Fail> {
             }
             None => {
                 differing_count = differing_count.saturating_add(1);
-                assert!(rt; status == 2 || status == 4, "at {round}");
-                assert!(rt; !msgs.is_empty(), "at {round}");
+                let words = match status {
+                    2 => "Verification failed: ",
+                    4 => "Data ends before the end of block ",
+                    _ => "no other status",
+                };
+                assert!(rt; msgs.starts_with(words.as_bytes()), "at {round}");
             }
         }
     }
     for count in [refused_count, verified_count, differing_count] {
-        assert!(rt; count >= 20, "{refused_count}, {verified_count}, {differing_count}");
+        assert!(rt;
+            count >= 20,
+            "{refused_count}, {verified_count}, {differing_count}"
+        );
     }
     Ok(())
 }

@@ -91,7 +91,7 @@ fn each_call_of_verify_fails_in_turn(rt: HostRuntime) -> Result<(), Fail> {
 }
 
 #[test]
-fn the_output_of_format_ends_at_each_length(rt: HostRuntime) -> Result<(), Fail> {
+fn output_and_messages_of_format_end_at_each_length(rt: HostRuntime) -> Result<(), Fail> {
     let alloc = rt.alloc();
     for setup in &SETUPS {
         let scene = setup.format(alloc)?;

@@ -1,10 +1,13 @@
-//! Format, dump and verify of an image of 257 blocks.
+//! Format, dump and verify of an image of 257 blocks, with a superblock and without.
 use crate::outcome::Outcome;
 use crate::zeros::{DATA_SIZE, ROOT, TREE_SIZE, tree};
-use fixtures::{block, superblock};
+use fixtures::{block, flip, superblock};
 use std::alloc::{AllocError, Global};
+use std::test::Fail;
 use verity_tree::{MemoryDevice, MemorySource};
 use veritysetup::{RawOptions, VerifyInput, run_dump, run_format, run_verify, settings_of};
+
+const UUID: &str = "00112233-4455-4677-8899-aabbccddeeff";
 
 const OPTIONS: RawOptions<'static> = RawOptions {
     hash: None,
@@ -13,16 +16,22 @@ const OPTIONS: RawOptions<'static> = RawOptions {
     hash_block_size: Some("512"),
     data_blocks: None,
     salt: Some("-"),
-    uuid: Some("00112233-4455-4677-8899-aabbccddeeff"),
+    uuid: Some(UUID),
     hash_offset: None,
     root: None,
     no_superblock: false,
     same_file: false,
 };
 
-/// The report, without the root hash.
-const DUMP: &str = "VERITY header information for hash.img
-UUID:            \t00112233-4455-4677-8899-aabbccddeeff
+/// The options of a tree without a superblock.
+const BARE: RawOptions<'static> = RawOptions {
+    uuid: None,
+    no_superblock: true,
+    ..OPTIONS
+};
+
+/// The lines of the report after that of the UUID, without the root hash.
+const LINES: &str = "
 Hash type:       \t1
 Data blocks:     \t257
 Data block size: \t512
@@ -31,10 +40,11 @@ Hash algorithm:  \tsha256
 Salt:            \t-
 ";
 
-/// The number of the image's bytes: the superblock and the tree.
+/// The size of the image in bytes: the superblock and the tree.
 const IMAGE_SIZE: usize = 512 + TREE_SIZE;
 
-/// What a run needs, made before it: the data, an empty hash device, and places for what the run prints and says.
+/// What a run needs, made before it: the data, a hash device that holds some bytes, and places for what the run prints and
+/// says.
 #[derive(Drop)]
 struct Prepared {
     data: Vec<u8>,
@@ -43,20 +53,15 @@ struct Prepared {
     msgs: Vec<u8>,
 }
 
-fn prepare(alloc: Global) -> Result<Prepared, AllocError> {
+fn prepare(alloc: Global, held: &[u8]) -> Result<Prepared, AllocError> {
+    let mut device = Vec::with_capacity(alloc, IMAGE_SIZE)?;
+    device.extend_from_slice(held)?;
     Ok(Prepared {
         data: vec![in alloc; 0u8; DATA_SIZE]?,
-        device: Vec::with_capacity(alloc, IMAGE_SIZE)?,
+        device,
         out: Vec::with_capacity(alloc, 1000)?,
         msgs: Vec::with_capacity(alloc, 1000)?,
     })
-}
-
-/// The same with the image on the hash device.
-fn prepare_image(alloc: Global) -> Result<Prepared, AllocError> {
-    let mut made = prepare(alloc)?;
-    made.device.extend_from_slice(&image())?;
-    Ok(made)
 }
 
 /// The hash device: the superblock and the tree.
@@ -72,24 +77,31 @@ fn is_out_of_memory(status: u8, msgs: &[u8]) -> bool {
     status == 3 && msgs == b"Out of memory.\n".as_slice()
 }
 
-/// Whether a text is the report with the root hash.
-fn is_report(text: &[u8]) -> bool {
-    match text.strip_prefix(DUMP.as_bytes()) {
-        Some(line) => {
-            line.strip_prefix(b"Root hash:       \t".as_slice())
-                .and_then(|rest| rest.strip_suffix(b"\n".as_slice()))
-                == Some(ROOT.as_bytes())
+/// Whether a text is a report with this UUID, and then these words.
+fn is_report(text: &[u8], uuid: &str, words: &[&str]) -> bool {
+    let head = "VERITY header information for hash.img\nUUID:            \t";
+    let mut rest = text;
+    for part in [head, uuid, LINES].iter().chain(words) {
+        match rest.strip_prefix(part.as_bytes()) {
+            Some(more) => rest = more,
+            None => return false,
         }
-        None => false,
     }
+    rest.is_empty()
 }
 
-/// Formats an empty device. A refused store leaves it empty, and nothing is read; a refused report leaves the whole image,
-/// and nothing is printed.
-fn format(alloc: Global) -> Outcome {
+/// Formats a device that holds some bytes. A refused store leaves it as before, and nothing is read; a refused report
+/// leaves all of the image, and nothing is printed.
+fn format(
+    alloc: Global,
+    options: &RawOptions<'_>,
+    before: &[u8],
+    after: &[u8],
+    uuid: &str,
+) -> Outcome {
     let (Ok(mut made), Ok(settings)) = (
-        prepare(alloc),
-        settings_of(&OPTIONS, DATA_SIZE as u64, None),
+        prepare(alloc, before),
+        settings_of(options, DATA_SIZE as u64, None),
     ) else {
         return Outcome::Unprepared;
     };
@@ -104,20 +116,21 @@ fn format(alloc: Global) -> Outcome {
         &mut made.out,
         &mut made.msgs,
     );
-    let is_whole = device.bytes() == image().as_slice() && source.rest().is_empty();
+    let is_made = device.bytes() == after && source.rest().is_empty();
     if !is_out_of_memory(status, made.msgs.as_slice()) {
-        let is_done = status == 0 && is_whole && is_report(made.out.as_slice());
-        return Outcome::Whole.if_right(is_done);
+        let words = ["Root hash:       \t", ROOT, "\n"];
+        let is_told = is_report(made.out.as_slice(), uuid, &words);
+        return Outcome::Whole.if_right(status == 0 && is_made && is_told);
     }
     if source.rest().len() == DATA_SIZE {
-        return Outcome::Untouched.if_right(device.bytes().is_empty() && made.out.is_empty());
+        return Outcome::Untouched.if_right(device.bytes() == before && made.out.is_empty());
     }
-    Outcome::Stopped.if_right(is_whole && made.out.is_empty())
+    Outcome::Stopped.if_right(is_made && made.out.is_empty())
 }
 
 /// Dumps the image.
 fn dump(alloc: Global) -> Outcome {
-    let Ok(mut made) = prepare_image(alloc) else {
+    let Ok(mut made) = prepare(alloc, &image()) else {
         return Outcome::Unprepared;
     };
     let mut device = MemoryDevice::new(made.device);
@@ -132,40 +145,43 @@ fn dump(alloc: Global) -> Outcome {
     if is_out_of_memory(status, made.msgs.as_slice()) {
         return Outcome::Untouched.if_right(made.out.is_empty());
     }
-    Outcome::Whole.if_right(status == 0 && made.out.as_slice() == DUMP.as_bytes())
+    Outcome::Whole.if_right(status == 0 && is_report(made.out.as_slice(), UUID, &[]))
 }
 
-/// Verifies the image, whose last block is changed where that is asked for.
-fn verify(alloc: Global, changes: bool) -> Outcome {
-    let Ok(mut made) = prepare_image(alloc) else {
+/// Verifies a device that holds some bytes. The data is read only where there is a store.
+fn verify(alloc: Global, input: &VerifyInput<'_>, held: &[u8], expected: (u8, &[u8])) -> Outcome {
+    let Ok(mut made) = prepare(alloc, held) else {
         return Outcome::Unprepared;
     };
-    if changes && let Some(byte) = made.device.last_mut() {
-        *byte ^= 1;
-    }
     let mut device = MemoryDevice::new(made.device);
     let mut source = MemorySource::new(made.data.as_slice());
-    let input = VerifyInput::Stored {
-        offset: 0,
-        root: ROOT,
-    };
-    let status = run_verify(alloc, &input, &mut source, &mut device, &mut made.msgs);
-    if is_out_of_memory(status, made.msgs.as_slice()) {
+    let status = run_verify(alloc, input, &mut source, &mut device, &mut made.msgs);
+    let msgs = made.msgs.as_slice();
+    if is_out_of_memory(status, msgs) {
         return Outcome::Untouched.if_right(source.rest().len() == DATA_SIZE);
     }
-    if !changes {
-        return Outcome::Whole.if_right(status == 0 && made.msgs.is_empty());
+    if msgs.is_empty() && !expected.1.is_empty() {
+        return Outcome::NoMessage.if_right(status == expected.0);
     }
-    if made.msgs.is_empty() {
-        return Outcome::Unsaid.if_right(status == 2);
-    }
-    let text = b"Verification failed: level 0 block 16, spare bytes.\n".as_slice();
-    Outcome::Whole.if_right(status == 2 && made.msgs.as_slice() == text)
+    Outcome::Whole.if_right((status, msgs) == expected)
 }
+
+/// The image's superblock, and the root hash.
+const STORED: VerifyInput<'static> = VerifyInput::Stored {
+    offset: 0,
+    root: ROOT,
+};
 
 #[test]
 fn format_is_whole(rt: HostRuntime) {
-    assert_eq!(rt; format(rt.alloc()), Outcome::Whole);
+    let found = format(rt.alloc(), &OPTIONS, &[], &image(), UUID);
+    assert_eq!(rt; found, Outcome::Whole);
+}
+
+#[test]
+fn format_of_a_tree_alone_is_whole(rt: HostRuntime) {
+    let found = format(rt.alloc(), &BARE, &[77; TREE_SIZE], &tree(), "-");
+    assert_eq!(rt; found, Outcome::Whole);
 }
 
 #[test]
@@ -175,10 +191,32 @@ fn dump_is_whole(rt: HostRuntime) {
 
 #[test]
 fn verify_is_whole(rt: HostRuntime) {
-    assert_eq!(rt; verify(rt.alloc(), false), Outcome::Whole);
+    let found = verify(rt.alloc(), &STORED, &image(), (0, b""));
+    assert_eq!(rt; found, Outcome::Whole);
+}
+
+#[test]
+fn verify_of_a_tree_alone_is_whole(rt: HostRuntime) -> Result<(), Fail> {
+    let raw = RawOptions {
+        root: Some(ROOT),
+        ..BARE
+    };
+    let settings = settings_of(&raw, DATA_SIZE as u64, None)?;
+    let found = verify(
+        rt.alloc(),
+        &VerifyInput::Given(&settings),
+        &tree(),
+        (0, b""),
+    );
+    assert_eq!(rt; found, Outcome::Whole);
+    Ok(())
 }
 
 #[test]
 fn verify_of_a_changed_image_is_whole(rt: HostRuntime) {
-    assert_eq!(rt; verify(rt.alloc(), true), Outcome::Whole);
+    let mut device = image();
+    flip(&mut device, IMAGE_SIZE - 1);
+    let text = b"Verification failed: level 0 block 16, spare bytes.\n".as_slice();
+    let found = verify(rt.alloc(), &STORED, &device, (2, text));
+    assert_eq!(rt; found, Outcome::Whole);
 }

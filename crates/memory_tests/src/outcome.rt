@@ -1,18 +1,18 @@
 //! How a run ended in which a request for memory may have been refused.
 
-/// Each test expects `Whole`, which it meets where no request is refused.
+/// Each test expects `Whole`, and ends so where no request is refused.
 #[derive(Clone, Copy, Debug, PartialEq, Eq)]
 pub enum Outcome {
     /// All is done.
     Whole,
     /// The test could not prepare itself.
     Unprepared,
-    /// Out of memory was answered, and nothing was read of the data, written or printed.
+    /// Out of memory was answered, and nothing is written or printed; where the test sees what is read, nothing is read.
     Untouched,
     /// Out of memory was answered, and what comes before the request that was refused stands whole, and nothing else.
     Stopped,
-    /// The run ended by another fault, with its status, and its message found no memory.
-    Unsaid,
+    /// The run ended by another fault, with its status, and there was no memory for its message.
+    NoMessage,
     /// Anything else.
     Wrong,
 }

@@ -2,10 +2,10 @@
 use fixtures::{block, lay};
 use sha2::{Digest as Hasher, Sha256};
 
-/// The number of the data's bytes.
+/// The size of the data in bytes.
 pub const DATA_SIZE: usize = 131_584;
 
-/// The number of the tree's bytes.
+/// The size of the tree in bytes.
 pub const TREE_SIZE: usize = 10_240;
 
 /// The root hash, by `sha256sum`.
@@ -21,7 +21,7 @@ fn hash_block(child: &[u8], slots: usize) -> [u8; 512] {
     block
 }
 
-/// The tree: the one block of level 2, the two of level 1 and the 17 of level 0, all of them full but the last.
+/// The tree: one block of level 2, two of level 1 and 17 of level 0. On each level only the last is not full.
 pub fn tree() -> [u8; TREE_SIZE] {
     let zeros = [0; 512];
     let full = hash_block(&zeros, 16);

@@ -211,6 +211,18 @@ fn options_are_refused(rt: HostRuntime) {
 }
 
 #[test]
+fn numbers_may_begin_with_zeros(rt: HostRuntime) -> Result<(), Fail> {
+    let raw = RawOptions {
+        data_block_size: Some("0512"),
+        ..SMALL
+    };
+    let settings = settings_of(&raw, 8704, None)?;
+    assert_eq!(rt; settings.plan().data_block(), 512);
+    assert_eq!(rt; settings.plan().blocks(), 17);
+    Ok(())
+}
+
+#[test]
 fn salts_are_hexadecimal(rt: HostRuntime) -> Result<(), Fail> {
     let longer = "ab".repeat(rt.alloc(), 257)?;
     let longest = longer.as_str().get(..512).unwrap_or("");
