@@ -1,6 +1,6 @@
 //! Changed bits of data blocks, paths and root hashes: in images of all settings each data block is accepted by its path,
-//! and the change of each bit that it is checked by is refused at the lowest level that it reaches. Trees of two levels in
-//! pages of 4096 bytes have too many bits for that; there it is done for three of the data blocks.
+//! and the change of each bit that it is checked by is refused at the lowest level that it reaches. Four larger images
+//! stand beside them, in which bits are changed for three of the data blocks.
 use crate::cases::Case;
 use crate::path_rows::Image;
 use fixtures::flip_bit;
@@ -90,9 +90,8 @@ const TWO_SIZES: [Row; 3] = [
     (SHA512, b"salt", (1024, 4096), (64, 64), (3, 1)),
 ];
 
-const ORIGINAL: [Row; 7] = [
+const ORIGINAL: [Row; 6] = [
     (SHA1, b"salt", (512, 512), (16, 20), (17, 2)),
-    (SHA1, b"", (512, 4096), (128, 20), (5, 1)),
     (SHA224, b"salt", (512, 512), (16, 28), (17, 2)),
     (SHA256, b"salt", (512, 512), (16, 32), (17, 2)),
     (SHA384, b"salt", (512, 512), (8, 48), (9, 2)),
@@ -169,7 +168,7 @@ fn changes_in_large_blocks_of_files_are_refused(rt: HostRuntime) -> Result<(), F
     Ok(())
 }
 
-/// Larger images: three levels; data blocks larger than hash blocks; and two levels with 64 slots, and with 32.
+/// Images of more bits: three levels; data blocks larger than hash blocks; two levels with 64 slots, with 32 and with 128.
 const DEEP: Row = (SHA256, b"", (512, 512), (16, 32), (257, 3));
 
 const LARGE_DATA: Row = (SHA256, b"", (4096, 512), (16, 32), (17, 2));
@@ -179,6 +178,8 @@ const WIDE: Row = (SHA256, b"", (512, 2048), (64, 32), (65, 2));
 const WIDE_FILE: Row = (SHA256, b"", (2048, 2048), (64, 32), (65, 2));
 
 const LONG_FILE: Row = (SHA512, b"", (2048, 2048), (32, 64), (33, 2));
+
+const WIDEST: Row = (SHA1, b"", (512, 4096), (128, 20), (129, 2));
 
 /// What is answered wrongly for one of so many parts of an image's data blocks, counted from 0.
 fn wrong_in_part(
@@ -298,8 +299,52 @@ fn changes_in_a_file_by_sha512_are_refused(rt: HostRuntime) -> Result<(), Fail> 
     Ok(())
 }
 
-/// Two levels in pages of 4096 bytes.
-const DISK_PAGES: [(Format, Row); 3] = [
+#[test]
+fn changes_in_the_first_quarter_of_the_widest_image_are_refused(
+    rt: HostRuntime,
+) -> Result<(), Fail> {
+    assert_eq!(rt;
+        wrong_in_part(rt.alloc(), Format::Original, &WIDEST, 0, 4)?,
+        None
+    );
+    Ok(())
+}
+
+#[test]
+fn changes_in_the_second_quarter_of_the_widest_image_are_refused(
+    rt: HostRuntime,
+) -> Result<(), Fail> {
+    assert_eq!(rt;
+        wrong_in_part(rt.alloc(), Format::Original, &WIDEST, 1, 4)?,
+        None
+    );
+    Ok(())
+}
+
+#[test]
+fn changes_in_the_third_quarter_of_the_widest_image_are_refused(
+    rt: HostRuntime,
+) -> Result<(), Fail> {
+    assert_eq!(rt;
+        wrong_in_part(rt.alloc(), Format::Original, &WIDEST, 2, 4)?,
+        None
+    );
+    Ok(())
+}
+
+#[test]
+fn changes_in_the_last_quarter_of_the_widest_image_are_refused(
+    rt: HostRuntime,
+) -> Result<(), Fail> {
+    assert_eq!(rt;
+        wrong_in_part(rt.alloc(), Format::Original, &WIDEST, 3, 4)?,
+        None
+    );
+    Ok(())
+}
+
+/// Two levels in pages of 4096 bytes, in which bits are changed for three data blocks.
+const DISK_PAGES: [(Format, Row); 2] = [
     (
         Format::Current,
         (SHA256, b"", (512, 4096), (128, 32), (129, 2)),
@@ -307,10 +352,6 @@ const DISK_PAGES: [(Format, Row); 3] = [
     (
         Format::Current,
         (SHA512, b"salt", (1024, 4096), (64, 64), (65, 2)),
-    ),
-    (
-        Format::Original,
-        (SHA1, b"", (512, 4096), (128, 20), (129, 2)),
     ),
 ];
 
