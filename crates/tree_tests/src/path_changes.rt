@@ -1,6 +1,6 @@
 //! Changed bits of data blocks, paths and root hashes: in images of all settings each data block is accepted by its path,
-//! and the change of each bit that it is checked by is refused at the lowest level that it reaches. Trees of two levels in
-//! pages of 4096 bytes have too many bits for that; there it is done for three of the data blocks.
+//! and the change of each bit that it is checked by is refused at the lowest level that it reaches. Four larger images
+//! stand beside them, in which bits are changed for three of the data blocks.
 use crate::cases::Case;
 use crate::path_rows::Image;
 use fixtures::flip_bit;
@@ -90,14 +90,16 @@ const TWO_SIZES: [Row; 3] = [
     (SHA512, b"salt", (1024, 4096), (64, 64), (3, 1)),
 ];
 
-const ORIGINAL: [Row; 7] = [
+const ORIGINAL: [Row; 9] = [
     (SHA1, b"salt", (512, 512), (16, 20), (17, 2)),
-    (SHA1, b"", (512, 4096), (128, 20), (5, 1)),
     (SHA224, b"salt", (512, 512), (16, 28), (17, 2)),
     (SHA256, b"salt", (512, 512), (16, 32), (17, 2)),
+    (SHA256, b"salt", (512, 2048), (64, 32), (3, 1)),
+    (SHA256, b"", (512, 4096), (128, 32), (3, 1)),
     (SHA384, b"salt", (512, 512), (8, 48), (9, 2)),
     (SHA384, b"", (512, 1024), (16, 48), (17, 2)),
     (SHA512, b"salt", (512, 512), (8, 64), (9, 2)),
+    (SHA512, b"", (512, 4096), (64, 64), (3, 1)),
 ];
 
 const FILES: [Row; 10] = [
@@ -128,12 +130,15 @@ fn image_of(alloc: Global, format: Format, row: &Row) -> Result<Image, Fail> {
     Image::new(alloc, case, blocks, levels)
 }
 
-/// The first row that has a wrong answer.
-fn wrong_row(alloc: Global, format: Format, rows: &[Row]) -> Result<Option<Row>, Fail> {
+/// A row with a data block and a bit that are answered wrongly.
+type Wrong = Option<(Row, usize, usize)>;
+
+/// What is answered wrongly in the first row where something is.
+fn wrong_row(alloc: Global, format: Format, rows: &[Row]) -> Result<Wrong, Fail> {
     for row in rows {
         let image = image_of(alloc, format, row)?;
-        if wrong_between(alloc, &image, 0, image.blocks)?.is_some() {
-            return Ok(Some(*row));
+        if let Some((i, bit)) = wrong_between(alloc, &image, 0, image.blocks)? {
+            return Ok(Some((*row, i, bit)));
         }
     }
     Ok(None)
@@ -169,16 +174,23 @@ fn changes_in_large_blocks_of_files_are_refused(rt: HostRuntime) -> Result<(), F
     Ok(())
 }
 
-/// Larger images: three levels; data blocks larger than hash blocks; and two levels with 64 slots, and with 32.
+/// Three levels. These and the next images have so many bits that their data blocks are shared out among tests.
 const DEEP: Row = (SHA256, b"", (512, 512), (16, 32), (257, 3));
 
+/// Data blocks larger than hash blocks.
 const LARGE_DATA: Row = (SHA256, b"", (4096, 512), (16, 32), (17, 2));
 
+/// Two levels with 64 slots in a hash block.
 const WIDE: Row = (SHA256, b"", (512, 2048), (64, 32), (65, 2));
 
+/// The same for a file.
 const WIDE_FILE: Row = (SHA256, b"", (2048, 2048), (64, 32), (65, 2));
 
-const LONG_FILE: Row = (SHA512, b"", (2048, 2048), (32, 64), (33, 2));
+/// A file by SHA-512.
+const SHA512_FILE: Row = (SHA512, b"", (2048, 2048), (32, 64), (33, 2));
+
+/// Two levels with 128 slots in a hash block.
+const WIDEST: Row = (SHA1, b"", (512, 4096), (128, 20), (129, 2));
 
 /// What is answered wrongly for one of so many parts of an image's data blocks, counted from 0.
 fn wrong_in_part(
@@ -292,14 +304,58 @@ fn changes_in_the_last_third_of_a_wide_file_are_refused(rt: HostRuntime) -> Resu
 #[test]
 fn changes_in_a_file_by_sha512_are_refused(rt: HostRuntime) -> Result<(), Fail> {
     assert_eq!(rt;
-        wrong_in_part(rt.alloc(), Format::File, &LONG_FILE, 0, 1)?,
+        wrong_in_part(rt.alloc(), Format::File, &SHA512_FILE, 0, 1)?,
         None
     );
     Ok(())
 }
 
-/// Two levels in pages of 4096 bytes.
-const DISK_PAGES: [(Format, Row); 3] = [
+#[test]
+fn changes_in_the_first_quarter_of_the_widest_image_are_refused(
+    rt: HostRuntime,
+) -> Result<(), Fail> {
+    assert_eq!(rt;
+        wrong_in_part(rt.alloc(), Format::Original, &WIDEST, 0, 4)?,
+        None
+    );
+    Ok(())
+}
+
+#[test]
+fn changes_in_the_second_quarter_of_the_widest_image_are_refused(
+    rt: HostRuntime,
+) -> Result<(), Fail> {
+    assert_eq!(rt;
+        wrong_in_part(rt.alloc(), Format::Original, &WIDEST, 1, 4)?,
+        None
+    );
+    Ok(())
+}
+
+#[test]
+fn changes_in_the_third_quarter_of_the_widest_image_are_refused(
+    rt: HostRuntime,
+) -> Result<(), Fail> {
+    assert_eq!(rt;
+        wrong_in_part(rt.alloc(), Format::Original, &WIDEST, 2, 4)?,
+        None
+    );
+    Ok(())
+}
+
+#[test]
+fn changes_in_the_last_quarter_of_the_widest_image_are_refused(
+    rt: HostRuntime,
+) -> Result<(), Fail> {
+    assert_eq!(rt;
+        wrong_in_part(rt.alloc(), Format::Original, &WIDEST, 3, 4)?,
+        None
+    );
+    Ok(())
+}
+
+/// Two levels in hash blocks of 4096 bytes, in which bits are changed for three data blocks.
+const DISK_PAGES: [(Format, Row); 2] = [
     (
         Format::Current,
         (SHA256, b"", (512, 4096), (128, 32), (129, 2)),
@@ -307,10 +363,6 @@ const DISK_PAGES: [(Format, Row); 3] = [
     (
         Format::Current,
         (SHA512, b"salt", (1024, 4096), (64, 64), (65, 2)),
-    ),
-    (
-        Format::Original,
-        (SHA1, b"", (512, 4096), (128, 20), (129, 2)),
     ),
 ];
 
@@ -322,18 +374,18 @@ const FILE_PAGES: [(Format, Row); 2] = [
     (Format::File, (SHA512, b"", (4096, 4096), (64, 64), (65, 2))),
 ];
 
-/// The first row that has a wrong answer, where bits are changed for the first, the middle and the last data block.
-fn wrong_page_row(alloc: Global, rows: &[(Format, Row)]) -> Result<Option<Row>, Fail> {
+/// What is answered wrongly, where bits are changed for the first, the middle and the last data block.
+fn wrong_page_row(alloc: Global, rows: &[(Format, Row)]) -> Result<Wrong, Fail> {
     for (format, row) in rows {
         let image = image_of(alloc, *format, row)?;
         for i in 0..image.blocks {
             if image.answer(i, image.row(alloc, i)?.as_slice())? != Ok(()) {
-                return Ok(Some(*row));
+                return Ok(Some((*row, i, 0)));
             }
         }
         for i in [0, image.blocks / 2, image.blocks.saturating_sub(1)] {
-            if wrong_between(alloc, &image, i, i.saturating_add(1))?.is_some() {
-                return Ok(Some(*row));
+            if let Some((i, bit)) = wrong_between(alloc, &image, i, i.saturating_add(1))? {
+                return Ok(Some((*row, i, bit)));
             }
         }
     }
