@@ -96,12 +96,11 @@ ending() {
 stands() {
     local file
     if ! diff -r "$made" "$whole" >/dev/null; then
-        for file in $(ls "$made" "$before" | sed '/:$/d' | sort -u); do
-            if [ -e "$before/$file" ]; then
-                cmp -s "$made/$file" "$before/$file" || return 1
-            elif [ -s "$made/$file" ]; then
-                return 1
-            fi
+        for file in "$before"/*; do
+            [ ! -e "$file" ] || cmp -s "$file" "$made/${file##*/}" || return 1
+        done
+        for file in "$made"/*; do
+            [ ! -s "$file" ] || [ -e "$before/${file##*/}" ] || return 1
         done
     fi
     [ ! -s "$scratch/out" ] && return
