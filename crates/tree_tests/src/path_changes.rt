@@ -1,5 +1,5 @@
 //! Changed bits of data blocks, paths and root hashes: in images of all settings each data block is accepted by its path,
-//! and the change of each bit that it is checked by is refused at the lowest level that it reaches. Four larger images
+//! and the change of each bit that it is checked by is refused at the lowest level that it reaches. Larger images
 //! stand beside them, in which bits are changed for three of the data blocks.
 use crate::cases::Case;
 use crate::path_rows::Image;
@@ -86,12 +86,13 @@ const CURRENT: [Row; 7] = [
 
 const TWO_SIZES: [Row; 3] = [
     (SHA256, b"", (512, 1024), (32, 32), (33, 2)),
-    (SHA256, b"", (512, 4096), (128, 32), (5, 1)),
+    (SHA256, b"", (512, 4096), (128, 32), (3, 1)),
     (SHA512, b"salt", (1024, 4096), (64, 64), (3, 1)),
 ];
 
-const ORIGINAL: [Row; 9] = [
+const ORIGINAL: [Row; 10] = [
     (SHA1, b"salt", (512, 512), (16, 20), (17, 2)),
+    (SHA1, b"", (512, 4096), (128, 20), (3, 1)),
     (SHA224, b"salt", (512, 512), (16, 28), (17, 2)),
     (SHA256, b"salt", (512, 512), (16, 32), (17, 2)),
     (SHA256, b"salt", (512, 2048), (64, 32), (3, 1)),
@@ -115,7 +116,9 @@ const FILES: [Row; 10] = [
     (SHA512, b"", (1024, 1024), (16, 64), (17, 2)),
 ];
 
-const LARGE_FILES: [Row; 2] = [
+const LARGE_FILES: [Row; 4] = [
+    (SHA256, b"salt", (2048, 2048), (64, 32), (3, 1)),
+    (SHA512, b"", (2048, 2048), (32, 64), (3, 1)),
     (SHA256, b"salt", (4096, 4096), (128, 32), (3, 1)),
     (SHA512, b"", (4096, 4096), (64, 64), (3, 1)),
 ];
@@ -182,15 +185,6 @@ const LARGE_DATA: Row = (SHA256, b"", (4096, 512), (16, 32), (17, 2));
 
 /// Two levels with 64 slots in a hash block.
 const WIDE: Row = (SHA256, b"", (512, 2048), (64, 32), (65, 2));
-
-/// The same for a file.
-const WIDE_FILE: Row = (SHA256, b"", (2048, 2048), (64, 32), (65, 2));
-
-/// A file by SHA-512.
-const SHA512_FILE: Row = (SHA512, b"", (2048, 2048), (32, 64), (33, 2));
-
-/// Two levels with 128 slots in a hash block.
-const WIDEST: Row = (SHA1, b"", (512, 4096), (128, 20), (129, 2));
 
 /// What is answered wrongly for one of so many parts of an image's data blocks, counted from 0.
 fn wrong_in_part(
@@ -274,88 +268,8 @@ fn changes_in_the_second_half_of_a_wide_image_are_refused(rt: HostRuntime) -> Re
     Ok(())
 }
 
-#[test]
-fn changes_in_the_first_third_of_a_wide_file_are_refused(rt: HostRuntime) -> Result<(), Fail> {
-    assert_eq!(rt;
-        wrong_in_part(rt.alloc(), Format::File, &WIDE_FILE, 0, 3)?,
-        None
-    );
-    Ok(())
-}
-
-#[test]
-fn changes_in_the_second_third_of_a_wide_file_are_refused(rt: HostRuntime) -> Result<(), Fail> {
-    assert_eq!(rt;
-        wrong_in_part(rt.alloc(), Format::File, &WIDE_FILE, 1, 3)?,
-        None
-    );
-    Ok(())
-}
-
-#[test]
-fn changes_in_the_last_third_of_a_wide_file_are_refused(rt: HostRuntime) -> Result<(), Fail> {
-    assert_eq!(rt;
-        wrong_in_part(rt.alloc(), Format::File, &WIDE_FILE, 2, 3)?,
-        None
-    );
-    Ok(())
-}
-
-#[test]
-fn changes_in_a_file_by_sha512_are_refused(rt: HostRuntime) -> Result<(), Fail> {
-    assert_eq!(rt;
-        wrong_in_part(rt.alloc(), Format::File, &SHA512_FILE, 0, 1)?,
-        None
-    );
-    Ok(())
-}
-
-#[test]
-fn changes_in_the_first_quarter_of_the_widest_image_are_refused(
-    rt: HostRuntime,
-) -> Result<(), Fail> {
-    assert_eq!(rt;
-        wrong_in_part(rt.alloc(), Format::Original, &WIDEST, 0, 4)?,
-        None
-    );
-    Ok(())
-}
-
-#[test]
-fn changes_in_the_second_quarter_of_the_widest_image_are_refused(
-    rt: HostRuntime,
-) -> Result<(), Fail> {
-    assert_eq!(rt;
-        wrong_in_part(rt.alloc(), Format::Original, &WIDEST, 1, 4)?,
-        None
-    );
-    Ok(())
-}
-
-#[test]
-fn changes_in_the_third_quarter_of_the_widest_image_are_refused(
-    rt: HostRuntime,
-) -> Result<(), Fail> {
-    assert_eq!(rt;
-        wrong_in_part(rt.alloc(), Format::Original, &WIDEST, 2, 4)?,
-        None
-    );
-    Ok(())
-}
-
-#[test]
-fn changes_in_the_last_quarter_of_the_widest_image_are_refused(
-    rt: HostRuntime,
-) -> Result<(), Fail> {
-    assert_eq!(rt;
-        wrong_in_part(rt.alloc(), Format::Original, &WIDEST, 3, 4)?,
-        None
-    );
-    Ok(())
-}
-
-/// Two levels in hash blocks of 4096 bytes, in which bits are changed for three data blocks.
-const DISK_PAGES: [(Format, Row); 2] = [
+/// Two levels in larger hash blocks, in which bits are changed for three data blocks.
+const WIDE_DISKS: [(Format, Row); 3] = [
     (
         Format::Current,
         (SHA256, b"", (512, 4096), (128, 32), (129, 2)),
@@ -364,9 +278,15 @@ const DISK_PAGES: [(Format, Row); 2] = [
         Format::Current,
         (SHA512, b"salt", (1024, 4096), (64, 64), (65, 2)),
     ),
+    (
+        Format::Original,
+        (SHA1, b"", (512, 4096), (128, 20), (129, 2)),
+    ),
 ];
 
-const FILE_PAGES: [(Format, Row); 2] = [
+const WIDE_FILES: [(Format, Row); 4] = [
+    (Format::File, (SHA256, b"", (2048, 2048), (64, 32), (65, 2))),
+    (Format::File, (SHA512, b"", (2048, 2048), (32, 64), (33, 2))),
     (
         Format::File,
         (SHA256, b"", (4096, 4096), (128, 32), (129, 2)),
@@ -375,7 +295,7 @@ const FILE_PAGES: [(Format, Row); 2] = [
 ];
 
 /// What is answered wrongly, where bits are changed for the first, the middle and the last data block.
-fn wrong_page_row(alloc: Global, rows: &[(Format, Row)]) -> Result<Wrong, Fail> {
+fn wrong_wide_row(alloc: Global, rows: &[(Format, Row)]) -> Result<Wrong, Fail> {
     for (format, row) in rows {
         let image = image_of(alloc, *format, row)?;
         for i in 0..image.blocks {
@@ -393,13 +313,13 @@ fn wrong_page_row(alloc: Global, rows: &[(Format, Row)]) -> Result<Wrong, Fail> 
 }
 
 #[test]
-fn changes_in_pages_of_disks_are_refused(rt: HostRuntime) -> Result<(), Fail> {
-    assert_eq!(rt; wrong_page_row(rt.alloc(), &DISK_PAGES)?, None);
+fn changes_in_wide_disks_are_refused(rt: HostRuntime) -> Result<(), Fail> {
+    assert_eq!(rt; wrong_wide_row(rt.alloc(), &WIDE_DISKS)?, None);
     Ok(())
 }
 
 #[test]
-fn changes_in_pages_of_files_are_refused(rt: HostRuntime) -> Result<(), Fail> {
-    assert_eq!(rt; wrong_page_row(rt.alloc(), &FILE_PAGES)?, None);
+fn changes_in_wide_files_are_refused(rt: HostRuntime) -> Result<(), Fail> {
+    assert_eq!(rt; wrong_wide_row(rt.alloc(), &WIDE_FILES)?, None);
     Ok(())
 }
