@@ -1,21 +1,25 @@
 # The commands that the README names. They need the Rattle toolchain, with `rt` on the PATH; `make help` lists them.
 
+# For which processor programs are built: the one that builds them. CPU=x86-64-v2 makes programs that run everywhere.
+CPU = $(shell ./processor.sh)
+
 # Where `make install` puts things, and what it adds to the programs' names, so that they can stand beside Debian's.
 PREFIX = /usr/local
 DESTDIR =
 SUFFIX = -proved
 
-.PHONY: run programs test check gate check-programs out-of-memory interop kernel bench bench_bare install clean help
+.PHONY: run programs test check gate check-programs out-of-memory interop kernel bench reproducible install uninstall \
+    clean help
 
 # Proves and builds the one program that this needs, and prints the digest of a real file.
 run:
-	./build.sh fsverity_cli fsverity
+	./build.sh fsverity_cli fsverity $(CPU)
 	bin/fsverity digest README.md
 
 # Proves and builds bin/fsverity and bin/veritysetup.
 programs:
-	./build.sh fsverity_cli fsverity
-	./build.sh veritysetup_cli veritysetup
+	./build.sh fsverity_cli fsverity $(CPU)
+	./build.sh veritysetup_cli veritysetup $(CPU)
 
 # All tests: the gate, then the programs that it built, the documents' examples, and Debian's programs beside them.
 test:
@@ -47,22 +51,22 @@ interop: programs
 kernel: programs
 	tests/kernel.sh
 
-# Measures throughput and peak memory.
-bench: programs bench_bare
+# Measures the programs beside bare hashing and Debian's programs, and prints the tables of README.md.
+bench: programs
+	./build.sh bench_bare bench_bare $(CPU)
 	bench/bench.sh
 
-bench_bare:
-	./build.sh bench_bare bench_bare
+# Builds both programs once more in another folder, and compares their bytes.
+reproducible: programs
+	tests/reproducible.sh
 
-# Installs programs and manual pages. They aren't built here, so that no proof runs as root.
-install:
-	@test -x bin/fsverity -a -x bin/veritysetup || { echo "run 'make programs' first" >&2; exit 1; }
-	install -d $(DESTDIR)$(PREFIX)/bin $(DESTDIR)$(PREFIX)/sbin
-	install -d $(DESTDIR)$(PREFIX)/share/man/man1 $(DESTDIR)$(PREFIX)/share/man/man8
-	install -m 755 bin/fsverity $(DESTDIR)$(PREFIX)/bin/fsverity$(SUFFIX)
-	install -m 755 bin/veritysetup $(DESTDIR)$(PREFIX)/sbin/veritysetup$(SUFFIX)
-	install -m 644 man/fsverity.1 $(DESTDIR)$(PREFIX)/share/man/man1/fsverity$(SUFFIX).1
-	install -m 644 man/veritysetup.8 $(DESTDIR)$(PREFIX)/share/man/man8/veritysetup$(SUFFIX).8
+# Installs programs, manual pages and bash's completion; or removes just these. Nothing is built here, so that no proof
+# runs as root.
+install uninstall: export PREFIX := $(PREFIX)
+install uninstall: export DESTDIR := $(DESTDIR)
+install uninstall: export SUFFIX := $(SUFFIX)
+install uninstall:
+	@./install.sh $@
 
 # Removes what was built and what the proofs left for later ones.
 clean:
@@ -70,7 +74,7 @@ clean:
 
 help:
 	@echo 'make run             proves and builds fsverity, and prints the digest of a file'
-	@echo 'make programs        proves and builds bin/fsverity and bin/veritysetup'
+	@echo 'make programs        proves and builds bin/fsverity and bin/veritysetup (CPU)'
 	@echo 'make test            all tests: the gate, the programs as a user runs them, documents, comparisons'
 	@echo 'make check           all tests but the gate'
 	@echo 'make gate            every proof from nothing, wrong bodies, tests, stored runs'
@@ -78,6 +82,8 @@ help:
 	@echo 'make out-of-memory   refuses each request for memory in turn'
 	@echo "make interop         compares them with Debian's programs, over all settings"
 	@echo 'make kernel          has the Linux kernel open the images, in a virtual machine (KERNEL, MODULES)'
-	@echo 'make bench           measures throughput and peak memory'
-	@echo 'make install         installs programs and manual pages (PREFIX, DESTDIR, SUFFIX)'
+	@echo 'make bench           measures speed and memory, beside bare hashing and the programs of Debian'
+	@echo 'make reproducible    builds once more in another folder, and compares the programs'
+	@echo 'make install         installs programs, manual pages and completion (PREFIX, DESTDIR, SUFFIX)'
+	@echo 'make uninstall       removes what make install with the same words has installed'
 	@echo 'make clean           removes what was built'

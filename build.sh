@@ -1,12 +1,21 @@
 #!/bin/bash
-# build.sh CRATE PROGRAM: proves and builds the program of crates/CRATE and puts it at bin/PROGRAM. Each crate that had
-# to be proved anew is named once it is.
+# build.sh CRATE PROGRAM [CPU]: proves and builds the program of crates/CRATE for a processor that `rt run --cpu` takes,
+# x86-64-v2 if none is said, and puts it at bin/PROGRAM. Each crate that had to be proved anew is named once it is.
+# bin/PROGRAM.made keeps for which processor and of what that was built, so that nothing is done where both are the same.
 set -euo pipefail
 cd "$(dirname "$0")"
-crate=$1 program=$2
+crate=$1 program=$2 cpu=${3:-x86-64-v2}
 built=crates/$crate/out/$crate
 log=$(mktemp)
 trap 'rm -f "$log"' EXIT
+
+# Prints the processor, the sum of all that programs are built of, and that of the program.
+made() {
+    echo "$cpu"
+    { rt version && find crates.txt crates/*/{src,specs,proofs} -type f -print0 2>/dev/null | sort -z | xargs -0 sha256sum; } |
+        sha256sum
+    sha256sum "bin/$program"
+}
 
 # Reads what `rt` says, and names each crate that it has proved.
 name_proved() {
@@ -19,10 +28,14 @@ name_proved() {
     done
 }
 
-echo "bin/$program: proving what has changed, and building"
+if [ -x "bin/$program" ] && [ -e "bin/$program.made" ] && cmp -s <(made) "bin/$program.made"; then
+    echo "bin/$program: built for $cpu, and nothing has changed"
+    exit
+fi
+echo "bin/$program: proving what has changed, and building for $cpu"
 # `rt run` proves, builds and then runs. Run without arguments the program may refuse: what counts is that it was built.
 rm -f "$built"
-(cd "crates/$crate" && rt run </dev/null 2>&1) | tee "$log" | name_proved || true
+(cd "crates/$crate" && rt run "--cpu=$cpu" </dev/null 2>&1) | tee "$log" | name_proved || true
 if [ ! -x "$built" ]; then
     cat "$log"
     echo "build.sh: $crate is not proved or not built" >&2
@@ -31,3 +44,4 @@ fi
 mkdir -p bin
 cp "$built" "bin/$program.new"
 mv "bin/$program.new" "bin/$program"
+made >"bin/$program.made"

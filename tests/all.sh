@@ -1,13 +1,22 @@
 #!/bin/bash
 # All tests: the gate, then the programs that it built, run as a user runs them, the examples of the documents, and the
-# comparisons with Debian's programs, where these are installed. The last line is 'N passed, M failed', over all parts.
-# With --without-gate the programs that are in bin/ are tested, and the output says that the gate was left out.
+# comparisons with Debian's programs, where these are installed. These go over the programs for each processor that
+# runs here. The last line is 'N passed, M failed', over all parts. With --without-gate the programs that are in bin/
+# are tested, and the output says that the gate was left out.
 set -u
 cd "$(dirname "$0")/.."
-parts=('rt ci' tests/built.sh)
-if [ "${1:-}" = --without-gate ]; then parts=(tests/no_gate.sh); fi
-# Files of a folder that only others read are not executable.
-for script in tests/programs/*.sh tests/readme.sh tests/manual.sh tests/install.sh tests/interop/*.sh; do
-    if [ -x "$script" ]; then parts+=("$script"); fi
+if [ "${1:-}" = --without-gate ]; then
+    parts=(tests/no_gate.sh)
+    builds=(bin)
+else
+    parts=('rt ci' tests/built.sh)
+    builds=(bin/x86-64-v2)
+    if [ "$(./processor.sh)" = x86-64-v3 ]; then builds+=(bin/x86-64-v3); fi
+fi
+for build in "${builds[@]}"; do
+    # Files of a folder that only others read are not executable.
+    for script in tests/programs/*.sh tests/processor.sh tests/readme.sh tests/manual.sh tests/interop/*.sh; do
+        if [ -x "$script" ]; then parts+=("env BIN=$build $script"); fi
+    done
 done
-BIN=bin exec tests/run.sh "${parts[@]}"
+BIN=bin exec tests/run.sh "${parts[@]}" tests/install.sh tests/completion.sh

@@ -1,6 +1,7 @@
 #!/bin/bash
-# Runs `make install` into a folder, and compares the files there, their modes and bytes with what README.md says; man
-# finds the pages there.
+# Runs `make install` into folders, with a space in their names too, and compares the files there, their modes and bytes
+# with what README.md says; man finds the pages there, and they and the completion speak of the installed names. After
+# `make uninstall` just these files are gone.
 set -u
 cd "$(dirname "$0")/.."
 . tests/checks.sh
@@ -8,25 +9,75 @@ has_program fsverity
 has_program veritysetup
 needs make make
 
-# installed FOLDER: the files below a folder with their modes, in order.
-installed() {
+# listed FOLDER: the files below a folder with their modes, in order.
+listed() {
     (cd "$1" && find . -type f -printf '%m %P\n' | sort -k 2)
 }
 
-# installs NAME PREFIX SUFFIX WORD..: `make install` with these words puts the four files there, and nothing else.
+# speaks PAGE FILE SUFFIX: an installed page is that of man/ with the names in its headings, its footer, its
+# examples and its references.
+speaks() {
+    local page=$1 file=$2 suffix=$3 name=${1%.*} other
+    case $name in
+    fsverity) other='veritysetup 8' ;;
+    *) other='fsverity 1' ;;
+    esac
+    same "$page$suffix: heading" ".Dt $(tr '[:lower:]' '[:upper:]' <<<"$name$suffix") ${page#*.}" "$(grep '^\.Dt' "$file")"
+    same "$page$suffix: name" ".Nm $name$suffix" "$(grep '^\.Nm [a-z]' "$file")"
+    same "$page$suffix: footer" ".Os $name$suffix $version" "$(grep '^\.Os' "$file")"
+    same "$page$suffix: the other page" ".Xr ${other% *}$suffix ${other#* }" "$(grep "^\.Xr ${other% *}" "$file" | sed 's/ ,$//')"
+    same "$page$suffix: examples" "$(grep -c "^\\$ $name " "man/$page")" "$(grep -c "^\\$ $name$suffix " "$file")"
+    # Elsewhere a page is as it was.
+    same "$page$suffix: other lines" "$(unlike "man/$page")" "$(unlike "$file")"
+}
+
+# unlike PAGE: the lines of a page in which no program is named by its installed name.
+unlike() {
+    grep -vE '^\.(Dt|Nm|Os|Xr) |^\$ (fsverity|veritysetup)' "$1"
+}
+
+# completes FILE NAME: the completion is for the installed name alone.
+completes() {
+    same "completion of $2" "complete -F _complete_${2%%-*} $2" "$(bash -c '. "$1" && complete -p' - "$1")"
+}
+
+# installs FOLDER PREFIX SUFFIX WORD..: `make install` with these words puts the six files there, and nothing else.
 installs() {
-    local name=$1 prefix=$2 suffix=$3 folder=$scratch/$1
+    local folder=$scratch/$1 prefix=$2 suffix=$3 share
     shift 3
     (umask 022 && make -s install DESTDIR="$folder" "$@") >"$scratch/.made" 2>&1 </dev/null
-    is_text "$name: what make says" '' "$scratch/.made"
-    same "$name: files" "755 $prefix/bin/fsverity$suffix
-755 $prefix/sbin/veritysetup$suffix
+    is_text "$folder: what make says" '' "$scratch/.made"
+    same "$folder: files" "755 $prefix/bin/fsverity$suffix
+755 $prefix/bin/veritysetup$suffix
+644 $prefix/share/bash-completion/completions/fsverity$suffix
+644 $prefix/share/bash-completion/completions/veritysetup$suffix
 644 $prefix/share/man/man1/fsverity$suffix.1
-644 $prefix/share/man/man8/veritysetup$suffix.8" "$(installed "$folder")"
-    same_bytes "$name: fsverity" bin/fsverity "$folder/$prefix/bin/fsverity$suffix"
-    same_bytes "$name: veritysetup" bin/veritysetup "$folder/$prefix/sbin/veritysetup$suffix"
-    same_bytes "$name: fsverity.1" man/fsverity.1 "$folder/$prefix/share/man/man1/fsverity$suffix.1"
-    same_bytes "$name: veritysetup.8" man/veritysetup.8 "$folder/$prefix/share/man/man8/veritysetup$suffix.8"
+644 $prefix/share/man/man8/veritysetup$suffix.8" "$(listed "$folder")"
+    same_bytes "$folder: fsverity" bin/fsverity "$folder/$prefix/bin/fsverity$suffix"
+    same_bytes "$folder: veritysetup" bin/veritysetup "$folder/$prefix/bin/veritysetup$suffix"
+    share=$folder/$prefix/share
+    speaks fsverity.1 "$share/man/man1/fsverity$suffix.1" "$suffix"
+    speaks veritysetup.8 "$share/man/man8/veritysetup$suffix.8" "$suffix"
+    completes "$share/bash-completion/completions/fsverity$suffix" "fsverity$suffix"
+    completes "$share/bash-completion/completions/veritysetup$suffix" "veritysetup$suffix"
+    if command -v mandoc >/dev/null; then
+        same "$folder: mandoc -T lint" '' "$(mandoc -T lint -W warning "$share"/man/man[18]/* 2>/dev/null)"
+    fi
+}
+
+# uninstalls FOLDER WORD..: `make uninstall` removes what was installed, and nothing that stands beside it.
+uninstalls() {
+    local folder=$scratch/$1 installed file beside
+    shift
+    installed=$(listed "$folder")
+    while read -r _ file; do
+        : >"$folder/${file%/*}/other"
+        : >"$folder/$file.other"
+    done <<<"$installed"
+    beside=$(listed "$folder" | grep -vxF "$installed")
+    make -s uninstall DESTDIR="$folder" "$@" >"$scratch/.made" 2>&1 </dev/null
+    is_text "$folder: what make uninstall says" '' "$scratch/.made"
+    same "$folder: what uninstall leaves" "$beside" "$(listed "$folder")"
 }
 
 # finds_page FOLDER SECTION NAME: man finds the installed page.
@@ -34,17 +85,24 @@ finds_page() {
     same "man $2 $3" "$1/man$2/$3.$2" "$(MANPATH=$1 man -w "$2" "$3" 2>&1)"
 }
 
+version=$(sed -nE 's/^## ([0-9.]+) .*/\1/p' CHANGELOG.md | head -n 1)
 installs plain usr/local -proved
 installs named usr '' PREFIX=/usr SUFFIX=
+installs 'a space  and "quotes"' 'opt/our programs' -x.y PREFIX='/opt/our programs' SUFFIX=-x.y
 if man --version 2>/dev/null | grep -q '^man [0-9]'; then
     finds_page "$scratch/plain/usr/local/share/man" 1 fsverity-proved
     finds_page "$scratch/plain/usr/local/share/man" 8 veritysetup-proved
 else
     echo 'left out: man is not installed'
 fi
-# Without programs in bin/ nothing is installed: here, over a copy of the Makefile alone.
+uninstalls plain
+uninstalls named PREFIX=/usr SUFFIX=
+uninstalls 'a space  and "quotes"' PREFIX='/opt/our programs' SUFFIX=-x.y
+runs 'a suffix with a slash' 2 '' any make -s --no-print-directory install DESTDIR="$scratch/none" SUFFIX=/x
+absent 'a suffix with a slash' "$scratch/none"
+# Without programs in bin/ nothing is installed: here, over copies of what makes them.
 mkdir "$scratch/empty"
-cp Makefile "$scratch/empty"
+cp Makefile install.sh "$scratch/empty"
 runs 'without programs' 2 '' any make -s -C "$scratch/empty" --no-print-directory install DESTDIR="$scratch/none"
 absent 'without programs' "$scratch/none"
 finish

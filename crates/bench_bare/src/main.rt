@@ -1,7 +1,7 @@
 //! The measure that the programs are held against: the hash of each block of a file, each after a salt of 32 bytes, by
 //! the crate `sha2`, and nothing else. It prints the exclusive or of the digests' first bytes.
 //!
-//! Words: sha256 or sha512, the size of a block (512, 1024 or 4096), and the file.
+//! Words: sha256 or sha512, the size of a block (512, 4096, 16384 or 65536), and the file.
 #![tactic(auto)]
 
 use sha2::{Digest, Sha256, Sha512};
@@ -46,11 +46,12 @@ fn main(rt: HostRuntime) -> io::Result<()> {
     };
     let size = match size.as_str() {
         "512" => 512,
-        "1024" => 1024,
+        "16384" => 16384,
+        "65536" => 65536,
         _ => 4096,
     };
     let mut file = File::open(&rt, name.as_str())?;
-    let mut buffer = [0; 4096];
+    let mut buffer = [0; 65536];
     let joined = hash_all(
         &mut file,
         function.as_str() == "sha512",

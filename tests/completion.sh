@@ -1,0 +1,110 @@
+#!/bin/bash
+# Completes words of both programs by the functions that bash calls for them, and compares what they offer with the
+# programs' own usage and the manual's values. BIN=FOLDER takes the programs of another folder.
+set -u
+cd "$(dirname "$0")/.."
+. tests/checks.sh
+. completions/fsverity
+. completions/veritysetup
+has_program fsverity
+has_program veritysetup
+
+# offers OFFERED WORD..: where the last of a line's words is being typed, all of this is offered, in order. Bash cuts
+# words at = too.
+offers() {
+    local offered=$1 function
+    shift
+    COMP_WORDS=("$@")
+    COMP_CWORD=$(($# - 1))
+    function=$(complete -p "$1" | sed -nE 's/^complete -F ([a-z_]+) .*/\1/p')
+    COMPREPLY=()
+    "$function" "$1" "${@: -1}" "${@: -2:1}"
+    same "offered after: $*" "$offered" "${COMPREPLY[*]-}"
+}
+
+# usage PROGRAM COMMAND: the options that the program's usage lists, in order.
+usage() {
+    "$BIN/$1" "$2" 2>&1 </dev/null | sed -n '/^Usage:/,$p' | grep -oE -e '--[a-z-]+' | tr '\n' ' ' | sed 's/ $//'
+}
+
+options() {
+    local command program
+    for command in 'veritysetup format' 'veritysetup verify' 'veritysetup dump' 'fsverity digest'; do
+        program=${command% *}
+        # shellcheck disable=SC2086
+        offers "$(usage $command)" $command -
+        if [[ $(usage "$program" "${command#* }") = --* ]]; then pass; else fail "$command" 'its usage has no option'; fi
+    done
+    offers '--data-block-size --data-blocks' veritysetup verify --data
+    offers '--salt' fsverity digest one --sa
+    offers '--uuid' veritysetup format --u
+    offers '' veritysetup verify --u
+    # An option that was given is not offered again, and a whole word is itself.
+    offers '--hash-block-size --hash-offset' veritysetup format --hash sha1 --has
+    offers '--hash-block-size' veritysetup verify --hash = sha1 --hash-offset 512 --hash-
+    offers '--compact' fsverity digest --compact
+    offers '' fsverity digest --compact --compa
+}
+
+values() {
+    local sizes='512 1024 2048 4096 8192 16384 32768 65536 131072 262144 524288'
+    offers 'format dump verify' veritysetup ''
+    offers 'dump' veritysetup d
+    offers 'digest' fsverity ''
+    offers '' fsverity x
+    offers 'sha256 sha512 sha384 sha224 sha1' veritysetup format --hash ''
+    offers 'sha256 sha224' veritysetup verify --hash sha2
+    offers 'sha256 sha512 sha384 sha224 sha1' veritysetup format --hash =
+    offers 'sha384' veritysetup format --hash = sha3
+    offers '0 1' veritysetup format image --format ''
+    offers "$sizes" veritysetup format --data-block-size ''
+    offers '16384' veritysetup format --hash-block-size = 16
+    offers 'sha256 sha512' fsverity digest --hash-alg ''
+    offers 'sha512' fsverity digest --hash-alg = sha5
+    offers "64 128 256 $sizes" fsverity digest --block-size ''
+    offers "128 256 $sizes" fsverity digest --hash-alg sha512 --block-size ''
+    offers '' veritysetup format --salt ''
+    offers '' veritysetup format --hash-offset = ''
+    offers '' fsverity digest --salt a
+}
+
+files() {
+    mkdir "$scratch/files"
+    : >"$scratch/files/a name"
+    : >"$scratch/files/image"
+    offers "$scratch/files/image" veritysetup format --hash sha1 "$scratch/files/i"
+    offers "$scratch/files/image" veritysetup verify "$scratch/data" "$scratch/files/i"
+    offers "$scratch/files/image" veritysetup dump --hash-offset 512 "$scratch/files/i"
+    offers "$scratch/files/a name" fsverity digest --compact "$scratch/files/a"
+    offers "$scratch/files/image" fsverity digest --out-merkle-tree "$scratch/files/i"
+    offers "$scratch/files/image" fsverity digest --out-descriptor = "$scratch/files/i"
+    offers '' fsverity digest "$scratch/files/none"
+}
+
+# Each value that is offered is one that the program takes.
+taken() {
+    local value
+    printf a >"$scratch/one"
+    sample 524288 >"$scratch/data"
+    for option in --hash-alg --block-size; do
+        COMP_WORDS=(fsverity digest "$option" '') COMP_CWORD=3
+        _complete_fsverity
+        for value in "${COMPREPLY[@]}"; do
+            runs "digest $option $value" 0 any '' "$BIN/fsverity" digest $option "$value" "$scratch/one"
+        done
+    done
+    for option in --hash --format --data-block-size --hash-block-size; do
+        COMP_WORDS=(veritysetup format "$option" '') COMP_CWORD=3
+        _complete_veritysetup
+        for value in "${COMPREPLY[@]}"; do
+            runs "format $option $value" 0 any '' \
+                "$BIN/veritysetup" format $option "$value" "$scratch/data" "$scratch/hash"
+        done
+    done
+}
+
+options
+values
+files
+taken
+finish
