@@ -1,0 +1,171 @@
+"""Measures the programs in bin/ beside Debian's, as bench/bench.sh says: python3 bench/measure.py SCRATCH-FOLDER.
+
+What counts is the processor's time, in the program and in the system for it, so that what else runs disturbs little; and
+of each command the least time of all rounds. In a round each command runs once, and every other round goes backwards.
+"""
+
+import os
+import re
+import subprocess
+import sys
+
+SCRATCH = sys.argv[1]
+SIZE = int(os.environ.get("SIZE", "32"))
+FILES = int(os.environ.get("FILES", "3000"))
+ROUNDS = int(os.environ.get("ROUNDS", "40"))
+SALT = "07" * 32
+BLOCKS = [(name, size) for name in ("sha256", "sha512") for size in (512, 4096, 16384, 65536)] + [("sha1", 4096)]
+OURS = {name: os.path.abspath(f"bin/{name}") for name in ("fsverity", "veritysetup", "bench_bare")}
+DEBIANS = {name: name for name in ("fsverity", "veritysetup")}
+
+
+def at(name):
+    """A path in the folder for what is measured."""
+    return f"{SCRATCH}/{name}"
+
+
+def seconds(words):
+    """Runs a command, which has to end with 0, and returns the processor's time that it took."""
+    quiet = [(os.POSIX_SPAWN_OPEN, stream, "/dev/null", os.O_WRONLY, 0) for stream in (1, 2)]
+    pid = os.posix_spawnp(words[0], words, os.environ, file_actions=quiet)
+    _, status, used = os.wait4(pid, 0)
+    if status:
+        sys.exit(f"{' '.join(words[:12])} ended with status {os.waitstatus_to_exitcode(status)}")
+    return used.ru_utime + used.ru_stime
+
+
+def least(commands):
+    """Returns the least time of each command of a dictionary; one that writes an image at `made` makes it anew."""
+    best = dict.fromkeys(commands, float("inf"))
+    for turn in range(ROUNDS):
+        for name in list(commands)[:: 1 - turn % 2 * 2]:
+            if os.path.exists(at("made")):
+                os.remove(at("made"))
+            best[name] = min(best[name], seconds(commands[name]))
+    return best
+
+
+def format_words(program, function, block, image):
+    sizes = [f"--data-block-size={block}", f"--hash-block-size={block}"]
+    return [program, "format", f"--hash={function}", *sizes, f"--salt={SALT}", at("data"), image]
+
+
+def block_commands(function, block):
+    """The commands over blocks of one size. Both programs verify one image, of which this makes the root hash."""
+    image = at(f"{function}.{block}")
+    report = subprocess.run(format_words(OURS["veritysetup"], function, block, image), capture_output=True, text=True, check=True)
+    root = re.search(r"^Root hash:\s*(\w+)$", report.stdout, re.M)[1]
+    found = {}
+    for who, programs in (("here", OURS), ("Debian's", DEBIANS)):
+        found["format", who] = format_words(programs["veritysetup"], function, block, at("made"))
+        found["verify", who] = [programs["veritysetup"], "verify", at("data"), image, root]
+        words = ["digest", f"--hash-alg={function}", f"--block-size={block}", f"--salt={SALT}", at("data")]
+        if function != "sha1":
+            found["digest", who] = [programs["fsverity"], *words]
+    if function != "sha1":
+        found["bare", "here"] = [OURS["bench_bare"], function, str(block), at("data")]
+    return {(function, block, *name): words for name, words in found.items()}
+
+
+def table(heads, rows):
+    """Prints a table, of which the heads that end with a colon are of numbers."""
+    print(f"\n| {' | '.join(it.rstrip(':') for it in heads)} |")
+    print(f"|{'|'.join('--:' if it.endswith(':') else '---' for it in heads)}|")
+    for row in rows:
+        print(f"| {' | '.join(row)} |")
+
+
+def throughput():
+    commands = {}
+    for function, block in BLOCKS:
+        commands.update(block_commands(function, block))
+    best = least(commands)
+    rows = []
+    for function, block in BLOCKS:
+        for command in ("format", "verify", "digest"):
+            if (function, block, command, "here") not in best:
+                continue
+            bare = best.get((function, block, "bare", "here"))
+            here, other = (best[function, block, command, who] for who in ("here", "Debian's"))
+            speeds = [f"{SIZE / it:.0f}" if it else "" for it in (bare, here, other)]
+            ratios = [f"{bare / here:.2f}" if bare else "", f"{other / here:.2f}"]
+            rows.append([function, str(block), command, *speeds, *ratios])
+    table(["Function", "Block:", "Command", "bare:", "here:", "Debian's:", "here / bare:", "here / Debian's:"], rows)
+
+
+def small():
+    os.mkdir(at("small"))
+    names = [at(f"small/{number}") for number in range(FILES)]
+    for number, name in enumerate(names):
+        with open(name, "w", encoding="ascii") as it:
+            it.write(f"{number:1000}")
+    open(at("empty"), "w", encoding="ascii").close()
+    commands = {}
+    for who, programs in (("here", OURS), ("Debian's", DEBIANS)):
+        commands[f"`fsverity digest`, {FILES} files of 1000 bytes", who] = [programs["fsverity"], "digest", *names]
+        commands["`fsverity digest`, an empty file: its start-up", who] = [programs["fsverity"], "digest", at("empty")]
+        commands["`veritysetup dump`: its start-up", who] = [programs["veritysetup"], "dump", at("sha256.4096")]
+    best = least(commands)
+    rows = []
+    for name in dict.fromkeys(name for name, _ in commands):
+        here, other = (best[name, who] * 1000 for who in ("here", "Debian's"))
+        rows.append([name, f"{here:.2f}", f"{other:.2f}", f"{other / here:.2f}"])
+    table(["Milliseconds of processor time", "here:", "Debian's:", "Debian's / here:"], rows)
+
+
+def peak(words):
+    """The most memory that a command held, in KiB."""
+    if os.path.exists(at("made")):
+        os.remove(at("made"))
+    subprocess.run(["/usr/bin/time", "-o", at("peak"), "-f", "%M", *words], stdout=subprocess.DEVNULL, check=True)
+    with open(at("peak"), encoding="ascii") as it:
+        return it.read().strip()
+
+
+def memory():
+    for name, size in (("little", 1 << 20), ("much", 1 << 30)):
+        with open(at(name), "w", encoding="ascii") as it:
+            it.truncate(size)
+    rows = []
+    for command in ("format", "digest"):
+        row = [f"`veritysetup {command}`" if command == "format" else f"`fsverity {command}`"]
+        for programs in (OURS, DEBIANS):
+            for data in (at("little"), at("much")):
+                if command == "format":
+                    row.append(peak([programs["veritysetup"], command, "--salt=-", data, at("made")]))
+                else:
+                    row.append(peak([programs["fsverity"], command, data]))
+        rows.append(row)
+    table(["Peak memory, KiB", "here, 1 MiB of data:", "here, 1 GiB:", "Debian's, 1 MiB:", "Debian's, 1 GiB:"], rows)
+
+
+def version(name):
+    """The version that one of Debian's programs says that it is."""
+    said = subprocess.run([name, "--version"], capture_output=True, text=True, check=True).stdout
+    return re.search(r"[0-9][0-9.]+", said)[0]
+
+
+def surroundings():
+    """Prints on what is measured."""
+    with open("/proc/cpuinfo", encoding="utf-8") as it:
+        text = it.read()
+    name = re.search(r"^model name\s*: *(.*)$", text, re.M)
+    flags = re.search(r"^flags\s*:(.*)$", text, re.M)[1].split()
+    avx2 = "with AVX2" if "avx2" in flags else "without AVX2"
+    sha = "with SHA instructions" if "sha_ni" in flags else "without SHA instructions"
+    built = set()
+    for program in OURS:
+        with open(f"bin/{program}.made", encoding="ascii") as it:
+            built.add(it.readline().strip())
+    print(f"Programs built for {' and '.join(sorted(built))}, on one core of an {name[1] if name else 'unknown processor'},")
+    print(f"{avx2} and {sha}, beside veritysetup {version('veritysetup')} and fsverity {version('fsverity')}:")
+    print(f"MiB a second of processor time, for {SIZE} MiB in the page cache with a salt of 32 bytes, the best of {ROUNDS}")
+    print("rounds. `bare` is the hashing of the same blocks, one after another, by the crate `sha2`.")
+
+
+with open(at("data"), "wb") as data:
+    data.write(b"".join(b"%d\n" % number for number in range((SIZE << 20) // 6))[: SIZE << 20].ljust(SIZE << 20, b"."))
+surroundings()
+throughput()
+small()
+memory()
