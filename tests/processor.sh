@@ -47,4 +47,6 @@ for flag in avx avx2 bmi1 bmi2 f16c fma abm movbe; do
     if ! grep -qw "$flag" /proc/cpuinfo; then found=x86-64-v2; fi
 done
 same 'processor.sh' "$found" "$(./processor.sh)"
+same 'processor.sh on Nehalem' x86-64-v2 "$(./processor.sh qemu-x86_64 -cpu Nehalem /lib64/ld-linux-x86-64.so.2)"
+same 'processor.sh without a loader' x86-64-v2 "$(./processor.sh "$scratch/missing")"
 finish
