@@ -4,7 +4,7 @@ use Rattle.std.specs.Prelude.{◌≡◌, ◌⊎◌, ℕ, ◌+◌, ◌<◌, ◌�
 use Rattle.std.specs.List.{concat, zip, flat_map, prefix_len}
 use Rattle.std.specs.Io.KnownBytes.{Appends}
 use Rattle.command_line.specs.Printing.{AppendsFront}
-use Rattle.verity_io.specs.Counting.{Rose}
+use Rattle.verity_io.specs.Counting.{Counts, Rose}
 use Rattle.verity_plan.specs.Settings.{Settings}
 use Rattle.fsverity.specs.Digests.{file_digest_of, is_too_large}
 use Rattle.fsverity.specs.Lines.{line}
@@ -80,6 +80,17 @@ pub record WritesUpTo (run : Run) (files : List (Option (List ℕ))) (f : ℕ) (
   pub stands : StandsOf (file_line run.settings run.form (slice_index_or run.names f []) file) part fault
   pub written : Appends old new (lines run.settings run.form (take f (zip run.names files)) ++ part)
 
+-- how the opener's count goes with a fault: a failed read raises it by one, and only a file that is not opened may raise
+-- it too
+abbrev pub CountsFault : RunFault → ℕ → ℕ → Type 0
+CountsFault NotOpened before after = before ≤ after
+CountsFault (Digest TooLarge) before after = Counts false before after
+CountsFault (Digest (SourceShort i)) before after = Counts false before after
+CountsFault (Digest (SourceFailed i)) before after = Counts true before after
+CountsFault (Digest (DeviceFailed level block)) before after = Counts false before after
+CountsFault (Digest Memory) before after = Counts false before after
+CountsFault NotWritten before after = Counts false before after
+
 -- a run ended at file f, the next one is after it, and no file before it is absent or too large
 pub record EndsAt (run : Run) (opener : OpenerChange) (out out' msgs msgs' : Option (List ℕ)) : Type 0 where
   pub f : ℕ
@@ -88,5 +99,6 @@ pub record EndsAt (run : Run) (opener : OpenerChange) (out out' msgs msgs' : Opt
   pub is_next : opener.next_after ≡ f + 1
   pub within : opener.told → f ≤ stop run.settings opener.files
   pub reason : HasReason run.settings opener f fault
+  pub counted : CountsFault fault opener.failures_before opener.failures_after
   pub message : AppendsFront (run_fault_text fault (slice_index_or run.names f [])) msgs msgs'
   pub written : opener.told → WritesUpTo run opener.files f fault out out'

@@ -1,11 +1,11 @@
 //! A run over files, one after another.
-ghost use Rattle.std.specs.Prelude.{◌≡◌, ◌⊎◌, ◌+◌, ◌<◌, ◌≤◌, length, map, IfOk, IfErr};
+ghost use Rattle.std.specs.Prelude.{◌≡◌, ◌⊎◌, ◌+◌, ◌<◌, ◌≤◌, length, map, IfOk, IfErr, MatchResult};
 ghost use Rattle.std.specs.Io.KnownBytes.{Appends};
 ghost use Rattle.std.specs.List.{zip};
 ghost use Rattle.verity_hash.specs.declared.salting.SaltRule.TheVariants.{PaddedBefore};
 ghost use Rattle.verity_plan.specs.Settings.{digest_len};
 ghost use Rattle.fsverity.specs.Opening.{SameFiles, opener_change};
-ghost use Rattle.fsverity.specs.Runs.{EndsAt, lines, stop};
+ghost use Rattle.fsverity.specs.Runs.{CountsFault, EndsAt, lines, stop};
 ghost use Rattle.fsverity.specs.RunSteps.{IsDigestAt, StopsStep, WritesStep};
 
 use crate::line_printing::print_line;
@@ -27,6 +27,8 @@ fn digest_opened<O: Opener>(
     ensures failures { O.failures opener.old ≤ O.failures opener.new }
     ensures reason { IfErr result (StopsStep settings.now
         (opener_change O.tells O.files O.next O.failures opener.old opener.new)) }
+    ensures counted { MatchResult result (λ _. O.failures opener.new ≡ O.failures opener.old)
+        (λ fault. CountsFault fault (O.failures opener.old) (O.failures opener.new)) }
     ensures length { IfOk result (λ made. length made.digest ≡ digest_len settings.now) }
     ensures digest { O.tells opener.old
         → IfOk result (IsDigestAt settings.now (O.files opener.old) (O.next opener.old)) }
@@ -60,6 +62,8 @@ fn digest_next<O: Opener, W: Write>(
     ensures failures { O.failures opener.old ≤ O.failures opener.new }
     ensures reason { IfErr result (StopsStep settings.now
         (opener_change O.tells O.files O.next O.failures opener.old opener.new)) }
+    ensures counted { MatchResult result (λ _. O.failures opener.new ≡ O.failures opener.old)
+        (λ fault. CountsFault fault (O.failures opener.old) (O.failures opener.new)) }
     ensures written { O.tells opener.old → WritesStep (record {
       settings = settings.now;
       form = form;
@@ -100,6 +104,7 @@ pub fn run_digest<O: Opener, W: Write, M: Write>(
     // All files have lines.
     ensures done { result ≡ 0 → O.next opener.new ≡ length names.now }
     ensures quiet { result ≡ 0 → msgs.new ≡ msgs.old }
+    ensures calm { result ≡ 0 → O.failures opener.new ≡ O.failures opener.old }
     ensures all { O.tells opener.old → result ≡ 0 → stop settings.now (O.files opener.old) ≡ length names.now }
     ensures lines { O.tells opener.old → result ≡ 0
         → Appends (W.contents out.old) (W.contents out.new)

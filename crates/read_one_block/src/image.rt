@@ -64,6 +64,13 @@ impl<A: Device, B: Device> Image<A, B> {
         requires path { length path.old ≡ levels_of self.old.plan * self.old.plan.settings.hash_block }
         ensures plan { self.new.plan ≡ self.old.plan }
         ensures root { self.new.root ≡ self.old.root }
+
+        // Nothing is written.
+        ensures data_told { A.tells self.old.data → A.tells self.new.data }
+        ensures tree_told { B.tells self.old.tree → B.tells self.new.tree }
+        ensures data_stays { A.tells self.old.data → A.content self.new.data ≡ A.content self.old.data }
+        ensures tree_stays { B.tells self.old.tree → B.content self.new.tree ≡ B.content self.old.tree }
+
         ensures right { OnOk result ((bytes : List ℕ)
             → self.old.root ≡ root self.old.plan.settings (data_blocks self.old.plan bytes)
             → IsRight self.old.plan bytes i block.new path.new) }

@@ -7,6 +7,8 @@ mod cases;
 #[cfg(test)]
 mod comparing;
 #[cfg(test)]
+mod failed_reads;
+#[cfg(test)]
 mod faults_in_turn;
 #[cfg(test)]
 mod four_messages;

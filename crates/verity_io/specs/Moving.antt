@@ -1,7 +1,8 @@
 -- What a read or a write at an offset of a file is: lseek(2), and then read(2) or write(2) of POSIX, as far as the file
 -- says where it stands and what bytes it has.
 use Rattle.std.specs.Prelude.{◌≡◌, ℕ, ◌<◌, ◌≤◌, List, length, take, Option, Some, IfSome}
-use Rattle.std.specs.Io.KnownBytes.{Consumes, IsAtEnd}
+use Rattle.std.specs.Io.KnownBytes.{Consumes, IsAtEnd, Keeps}
+use Rattle.std.specs.Io.Seek.{StaysAt}
 use Rattle.verity_io.specs.declared.file_device.FileDevice.{FileDevice}
 
 -- the file of a device
@@ -21,3 +22,8 @@ Fills before after k buf = Consumes before after (take k buf) × (k < length buf
 -- nothing was read, and the file ends at the offset or before it
 abbrev pub EndsBefore : Option ℕ → Option (List ℕ) → ℕ → ℕ → Type 0
 EndsBefore position bytes at k = (k ≡ 0) × IfSome position (λ _. IfSome bytes (λ xs. length xs ≤ at))
+
+-- the file stands where it stood, with its bytes
+pub record Stays (position position' : Option ℕ) (bytes bytes' : Option (List ℕ)) : Type 0 where
+  pub place : StaysAt position position'
+  pub kept : Keeps bytes bytes'

@@ -1,9 +1,9 @@
 //! A device over an opened file.
-ghost use Rattle.std.specs.Prelude.{◌≡◌, ◌⊎◌, ◌≤◌, ◌+◌, [], length, IfOk, IfSome, OnOk};
+ghost use Rattle.std.specs.Prelude.{◌≡◌, ◌⊎◌, ◌≤◌, ◌+◌, [], length, IfOk, IfSome, OnOk, OnErr};
 ghost use Rattle.std.specs.Io.KnownBytes.{Appends, Keeps};
 ghost use Rattle.std.specs.Io.Seek.{MovesTo};
 ghost use Rattle.verity_io.specs.Counting.{CountsFailure};
-ghost use Rattle.verity_io.specs.Moving.{file_of, EndsBefore, Fills, From};
+ghost use Rattle.verity_io.specs.Moving.{file_of, EndsBefore, Fills, From, Stays};
 ghost use Rattle.verity_io.specs.Writing.{most_bytes};
 
 use crate::device::Device;
@@ -78,6 +78,12 @@ impl<F: Read + Write + Seek> Device for FileDevice<F> {
             (⟦<FileDevice<F> as Device>⟧.failures self.new) result }
         ensures bytes { OnOk result (From F.stream_position (file_of self.old) at (λ moved.
             Appends (F.contents moved) (F.contents (file_of self.new)) bytes.now)) }
+        // A failure: nothing changed, or the file was moved to the offset, with its bytes, before anything was written.
+        ensures failed { OnErr result (
+            Stays (F.stream_position (file_of self.old)) (F.stream_position (file_of self.new))
+            (F.stream_bytes (file_of self.old)) (F.stream_bytes (file_of self.new))
+            ⊎ From F.stream_position (file_of self.old) at (λ moved.
+            Keeps (F.stream_bytes (file_of self.old)) (F.stream_bytes moved))) }
     {
         let outcome = write_from(&mut self.file, at, bytes);
         counted(&mut self.failures, outcome)
@@ -135,8 +141,12 @@ fn read_refused<F: Seek>(file: &mut F, at: u64) -> Result<usize, Failed>
 
 // `write_all` tries an interrupted write again, and fails where a write takes nothing.
 fn write_from<F: Write + Seek>(file: &mut F, at: u64, bytes: &[u8]) -> Result<(), Failed>
-    ensures { OnOk result (From F.stream_position file.old at (λ moved.
+    ensures bytes { OnOk result (From F.stream_position file.old at (λ moved.
         Appends (F.contents moved) (F.contents file.new) bytes.now)) }
+    ensures failed { OnErr result (
+        Stays (F.stream_position file.old) (F.stream_position file.new)
+        (F.stream_bytes file.old) (F.stream_bytes file.new)
+        ⊎ From F.stream_position file.old at (λ moved. Keeps (F.stream_bytes file.old) (F.stream_bytes moved))) }
 {
     move_to(file, at)?;
     write_whole(file, bytes)

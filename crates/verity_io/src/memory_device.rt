@@ -1,7 +1,8 @@
 //! A device in memory.
 ghost use Rattle.std.specs.Prelude.{◌≡◌, ◌≤◌, ◌<◌, ◌+◌, ◌-◌, ◌++◌, length, take, drop, replicate, IfOk, IsErr, IsOk};
-ghost use Rattle.std.specs.Prelude.{OnOk, OnErr};
+ghost use Rattle.std.specs.Prelude.{OnOk, OnErr, vec_capacity};
 ghost use Rattle.verity_io.specs.Counting.{CountsFailure};
+ghost use Rattle.verity_io.specs.Growing.{room_of};
 ghost use Rattle.verity_io.specs.Reading.{ReadsAt};
 ghost use Rattle.verity_io.specs.Writing.{most_bytes, put, Spoiled};
 
@@ -9,8 +10,8 @@ use crate::device::Device;
 use crate::failed::{Failed, counted};
 use std::alloc::AllocError;
 
-/// Bytes in memory, which grow by their vector's allocator. Where a write finds no memory to grow, it fails and leaves
-/// them.
+/// Bytes in memory, which grow by their vector's allocator. Where a write ends past the vector's room and finds no memory
+/// to grow, it fails and leaves them.
 #[derive(Drop)]
 pub struct MemoryDevice {
     bytes: Vec<u8>,
@@ -23,6 +24,7 @@ impl MemoryDevice {
         ensures told { ⟦<MemoryDevice as Device>⟧.tells result }
         ensures content { ⟦<MemoryDevice as Device>⟧.content result ≡ bytes.items }
         ensures failures { ⟦<MemoryDevice as Device>⟧.failures result ≡ 0 }
+        ensures room { room_of result ≡ vec_capacity bytes }
     {
         MemoryDevice { bytes, failures: 0 }
     }
@@ -35,7 +37,8 @@ impl MemoryDevice {
     }
 }
 
-/// A read never fails. A write fails only where the bytes have to grow, and leaves them then.
+/// A read never fails. A write fails only where the bytes have to grow past the vector's room, and leaves them then. The
+/// room never becomes smaller.
 impl Device for MemoryDevice {
     ghost tells = { λ _. Unit {0} };
 
@@ -66,6 +69,8 @@ impl Device for MemoryDevice {
     fn write_at(&mut self, at: u64, bytes: &[u8]) -> Result<(), Failed>
         requires { at + length bytes.now ≤ most_bytes }
         ensures grows { IsErr result → length (⟦<MemoryDevice as Device>⟧.content self.old) < at + length bytes.now }
+        ensures full { IsErr result → room_of self.old < at + length bytes.now }
+        ensures room { room_of self.old ≤ room_of self.new }
         ensures left { OnErr result
             (⟦<MemoryDevice as Device>⟧.content self.new ≡ ⟦<MemoryDevice as Device>⟧.content self.old) }
         ensures told { ⟦<MemoryDevice as Device>⟧.tells self.old → ⟦<MemoryDevice as Device>⟧.tells self.new }
@@ -88,6 +93,8 @@ fn put_at(bytes: &mut Vec<u8>, at: usize, others: &[u8]) -> Result<(), Failed>
     ensures ok { OnOk result (bytes.new.items ≡ put bytes.old.items at others.now) }
     ensures err { OnErr result (bytes.new.items ≡ bytes.old.items) }
     ensures grows { IsErr result → length bytes.old.items < at + length others.now }
+    ensures full { IsErr result → vec_capacity bytes.old < at + length others.now }
+    ensures room { vec_capacity bytes.old ≤ vec_capacity bytes.new }
 {
     match fill_up(bytes, at + others.len()) {
         Ok(()) => {
@@ -103,6 +110,8 @@ fn fill_up(bytes: &mut Vec<u8>, len: usize) -> Result<(), AllocError>
     ensures ok { OnOk result (bytes.new.items ≡ bytes.old.items ++ replicate (len - length bytes.old.items) 0) }
     ensures err { OnErr result (bytes.new.items ≡ bytes.old.items) }
     ensures grows { IsErr result → length bytes.old.items < len }
+    ensures full { IsErr result → vec_capacity bytes.old < len }
+    ensures room { vec_capacity bytes.old ≤ vec_capacity bytes.new }
 {
     if bytes.len() < len {
         bytes.resize(len, 0)?;
@@ -112,7 +121,9 @@ fn fill_up(bytes: &mut Vec<u8>, len: usize) -> Result<(), AllocError>
 
 fn overwrite(bytes: &mut Vec<u8>, at: usize, others: &[u8])
     requires { at + length others.now ≤ length bytes.old.items }
-    ensures { bytes.new.items ≡ take at bytes.old.items ++ others.now ++ drop (at + length others.now) bytes.old.items }
+    ensures bytes { bytes.new.items
+        ≡ take at bytes.old.items ++ others.now ++ drop (at + length others.now) bytes.old.items }
+    ensures room { vec_capacity bytes.new ≡ vec_capacity bytes.old }
 {
     bytes[at..at + others.len()].copy_from_slice(others);
 }

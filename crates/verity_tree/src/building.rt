@@ -59,7 +59,7 @@ pub fn build<S: Source, D: Device>(
         → BuildsImage plan.now (data_blocks plan.now (S.remaining source.old))
         result (D.content device.old) (D.content device.new) }
 {
-    match pass(plan, Task::Write, &mut store.bytes, source, device) {
+    match pass(plan, Task::Write, store.lend(), source, device) {
         Ok(root) => Ok(root),
         Err(PassFault::SourceShort(i)) => Err(BuildFault::SourceShort(i)),
         Err(PassFault::SourceFailed(i)) => Err(BuildFault::SourceFailed(i)),

@@ -69,7 +69,7 @@ pub fn compare<S: Source, D: Device>(
     ensures verdict { S.tells source.old → D.tells device.old
         → Judges plan.now (D.content device.old) (S.remaining source.old) root.now result }
 {
-    judge(plan, &mut store.bytes, source, device, root)
+    judge(plan, store.lend(), source, device, root)
 }
 
 /// The comparison, in the bytes of a store.

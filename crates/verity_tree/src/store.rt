@@ -1,6 +1,8 @@
 //! The memory that a pass over the data works in.
-ghost use Rattle.std.specs.Prelude.{◌≡◌, ◌↔◌, IfOk, IsTrue};
+ghost use Rattle.std.specs.Borrow.{Array, Lends, sem, u8 as byte};
+ghost use Rattle.std.specs.Prelude.{◌≡◌, ◌↔◌, length, vec_capacity, IfOk, IsTrue};
 ghost use Rattle.verity_plan.specs.Plans.{store_length_of};
+ghost use Rattle.verity_tree.specs.contracts.store.Store.{the_row};
 
 use std::alloc::{AllocError, Global};
 use std::marker::Model;
@@ -10,7 +12,7 @@ use verity_plan::Plan;
 /// Contracts see its length in bytes, and for how many bytes it has memory.
 #[derive(Drop)]
 pub struct Store {
-    pub(crate) bytes: Vec<u8>,
+    bytes: Vec<u8>,
 }
 
 impl Model for Store {
@@ -23,11 +25,12 @@ impl Model for Store {
 }
 
 impl Store {
-    /// A store for a plan. The error is out of memory.
+    /// A store for a plan, with memory for just its length. The error is out of memory.
     pub fn new(alloc: Global, plan: &Plan) -> Result<Store, AllocError>
-        ensures { IfOk result (λ store. store.length ≡ store_length_of plan.now) }
+        ensures length { IfOk result (λ store. store.length ≡ store_length_of plan.now) }
+        ensures room { IfOk result (λ store. store.room ≡ store_length_of plan.now) }
     {
-        let bytes = vec![in alloc; 0u8; plan.store_length()]?;
+        let bytes = zeros(alloc, plan.store_length())?;
         Ok(Store { bytes })
     }
 
@@ -37,4 +40,24 @@ impl Store {
     {
         self.bytes.len() == plan.store_length()
     }
+
+    /// Lends its bytes. Who has them can't ask for more memory.
+    pub(crate) fn lend(&mut self) -> &mut [u8]
+        ensures* kept { sem 𝓛 (Lends the_row (Array byte 0) self.entry result (λ _. self.old)) }
+        ensures len { length result.now ≡ self.old.length }
+    {
+        &mut self.bytes
+    }
+}
+
+/// So many zeros, with memory for no more.
+fn zeros(alloc: Global, count: usize) -> Result<Vec<u8>, AllocError>
+    ensures length { IfOk result (λ bytes. length bytes.items ≡ count) }
+    ensures room { IfOk result (λ bytes. vec_capacity bytes ≡ count) }
+{
+    let mut bytes = Vec::with_capacity(alloc, count)?;
+    while bytes.len() < count {
+        bytes.push_reserved(0);
+    }
+    Ok(bytes)
 }

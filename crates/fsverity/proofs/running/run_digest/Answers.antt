@@ -31,7 +31,8 @@ returns-in-Err-clause-ended g c = λ _.
       reason = stops_run c.args.settings.now (change c.args.opener.now c.digest_next.new.opener)
           (change c.loop-name.opener c.digest_next.new.opener) c.loop-name.name-index c.in-Err.fault
           c.loop-name.invariant.same.told c.loop-name.invariant.same.files c.loop-name.invariant.next
-          c.loop-name.invariant.within c.loop-name.invariant.failures refl c.in-Err.ensures.reason;
+          c.loop-name.invariant.within (omega (arith, c.loop-name.invariant.failures)) refl c.in-Err.ensures.reason;
+      counted = rw c.loop-name.invariant.failures at c.in-Err.ensures.counted;
       message = rw (get_or_from_slice_get _ _ _ _ named) (rw c.loop-name.invariant.quiet at c.tell.ensures.front);
       written = λ t.
           let part = c.in-Err.ensures.written (c.loop-name.invariant.same.told.0 t) in
@@ -52,7 +53,7 @@ loop-name-preserved g c =
         files = c.digest_next.ensures.same.files ∙ c.loop-name.invariant.same.files;
         count = c.digest_next.ensures.same.count ∙ c.loop-name.invariant.same.count;
       };
-      failures = omega (arith, c.loop-name.invariant.failures, c.digest_next.ensures.failures);
+      failures = c.in-Ok.ensures.counted ∙ c.loop-name.invariant.failures;
       quiet = c.loop-name.invariant.quiet;
       within = λ t.
           let written = c.in-Ok.ensures.written (c.loop-name.invariant.same.told.0 t) in

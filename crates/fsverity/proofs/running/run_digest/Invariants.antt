@@ -9,7 +9,7 @@ abbrev pub invariant-loop-name : goal.invariant-loop-name
 invariant-loop-name g l = record {
   next : g.O.Opener.next l.opener ≡ l.name-index;
   same : SameFiles g.O.Opener.tells g.O.Opener.files g.O.Opener.count l.fn.opener l.opener;
-  failures : g.O.Opener.failures l.fn.opener ≤ g.O.Opener.failures l.opener;
+  failures : g.O.Opener.failures l.opener ≡ g.O.Opener.failures l.fn.opener;
   quiet : l.msgs ≡ l.fn.msgs;
   within : g.O.Opener.tells l.fn.opener → l.name-index ≤ stop l.settings (g.O.Opener.files l.fn.opener);
   out : g.O.Opener.tells l.fn.opener → Appends (g.W.Write.contents l.fn.out) (g.W.Write.contents l.out)
