@@ -3,3 +3,4 @@ pub mod Reading
 pub mod Writing
 pub mod Fusing
 pub mod Moving
+pub mod Syncing
