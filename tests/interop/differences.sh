@@ -6,6 +6,7 @@ set -u
 cd "$(dirname "$0")/../.."
 . tests/checks.sh
 . tests/programs/images.sh
+. tests/programs/loops.sh
 has_program fsverity
 has_program veritysetup
 needs_other veritysetup cryptsetup-bin
@@ -59,6 +60,14 @@ says_not() {
     else
         pass
     fi
+}
+
+# unread COMMAND..: runs a command whose standard output is a pipe that nobody reads, where SIGPIPE ends a program.
+unread() {
+    rm -f "$scratch/unread"
+    mkfifo "$scratch/unread"
+    # shellcheck disable=SC2016
+    env --default-signal=PIPE bash -c 'exec 8<>"$0" && exec 9>"$0" && exec 8>&- && exec "$@" >&9' "$scratch/unread" "$@"
 }
 
 # size BYTES FILE: how long a file is.

@@ -64,11 +64,39 @@ files() {
     absent 'missing data' "$hash"
     runs 'a hash file in a missing folder' 4 '' "Cannot open $scratch/none/hash." \
         "$veritysetup" format "$data" "$scratch/none/hash"
+    runs 'a folder as the data' 4 '' "Cannot open $scratch." "$veritysetup" format "$scratch" "$hash"
+    absent 'a folder as the data' "$hash"
     runs 'a folder as the hash file' 4 '' "Cannot open $scratch." "$veritysetup" format "$data" "$scratch"
     runs 'a device that keeps nothing as the hash file' 0 any '' \
         "$veritysetup" format "${image_17_options[@]}" "$data" /dev/null
     runs 'a full device as the hash file' 4 '' 'Cannot write hash block 0 of level 0.' \
         "$veritysetup" format "${image_17_options[@]}" "$data" /dev/full
+}
+
+# More data blocks than there are: the hash file is neither made nor touched.
+short_data() {
+    local both=$scratch/short_both
+    rm -f "$hash"
+    sample 8703 >"$scratch/cut"
+    runs 'more data blocks than there are' 4 '' 'Data ends before the end of block 17.' \
+        "$veritysetup" format --data-blocks 18 "${image_17_options[@]}" "$data" "$hash"
+    absent 'more data blocks than there are' "$hash"
+    sample 3000 >"$hash"
+    cp "$hash" "$scratch/expected"
+    touch -d '2001-02-03 04:05:06' "$hash"
+    runs 'data that is a byte short' 4 '' 'Data ends before the end of block 16.' \
+        "$veritysetup" format --data-blocks 17 "${image_17_options[@]}" "$scratch/cut" "$hash"
+    same_bytes 'data that is a byte short: the hash file' "$scratch/expected" "$hash"
+    same 'data that is a byte short: when the hash file was changed' '2001-02-03 04:05:06' "$(stat -c %y "$hash" | cut -c1-19)"
+    cp "$data" "$both"
+    runs 'one file that would grow by its own tree' 4 '' 'Data ends before the end of block 17.' \
+        "$veritysetup" format --data-blocks 20 --hash-offset 10240 "${image_17_options[@]}" "$both" "$both"
+    same_bytes 'one file that would grow by its own tree' "$data" "$both"
+    runs 'an option before short data' 1 '' 'Hash offset is not valid.' \
+        "$veritysetup" format --data-blocks 18 --hash-offset 100 "${image_17_options[@]}" "$data" "$hash"
+    runs 'one file before short data' 1 '' 'Data area and hash area overlap.' \
+        "$veritysetup" format --data-blocks 18 "${image_17_options[@]}" "$both" "$both"
+    same_bytes 'one file before short data' "$data" "$both"
 }
 
 # Hash areas elsewhere than at the start of HASH, and without a superblock.
@@ -156,6 +184,7 @@ memory() {
 images
 areas
 one_file
+short_data
 files
 outputs
 memory

@@ -57,10 +57,7 @@ files_that_fail() {
     mkdir "$folder"
     runs 'a missing file' 1 '' "fsverity: cannot open $scratch/missing." "$fsverity" digest "$scratch/missing"
     runs 'an empty name' 1 '' 'fsverity: cannot open .' "$fsverity" digest ''
-    # What seeking to a folder's end gives is the file system's choice.
-    runs 'a folder' 1 '' \
-        "any-of fsverity: cannot open $folder.|fsverity: file is too large: $folder.|fsverity: cannot read block 0: $folder." \
-        "$fsverity" digest "$folder"
+    runs 'a folder' 1 '' "fsverity: cannot open $folder." "$fsverity" digest "$folder"
     mkfifo "$scratch/pipe"
     runs 'a pipe as the file' 1 '' "fsverity: cannot open $scratch/pipe." \
         bash -c 'exec 9<>"$1"; exec "$2" digest "$1"' - "$scratch/pipe" "$fsverity"
@@ -132,6 +129,12 @@ output_files_that_fail() {
     is_text 'no descriptor after a tree that is not written' '' "$scratch/made"
     runs 'a full device as the descriptor file' 1 '' 'fsverity: cannot write descriptor.' \
         "$fsverity" digest --out-descriptor /dev/full "$file"
+    mkdir "$scratch/outputs"
+    runs 'a folder as the tree file' 1 '' "fsverity: cannot open $scratch/outputs." \
+        "$fsverity" digest --out-merkle-tree "$scratch/outputs" --out-descriptor "$scratch/unmade" "$file"
+    runs 'a folder as the descriptor file' 1 '' "fsverity: cannot open $scratch/outputs." \
+        "$fsverity" digest --out-merkle-tree "$scratch/unmade" --out-descriptor "$scratch/outputs" "$file"
+    absent 'no output file beside a folder' "$scratch/unmade"
     runs 'output files of two input files' 2 '' 'fsverity: output files need exactly one input file.' \
         "$fsverity" digest --out-descriptor "$scratch/unmade" "$file" "$file"
     absent 'no output file after a refused option' "$scratch/unmade"
@@ -144,6 +147,18 @@ loses_nothing() {
     runs "$name" 1 '' "fsverity: cannot open $refused." "$fsverity" digest "$@"
     same_bytes "$name: the input file" "$scratch/copy" "$scratch/input"
     same_bytes "$name: the other file" "$scratch/copy" "$scratch/other"
+}
+
+# An empty file is a file like others: its second name is found too.
+empty_files() {
+    : >"$scratch/none"
+    ln "$scratch/none" "$scratch/none_hard"
+    runs 'an empty input file by another name' 1 '' "fsverity: cannot open $scratch/none_hard." \
+        "$fsverity" digest --out-descriptor "$scratch/none_hard" "$scratch/none"
+    is_text 'an empty input file stays' '' "$scratch/none"
+    runs 'one empty file for both' 1 '' "fsverity: cannot open $scratch/none_hard." \
+        "$fsverity" digest --out-merkle-tree "$scratch/none" --out-descriptor "$scratch/none_hard" "$scratch/input"
+    is_text 'one empty file for both stays' '' "$scratch/none"
 }
 
 named_twice() {
@@ -190,4 +205,5 @@ memory
 output_files
 output_files_that_fail
 named_twice
+empty_files
 finish

@@ -145,7 +145,14 @@ lengths() {
 files() {
     runs 'dump: a missing file' 4 '' "Cannot open $scratch/missing." "$veritysetup" dump "$scratch/missing"
     runs 'dump: the null device' 1 '' 'Superblock is too short.' "$veritysetup" dump /dev/null
-    runs 'dump: a folder' 4 '' "any-of Cannot read superblock.|Cannot open $scratch." "$veritysetup" dump "$scratch"
+    runs 'dump: a folder' 4 '' "Cannot open $scratch." "$veritysetup" dump "$scratch"
+    runs 'verify: a folder as the data' 4 '' "Cannot open $scratch." "$veritysetup" verify "$scratch" "$image" "$root"
+    runs 'verify: a folder as the hash file' 4 '' "Cannot open $scratch." "$veritysetup" verify "$data" "$scratch" "$root"
+    for file in data hash; do
+        if [ $file = data ]; then words=("$scratch" "$image"); else words=("$data" "$scratch"); fi
+        runs "verify without a superblock: a folder as the $file" 4 '' "Cannot open $scratch." "$veritysetup" verify \
+            --no-superblock --data-block-size 512 --hash-block-size 512 --salt=- "${words[@]}" "$root"
+    done
     names 'missing data' "Cannot open $scratch/missing." 4 "$scratch/missing" "$image"
     names 'a missing hash file' "Cannot open $scratch/missing." 4 "$data" "$scratch/missing"
     names 'missing data and a missing hash file' "Cannot open $scratch/none." 4 "$scratch/none" "$scratch/missing"

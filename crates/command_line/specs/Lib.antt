@@ -5,3 +5,4 @@ pub mod Printing
 pub mod NullFiles
 pub mod SystemWords
 pub mod Showing
+pub mod FileIdentities

@@ -1,5 +1,6 @@
 //! Which file a path or an opened file is, so that two names of one file are found.
-ghost use Rattle.std.specs.Prelude.{◌≡◌, None, false, IsSome, IsTrue};
+ghost use Rattle.std.specs.Prelude.{◌≡◌, ◌↔◌, None, false, IsSome, IsTrue};
+ghost use Rattle.command_line.specs.FileIdentities.{LeadToOne, identity_of};
 
 use std::fs::{Metadata, OpenFile};
 use std::os::unix::fs::{FileTypeExt, MetadataExt};
@@ -14,22 +15,57 @@ pub enum FileIdentity {
     BlockDevice { number: u64 },
 }
 
-impl FileIdentity {
-    /// What the system says of a file; nothing for other kinds of file.
-    pub fn of_metadata(metadata: &Metadata) -> Option<FileIdentity> {
+/// What the system tells of a file (stat(2), "st_mode", "st_dev", "st_ino", "st_rdev").
+#[derive(Clone, Copy, Debug, PartialEq, Eq)]
+pub struct FileStatus {
+    /// Whether it is a regular file.
+    pub is_regular: bool,
+    /// Whether it is a block device.
+    pub is_block_device: bool,
+    /// The device that it lies on.
+    pub device: u64,
+    /// Its number there.
+    pub inode: u64,
+    /// The number of the device that it is, where it is one.
+    pub number: u64,
+}
+
+impl FileStatus {
+    /// What metadata say.
+    pub fn of_metadata(metadata: &Metadata) -> FileStatus {
         let kind = metadata.file_type();
-        if kind.is_file() {
+        FileStatus {
+            is_regular: kind.is_file(),
+            is_block_device: kind.is_block_device(),
+            device: metadata.dev(),
+            inode: metadata.ino(),
+            number: metadata.rdev(),
+        }
+    }
+}
+
+impl FileIdentity {
+    /// Which file the system tells it to be; nothing for kinds of file other than the two.
+    pub fn of_status(status: &FileStatus) -> Option<FileIdentity>
+        ensures { result ≡ identity_of status.now }
+    {
+        if status.is_regular {
             Some(FileIdentity::Regular {
-                device: metadata.dev(),
-                inode: metadata.ino(),
+                device: status.device,
+                inode: status.inode,
             })
-        } else if kind.is_block_device() {
+        } else if status.is_block_device {
             Some(FileIdentity::BlockDevice {
-                number: metadata.rdev(),
+                number: status.number,
             })
         } else {
             None
         }
+    }
+
+    /// What the system says of a file; nothing for other kinds of file.
+    pub fn of_metadata(metadata: &Metadata) -> Option<FileIdentity> {
+        FileIdentity::of_status(&FileStatus::of_metadata(metadata))
     }
 }
 
@@ -62,7 +98,15 @@ pub fn are_one(one: Option<FileIdentity>, other: Option<FileIdentity>) -> bool
     one.is_some() && one == other
 }
 
-/// Whether the system tells that a path leads to the file that was opened.
-pub fn is_same_file<R: Identities>(rt: &R, file: &R::File, path: &str) -> bool {
-    are_one(rt.file_identity(file), rt.path_identity(path))
+/// Whether two paths lead to one file: they are one text, or the system tells so, by what it says of the file that was
+/// opened at the first and of the second.
+pub fn lead_to_one(
+    path: &str,
+    other_path: &str,
+    opened: Option<FileIdentity>,
+    other: Option<FileIdentity>,
+) -> bool
+    ensures { IsTrue result ↔ LeadToOne path.now other_path.now opened other }
+{
+    path == other_path || are_one(opened, other)
 }

@@ -1,14 +1,23 @@
 //! Opening files.
+ghost use Rattle.std.specs.Prelude.{◌≡◌, ◌↔◌, IsTrue, OnErr, OnOk};
+ghost use Rattle.std.specs.Fs.{IsDir, file_type};
 
-use std::fs::{File, OpenOptions};
+use std::fs::{File, Metadata, OpenFile, OpenOptions};
 use std::io;
-use std::io::{Seek, SeekFrom};
+use std::io::{ErrorKind, Seek, SeekFrom};
 use std::rt::Files;
 
-/// A file opened for reading, with its length in bytes, which is found by seeking to its end. A file whose end can't be
-/// sought, as a pipe, is refused.
+/// A file opened for reading. A folder is refused, which some systems open and then let nobody read.
+pub fn open_readable<R: Files>(rt: &R, path: &str) -> io::Result<R::File> {
+    let file = File::open(rt, path)?;
+    no_folder(&file.metadata()?)?;
+    Ok(file)
+}
+
+/// A file opened for reading, with its length in bytes, which is found by seeking to its end. A folder is refused, and
+/// a file whose end can't be sought, as a pipe.
 pub fn open_measured<R: Files>(rt: &R, path: &str) -> io::Result<(R::File, u64)> {
-    let mut file = File::open(rt, path)?;
+    let mut file = open_readable(rt, path)?;
     let length = file.seek(SeekFrom::End(0))?;
     file.rewind()?;
     Ok((file, length))
@@ -21,4 +30,23 @@ pub fn open_writable<R: Files>(rt: &R, path: &str) -> io::Result<R::File> {
         .write(true)
         .create(true)
         .open(rt, path)
+}
+
+/// Whether the system tells that a path leads to a folder.
+pub fn is_folder<R: Files>(rt: &R, path: &str) -> bool {
+    match rt.metadata(path) {
+        Ok(metadata) => no_folder(&metadata).is_err(),
+        Err(_) => false,
+    }
+}
+
+/// Refuses what the system tells to be a folder.
+fn no_folder(metadata: &Metadata) -> io::Result<()>
+    ensures folder { OnErr result (IsDir (file_type metadata.now)) }
+    ensures other { OnOk result (IsDir (file_type metadata.now) → ⊥) }
+{
+    if metadata.is_dir() {
+        return Err(io::Error::from(ErrorKind::IsADirectory));
+    }
+    Ok(())
 }

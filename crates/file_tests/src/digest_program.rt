@@ -223,12 +223,42 @@ fn null_files_are_held_open(rt: HostRuntime) -> Result<(), Fail> {
     Ok(())
 }
 
+/// Words, and what is opened and closed while the null files are open.
+const HELD: [(&str, &str); 4] = [
+    ("two", "open two\nclose two\n"),
+    (
+        "two empty",
+        "open two\nclose two\nopen empty\nclose empty\n",
+    ),
+    ("two missing", "open two\nclose two\n"),
+    (
+        "--out-merkle-tree tree --out-descriptor made two",
+        "open two\nopen tree\nopen made\nclose made\nclose tree\nclose two\n",
+    ),
+];
+
+#[test]
+fn null_files_are_open_to_the_end(rt: HostRuntime) -> Result<(), Fail> {
+    let alloc = rt.alloc();
+    for (words, held) in HELD {
+        let disk = disk(alloc)?;
+        let line = format!(in alloc; "fsverity digest {words}")?;
+        let _said = run(alloc, &disk, line.as_str());
+        let opened = "open /dev/null\n".repeat(alloc, 3)?;
+        let closed = "close /dev/null\n".repeat(alloc, 3)?;
+        let expected = format!(in alloc; "{opened}{held}{closed}")?;
+        assert_eq!(rt; disk.held()?.as_str(), expected.as_str(), "at {words}");
+    }
+    Ok(())
+}
+
 #[test]
 fn files_that_are_not_opened_are_named(rt: HostRuntime) -> Result<(), Fail> {
     let alloc = rt.alloc();
-    for name in ["pipe", "refused"] {
+    for name in ["pipe", "refused", "folder"] {
         let disk = disk(alloc)?;
         disk.make_kind("pipe", Kind::Pipe, Vec::new(alloc))?;
+        disk.make_kind("folder", Kind::Folder, Vec::new(alloc))?;
         disk.link("two", "refused")?;
         disk.refuse("refused")?;
         let words = format!(in alloc; "fsverity digest {name}")?;

@@ -100,3 +100,30 @@ fn words_are_given(rt: HostRuntime) -> Result<(), Fail> {
     assert_eq!(rt; env::args(&memory)?.count(), 4);
     Ok(())
 }
+
+#[test]
+fn files_are_held_and_grow(rt: HostRuntime) -> Result<(), Fail> {
+    let alloc = rt.alloc();
+    let disk = disk(alloc)?;
+    disk.make_kind("folder", Kind::Folder, Vec::new(alloc))?;
+    disk.grow("other", b"ef")?;
+    let memory = MemoryRuntime::new(alloc, &disk, "");
+    let mut buf = [0; 8];
+    {
+        let mut data = File::open(&memory, "other")?;
+        assert_eq!(rt; data.seek(SeekFrom::End(0))?, 4);
+        assert_eq!(rt; data.metadata()?.len(), 4);
+        data.rewind()?;
+        assert_eq!(rt; data.read(&mut buf)?, 6);
+        assert_eq!(rt; data.seek(SeekFrom::End(0))?, 6);
+        let mut folder = File::open(&memory, "folder")?;
+        assert!(rt; folder.metadata()?.is_dir());
+        assert!(rt; folder.read(&mut buf).is_err());
+        assert!(rt; File::create(&memory, "folder").is_err());
+        assert!(rt; File::open(&memory, "missing").is_err());
+    }
+    assert_eq!(rt; buf.as_slice(), b"abcdef\0\0".as_slice());
+    let held = "open data\nopen folder\nclose folder\nclose data\n";
+    assert_eq!(rt; disk.held()?.as_str(), held);
+    Ok(())
+}

@@ -176,6 +176,28 @@ fn nothing_is_opened_after_a_refusal(rt: HostRuntime) -> Result<(), Fail> {
 }
 
 #[test]
+fn a_folder_is_no_output_file(rt: HostRuntime) -> Result<(), Fail> {
+    let alloc = rt.alloc();
+    for options in [
+        "--out-merkle-tree folder",
+        "--out-descriptor folder",
+        "--out-merkle-tree folder --out-descriptor made",
+        "--out-merkle-tree made --out-descriptor folder",
+    ] {
+        let disk = disk(alloc)?;
+        disk.make_kind("folder", Kind::Folder, Vec::new(alloc))?;
+        let words = format!(in alloc; "fsverity digest {options} two")?;
+        let said = run(alloc, &disk, words.as_str());
+        let message = b"fsverity: cannot open folder.\n".as_slice();
+        assert_eq!(rt; said.status, 1, "at {options}");
+        assert!(rt; said.out.is_empty(), "at {options}");
+        assert_eq!(rt; said.msgs.as_slice(), message, "at {options}");
+        assert!(rt; !disk.has("made")?, "at {options}");
+    }
+    Ok(())
+}
+
+#[test]
 fn a_pipe_is_no_tree_file(rt: HostRuntime) -> Result<(), Fail> {
     let alloc = rt.alloc();
     let disk = disk(alloc)?;

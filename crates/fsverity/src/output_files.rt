@@ -3,7 +3,7 @@ ghost use Rattle.std.specs.Prelude.{◌≡◌, ◌⊎◌, ◌||◌, None, Some, 
 ghost use Rattle.std.specs.Prelude.{option_map, option_copied, string_bytes};
 
 use crate::Line;
-use command_line::{FileIdentity, Identities, are_one, text_of};
+use command_line::{FileIdentity, Identities, are_one, is_folder, text_of};
 use std::fs::File;
 use std::rt::Files;
 
@@ -44,7 +44,7 @@ pub(crate) struct OutputFiles<F> {
 impl<F> OutputFiles<F> {
     /// Opens the output files, the tree's and then the descriptor's: each is made, or cut to nothing. The error is the
     /// name of the first that is refused. Nobody loses a file that is named twice: an output file that the system tells
-    /// to be the input file, or to be the other output file, is refused before anything is cut.
+    /// to be the input file, or to be the other output file, is refused before anything is cut. So is a folder.
     pub(crate) fn open<'a, R: Identities<File = F>>(
         rt: &R,
         input: &F,
@@ -54,6 +54,9 @@ impl<F> OutputFiles<F> {
         ensures descriptor { IfOk result (λ files. is_some files.descriptor ≡ is_some names.entry.descriptor) }
         ensures named { IfErr result (λ name. (names.entry.tree ≡ Some name) ⊎ (names.entry.descriptor ≡ Some name)) }
     {
+        if let Some(name) = folder_among(rt, names) {
+            return Err(name);
+        }
         if let Some(name) = named_twice(rt, input, names) {
             return Err(name);
         }
@@ -66,6 +69,27 @@ impl<F> OutputFiles<F> {
         }
         let descriptor = open_output(rt, names.descriptor)?;
         Ok(OutputFiles { tree, descriptor })
+    }
+}
+
+/// The name of the first output file that the system tells to be a folder.
+fn folder_among<'a, R: Files>(rt: &R, names: OutputNames<'a>) -> Option<&'a str>
+    ensures { IfSome result (λ name. (names.entry.tree ≡ Some name) ⊎ (names.entry.descriptor ≡ Some name)) }
+{
+    if leads_to_folder(rt, names.tree) {
+        names.tree
+    } else if leads_to_folder(rt, names.descriptor) {
+        names.descriptor
+    } else {
+        None
+    }
+}
+
+/// Whether a name is given that leads to a folder.
+fn leads_to_folder<R: Files>(rt: &R, name: Option<&str>) -> bool {
+    match name {
+        Some(name) => is_folder(rt, name),
+        None => false,
     }
 }
 

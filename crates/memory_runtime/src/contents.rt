@@ -11,6 +11,25 @@ use std::io::ErrorKind;
 pub struct Stored {
     pub kind: Kind,
     pub bytes: Vec<u8>,
+    /// What is added to it as soon as it is read.
+    pub growth: Vec<u8>,
+}
+
+impl Stored {
+    pub fn new(alloc: Global, kind: Kind, bytes: Vec<u8>) -> Stored {
+        Stored {
+            kind,
+            bytes,
+            growth: Vec::new(alloc),
+        }
+    }
+
+    /// Lets it grow as it is read for the first time.
+    pub fn grow(&mut self) -> Result<(), AllocError> {
+        self.bytes.extend_from_slice(self.growth.as_slice())?;
+        self.growth.clear();
+        Ok(())
+    }
 }
 
 /// Files with their names, and what was called.
@@ -23,6 +42,8 @@ pub struct Contents {
     pub refused: Vec<String>,
     /// What was opened, a line each.
     pub opened: String,
+    /// What was opened and closed again, a line each.
+    pub held: String,
     /// What was written to standard error.
     pub standard_error: Vec<u8>,
     /// How often the clock was read.
@@ -37,6 +58,7 @@ impl Contents {
             files: Vec::new(alloc),
             refused: Vec::new(alloc),
             opened: String::new(alloc),
+            held: String::new(alloc),
             standard_error: Vec::new(alloc),
             clock_reads: 0,
             calls: Calls::NONE,
@@ -65,6 +87,27 @@ impl Contents {
         self.files.push(stored)?;
         self.link(alloc, name, number)?;
         Ok(number)
+    }
+
+    /// Whether the file of this number is a folder.
+    pub fn is_folder(&self, number: usize) -> bool {
+        match self.files.get(number) {
+            Some(stored) => stored.kind == Kind::Folder,
+            None => false,
+        }
+    }
+
+    /// Writes down that a file was opened or closed, by its first name.
+    pub fn hold(&mut self, word: &str, number: usize) -> Result<(), AllocError> {
+        for (name, other) in &self.names {
+            if *other == number {
+                self.held.push_str(word)?;
+                self.held.push(' ')?;
+                self.held.push_str(name.as_str())?;
+                return self.held.push('\n');
+            }
+        }
+        Ok(())
     }
 
     fn is_refused(&self, name: &str) -> bool {
@@ -101,14 +144,14 @@ impl Contents {
             if !how.asks_create() && !how.asks_create_new() {
                 return Err(io::Error::from(ErrorKind::NotFound));
             }
-            let stored = Stored {
-                kind: Kind::Plain,
-                bytes: Vec::new(alloc),
-            };
+            let stored = Stored::new(alloc, Kind::Plain, Vec::new(alloc));
             return Ok(self.make(alloc, name, stored)?);
         };
         if how.asks_create_new() {
             return Err(io::Error::from(ErrorKind::AlreadyExists));
+        }
+        if self.is_folder(number) && how.asks_write() {
+            return Err(io::Error::from(ErrorKind::IsADirectory));
         }
         if how.asks_truncate()
             && let Some(stored) = self.files.get_mut(number)

@@ -7,7 +7,7 @@ use crate::kind::Kind;
 use command_line::FileIdentity;
 use std::alloc::Global;
 use std::cell::{Ref, RefCell, RefMut};
-use std::fs::OpenOptions;
+use std::fs::{Metadata, OpenOptions};
 use std::io;
 use std::io::ErrorKind;
 
@@ -58,7 +58,7 @@ impl Disk {
     /// Makes a file of a kind.
     pub fn make_kind(&self, name: &str, kind: Kind, bytes: Vec<u8>) -> io::Result<()> {
         let mut contents = self.changed()?;
-        contents.make(self.alloc, name, Stored { kind, bytes })?;
+        contents.make(self.alloc, name, Stored::new(self.alloc, kind, bytes))?;
         Ok(())
     }
 
@@ -70,6 +70,18 @@ impl Disk {
         };
         contents.link(self.alloc, other, number)?;
         Ok(())
+    }
+
+    /// Lets the file of this name grow by these bytes as soon as it is read.
+    pub fn grow(&self, name: &str, bytes: &[u8]) -> io::Result<()> {
+        let mut contents = self.changed()?;
+        let Some(number) = contents.number_of(name) else {
+            return refused(ErrorKind::NotFound);
+        };
+        match contents.files.get_mut(number) {
+            Some(stored) => Ok(stored.growth.extend_from_slice(bytes)?),
+            None => refused(ErrorKind::NotFound),
+        }
     }
 
     /// Lets each opening of this name fail.
@@ -102,7 +114,7 @@ impl Disk {
         match contents.files.get(number)?.kind {
             Kind::Plain => Some(FileIdentity::Regular { device: 1, inode }),
             Kind::Block => Some(FileIdentity::BlockDevice { number: inode }),
-            Kind::Character | Kind::Pipe => None,
+            Kind::Character | Kind::Pipe | Kind::Folder => None,
         }
     }
 
@@ -121,6 +133,22 @@ impl Disk {
     /// What was opened, in order, a line each, as `hash: read write create`. An opening that was refused counts.
     pub fn opened(&self) -> io::Result<String> {
         Ok(String::from_str(self.alloc, self.seen()?.opened.as_str())?)
+    }
+
+    /// What was opened and closed again, in order, a line each, as `open hash` and `close hash`. A file goes by its first
+    /// name.
+    pub fn held(&self) -> io::Result<String> {
+        Ok(String::from_str(self.alloc, self.seen()?.held.as_str())?)
+    }
+
+    /// What the system says of the file of this number.
+    pub(crate) fn metadata(&self, number: usize) -> io::Result<Metadata> {
+        let contents = self.seen()?;
+        match contents.files.get(number) {
+            Some(stored) if stored.kind == Kind::Folder => Ok(Metadata::of_dir()),
+            Some(stored) => Ok(Metadata::of_file(stored.bytes.len() as u64)),
+            None => refused(ErrorKind::NotFound),
+        }
     }
 
     /// What was written to standard error.
@@ -143,6 +171,14 @@ impl Disk {
 
     /// Opens a name. The answer is the number of its file.
     pub(crate) fn open(&self, how: &OpenOptions, name: &str) -> io::Result<usize> {
-        self.changed()?.open(self.alloc, how, name)
+        let mut contents = self.changed()?;
+        let number = contents.open(self.alloc, how, name)?;
+        contents.hold("open", number)?;
+        Ok(number)
+    }
+
+    /// Writes down that a file was closed.
+    pub(crate) fn close(&self, number: usize) -> io::Result<()> {
+        Ok(self.changed()?.hold("close", number)?)
     }
 }

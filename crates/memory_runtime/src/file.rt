@@ -8,8 +8,10 @@ use std::fs::{Metadata, OpenFile};
 use std::io;
 use std::io::{Cursor, ErrorKind, Read, Seek, SeekFrom, Write};
 
+/// The largest offset of a file, which a folder tells as its end.
+const LAST_OFFSET: u64 = (1 << 63) - 1;
+
 /// A file of a disk, opened.
-#[derive(Drop)]
 pub struct MemoryFile<'a> {
     disk: &'a Disk,
     number: usize,
@@ -36,16 +38,34 @@ impl<'a> MemoryFile<'a> {
     }
 }
 
+/// The disk keeps when a file was closed, as far as there is memory for it.
+impl Drop for MemoryFile<'_> {
+    fn drop(self) {
+        let _closed = self.disk.close(self.number);
+        let MemoryFile {
+            disk: _,
+            number: _,
+            at: _,
+            reads: _,
+            writes: _,
+        } = self;
+    }
+}
+
 impl Read for MemoryFile<'_> {
     fn read(&mut self, buf: &mut [u8]) -> io::Result<usize> {
         self.disk.count(Call::Read)?;
         if !self.reads {
             return refused(ErrorKind::PermissionDenied);
         }
-        let contents = self.disk.seen()?;
-        let Some(stored) = contents.files.get(self.number) else {
+        let mut contents = self.disk.changed()?;
+        let Some(stored) = contents.files.get_mut(self.number) else {
             return refused(ErrorKind::NotFound);
         };
+        if stored.kind == Kind::Folder {
+            return refused(ErrorKind::IsADirectory);
+        }
+        stored.grow()?;
         let mut cursor = Cursor::new(stored.bytes.as_slice());
         cursor.set_position(self.at);
         let count = cursor.read(buf)?;
@@ -93,6 +113,9 @@ impl Seek for MemoryFile<'_> {
         if stored.kind == Kind::Pipe {
             return refused(ErrorKind::NotSeekable);
         }
+        if stored.kind == Kind::Folder && to == SeekFrom::End(0) {
+            return Ok(LAST_OFFSET);
+        }
         let mut cursor = Cursor::new(stored.bytes.as_slice());
         cursor.set_position(self.at);
         self.at = cursor.seek(to)?;
@@ -102,7 +125,7 @@ impl Seek for MemoryFile<'_> {
 
 impl OpenFile for MemoryFile<'_> {
     fn metadata(&self) -> io::Result<Metadata> {
-        refused(ErrorKind::Unsupported)
+        self.disk.metadata(self.number)
     }
 
     fn set_len(&self, _size: u64) -> io::Result<()> {

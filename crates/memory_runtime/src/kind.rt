@@ -11,4 +11,6 @@ pub enum Kind {
     Character,
     /// A pipe, in which no offset can be sought.
     Pipe,
+    /// A folder, which is opened for reading and then can't be read.
+    Folder,
 }

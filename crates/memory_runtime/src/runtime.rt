@@ -112,8 +112,11 @@ impl<'a> Files for MemoryRuntime<'a> {
         refused(ErrorKind::Unsupported)
     }
 
-    fn metadata(&self, _path: &str) -> io::Result<Metadata> {
-        refused(ErrorKind::Unsupported)
+    fn metadata(&self, path: &str) -> io::Result<Metadata> {
+        match self.disk.number_of(path) {
+            Some(number) => self.disk.metadata(number),
+            None => refused(ErrorKind::NotFound),
+        }
     }
 
     fn symlink_metadata(&self, _path: &str) -> io::Result<Metadata> {

@@ -33,6 +33,8 @@ mod setup_words;
 #[cfg(test)]
 mod shared_words;
 #[cfg(test)]
+mod short_data;
+#[cfg(test)]
 mod syncs;
 #[cfg(test)]
 mod told_texts;

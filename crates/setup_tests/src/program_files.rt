@@ -10,8 +10,9 @@ use std::test::Fail;
 const NULL_FILES: &str = "/dev/null: read\n/dev/null: read\n/dev/null: read\n";
 
 /// Words, and what is opened after the null files.
-const OPENED: [(&str, &str); 9] = [
+const OPENED: [(&str, &str); 10] = [
     ("format data hash", "data: read\nhash: read write create\n"),
+    ("format --data-blocks 3 data hash", "data: read\n"),
     ("format --hash md5 data hash", "data: read\n"),
     ("format data data", "data: read\n"),
     ("dump hash", "hash: read\n"),
@@ -33,6 +34,64 @@ fn files_are_opened_in_order(rt: HostRuntime) -> Result<(), Fail> {
         let _said = run(alloc, &disk, words)?;
         let expected = format!(in alloc; "{NULL_FILES}{opened}")?;
         assert_eq!(rt; disk.opened()?.as_str(), expected.as_str(), "at {words}");
+    }
+    Ok(())
+}
+
+/// Words, and what is opened and closed while the null files are open.
+const HELD: [(&str, &str); 4] = [
+    (
+        "format data hash",
+        "open data\nopen hash\nclose hash\nclose data\n",
+    ),
+    ("dump hash.img", "open hash.img\nclose hash.img\n"),
+    (
+        "verify data hash.img ab",
+        "open data\nopen hash.img\nclose hash.img\nclose data\n",
+    ),
+    (
+        "verify --no-superblock --salt=- data hash.img ab",
+        "open data\nclose data\n",
+    ),
+];
+
+#[test]
+fn null_files_are_open_to_the_end(rt: HostRuntime) -> Result<(), Fail> {
+    let alloc = rt.alloc();
+    for (words, held) in HELD {
+        let disk = disk_of(alloc, &[5; 8192])?;
+        disk.make("hash.img", [0; 8192].to_vec(alloc)?)?;
+        let _said = run(alloc, &disk, words)?;
+        let opened = "open /dev/null\n".repeat(alloc, 3)?;
+        let closed = "close /dev/null\n".repeat(alloc, 3)?;
+        let expected = format!(in alloc; "{opened}{held}{closed}")?;
+        assert_eq!(rt; disk.held()?.as_str(), expected.as_str(), "at {words}");
+    }
+    Ok(())
+}
+
+#[test]
+fn a_folder_is_not_opened_as_a_file(rt: HostRuntime) -> Result<(), Fail> {
+    let alloc = rt.alloc();
+    for words in [
+        "format folder hash",
+        "format data folder",
+        "dump folder",
+        "verify folder hash.img ab",
+        "verify data folder ab",
+        "verify --no-superblock --salt=- folder hash.img ab",
+        "verify --no-superblock --salt=- data folder ROOT",
+    ] {
+        let disk = disk_of(alloc, &[5; 8192])?;
+        disk.make_kind("folder", Kind::Folder, Vec::new(alloc))?;
+        disk.make("hash.img", [0; 8192].to_vec(alloc)?)?;
+        let words = words.replace(alloc, "ROOT", "00".repeat(alloc, 32)?.as_str())?;
+        let said = run(alloc, &disk, words.as_str())?;
+        let message = b"Cannot open folder.\n".as_slice();
+        assert_eq!(rt; said.status, 4, "at {words}");
+        assert_eq!(rt; said.msgs.as_slice(), message, "at {words}");
+        assert!(rt; !disk.has("hash")?, "at {words}");
+        assert_eq!(rt; disk.calls(Call::Read)?, 0, "at {words}");
     }
     Ok(())
 }
@@ -87,8 +146,9 @@ fn disk_of_two_names(alloc: Global, kind: Kind) -> io::Result<Disk> {
 }
 
 /// The kind of the file, the options after those of the image, and HASH.
-const OVERLAPS: [(Kind, &str, &str); 5] = [
+const OVERLAPS: [(Kind, &str, &str); 6] = [
     (Kind::Plain, "", "data"),
+    (Kind::Character, "", "data"),
     (Kind::Plain, "", "other"),
     (Kind::Block, "", "other"),
     (Kind::Plain, "--data-blocks 17 --hash-offset 8192 ", "data"),

@@ -4,3 +4,4 @@ pub mod Writing
 pub mod Fusing
 pub mod Moving
 pub mod Growing
+pub mod Syncing

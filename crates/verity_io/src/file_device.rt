@@ -1,15 +1,18 @@
 //! A device over an opened file.
-ghost use Rattle.std.specs.Prelude.{◌≡◌, ◌⊎◌, ◌≤◌, ◌+◌, [], length, IfOk, IfSome, OnOk, OnErr};
+ghost use Rattle.std.specs.Prelude.{◌≡◌, ◌⊎◌, ◌≤◌, ◌+◌, [], length, IfErr, IfOk, IfSome, IsOk, OnErr, OnOk, is_ok};
 ghost use Rattle.std.specs.Io.KnownBytes.{Appends, Keeps};
 ghost use Rattle.std.specs.Io.Seek.{MovesTo};
+ghost use Rattle.std.specs.IoError.{error_kind};
 ghost use Rattle.verity_io.specs.Counting.{CountsFailure};
 ghost use Rattle.verity_io.specs.Moving.{file_of, EndsBefore, Fills, From, Stays};
+ghost use Rattle.verity_io.specs.Syncing.{is_unsyncable};
 ghost use Rattle.verity_io.specs.Writing.{most_bytes};
 
 use crate::device::Device;
 use crate::failed::{Failed, counted};
 use crate::file_source::read_some;
 use std::fs::{File, OpenFile};
+use std::io;
 use std::io::{ErrorKind, Read, Seek, SeekFrom, Write};
 
 /// An opened file that is read and written at any offset. It doesn't tell its bytes. Interrupted reads and writes are
@@ -34,16 +37,26 @@ impl<F: OpenFile> FileDevice<F> {
     /// Asks the system to keep on the disk what was written (fsync(2)), and fails where it refuses. A kind of file that
     /// can't be synced, as the null device, is let pass.
     pub fn sync(&self) -> Result<(), Failed> {
-        match self.file.sync_all() {
-            Ok(()) => Ok(()),
-            Err(error) if is_unsyncable(error.kind()) => Ok(()),
-            Err(_) => Err(Failed),
-        }
+        kept(self.file.sync_all())
     }
 }
 
-/// Whether the error says that this kind of file can't be synced (fsync(2), `EINVAL` and `EROFS`).
-fn is_unsyncable(kind: ErrorKind) -> bool {
+// Whether what was written is kept, by the system's answer to a sync.
+fn kept(answer: io::Result<()>) -> Result<(), Failed>
+    ensures done { IfOk answer (λ _. IsOk result) }
+    ensures refused { IfErr answer (λ error. is_ok result ≡ is_unsyncable (error_kind error)) }
+{
+    match answer {
+        Ok(()) => Ok(()),
+        Err(error) if is_unsyncable(error.kind()) => Ok(()),
+        Err(_) => Err(Failed),
+    }
+}
+
+// Whether the error says that this kind of file can't be synced.
+fn is_unsyncable(kind: ErrorKind) -> bool
+    ensures { result ≡ is_unsyncable kind }
+{
     matches!(
         kind,
         ErrorKind::InvalidInput | ErrorKind::Unsupported | ErrorKind::ReadOnlyFilesystem

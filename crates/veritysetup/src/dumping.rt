@@ -6,8 +6,8 @@ use crate::Line;
 use crate::dump_run::run_dump;
 use crate::hash_offset::offset_of;
 use crate::program_messages::{cannot_open, refused_option};
+use command_line::open_readable;
 use std::alloc::AllocGlobal;
-use std::fs::File;
 use std::io::Write;
 use std::rt::Files;
 use verity_tree::FileDevice;
@@ -24,7 +24,7 @@ where
         Ok(offset) => offset,
         Err(fault) => return refused_option(rt.alloc(), &fault, msgs),
     };
-    match File::open(rt, hash) {
+    match open_readable(rt, hash) {
         Ok(file) => run_dump(
             rt.alloc(),
             offset,

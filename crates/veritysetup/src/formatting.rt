@@ -1,15 +1,21 @@
 //! `veritysetup format` over the files of a runtime.
-ghost use Rattle.veritysetup.specs.Programs.{CommandRun};
+ghost use Rattle.std.specs.Prelude.{◌≡◌, IfSome};
+ghost use Rattle.command_line.specs.Printing.{AppendsFront};
+ghost use Rattle.veritysetup.specs.Chosen.{missing_block};
+ghost use Rattle.veritysetup.specs.Messages.{short_text};
 ghost use Rattle.veritysetup.specs.Outcomes.{printed};
+ghost use Rattle.veritysetup.specs.Programs.{CommandRun};
 
 use crate::Line;
 use crate::format_run::run_format;
 use crate::options::RawOptions;
-use crate::program_messages::{cannot_open, cannot_write, no_random_bytes, refused_option};
+use crate::program_messages::{
+    cannot_open, cannot_write, no_random_bytes, refused_option, short_data,
+};
 use crate::random_bytes::draw;
 use crate::settings::{Settings, settings_of};
 use command_line::{
-    Identities, Onlooker, ProgressLine, Shown, is_same_file, open_measured, open_writable,
+    Identities, Onlooker, ProgressLine, Shown, lead_to_one, open_measured, open_writable,
 };
 use rand::rngs::StdRng;
 use std::alloc::AllocGlobal;
@@ -17,10 +23,11 @@ use std::io;
 use std::io::Write;
 use std::random::RandomSource;
 use std::rt::Files;
-use verity_tree::{Failed, FileDevice, FileSource, Source};
+use verity_tree::{Failed, FileDevice, FileSource, Plan, Source};
 
-/// Makes the hash device of a data file. HASH is opened only once the options are read, so a refused option leaves no
-/// new file. Before it is opened the system is asked whether it is DATA by another name.
+/// Makes the hash device of a data file. HASH is opened only once the options are read and DATA is known to be
+/// long enough, so neither a refused option nor short data leaves a new file. Before it is opened the system is asked
+/// whether it is DATA by another name.
 pub fn format<R, O, M>(
     rt: &R,
     progress: &ProgressLine<'_, R>,
@@ -40,17 +47,14 @@ where
         Ok(opened) => opened,
         Err(_) => return cannot_open(data, msgs),
     };
-    let raw = line.raw(data == hash || is_same_file(rt, &file, hash));
+    let opened = rt.file_identity(&file);
+    let raw = line.raw(lead_to_one(data, hash, opened, rt.path_identity(hash)));
     let random = match random_bytes(rt, &raw) {
         Ok(random) => random,
         Err(_) => return no_random_bytes(msgs),
     };
     match settings_of(&raw, length, random.as_ref()) {
-        Ok(settings) => {
-            let shown = Shown::new(file, settings.plan().wanted(), progress);
-            let source = FileSource::new(shown, length);
-            make(rt, &settings, source, hash, out, msgs)
-        }
+        Ok(settings) => format_opened(rt, progress, &settings, file, length, hash, out, msgs),
         Err(fault) => refused_option(rt.alloc(), &fault, msgs),
     }
 }
@@ -62,6 +66,45 @@ fn random_bytes<R: RandomSource>(rt: &R, raw: &RawOptions) -> io::Result<Option<
     }
     let mut rng: StdRng = rand::make_rng(rt)?;
     Ok(Some(draw(&mut rng)))
+}
+
+/// Makes the hash device of an opened data file of this length. HASH is not opened where more data is wanted than
+/// there is.
+fn format_opened<R, O, M>(
+    rt: &R,
+    progress: &ProgressLine<'_, R>,
+    settings: &Settings,
+    file: R::File,
+    length: u64,
+    hash: &str,
+    out: &mut O,
+    msgs: &mut M,
+) -> u8
+where
+    R: Files + Onlooker + AllocGlobal,
+    O: Write,
+    M: Write,
+    ensures run { CommandRun result (printed O.contents M.contents out.old out.new msgs.old msgs.new) }
+    ensures short { IfSome (missing_block settings.now.plan length) (λ block. (result ≡ 4) × (out.new ≡ out.old)
+        × AppendsFront (short_text block) (M.contents msgs.old) (M.contents msgs.new)) }
+{
+    if let Some(block) = missing_block(settings.plan(), length) {
+        return short_data(rt.alloc(), block, msgs);
+    }
+    let shown = Shown::new(file, settings.plan().wanted(), progress);
+    let source = FileSource::new(shown, length);
+    make(rt, settings, source, hash, out, msgs)
+}
+
+/// The first data block that is not whole in data of this length, where the plan wants more.
+fn missing_block(plan: &Plan, length: u64) -> Option<u64>
+    ensures { result ≡ missing_block plan.now length }
+{
+    if length < plan.wanted() {
+        Some(length / u64::from(plan.settings().data_block()))
+    } else {
+        None
+    }
 }
 
 /// Opens HASH, makes it, and asks the system to keep it.

@@ -2,15 +2,16 @@
 ghost use Rattle.std.specs.Prelude.{◌≡◌};
 ghost use Rattle.command_line.specs.LineFaults.{IsMemory};
 ghost use Rattle.command_line.specs.Printing.{AppendsFront};
-ghost use Rattle.veritysetup.specs.Messages.{memory_text, option_text};
+ghost use Rattle.veritysetup.specs.Messages.{memory_text, option_text, short_text};
 ghost use Rattle.veritysetup.specs.Programs.{IsRefusal, words_status, words_text};
 ghost use Rattle.veritysetup.specs.Programs.{incomplete_text, no_random_text, unopened_text, unwritten_text};
 
-use crate::messages::{OUT_OF_MEMORY, option_message};
+use crate::messages::{OUT_OF_MEMORY, build_message, option_message};
 use crate::options::OptionFault;
 use command_line::{LineFault, WordsFault, not_text_message, tell, tell_pieces, tell_text};
 use std::alloc::Global;
 use std::io::Write;
+use verity_tree::BuildFault;
 
 /// The file could not be opened, or its length not be found.
 pub fn cannot_open<M: Write>(path: &str, msgs: &mut M) -> u8
@@ -27,6 +28,15 @@ pub fn cannot_write<M: Write>(path: &str, msgs: &mut M) -> u8
     ensures message { AppendsFront (unwritten_text path.now) (M.contents msgs.old) (M.contents msgs.new) }
 {
     tell_pieces(&["Cannot write ", path, ".\n"], msgs);
+    4
+}
+
+/// The data ends before the end of a block that is wanted.
+pub fn short_data<M: Write>(alloc: Global, block: u64, msgs: &mut M) -> u8
+    ensures status { result ≡ 4 }
+    ensures message { AppendsFront (short_text block) (M.contents msgs.old) (M.contents msgs.new) }
+{
+    tell(build_message(alloc, &BuildFault::SourceShort(block)), msgs);
     4
 }
 

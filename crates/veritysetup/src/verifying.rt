@@ -9,9 +9,8 @@ use crate::program_messages::{cannot_open, refused_option};
 use crate::settings::settings_of;
 use crate::verify_input::VerifyInput;
 use crate::verify_run::run_verify;
-use command_line::{Onlooker, ProgressLine, Shown, open_measured};
+use command_line::{Onlooker, ProgressLine, Shown, open_measured, open_readable};
 use std::alloc::AllocGlobal;
-use std::fs::File;
 use std::io::Write;
 use std::rt::Files;
 use verity_tree::{FileDevice, FileSource, Source};
@@ -97,7 +96,7 @@ where
     ensures quiet { result ≡ 0 → Keeps (M.contents msgs.old) (M.contents msgs.new) }
 {
     let mut source = source;
-    match File::open(rt, hash) {
+    match open_readable(rt, hash) {
         Ok(file) => run_verify(
             rt.alloc(),
             input,

@@ -13,6 +13,23 @@ mkfifo "$scratch/pipe"
 theirs 0 "sha256:$none $scratch/pipe" '' bash -c 'exec 9<>"$1"; fsverity digest "$1"' - "$scratch/pipe"
 ours 1 '' "fsverity: cannot open $scratch/pipe." bash -c 'exec 9<>"$1"; "$2" digest "$1"' - "$scratch/pipe" "$fsverity"
 
+row '`digest` of a block device'
+if has_loops; then
+    sample 8704 >"$scratch/contents"
+    loop_over "$scratch/contents"
+    theirs 0 "sha256:$none $loop" '' fsverity digest "$loop"
+    expected=$(fsverity digest --compact "$scratch/contents")
+    ours 0 "sha256:$expected $loop" '' "$fsverity" digest "$loop"
+else
+    echo 'left out: block devices: no loop device can be made here'
+fi
+
+row '`digest` of a file of `/proc`'
+for file in /proc/version /proc/self/status; do
+    theirs 0 "sha256:$none $file" '' fsverity digest "$file"
+    ours 1 '' "fsverity: cannot open $file." "$fsverity" digest "$file"
+done
+
 row 'block sizes above 524288'
 theirs 0 any '' fsverity digest --block-size 1048576 "$input"
 refused "$fsverity" digest --block-size 1048576 "$input"
@@ -30,6 +47,10 @@ refused "$fsverity" digest --block-size=+4096 "$input"
 row '`fsverity`: the report can'\''t be written, as on a full device'
 theirs 0 '' '' bash -c 'fsverity digest "$1" >/dev/full' - "$input"
 ours 1 '' 'fsverity: cannot write output.' bash -c '"$2" digest "$1" >/dev/full' - "$input" "$fsverity"
+
+row '`fsverity`: the report goes to a pipe that nobody reads, as that of `head -0`'
+theirs 141 '' '' unread fsverity digest "$input"
+ours 1 '' 'fsverity: cannot write output.' unread "$fsverity" digest "$input"
 
 row 'an output file that is the input'
 cp "$input" "$scratch/lost"
@@ -69,6 +90,13 @@ absent "$row: here" "$scratch/unmade"
 row 'an output file that can'\''t be opened'
 theirs 2 '' any fsverity digest --out-descriptor "$scratch/none/file" "$input"
 ours 1 '' "fsverity: cannot open $scratch/none/file." "$fsverity" digest --out-descriptor "$scratch/none/file" "$input"
+
+row 'a folder as the second output file'
+theirs 2 '' any fsverity digest --out-merkle-tree "$scratch/first_made" --out-descriptor "$scratch/folder" "$input"
+size 0 "$scratch/first_made"
+ours 1 '' "fsverity: cannot open $scratch/folder." \
+    "$fsverity" digest --out-merkle-tree "$scratch/first_unmade" --out-descriptor "$scratch/folder" "$input"
+absent "$row: here" "$scratch/first_unmade"
 
 row 'a shortened option, as `--hash-al`'
 theirs 0 any '' fsverity digest --hash-al=sha512 "$input"

@@ -49,10 +49,37 @@ row 'a root hash in capitals'
 both_format
 both 0 '' veritysetup verify "$data" HASH "${root^^}"
 
+row 'a loop device over DATA as HASH'
+if has_loops; then
+    for program in veritysetup "$veritysetup"; do
+        cp "$data" "$scratch/under"
+        loop_over "$scratch/under"
+        runs "$row: $program" 0 any '' "$program" format "${fixed[@]}" "$scratch/under" "$loop"
+        sync
+        same "$row: $program: what DATA begins with" verity "$(head -c 6 "$scratch/under")"
+    done
+else
+    echo 'left out: a loop device over DATA: no loop device can be made here'
+fi
+
 row 'a pipe as DATA'
 for program in veritysetup "$veritysetup"; do
     runs "$row: $program" 4 '' any \
         bash -c 'exec 9<>"$1"; "$2" format "$1" "$3"' - "$scratch/pipe" "$program" "$hash"
+done
+
+row 'a folder as HASH'
+both_format
+both 4 '' veritysetup format "$data" "$scratch/folder"
+both 4 '' veritysetup dump "$scratch/folder"
+both 4 '' veritysetup verify "$data" "$scratch/folder" "$root"
+
+row '`fsverity digest` of a folder'
+both 1 '' fsverity digest "$scratch/folder"
+
+row '`fsverity digest` of a character device, as `/dev/zero`'
+for file in /dev/zero /dev/full /dev/null; do
+    both 0 "sha256:$none $file" fsverity digest "$file"
 done
 
 row '`fsverity digest` of several files, of which one can'\''t be opened'

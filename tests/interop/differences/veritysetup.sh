@@ -66,11 +66,27 @@ theirs 0 any '' veritysetup format --data-blocks 0 "$data" "$their_hash"
 says "Data blocks:     ${TAB}17"
 refused "$veritysetup" format --data-blocks 0 "$data" "$hash"
 
-row '`--data-blocks` above what DATA has'
+row '`format`: `--data-blocks` above what DATA has'
 theirs 1 '' 'Input/output error while creating hash area.' \
     veritysetup format "${fixed[@]}" --data-blocks 18 "$data" "$their_hash"
+if [ -s "$their_hash" ]; then pass; else fail "$row: Debian's" 'HASH has not been made'; fi
 ours 4 '' 'Data ends before the end of block 17.' "$veritysetup" format "${fixed[@]}" --data-blocks 18 "$data" "$hash"
+absent "$row: HASH" "$hash"
+zeros 20000 >"$scratch/before"
+cp "$scratch/before" "$their_hash"
+cp "$scratch/before" "$hash"
+theirs 1 '' any veritysetup format "${fixed[@]}" --data-blocks 18 "$data" "$their_hash"
+if cmp -s "$scratch/before" "$their_hash"; then fail "$row: Debian's" 'HASH stays'; else pass; fi
+ours 4 '' any "$veritysetup" format "${fixed[@]}" --data-blocks 18 "$data" "$hash"
+same_bytes "$row: here" "$scratch/before" "$hash"
 rm "$hash" "$their_hash"
+
+row '`format`: a folder as DATA'
+mkdir "$scratch/folder"
+theirs 4 '' any veritysetup format "$scratch/folder" "$their_hash"
+size 0 "$their_hash"
+ours 4 '' "Cannot open $scratch/folder." "$veritysetup" format "$scratch/folder" "$hash"
+absent "$row: HASH" "$hash"
 
 row '`verify`: changed data or a changed digest'
 # Two levels, of 1 and 9 hash blocks. Byte 544 begins the second digest of level 1, that of the hash block at byte 1536.
@@ -167,6 +183,10 @@ same "$row: here" "UUID:            $TAB-" "$(grep UUID "$scratch/report")"
 row '`veritysetup`: the report can'\''t be written, as on a full device'
 theirs 0 '' '' bash -c 'veritysetup format "$@" >/dev/full' - "$data" "$their_hash"
 ours 4 '' 'Cannot write output.' bash -c '"$@" >/dev/full' - "$veritysetup" format "$data" "$hash"
+
+row '`veritysetup`: the report goes to a pipe that nobody reads'
+theirs 141 '' '' unread veritysetup format "$data" "$their_hash"
+ours 4 '' 'Cannot write output.' unread "$veritysetup" format "$data" "$hash"
 
 row 'a refused salt, hash function, block size or hash type, or no whole block of data'
 for option in --salt=zz --hash=no --data-block-size=768 --hash-block-size=256 --format=2; do
