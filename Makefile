@@ -8,7 +8,11 @@ PREFIX = /usr/local
 DESTDIR =
 SUFFIX = -proved
 
-.PHONY: run programs test check gate check-programs out-of-memory interop kernel bench reproducible install uninstall \
+# How long `make soak` runs, and with which seed; without one it draws and tells one.
+SECONDS = 1800
+SEED =
+
+.PHONY: run programs test check gate check-programs out-of-memory interop soak kernel bench reproducible install uninstall \
     clean help
 
 # Proves and builds the one program that this needs, and prints the digest of a real file.
@@ -47,6 +51,11 @@ interop: programs
 	SETTINGS=all tests/run.sh tests/interop/differences.sh tests/interop/superblock.sh tests/interop/fsverity.sh \
 	    tests/interop/format.sh tests/interop/verify.sh
 
+# Random runs of both programs beside a second reading of the definitions in Python and Debian's programs. Needs these
+# and python3.
+soak: programs
+	tests/soak.sh SECONDS=$(SECONDS) SEED=$(SEED)
+
 # The Linux kernel opens the images, in a virtual machine. KERNEL=FILE and MODULES=FOLDER take a kernel that isn't in /boot.
 kernel: programs
 	tests/kernel.sh
@@ -81,6 +90,7 @@ help:
 	@echo 'make check-programs  runs the programs as a user would'
 	@echo 'make out-of-memory   refuses each request for memory in turn'
 	@echo "make interop         compares them with Debian's programs, over all settings"
+	@echo 'make soak            random runs of both programs, for half an hour (SECONDS, SEED)'
 	@echo 'make kernel          has the Linux kernel open the images, in a virtual machine (KERNEL, MODULES)'
 	@echo 'make bench           measures speed and memory, beside bare hashing and the programs of Debian'
 	@echo 'make reproducible    builds once more in another folder, and compares the programs'

@@ -1,7 +1,7 @@
 #!/bin/bash
 # All tests: the gate, then the programs that it built, run as a user runs them, the examples of the documents, and the
 # comparisons with Debian's programs, where these are installed. These go over the programs for each processor that
-# runs here. The last line is 'N passed, M failed', over all parts. With --without-gate the programs that are in bin/
+# runs here; a minute of random runs goes over those of bin/. The last line is 'N passed, M failed', over all parts. With --without-gate the programs that are in bin/
 # are tested, and the output says that the gate was left out.
 set -u
 cd "$(dirname "$0")/.."
@@ -19,4 +19,4 @@ for build in "${builds[@]}"; do
         if [ -x "$script" ]; then parts+=("env BIN=$build $script"); fi
     done
 done
-BIN=bin exec tests/run.sh "${parts[@]}" tests/install.sh tests/completion.sh
+BIN=bin exec tests/run.sh "${parts[@]}" tests/install.sh tests/completion.sh tests/soak.sh

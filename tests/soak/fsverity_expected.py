@@ -1,0 +1,106 @@
+"""What fsverity digest does with some words and files: a second reading of docs/DEFINITIONS.md and fsverity(1)."""
+
+import hashlib
+import struct
+from collections import namedtuple
+
+from reading import USAGE, Outcome, Refused, hexadecimal, is_block_size, not_text, number, read_line
+from trees import FS_VERITY, Settings, Tree
+
+# The hash functions and their numbers in a descriptor.
+NUMBERS = {"sha256": 1, "sha512": 2}
+OUTPUTS = ["out-merkle-tree", "out-descriptor"]
+
+# How files are digested: function, block size and salt.
+Way = namedtuple("Way", "name block salt")
+
+
+def expected(words, scene):
+    """The outcome of a run."""
+    message = not_text(words)
+    if message:
+        return Outcome(2, b"", message, scene.files)
+    line = read_line("fsverity", words)
+    if line is None:
+        return Outcome(2, b"", USAGE, scene.files)
+    try:
+        way = chosen(line)
+    except Refused as refused:
+        return Outcome(refused.status, b"", refused.message, scene.files)
+    if any(name in line.options for name in OUTPUTS):
+        return with_outputs(line, way, scene)
+    out = b""
+    for path in line.words:
+        data = scene.content(path)
+        if data is None:
+            return Outcome(1, out, f"fsverity: cannot open {path}.", scene.files)
+        out += printed(line.options, way, descriptor(way, data)[0], path)
+    return Outcome(0, out, "", scene.files)
+
+
+def chosen(line):
+    """How the options have files digested."""
+    options = line.options
+    name = options.get("hash-alg", "sha256")
+    if name not in NUMBERS:
+        raise Refused(2, "fsverity: unknown hash algorithm.")
+    block = number(options.get("block-size", "4096"))
+    if block is None or not is_block_size(block, 2 * hashlib.new(name).digest_size):
+        raise Refused(2, "fsverity: block size is not valid.")
+    salt = hexadecimal(options.get("salt", ""), 32)
+    if salt is None:
+        raise Refused(2, "fsverity: salt is not valid.")
+    if any(name in options for name in OUTPUTS) and len(line.words) != 1:
+        raise Refused(2, "fsverity: output files need exactly one input file.")
+    return Way(name, block, salt)
+
+
+def descriptor(way, data):
+    """The 256 bytes about a file, and its tree, the top level first."""
+    count = -(-len(data) // way.block)
+    root, stored = b"", b""
+    if count:
+        settings = Settings(way.name, way.block, way.block, way.salt, count, FS_VERITY)
+        tree = Tree(settings, 0, data.ljust(count * way.block, b"\0"))
+        root, stored = tree.root, bytes(tree.on(b""))
+    head = (1, NUMBERS[way.name], way.block.bit_length() - 1, len(way.salt), len(data))
+    return struct.pack("<BBBB4xQ64s32s144x", *head, root, way.salt), stored
+
+
+def printed(options, way, described, path):
+    """The line of a file."""
+    digest = hashlib.new(way.name, described).digest()
+    ending = "" if "compact" in options else f" {path}"
+    if "for-builtin-sig" in options:
+        text = (b"FSVerity" + struct.pack("<HH", NUMBERS[way.name], len(digest)) + digest).hex()
+    else:
+        text = digest.hex() if "compact" in options else f"{way.name}:{digest.hex()}"
+    return f"{text}{ending}\n".encode()
+
+
+def with_outputs(line, way, scene):
+    """The run over one file with output files."""
+    (path,) = line.words
+    data = scene.content(path)
+    if data is None:
+        return Outcome(1, b"", f"fsverity: cannot open {path}.", scene.files)
+    described, stored = descriptor(way, data)
+    given = [(line.options[name], text) for name, text in zip(OUTPUTS, [stored, described]) if name in line.options]
+    files = dict(scene.files)
+    # Before anything is cut, each name is held against the files that are there.
+    known = [scene.name(path)]
+    for output, _ in given:
+        if scene.name(output) in known:
+            return Outcome(1, b"", f"fsverity: cannot open {output}.", files)
+        if scene.content(output) is not None:
+            known.append(scene.name(output))
+    made = []
+    for output, _ in given:
+        name = scene.name(output)
+        if name is None or name in made:
+            return Outcome(1, b"", f"fsverity: cannot open {output}.", files)
+        files[name] = b""
+        made.append(name)
+    for output, text in given:
+        files[scene.name(output)] = text
+    return Outcome(0, printed(line.options, way, described, path), "", files)

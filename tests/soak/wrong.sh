@@ -1,0 +1,31 @@
+#!/bin/bash
+# A program with a fault, by which the soak shows that it sees one: runs the program of the same name in the folder REAL,
+# and spoils what FAULT names.
+set -u
+real=$REAL/${0##*/}
+case $FAULT in
+status)
+    "$real" "$@"
+    exit $(($? + 1))
+    ;;
+output)
+    set -o pipefail
+    "$real" "$@" | tr 0 1
+    ;;
+message)
+    "$real" "$@" 2> >(tr 0 1 >&2)
+    ;;
+byte)
+    "$real" "$@"
+    status=$?
+    # The last byte of what was made.
+    for file in hash tree descriptor; do
+        if [ -s "$file" ]; then printf x | dd of="$file" bs=1 seek=$(($(stat -c %s "$file") - 1)) conv=notrunc status=none; fi
+    done
+    exit $status
+    ;;
+file)
+    : >new
+    exec "$real" "$@"
+    ;;
+esac
