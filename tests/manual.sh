@@ -1,6 +1,7 @@
 #!/bin/bash
 # Checks the manual pages: mandoc has nothing to say of them, their examples run, and their lists of messages are those
-# of the programs' sources, each under the status that docs/DEFINITIONS.md gives it.
+# of the programs' sources, each under the status that docs/DEFINITIONS.md gives it, and their options are those of the
+# programs' usages.
 set -u
 cd "$(dirname "$0")/.."
 . tests/checks.sh
@@ -66,8 +67,22 @@ messages() {
     same "$1: messages with their statuses" "$(defined_statuses "$2")" "$(told_statuses "$1")"
 }
 
+# page_options PAGE: the options that a page describes, each with the word that stands for its value.
+page_options() {
+    section "$1" OPTIONS | grep '^\.It Fl' | grep -oE 'Fl -[a-z-]+( Ar [A-Z]+)?' | sed -E 's/Fl -/--/; s/ Ar / /' | sort -u
+}
+
+# usage_options PROGRAM COMMAND..: the same, as the program's usages of its commands have them.
+usage_options() {
+    local program=$1 command
+    shift
+    for command; do "$BIN/$program" "$command" 2>&1; done | grep -oE '\[--[a-z-]+( [A-Z]+)?\]' | tr -d '[]' | sort -u
+}
+
 messages man/veritysetup.8 veritysetup
 messages man/fsverity.1 fsverity
+same 'options of man/veritysetup.8' "$(usage_options veritysetup format dump verify)" "$(page_options man/veritysetup.8)"
+same 'options of man/fsverity.1' "$(usage_options fsverity digest)" "$(page_options man/fsverity.1)"
 if command -v mandoc >/dev/null; then
     same 'mandoc -T lint' '' "$(mandoc -T lint -W style man/*.[18] 2>/dev/null)"
 else

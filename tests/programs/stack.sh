@@ -1,0 +1,42 @@
+#!/bin/bash
+# Both programs do their work within the stack that README.md names: all commands, with blocks that are hashed side by
+# side at their largest and with blocks that are hashed one by one.
+set -u
+cd "$(dirname "$0")/../.."
+. tests/checks.sh
+has_program fsverity
+has_program veritysetup
+
+stack=$(sed -nE 's/.*The programs need ([0-9]+) KiB of stack.*/\1/p' README.md)
+case $stack in
+'' | *[!0-9]*)
+    fail 'README.md' 'it does not say how much stack the programs need'
+    finish
+    ;;
+esac
+
+# within COMMAND..: runs a command with that stack, and no more.
+within() {
+    (ulimit -S -s "$stack" && "$@")
+}
+
+data=$scratch/data.img
+hash=$scratch/hash.img
+sample 1200000 >"$data"
+for function in sha256 sha512 sha1; do
+    for block in 512 4096 16384 65536; do
+        rm -f "$hash"
+        within "$BIN/veritysetup" format --hash "$function" --data-block-size "$block" --hash-block-size "$block" \
+            --salt=abcd "$data" "$hash" >"$scratch/report" 2>&1
+        same "format, $function, blocks of $block" 0 $?
+        root=$(sed -nE 's/^Root hash:\s*//p' "$scratch/report")
+        runs "verify, $function, blocks of $block" 0 '' '' within "$BIN/veritysetup" verify "$data" "$hash" "$root"
+        runs "dump, $function, blocks of $block" 0 any '' within "$BIN/veritysetup" dump "$hash"
+        if [ "$function" = sha1 ]; then continue; fi
+        runs "digest, $function, blocks of $block" 0 any '' within "$BIN/fsverity" digest --hash-alg "$function" \
+            --block-size "$block" --out-merkle-tree "$scratch/tree" --out-descriptor "$scratch/descriptor" "$data"
+    done
+done
+runs 'many words' 0 any '' within "$BIN/fsverity" digest --compact $(yes "$data" | head -n 40)
+runs 'a refused line' 2 '' any within "$BIN/fsverity" digest --no-such-option
+finish
