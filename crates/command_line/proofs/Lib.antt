@@ -2,3 +2,5 @@ pub mod Fronts
 pub mod Usages
 pub mod Chains
 pub mod Named
+pub mod Causes
+pub mod WordLists

@@ -1,5 +1,5 @@
 -- The words of a command line as the system gives them: bytes, which may be no text. This project's own.
-use Rattle.std.specs.Prelude.{ℕ, ◌==◌, ◌&&◌, List, [], ◌∷◌, ◌++◌, IsUtf8, codes, if◌then◌else◌, nat_lt, ⊤}
+use Rattle.std.specs.Prelude.{◌≡◌, ℕ, ◌==◌, ◌&&◌, List, [], ◌∷◌, ◌++◌, IsUtf8, Some, codes, if◌then◌else◌, nat_lt, slice_get, ⊤}
 use Rattle.std.specs.List.{concat, flat_map}
 use Rattle.std.specs.Fmt.{decimal}
 use Rattle.hex.specs.Hex.{encode_lower}
@@ -22,3 +22,8 @@ not_text number word = concat
 abbrev pub IsNoText : WordsFault → Type 0
 IsNoText (NotText number word) = IsUtf8 word.items → ⊥
 IsNoText Memory = ⊤
+
+-- a word that is refused is the one of its number
+abbrev pub IsRefusedIn : List (List ℕ) → WordsFault → Type 0
+IsRefusedIn words (NotText number word) = slice_get words number ≡ Some word.items
+IsRefusedIn words Memory = ⊤

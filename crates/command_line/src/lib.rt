@@ -18,6 +18,7 @@ mod salts;
 mod shown;
 mod system_words;
 mod texts;
+mod word_list;
 
 pub use algorithms::algorithm_or_default;
 pub use arguments::{flag, option, program, word, words};

@@ -10,10 +10,10 @@ use thiserror::Error;
 /// Why a command line is refused.
 #[derive(Debug, Drop, Error)]
 pub enum LineFault {
-    /// clap refuses it, and says why.
+    /// clap refuses it, for want of memory too, and says why.
     #[error(transparent)]
     Refused(clap::Error),
-    /// There was not enough memory.
+    /// There was not enough memory for the copies of the words.
     #[error("Out of memory.")]
     Memory,
 }
@@ -21,12 +21,12 @@ pub enum LineFault {
 ghost use Rattle.command_line.specs.declared.line_fault.LineFault.{LineFault};
 
 impl LineFault {
-    /// Whether there was not enough memory, for clap or for the copies of the words.
+    /// Whether there was not enough memory for the copies of the words.
     pub fn is_memory(&self) -> bool
         ensures { IsTrue result ↔ IsMemory self.now }
     {
         match self {
-            LineFault::Refused(error) => error.kind() == ErrorKind::OutOfMemory,
+            LineFault::Refused(_) => false,
             LineFault::Memory => true,
         }
     }

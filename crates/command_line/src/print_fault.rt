@@ -1,5 +1,5 @@
 //! Printing a text whole, and what comes of it where there is no memory or the writer takes no more.
-ghost use Rattle.std.specs.Prelude.{◌≡◌, ℕ, List, IfOk, string_bytes};
+ghost use Rattle.std.specs.Prelude.{◌≡◌, ℕ, List, Err, IfOk, IsErr, string_bytes};
 ghost use Rattle.command_line.specs.Printing.{Prints};
 
 use std::alloc::AllocError;
@@ -15,6 +15,8 @@ pub enum PrintFault {
     Output(usize),
 }
 
+ghost use Rattle.command_line.specs.declared.print_fault.PrintFault.TheVariants.{Memory};
+
 /// Writes a text whole, where there was memory for it.
 ///
 /// # Errors
@@ -25,8 +27,9 @@ pub fn print_whole<W: Write>(
     text: Result<String, AllocError>,
     out: &mut W,
 ) -> Result<(), PrintFault>
-    ensures { (bytes : List ℕ) → IfOk text (λ s. string_bytes s ≡ bytes)
+    ensures printed { (bytes : List ℕ) → IfOk text (λ s. string_bytes s ≡ bytes)
         → Prints result bytes (W.contents out.old) (W.contents out.new) }
+    ensures memory { result ≡ Err Memory → IsErr text }
 {
     match text {
         Ok(text) => match put_all(out, text.as_bytes()) {

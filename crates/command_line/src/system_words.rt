@@ -1,8 +1,9 @@
 //! The words that the system gave.
-ghost use Rattle.std.specs.Prelude.{◌≡◌, ◌++◌, IfErr, IfOk, OnOk, string_bytes};
+ghost use Rattle.std.specs.Prelude.{◌≡◌, ◌++◌, [], IfErr, IfOk, OnOk, string_bytes};
 ghost use Rattle.std.specs.List.{flat_map};
 ghost use Rattle.command_line.specs.SystemWords.{IsNoText, not_text, shown_byte};
 
+use crate::word_list::{WordList, all_words};
 use std::alloc::{AllocError, AllocGlobal, Global};
 use std::env::{Env, FillError};
 
@@ -25,44 +26,43 @@ impl From<AllocError> for WordsFault {
     }
 }
 
+/// The words of the command line as a runtime gives them. It does not tell them.
+#[derive(Drop)]
+struct SystemWords<'a, R> {
+    rt: &'a R,
+}
+
+impl<'a, R: Env> WordList for SystemWords<'a, R> {
+    ghost tells = { λ _. ⊥ };
+
+    ghost words = { λ _. [] };
+
+    /// The buffer grows until the word fits, and keeps no more room than the word takes.
+    fn word(&self, alloc: Global, number: usize) -> Result<Option<Vec<u8>>, AllocError> {
+        let mut bytes = Vec::new(alloc);
+        let mut length = 256usize;
+        for _ in 0..usize::BITS {
+            bytes.resize(length, 0)?;
+            match self.rt.arg(number, bytes.as_mut_slice()) {
+                Ok(count) => {
+                    bytes.truncate(count);
+                    bytes.shrink_to_fit();
+                    return Ok(Some(bytes));
+                }
+                Err(FillError::NotPresent) => return Ok(None),
+                Err(FillError::TooLong) => length = length.saturating_mul(2),
+            }
+        }
+        Err(AllocError)
+    }
+}
+
 /// The words of the command line, the program's name first, or why they can't be had: the first one that is no text, or
 /// out of memory.
 pub fn given_words<R: Env + AllocGlobal>(rt: &R) -> Result<Vec<String>, WordsFault>
     ensures { IfErr result IsNoText }
 {
-    let mut words = Vec::new(rt.alloc());
-    for number in 0..usize::MAX {
-        match word_bytes(rt, number)? {
-            Some(bytes) => match String::from_utf8(bytes) {
-                Ok(word) => {
-                    if words.push(word).is_err() {
-                        return Err(WordsFault::Memory);
-                    }
-                }
-                Err(error) => return Err(WordsFault::NotText(number, error.into_bytes())),
-            },
-            None => break,
-        }
-    }
-    Ok(words)
-}
-
-/// The bytes of the word of this number, and `None` after the last word. The buffer grows until the word fits.
-fn word_bytes<R: Env + AllocGlobal>(rt: &R, number: usize) -> Result<Option<Vec<u8>>, AllocError> {
-    let mut bytes = Vec::new(rt.alloc());
-    let mut length = 256usize;
-    for _ in 0..usize::BITS {
-        bytes.resize(length, 0)?;
-        match rt.arg(number, bytes.as_mut_slice()) {
-            Ok(count) => {
-                bytes.truncate(count);
-                return Ok(Some(bytes));
-            }
-            Err(FillError::NotPresent) => return Ok(None),
-            Err(FillError::TooLong) => length = length.saturating_mul(2),
-        }
-    }
-    Err(AllocError)
+    all_words(rt.alloc(), &SystemWords { rt })
 }
 
 /// The message for a word that is no text: which it is, the program's name counted as 0, and its bytes. A byte that is

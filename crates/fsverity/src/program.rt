@@ -41,18 +41,37 @@ pub fn run_program<R: Identities + Onlooker + Env + AllocGlobal, O: Write, M: Wr
     ensures status { result ≤ 2 }
     ensures quiet { result ≡ 0 → msgs.new ≡ msgs.old }
 {
-    let status = match given_words(rt) {
-        Ok(words) => run_words(rt, progress, words.as_slice(), out, msgs),
-        Err(fault) => refused_words(rt.alloc(), &fault, msgs),
+    let status = match given_line(rt, msgs) {
+        Ok(line) => run_line(rt, progress, &line, out, msgs),
+        Err(status) => status,
     };
     progress.erase();
     status
 }
 
+/// The command line of a runtime. Where it can't be had, that is said, and the answer is the status. The words as they
+/// were given are let go here, so that of many names the line's own copies alone stay.
+fn given_line<R: Env + AllocGlobal, M: Write>(rt: &R, msgs: &mut M) -> Result<Line, u8>
+    ensures quiet { IfOk result (λ _. msgs.new ≡ msgs.old) }
+    ensures refusal { IfErr result (λ status. (status ≡ 1) ⊎ (status ≡ 2)) }
+{
+    let words = match given_words(rt) {
+        Ok(words) => words,
+        Err(fault) => return Err(refused_words(rt.alloc(), &fault, msgs)),
+    };
+    let Ok(texts) = texts_of(rt.alloc(), words.as_slice()) else {
+        return Err(end(FAILED, OUT_OF_MEMORY, msgs));
+    };
+    match read_words(rt.alloc(), texts.as_slice()) {
+        Ok(line) => Ok(line),
+        Err(fault) => Err(refused_line(&fault, msgs)),
+    }
+}
+
 /// The words of the command line can't be had: one is no text, or there is no memory for them.
 fn refused_words<M: Write>(alloc: Global, fault: &WordsFault, msgs: &mut M) -> u8
     ensures status { result ≡ words_status fault.now }
-    ensures bound { result ≤ 2 }
+    ensures refusal { (result ≡ 1) ⊎ (result ≡ 2) }
     ensures message { AppendsFront (words_text fault.now) (M.contents msgs.old) (M.contents msgs.new) }
 {
     match fault {
@@ -64,27 +83,7 @@ fn refused_words<M: Write>(alloc: Global, fault: &WordsFault, msgs: &mut M) -> u
     }
 }
 
-/// Reads the words of the command line and carries them out.
-fn run_words<R: Identities + Onlooker + AllocGlobal, O: Write, M: Write>(
-    rt: &R,
-    progress: &ProgressLine<'_, R>,
-    words: &[String],
-    out: &mut O,
-    msgs: &mut M,
-) -> u8
-    ensures status { result ≤ 2 }
-    ensures quiet { result ≡ 0 → msgs.new ≡ msgs.old }
-{
-    let Ok(texts) = texts_of(rt.alloc(), words) else {
-        return end(FAILED, OUT_OF_MEMORY, msgs);
-    };
-    match read_words(rt.alloc(), texts.as_slice()) {
-        Ok(line) => run_line(rt, progress, &line, out, msgs),
-        Err(fault) => refused_line(&fault, msgs),
-    }
-}
-
-/// The command line is refused, with `clap`'s text and the usage, or there is no memory for it.
+/// The command line is refused, with `clap`'s text and the usage, or there is no memory for the copies of it.
 fn refused_line<M: Write>(fault: &LineFault, msgs: &mut M) -> u8
     ensures status { (result ≡ 1) ⊎ (result ≡ 2) }
     ensures memory { IsMemory fault.now → (result ≡ 1)

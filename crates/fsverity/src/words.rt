@@ -1,9 +1,9 @@
 //! The words of a command line, read by clap.
-ghost use Rattle.std.specs.Prelude.{◌≡◌, IfOk, IfErr, map, true};
-ghost use Rattle.clap.specs.Words.{found_of, subcommand_of, takes, rows_of};
+ghost use Rattle.std.specs.Prelude.{◌≡◌, [], IfOk, IfErr, map, true};
+ghost use Rattle.clap.specs.Words.{fault_of, found_of, rows_of, subcommand_of, takes};
 ghost use Rattle.clap.specs.declared.Command.TheViews.{out-Command as fields_of};
 ghost use Rattle.command_line.specs.Arguments.{Defines};
-ghost use Rattle.command_line.specs.LineFaults.{IsMemory};
+ghost use Rattle.command_line.specs.LineFaults.{HasCause, LacksMemory};
 ghost use Rattle.fsverity.specs.CommandLines.{HoldsCommand, HoldsRows, digest_app, fsverity_app};
 
 use crate::{Line, LineFault};
@@ -56,13 +56,19 @@ fn line_of(alloc: Global, matches: &ArgMatches<'_>) -> Result<Line, AllocError>
 }
 
 /// Reads the words of a command line, the program's name first: `fsverity digest`, its options, each once, and the
-/// names of the files (fsverity(1)). What clap refuses is `Refused`, with clap's text; the help flag and the help
-/// command are switched off. `Memory` is out of memory for the copies.
+/// names of the files (fsverity(1)). What clap refuses, for want of memory too, is `Refused`, with clap's text; the help
+/// flag and the help command are switched off. `Memory` is out of memory for the copies of a line that clap takes.
 pub fn read_words(alloc: Global, words: &[&str]) -> Result<Line, LineFault>
     ensures holds { IfOk result (HoldsCommand (subcommand_of fsverity_app (map (λ w. w.now) words.now))) }
-    ensures taken { takes fsverity_app (map (λ w. w.now) words.now) ≡ true → IfErr result IsMemory }
+    ensures only { IfOk result (λ _. fault_of fsverity_app (map (λ w. w.now) words.now) ≡ []) }
+    ensures cause { IfErr result (HasCause (fault_of fsverity_app (map (λ w. w.now) words.now))) }
+    ensures taken { takes fsverity_app (map (λ w. w.now) words.now) ≡ true → IfErr result LacksMemory }
 {
-    let matches = command(alloc)?.try_get_matches_from(words)?;
+    let command = match command(alloc) {
+        Ok(command) => command,
+        Err(error) => return Err(LineFault::Refused(clap::Error::from(error))),
+    };
+    let matches = command.try_get_matches_from(words)?;
     match matches.subcommand() {
         Some((_, inner)) => Ok(line_of(alloc, inner)?),
         None => unreachable!(),

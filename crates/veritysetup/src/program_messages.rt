@@ -91,7 +91,7 @@ pub fn refused_words<M: Write>(alloc: Global, fault: &WordsFault, msgs: &mut M) 
     }
 }
 
-/// The command line is refused, with `clap`'s text and the usage, or there is no memory for it.
+/// The command line is refused, with `clap`'s text and the usage, or there is no memory for the copies of it.
 pub fn refused_line<M: Write>(fault: &LineFault, usage: &str, msgs: &mut M) -> u8
     ensures refusal { IsRefusal result }
     ensures memory { IsMemory fault.now → (result ≡ 3)

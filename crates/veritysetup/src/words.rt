@@ -1,9 +1,9 @@
 //! The words of a command line, read by clap.
-ghost use Rattle.std.specs.Prelude.{◌≡◌, ◌++◌, IfOk, IfErr, map, string_bytes, true};
-ghost use Rattle.clap.specs.Words.{App, first_of, found_of, rows_of, subcommand_of, takes};
+ghost use Rattle.std.specs.Prelude.{◌≡◌, ◌++◌, [], IfOk, IfErr, map, string_bytes, true};
+ghost use Rattle.clap.specs.Words.{App, fault_of, first_of, found_of, rows_of, subcommand_of, takes};
 ghost use Rattle.clap.specs.declared.Command.TheViews.{out-Command as fields_of};
 ghost use Rattle.command_line.specs.Arguments.{Defines};
-ghost use Rattle.command_line.specs.LineFaults.{IsMemory};
+ghost use Rattle.command_line.specs.LineFaults.{HasCause, LacksMemory};
 ghost use Rattle.veritysetup.specs.CommandLines.{HoldsCommand, HoldsRows, given_files, word_list};
 ghost use Rattle.veritysetup.specs.CommandLines.{dump_app, format_app, verify_app, veritysetup_app};
 ghost use Rattle.veritysetup.specs.CommandLines.{with_offset_rule, with_tree_rules};
@@ -157,13 +157,20 @@ fn line_of(
 }
 
 /// Reads the words of a command line, the program's name first: `veritysetup format`, `dump` or `verify`, its options,
-/// each once, and its files (veritysetup(8)). What clap refuses is `Refused`, with clap's text and the usage of the
-/// command; the help flags and the help command are switched off. `Memory` is out of memory for the copies.
+/// each once, and its files (veritysetup(8)). What clap refuses, for want of memory too, is `Refused`, with clap's text and
+/// the usage of the command; the help flags and the help command are switched off. `Memory` is out of memory for the
+/// copies of a line that clap takes.
 pub fn read_words(alloc: Global, words: &[&str]) -> Result<Line, LineFault>
     ensures holds { IfOk result (HoldsCommand (subcommand_of veritysetup_app (map (λ w. w.now) words.now))) }
-    ensures taken { takes veritysetup_app (map (λ w. w.now) words.now) ≡ true → IfErr result IsMemory }
+    ensures only { IfOk result (λ _. fault_of veritysetup_app (map (λ w. w.now) words.now) ≡ []) }
+    ensures cause { IfErr result (HasCause (fault_of veritysetup_app (map (λ w. w.now) words.now))) }
+    ensures taken { takes veritysetup_app (map (λ w. w.now) words.now) ≡ true → IfErr result LacksMemory }
 {
-    let matches = command(alloc)?.try_get_matches_from(words)?;
+    let command = match command(alloc) {
+        Ok(command) => command,
+        Err(error) => return Err(LineFault::Refused(clap::Error::from(error))),
+    };
+    let matches = command.try_get_matches_from(words)?;
     match matches.subcommand() {
         Some((name, inner)) => match CommandName::from_name(name) {
             Some(command) => Ok(line_of(alloc, command, inner)?),

@@ -22,12 +22,12 @@ pub returns-in-Ok-print_whole-clause-printed : goal.returns-in-Ok-print_whole-cl
 returns-in-Ok-print_whole-clause-printed g c = (
   c.in-Ok-build.root,
   λ told. by_plan _ _ _ _ (c.in-Ok-build.ensures.read told).0 c.plan-plan.ensures.value,
-  c.in-Ok-print_whole.ensures _ c.settings_report.ensures,
+  c.in-Ok-print_whole.ensures.printed _ c.settings_report.ensures,
 )
 
 pub returns-clause-printed : goal.returns-clause-printed
 returns-clause-printed g c = (
   c.in-Ok-build.root,
   λ told. by_plan _ _ _ _ (c.in-Ok-build.ensures.read told).0 c.plan-plan.ensures.value,
-  c.in-Err-print_whole.ensures _ c.settings_report.ensures,
+  c.in-Err-print_whole.ensures.printed _ c.settings_report.ensures,
 )
