@@ -15,6 +15,7 @@ node_of() {
 
 # has_loops: whether this user may make loop devices and nodes of them, and open both.
 has_loops() {
+    rm -f "$scratch/tried_node"
     zeros 512 >"$scratch/tried" && loop_over "$scratch/tried" && node_of "$loop" "$scratch/tried_node" &&
         cmp -s "$loop" "$scratch/tried_node"
 }
