@@ -1,7 +1,7 @@
 #!/bin/bash
 # All tests: the gate, then the programs that it built, run as a user runs them, the examples of the documents, and the
-# comparisons with Debian's programs, where these are installed, with a minute of random runs. The last line is 'N passed,
-# M failed', over all parts.
+# comparisons with Debian's programs, where these are installed, with a minute of random runs. The last line is
+# 'N passed, M failed', over all parts.
 # With --without-gate the programs that are in bin/ are tested, and the output says that the gate was left out.
 set -u
 cd "$(dirname "$0")/.."
