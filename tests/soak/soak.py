@@ -47,6 +47,8 @@ KINDS = [
 PEER = 8
 PEERS = "beside Debian's programs"
 BROKEN = "cases that ended the soak's own code"
+# How much of a file is read, far more than any run should make: one with a fault may make files of any length.
+MOST_READ = 2**26
 FAULTS = ["status", "output", "message", "byte", "file"]
 
 Case = namedtuple("Case", "kind program scene words has_hard_links has_peer")
@@ -101,7 +103,7 @@ def run(program, words, folder, case):
     for name in os.listdir():
         if name not in case.scene.links:
             with open(name, "rb") as file:
-                files[name] = file.read()
+                files[name] = file.read(MOST_READ)
     return Found(ended.returncode, ended.stdout, ended.stderr, files)
 
 
