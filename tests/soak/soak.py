@@ -214,7 +214,7 @@ def self_test(programs, folder):
         os.symlink(os.path.join(HERE, "wrong.sh"), os.path.join(wrong, name))
     os.environ["REAL"] = programs
     options = {"SEED": 1, "CASES": 60, "WORKERS": 1, "SECONDS": 600, "SHOWN": 0}
-    _, failed = go_over(options, programs, folder)
+    _, failed = go_over(options | {"SHOWN": 20}, programs, folder)
     print(f"the programs: {failed} of {options['CASES']} cases fail")
     missed = failed != 0
     for fault in FAULTS:
