@@ -20,5 +20,9 @@ if [ $# -gt 0 ]; then
     tests/soak/soak.py "$@"
     exit
 fi
-if ! tests/soak/soak.py --self-test; then fail 'the self-test' 'a faulty program passes'; finish; exit 1; fi
+if ! tests/soak/soak.py --self-test; then
+    fail 'the self-test' 'the lines above say what passes or fails and should not'
+    finish
+    exit 1
+fi
 tests/soak/soak.py SEED=1 SECONDS=60

@@ -1,4 +1,4 @@
-"""Block hash trees over whole levels: a reading of docs/DEFINITIONS.md of its own, with the hash functions of hashlib."""
+"""Block hash trees over whole levels: a second reading of docs/DEFINITIONS.md, with the hash functions of hashlib."""
 
 import hashlib
 from collections import namedtuple
@@ -31,7 +31,7 @@ def salted(settings):
 
 
 class Shape:
-    """Slots, fan-out, number and places of hash blocks, which settings give for any data from a hash block `base` on."""
+    """Slots, fan-out, number and places of hash blocks, from a hash block `base` on: the same for any data."""
 
     def __init__(self, settings, base):
         self.settings = settings

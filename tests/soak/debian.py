@@ -18,14 +18,14 @@ VALUES = re.compile(r"^(UUID|Hash type|Data blocks|Data block size|Hash block si
 
 
 def compare(program, words, scene, ours, drawn, run):
-    """What differs, as a list of texts, or None where Debian's program isn't asked. `ours` is the expected outcome, which
-    our program has met; `run` runs Debian's program on the files of a scene."""
+    """What differs, as a list of texts, or None where Debian's program isn't asked. `ours` is the outcome that was
+    expected and found; `run` runs a program with words, on the files of the case."""
     line = read_line(program, words)
     if line is None or any(word.startswith("-") for word in line.words):
         return None
 
     def theirs(*words):
-        return run(shutil.which(program), list(words), scene)
+        return run(shutil.which(program), list(words))
 
     try:
         if program == "fsverity":
@@ -75,6 +75,11 @@ def format_run(line, scene, ours, drawn, theirs):
     return differences + ([] if image == other else ["beside Debian's program, HASH is another one"])
 
 
+def values(report):
+    """The values of a report, with their labels."""
+    return [(label, value.strip()) for label, value in VALUES.findall(report.decode())]
+
+
 def dump(line, scene, ours, drawn, theirs):
     """Both tell the same values, or refuse the superblock."""
     offset = offset_of(line.options)
@@ -82,8 +87,7 @@ def dump(line, scene, ours, drawn, theirs):
         return None
     found = theirs("dump", f"--hash-offset={offset}", *line.words)
     if ours.status == 0:
-        values = [[(label, value.strip()) for label, value in VALUES.findall(text.decode())] for text in (ours.out, found.out)]
-        return same("status", 0, found.status) + same("values", *values)
+        return same("status", 0, found.status) + same("values", values(ours.out), values(found.out))
     if REFUSED_BY_BOTH.match(ours.err):
         return same("a refusal", True, found.status != 0)
     return None
@@ -99,7 +103,7 @@ def verify(line, scene, ours, drawn, theirs):
     shape = Shape(area.settings, area.base)
     is_whole = shape.settings.count * shape.settings.data_block <= len(data)
     is_whole = is_whole and shape.end * shape.settings.hash_block <= len(device)
-    if is_whole and ours.err.endswith(("bytes.",)) or is_whole and ", child " in ours.err:
+    if is_whole and re.search(", child |, spare bytes", ours.err):
         return same("status", 2, found.status)
     return same("acceptance", ours.status == 0, found.status == 0)
 

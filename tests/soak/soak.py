@@ -3,8 +3,8 @@
 a part of it with Debian's programs.
 
 soak.py [SEED=N] [SECONDS=N] [CASES=N] [WORKERS=N] goes over cases 0, 1, .. until the time or the number is reached;
-soak.py SEED=N CASE=N repeats one, and says more of it; soak.py --self-test runs faulty programs, to be told so. Seed and
-number of a case determine everything in it. The last line is 'N passed, M failed'.
+soak.py SEED=N CASE=N repeats one and keeps its files where it fails; soak.py --self-test runs faulty programs, which
+have to fail. Seed and number of a case determine everything in it. The last line is 'N passed, M failed'.
 """
 
 import os
@@ -47,6 +47,8 @@ KINDS = [
 PEER = 8
 PEERS = "beside Debian's programs"
 BROKEN = "cases that ended the soak's own code"
+# How much of a file is read, far more than any run should make: one with a fault may make files of any length.
+MOST_READ = 2**26
 FAULTS = ["status", "output", "message", "byte", "file"]
 
 Case = namedtuple("Case", "kind program scene words has_hard_links has_peer")
@@ -101,7 +103,7 @@ def run(program, words, folder, case):
     for name in os.listdir():
         if name not in case.scene.links:
             with open(name, "rb") as file:
-                files[name] = file.read()
+                files[name] = file.read(MOST_READ)
     return Found(ended.returncode, ended.stdout, ended.stderr, files)
 
 
@@ -127,7 +129,8 @@ def file_differences(name, expected, found):
         return []
     if expected is None or found is None:
         return [f"file {name!r}: expected {'no' if expected is None else 'a'} file, found the opposite"]
-    at = next((i for i, (one, other) in enumerate(zip(expected, found)) if one != other), min(len(expected), len(found)))
+    at = min(len(expected), len(found))
+    at = next((place for place in range(at) if expected[place] != found[place]), at)
     return [f"file {name!r}: expected {len(expected)} bytes, found {len(found)}, which differ from byte {at} on"]
 
 
@@ -142,15 +145,20 @@ def judge(case, folder, programs):
     texts = differences(case, expected, found)
     if texts or not case.has_peer:
         return texts, False
-    peer = lambda program, words, _: run(program, words, folder, case)
+    peer = lambda program, words: run(program, words, folder, case)
     more = debian.compare(case.program, case.words, case.scene, expected, drawn, peer)
     return more or [], more is not None
 
 
+def shown(case):
+    """The command of a case, as a shell takes it where all words are text."""
+    return shlex.join(os.fsencode(word).decode(errors="backslashreplace") for word in [case.program, *case.words])
+
+
 def told(seed, which, case, texts):
     """A failed case as it is shown."""
-    shown = shlex.join(os.fsencode(word).decode(errors="backslashreplace") for word in [case.program, *case.words])
-    lines = [f"FAILED {case.kind}: tests/soak.sh SEED={seed} CASE={which}", shown[:2000], *(text[:1500] for text in texts)]
+    lines = [f"FAILED {case.kind}: tests/soak.sh SEED={seed} CASE={which}", shown(case)[:2000]]
+    lines += [text[:1500] for text in texts]
     return "\n    ".join(lines)
 
 
@@ -198,15 +206,15 @@ def go_over(options, programs, folder):
 
 
 def self_test(programs, folder):
-    """Runs the programs, which have to pass, and faulty ones, which have to fail in some case. The answer is how many of
-    these did, and how many didn't."""
+    """Runs the programs, which have to pass, and faulty ones, which have to fail in some case. The answer is how many
+    did so, and how many didn't."""
     wrong = os.path.join(folder, "wrong")
     os.mkdir(wrong)
     for name in ("veritysetup", "fsverity"):
         os.symlink(os.path.join(HERE, "wrong.sh"), os.path.join(wrong, name))
     os.environ["REAL"] = programs
     options = {"SEED": 1, "CASES": 60, "WORKERS": 1, "SECONDS": 600, "SHOWN": 0}
-    _, failed = go_over(options, programs, folder)
+    _, failed = go_over(options | {"SHOWN": 20}, programs, folder)
     print(f"the programs: {failed} of {options['CASES']} cases fail")
     missed = failed != 0
     for fault in FAULTS:
@@ -221,7 +229,7 @@ def one_case(seed, which, programs, folder):
     """Repeats one case. Where it fails, its files stay as they were before the run."""
     case = make_case(seed, which)
     texts, _ = judge(case, folder, programs)
-    print(shlex.join(os.fsencode(word).decode(errors="backslashreplace") for word in [case.program, *case.words]))
+    print(shown(case))
     if texts:
         kept = tempfile.mkdtemp(prefix="soak-case-")
         lay_out(os.path.join(kept, "files"), case)
@@ -267,4 +275,5 @@ def main():
     sys.exit(1 if failed or not passed else 0)
 
 
-main()
+if __name__ == "__main__":
+    main()

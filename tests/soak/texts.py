@@ -1,4 +1,4 @@
-"""Random texts of options, right and wrong ones, and random bytes. All of it follows from the generator that is given."""
+"""Random texts of options, right and wrong ones, and random bytes; all of it follows from the generator given."""
 
 NOT_NUMBERS = [
     "",

@@ -10,8 +10,8 @@ DATA, HASH = "data", "hash"
 HARD_SIZES = [2**31, 2**32, 2**40, 2**62, 2**63 - 4096, 2**63 - 1024, 2**63 - 512, 2**63, 2**64 - 512]
 
 # Where the fields of a superblock begin, and how long they are; the last is all of it.
-FIELDS = [(0, 8), (8, 4), (12, 4), (16, 16), (32, 32), (64, 4), (68, 4), (72, 8), (80, 2), (82, 6), (88, 256), (344, 168)]
-FIELDS += [(0, 512)]
+FIELDS = [(0, 8), (8, 4), (12, 4), (16, 16), (32, 32), (64, 4), (68, 4), (72, 8), (80, 2), (82, 6), (88, 256)]
+FIELDS += [(344, 168), (0, 512)]
 
 
 def settings(rng):
@@ -77,8 +77,8 @@ def format_case(rng):
     """format with settings that are most often taken, into a new HASH, an old one, or into DATA's own file."""
     chosen = settings(rng)
     bare = chance(rng, 0.2)
-    data = texts.content(rng, chosen.count * chosen.data_block + rng.choice([0, 0, 1, rng.randrange(chosen.data_block)]))
-    scene = Scene({DATA: data})
+    tail = rng.choice([0, 0, 1, rng.randrange(chosen.data_block)])
+    scene = Scene({DATA: texts.content(rng, chosen.count * chosen.data_block + tail)})
     at = offset(rng, chosen.hash_block if bare else SUPERBLOCK_SIZE)
     names = [DATA, HASH]
     options = {}

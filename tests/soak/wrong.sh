@@ -1,6 +1,6 @@
 #!/bin/bash
-# A program with a fault, by which the soak shows that it sees one: runs the program of the same name in the folder REAL,
-# and spoils what FAULT names.
+# A program with a fault, by which the soak shows that it sees one: runs the program of the same name in the folder
+# REAL, and spoils what FAULT names.
 set -u
 real=$REAL/${0##*/}
 case $FAULT in
@@ -20,7 +20,10 @@ byte)
     status=$?
     # The last byte of what was made.
     for file in hash tree descriptor; do
-        if [ -s "$file" ]; then printf x | dd of="$file" bs=1 seek=$(($(stat -c %s "$file") - 1)) conv=notrunc status=none; fi
+        if [ -s "$file" ]; then
+            truncate -s -1 "$file"
+            printf x >>"$file"
+        fi
     done
     exit $status
     ;;
