@@ -6,7 +6,7 @@ set -u
 cd "$(dirname "$0")/.."
 . tests/checks.sh
 needs rt 'none: the Rattle toolchain'
-kit=$(dirname "$(dirname "$(realpath "$(command -v rt)")")")
+kit=$(dirname "$(rt doc)")
 
 # put FILE CPU NAME: a built program goes into the folder of its processor.
 put() {
