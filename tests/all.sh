@@ -10,4 +10,5 @@ if [ "${1:-}" = --without-gate ]; then parts=(tests/no_gate.sh); fi
 for script in tests/programs/*.sh tests/readme.sh tests/manual.sh tests/install.sh tests/interop/*.sh; do
     if [ -x "$script" ]; then parts+=("$script"); fi
 done
+parts+=('tests/memory.sh --short')
 BIN=bin exec tests/run.sh "${parts[@]}"
