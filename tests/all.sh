@@ -19,4 +19,5 @@ for build in "${builds[@]}"; do
         if [ -x "$script" ]; then parts+=("env BIN=$build $script"); fi
     done
 done
-BIN=bin exec tests/run.sh "${parts[@]}" tests/install.sh tests/completion.sh tests/soak.sh
+parts+=(tests/install.sh tests/completion.sh 'tests/memory.sh --short' tests/soak.sh)
+BIN=bin exec tests/run.sh "${parts[@]}"

@@ -1,4 +1,15 @@
-# Runs the examples of documents word for word. Sourced after tests/checks.sh.
+# Runs the examples of documents word for word. Sourced after tests/checks.sh, at the repository's root.
+
+# The programs' messages as docs/DEFINITIONS.md has them, each after its status and with `_` for each name or number.
+stated_messages=$(sed -nE 's/^\|.*\| `(.*)` \| ([0-9]) \|$/\2 \1/p' docs/DEFINITIONS.md | sed -E 's/\b[A-Z]+\b/_/g')
+
+# stated_status TEXT: the status of an example that shows this text: that of the message at its end, and 0 where no
+# message stands there.
+stated_status() {
+    local last
+    last=$(tail -n 1 <<<"$1" | sed -E 's/\b[0-9a-f]*[0-9][0-9a-f]*\b/_/g')
+    awk -v last="$last" 'substr($0, 3) == last { status = $1 } END { print status + 0 }' <<<"$stated_messages"
+}
 
 # lacking COMMAND: prints the first program of those that the examples use beside coreutils and isn't installed.
 lacking() {
@@ -11,8 +22,9 @@ lacking() {
     done
 }
 
-# run_example COMMAND EXPECTED: runs a command in this shell, so that its variables stay for the next, and compares what
-# it prints on both streams. Where a program is missing, the rest of the group is left out with it.
+# run_example COMMAND EXPECTED: runs a command in this shell, so that its variables and its status stay for the next, and
+# compares what it prints on both streams, and its status. Where a program is missing, the rest of the group is left out
+# with it.
 run_example() {
     if [ -n "$missing" ]; then return; fi
     missing=$(lacking "$1")
@@ -20,14 +32,17 @@ run_example() {
         echo "left out: $document, from '${1%%$'\n'*}' on: $missing is not installed"
         return
     fi
+    (exit "$status")
     eval "$1" >"$scratch/.shown" 2>&1 </dev/null
+    status=$?
     is_text "$document: $1" "$2" "$scratch/.shown"
+    same "$document: $1: status" "$(stated_status "$2")" "$status"
 }
 
 # run_examples DOCUMENT FILE: FILE has commands after '$ ', what they print below each, and a line '%' before each group
 # of them. A backslash at a line's end carries a command on. Sets `examples`, how many there are.
 run_examples() {
-    local document=$1 line command='' expected='' missing=''
+    local document=$1 line command='' expected='' missing='' status=0
     examples=0
     while IFS= read -r line; do
         if [[ $command == *\\ && -z $expected ]]; then

@@ -2,17 +2,20 @@
 # Refuses each request for memory in turn, counting up until nothing is refused: of the run functions in
 # crates/memory_tests, by `rt try`, which builds them anew for each number; and of both programs' commands, by a library
 # that is loaded before them. Needs the toolchain and a C compiler. BIN=FOLDER takes the programs of another folder.
+# With --short, as a part of all tests, the run functions have just the requests of a store, of a report and of a line
+# refused, and where there is no C compiler, the programs' commands are left out.
 set -u
 cd "$(dirname "$0")/.."
 . tests/checks.sh
 . tests/programs/images.sh
-needs cc gcc
+short=no
+if [ "${1:-}" = --short ]; then short=yes; fi
+if [ $short = no ]; then needs cc gcc; fi
 has_program veritysetup
 has_program fsverity
 veritysetup=$BIN/veritysetup
 fsverity=$BIN/fsverity
 refuser=$scratch/refuse_memory.so
-cc -shared -fPIC -O1 -o "$refuser" tests/refuse_memory.c || exit 1
 
 # The most requests of a run, so that a count that doesn't end is found.
 most=2000
@@ -48,26 +51,60 @@ endings_in() {
     ' "$1"
 }
 
+# How each test of the run functions ends where just one request is refused: the first of the store, of the report or of
+# the line, each at the number that it has in the tests of the image and in those of files.
+declare -A ending_at=(
+    [5]='dump_is_whole Untouched
+        format_is_whole Untouched
+        format_of_a_tree_alone_is_whole Untouched
+        verify_is_whole Untouched
+        verify_of_a_tree_alone_is_whole Untouched
+        verify_of_a_changed_image_is_whole Untouched'
+    [6]='format_is_whole Stopped
+        format_of_a_tree_alone_is_whole Stopped
+        digest_is_whole Untouched
+        digest_with_output_files_is_whole Untouched'
+    [7]='digest_is_whole Untouched
+        digest_with_output_files_is_whole Stopped'
+)
+
+# refuse_of_run_functions NUMBER: runs the tests of the run functions with this request of each refused, and writes the
+# test's endings to $scratch/endings. Answers 1 where they have not run.
+refuse_of_run_functions() {
+    (cd crates/memory_tests && rt try --test --fail-alloc "$1") >"$scratch/log" 2>&1
+    if ! grep -q '^test result: ' "$scratch/log"; then
+        fail "request $1 of the run functions" "$(tail -n 5 "$scratch/log")"
+        return 1
+    fi
+    endings_in "$scratch/log" >"$scratch/endings"
+    same "request $1: the tests that have run" "$(printf '%s\n' "${!endings_of[@]}" | sort)" \
+        "$(cut -d ' ' -f 1 "$scratch/endings" | sort)"
+}
+
+# The tests' endings where the requests of a store, a report and a line are refused.
+first_requests() {
+    local number test ending
+    for number in "${!ending_at[@]}"; do
+        refuse_of_run_functions "$number" || return
+        while read -r test ending; do
+            same "request $number of $test" "$ending" "$(sed -n "s/^[a-z]*::$test //p" "$scratch/endings")"
+        done <<<"${ending_at[$number]}"
+    done
+}
+
 # The tests' endings over all numbers; equal ones in a row stand once.
 run_functions() {
-    local number=1 log=$scratch/log test ending
+    local number=1 test ending
     local -A seen=()
     while [ $number -le 100 ]; do
-        (cd crates/memory_tests && rt try --test --fail-alloc $number) >"$log" 2>&1
-        if ! grep -q '^test result: ' "$log"; then
-            fail "request $number of the run functions" "$(tail -n 5 "$log")"
-            return
-        fi
-        endings_in "$log" >"$scratch/endings"
-        same "request $number: the tests that have run" "$(printf '%s\n' "${!endings_of[@]}" | sort)" \
-            "$(cut -d ' ' -f 1 "$scratch/endings" | sort)"
+        refuse_of_run_functions $number || return
         while read -r test ending; do
             case $ending in
             Wrong | Crashed) fail "request $number of $test" "found: $ending" ;;
             esac
             [[ ${seen[$test]-} = *" $ending" ]] || seen[$test]+=" $ending"
         done <"$scratch/endings"
-        if grep -q '^test result: ok' "$log"; then
+        if grep -q '^test result: ok' "$scratch/log"; then
             for test in "${!endings_of[@]}"; do
                 same "$test" " ${endings_of[$test]} Whole" "${seen[$test]-}"
             done
@@ -189,8 +226,13 @@ image=$scratch/image.img
 image_17 "$data" "$image"
 bare_options=(--no-superblock --data-block-size 512 --hash-block-size 512 --salt=-)
 
-formats
-verifies
-digests_of_files
-run_functions
+if command -v cc >/dev/null; then
+    cc -shared -fPIC -O1 -o "$refuser" tests/refuse_memory.c || exit 1
+    formats
+    verifies
+    digests_of_files
+else
+    echo "left out: requests of the programs for memory that are refused: cc is not installed"
+fi
+if [ $short = yes ]; then first_requests; else run_functions; fi
 finish

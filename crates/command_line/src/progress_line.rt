@@ -13,14 +13,17 @@ use std::time::Instant;
 #[derive(Drop)]
 pub struct ProgressLine<'a, R> {
     rt: &'a R,
+    /// After how many bytes the line is written again, and `None` where nobody looks on.
+    step: Option<u64>,
     stands: Cell<bool>,
 }
 
 impl<'a, R: Onlooker> ProgressLine<'a, R> {
-    /// No line stands yet.
+    /// No line stands yet. The runtime is asked here, and only here, whether somebody looks on.
     pub fn new(rt: &'a R) -> Self {
         ProgressLine {
             rt,
+            step: rt.step(),
             stands: Cell::new(false),
         }
     }
@@ -34,7 +37,7 @@ impl<'a, R: Onlooker> ProgressLine<'a, R> {
 
     /// After how many bytes the line is written again, where somebody looks on.
     pub(crate) fn step(&self) -> Option<u64> {
-        self.rt.step()
+        self.step
     }
 
     /// What the clock reads, where it can be read.

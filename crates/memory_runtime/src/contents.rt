@@ -48,6 +48,8 @@ pub struct Contents {
     pub standard_error: Vec<u8>,
     /// How often the clock was read.
     pub clock_reads: u64,
+    /// How often the runtime was asked whether somebody looks on.
+    pub looks: u64,
     pub calls: Calls,
 }
 
@@ -61,6 +63,7 @@ impl Contents {
             held: String::new(alloc),
             standard_error: Vec::new(alloc),
             clock_reads: 0,
+            looks: 0,
             calls: Calls::NONE,
         }
     }

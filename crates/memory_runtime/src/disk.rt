@@ -161,6 +161,18 @@ impl Disk {
         Ok(self.seen()?.calls.count(call).made)
     }
 
+    /// How often the runtimes over this disk were asked whether somebody looks on.
+    pub fn looks(&self) -> io::Result<u64> {
+        Ok(self.seen()?.looks)
+    }
+
+    /// Counts such a question.
+    pub(crate) fn count_look(&self) {
+        if let Ok(mut contents) = self.changed() {
+            contents.looks = contents.looks.saturating_add(1);
+        }
+    }
+
     /// Counts a call, and refuses the one that fails.
     pub(crate) fn count(&self, call: Call) -> io::Result<()> {
         if self.changed()?.calls.fails(call) {

@@ -183,6 +183,7 @@ impl Eprint for MemoryRuntime<'_> {
 
 impl Onlooker for MemoryRuntime<'_> {
     fn step(&self) -> Option<u64> {
+        self.disk.count_look();
         self.step
     }
 }
