@@ -5,7 +5,7 @@ use Rattle.std.proofs.lemmas.Bool.{cases_lt}
 use Rattle.std.proofs.lemmas.Simd.{get_or-replicate}
 use borrow.Rule.Slice.PartMut.{put_mid}
 use Rattle.std.specs.List.{between}
-use Rattle.std.proofs.lemmas.Slice.{between-put_mid, between_is, take-put_mid_below}
+use Rattle.std.proofs.lemmas.Slice.{between-put_mid, between_is, between_to_end, take-put_mid_below}
 use Rattle.std.proofs.lemmas.List.{append_assoc, length-append, length-replicate, length-drop, get_or-append_right, get_or-drop, get_or-take, get_or_append_left, get_or_past, length-take-le}
 use Rattle.std.proofs.lemmas.Grind.{same_number_lists}
 use Rattle.std.proofs.Math.Nat.{mul-le-mul_right}
@@ -257,3 +257,24 @@ same_outside size before a b rest len at la lb room place =
           ∙ (ap (λ z. slice_index rest (at + i - (length before + z))) (la ∙ sym lb)
           ∙ sym (byte_after before b rest (at + i) (omega arith)))
     ])
+
+-- ---- the first n of the parts, and those after them
+
+pub part_of_first : (n : ℕ) (parts : List ℕ) (len j : ℕ) → j < n → n * len ≤ length parts
+    → take len (drop (j * len) (take (n * len) parts)) ≡ take len (drop (j * len) parts)
+part_of_first n parts len j lt room =
+    let ends : j * len + len ≤ n * len = part_below n j len lt in
+    let long : length (take (n * len) parts) ≡ n * len = length-take-le (n * len) parts room in
+    let first_room : j * len + len ≤ length (take (n * len) parts) = omega arith in
+    let whole_room : j * len + len ≤ length parts = omega arith in
+    same_block len (take (n * len) parts) parts (j * len) (j * len) first_room whole_room
+    (λ i below. let inside : j * len + i < n * len = omega arith in get_or-take (n * len) parts (j * len + i) 0 inside)
+
+pub part_of_rest : (parts : List ℕ) (len from at j : ℕ) → at ≡ from + j * len → at + len ≤ length parts
+    → take len (drop (j * len) (between from (length parts) parts)) ≡ take len (drop at parts)
+part_of_rest parts len from at j is room =
+    let le : length parts ≤ length parts = omega arith in
+    let rest_room : j * len + len ≤ length (drop from parts) = omega (arith, length-drop from parts) in
+    ap (λ z. take len (drop (j * len) z)) (between_to_end parts from (length parts) le)
+    ∙ same_block len (drop from parts) parts (j * len) at rest_room room
+    (λ i below. get_or-drop from parts (j * len + i) 0 ∙ ap (slice_index parts) (omega arith))

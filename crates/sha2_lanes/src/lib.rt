@@ -4,5 +4,7 @@
 
 mod rows;
 mod words32;
+mod words64;
 
 pub use words32::digests::{sha224, sha256};
+pub use words64::digests::{sha384, sha512};
