@@ -1,12 +1,12 @@
 -- The padded message (5.1.2), row by row.
-use Rattle.std.proofs.Common.{◌≡◌, ℕ, suc, ◌+◌, ◌-◌, ◌*◌, ◌/◌, ◌%◌, ◌^◌, ◌<◌, ◌≤◌, List, [], ◌∷◌, ◌++◌, length, slice_index, take, drop, refl, ap, sym, ◌∙◌, arith, ◌⊎◌}
+use Rattle.std.proofs.Common.{◌≡◌, ℕ, ◌+◌, ◌-◌, ◌*◌, ◌/◌, ◌%◌, ◌^◌, ◌<◌, ◌≤◌, List, [], ◌∷◌, ◌++◌, length, slice_index, take, drop, ap, sym, ◌∙◌, arith, ◌⊎◌}
 use Rattle.std.specs.Prelude.{replicate}
 use Rattle.std.specs.Int.{w128, to_be_bytes}
 use Rattle.std.proofs.lemmas.List.{append_assoc, length-append, length-replicate, length-drop, length-take-le}
 use Rattle.sha2.specs.Sha512 as S512
 use Rattle.sha2_lanes.specs.Lanes.{message_of, HoldsFrom}
 use Rattle.sha2_lanes.specs.Words64.{block_count, padded_row}
-use Rattle.sha2_lanes.proofs.Pieces.{row_whole, block_of_part, same_outside, length-part, length-pieces, length-message_of}
+use Rattle.sha2_lanes.proofs.Pieces.{row_whole, block_of_part, same_outside, length-part, length-pieces}
 
 -- how many zeros follow the byte 1000 0000
 abbrev pub zero_count : ℕ → ℕ

@@ -1,7 +1,7 @@
 -- SHA-384 and SHA-512 of four messages side by side, by the definitions of `sha2`.
-use Rattle.std.specs.Prelude.{◌≡◌, ℕ, ◌<◌, ◌+◌, ◌*◌, ◌/◌, List, take, drop}
+use Rattle.std.specs.Prelude.{◌≡◌, ℕ, ◌<◌, ◌+◌, ◌/◌, List, take, drop}
 use Rattle.sha2.specs.Sha512.{rounds, first_words, padded_message}
-use Rattle.sha2_lanes.specs.Lanes.{lane, message_of}
+use Rattle.sha2_lanes.specs.Lanes.{lane}
 
 -- in each lane, the working variables v come from those of u by n rounds, from round t on, with the words w
 abbrev pub RoundsFrom : List (List ℕ) → ℕ → ℕ → List (List ℕ) → List (List ℕ) → Type 0

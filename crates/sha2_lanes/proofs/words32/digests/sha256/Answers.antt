@@ -1,6 +1,6 @@
-use Rattle.std.proofs.Common.{◌≡◌, ℕ, ◌<◌, List, take, ap, ◌∙◌, arith}
+use Rattle.std.proofs.Common.{ℕ, ◌<◌, ap, ◌∙◌, arith}
 use Rattle.sha2.specs.Sha256 as S256
-use Rattle.sha2_lanes.specs.Lanes.{lane, message_of}
+use Rattle.sha2_lanes.specs.Lanes.{message_of}
 use Rattle.sha2_lanes.proofs.LaneWise.{eight_cases}
 use Rattle.sha2_lanes.proofs.Hash32.{sha256_is}
 use Rattle.sha2_lanes.proofs.words32.digests.sha256.Goals as goal

@@ -1,4 +1,4 @@
-use Rattle.std.proofs.Common.{◌≡◌, ℕ, ◌<◌, ap, ◌∙◌, arith}
+use Rattle.std.proofs.Common.{ℕ, ◌<◌, ap, ◌∙◌, arith}
 use Rattle.sha2.specs.Sha512 as S512
 use Rattle.sha2_lanes.specs.Lanes.{message_of}
 use Rattle.sha2_lanes.proofs.LaneWise.{four_cases}

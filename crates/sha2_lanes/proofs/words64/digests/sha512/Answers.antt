@@ -1,6 +1,6 @@
-use Rattle.std.proofs.Common.{◌≡◌, ℕ, ◌+◌, ◌*◌, ◌<◌, ◌≤◌, ◌++◌, List, length, take, ap, arith}
+use Rattle.std.proofs.Common.{◌≡◌, ℕ, ◌+◌, ◌*◌, ◌<◌, ◌≤◌, ◌++◌, length, ap, arith}
 use Rattle.sha2.specs.Sha512 as S512
-use Rattle.sha2_lanes.specs.Lanes.{row, message_of}
+use Rattle.sha2_lanes.specs.Lanes.{message_of}
 use Rattle.sha2_lanes.proofs.LaneWise.{eight_cases}
 use Rattle.sha2_lanes.proofs.Pieces.{part_of_first, part_of_rest}
 use Rattle.sha2_lanes.proofs.Hash64.{sha512_is}
