@@ -1,0 +1,5 @@
+use Rattle.sha2_lanes.proofs.LaneWise.{zip_lanes}
+use Rattle.sha2_lanes.proofs.words32.functions.big_sigma1.Goals as goal
+
+pub returns : goal.returns
+returns c = zip_lanes _ (zip_lanes _ c.rotated.ensures c.rotated-2.ensures) c.rotated-3.ensures

@@ -1,0 +1,3 @@
+pub mod Lanes
+pub mod Words32
+pub mod Words64

@@ -1,0 +1,26 @@
+//! Rows of bytes, filled with pieces of a message.
+ghost use Rattle.std.specs.Prelude.{◌≡◌, ℕ, ◌+◌, ◌<◌, ◌^◌, ◌++◌, List, length};
+ghost use Rattle.sha2_lanes.specs.Lanes.{HoldsFrom};
+
+/// Puts those bytes of `piece` into the row that lie in it, where the row begins at byte `at` of a message and the piece
+/// at byte `from`.
+#[inline(always)]
+pub(crate) fn put(row: &mut [u8], at: u128, piece: &[u8], from: u128)
+    requires row_near { at < 2 ^ 127 }
+    requires piece_near { from < 2 ^ 127 }
+    ensures long { length row.new ≡ length row.old }
+    ensures joined { (m : List ℕ) → length m ≡ from → HoldsFrom row.old m at → HoldsFrom row.new (m ++ piece.now) at }
+{
+    let first = if from < at { at } else { from };
+    let row_end = at + row.len() as u128;
+    let piece_end = from + piece.len() as u128;
+    let last = if piece_end < row_end {
+        piece_end
+    } else {
+        row_end
+    };
+    if first < last {
+        let bytes = &piece[(first - from) as usize..(last - from) as usize];
+        row[(first - at) as usize..(last - at) as usize].copy_from_slice(bytes);
+    }
+}

@@ -1,0 +1,84 @@
+//! The padded messages (FIPS 180-4, 5.1.2), block by block.
+//!
+//! `before`, a part and `after` may together pass what a `usize` counts, as two of them may be one slice: places in a
+//! message have 128 bits.
+ghost use Rattle.std.specs.Prelude.{◌≡◌, ℕ, ◌+◌, ◌*◌, ◌<◌, ◌≤◌, ◌^◌, ◌++◌, length, take, drop};
+ghost use Rattle.sha2_lanes.specs.Lanes.{message_of};
+ghost use Rattle.sha2_lanes.specs.Words64.{BeginsSchedule, block_count, padded_row};
+
+use crate::rows::put;
+use crate::words64::schedule::{load, load_same};
+use std::simd::prelude::*;
+
+/// How many blocks a message of `n` bytes fills with its padding.
+pub(crate) fn block_count(n: u128) -> usize
+    requires { n < 2 ^ 66 }
+    ensures { result ≡ block_count n }
+{
+    ((n + 16) / 128 + 1) as usize
+}
+
+/// The 128 bytes from byte `at` on of a padded message: its pieces, the byte 1000 0000, zeros, and its length in bits.
+#[inline(always)]
+fn padded_row(before: &[u8], part: &[u8], after: &[u8], at: u128) -> [u8; 128]
+    requires { at + 128 ≤ 128 * block_count (length before.now + length part.now + length after.now) }
+    ensures { result ≡ padded_row (before.now ++ part.now ++ after.now) at }
+{
+    let start = before.len() as u128;
+    let end = start + part.len() as u128;
+    let n = end + after.len() as u128;
+    let bits = n.wrapping_mul(8);
+    let mut row = [0u8; 128];
+    put(&mut row, at, before, 0);
+    put(&mut row, at, part, start);
+    put(&mut row, at, after, end);
+    put(&mut row, at, &[0x80], n);
+    put(
+        &mut row,
+        at,
+        &bits.to_be_bytes(),
+        128 * block_count(n) as u128 - 16,
+    );
+    row
+}
+
+/// The 128 bytes from byte `at` on of each padded message, one row after the other.
+fn padded_rows(before: &[u8], parts: &[u8], len: usize, after: &[u8], at: u128) -> [u8; 512]
+    requires four { length parts.now ≡ 4 * len }
+    requires inside { at + 128 ≤ 128 * block_count (length before.now + len + length after.now) }
+    ensures { (j : ℕ) → j < 4 → take 128 (drop (j * 128) result) ≡ padded_row (message_of before.now parts.now len after.now j) at }
+{
+    let mut rows = [0u8; 512];
+    for j in 0..4 {
+        let part = &parts[j * len..j * len + len];
+        rows[j * 128..j * 128 + 128].copy_from_slice(&padded_row(before, part, after, at));
+    }
+    rows
+}
+
+/// The words of block `k` of each padded message. A block inside the parts is loaded from where it lies, and one that
+/// has no byte of them, as the last one often has none, is made once for all lanes.
+#[inline(always)]
+pub(crate) fn load_block(
+    w: &mut [u64x4; 80],
+    before: &[u8],
+    parts: &[u8],
+    len: usize,
+    after: &[u8],
+    k: usize,
+)
+    requires four { length parts.now ≡ 4 * len }
+    requires inside { k < block_count (length before.now + len + length after.now) }
+    ensures { (j : ℕ) → j < 4 → BeginsSchedule w.new j (padded_row (message_of before.now parts.now len after.now j) (k * 128)) }
+{
+    let at = k as u128 * 128;
+    let start = before.len() as u128;
+    let end = start + len as u128;
+    if start <= at && at + 128 <= end {
+        load(w, parts, len, (at - start) as usize);
+    } else if at + 128 <= start || end <= at {
+        load_same(w, &padded_row(before, &parts[..len], after, at));
+    } else {
+        load(w, &padded_rows(before, parts, len, after, at), 128, 0);
+    }
+}

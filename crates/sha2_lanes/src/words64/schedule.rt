@@ -1,0 +1,82 @@
+//! A block's words (FIPS 180-4, 5.2.2) and the message schedule (6.4.2, step 1).
+ghost use Rattle.std.specs.Prelude.{◌≡◌, ℕ, ◌+◌, ◌*◌, ◌<◌, ◌≤◌, List, length, take, drop, slice_index};
+ghost use Rattle.sha2.specs.Sha512 as S512;
+ghost use Rattle.sha2_lanes.specs.Lanes.{HasLanes, lane};
+ghost use Rattle.sha2_lanes.specs.Words64.{BeginsSchedule};
+
+use crate::words64::functions::{small_sigma0, small_sigma1};
+use std::simd::prelude::*;
+
+/// The word at byte `i`.
+#[inline(always)]
+fn word_at(bytes: &[u8], i: usize) -> u64
+    requires { i + 8 ≤ length bytes.now }
+    ensures { result ≡ S512.word_at bytes.now i }
+{
+    u64::from_be_bytes([
+        bytes[i],
+        bytes[i + 1],
+        bytes[i + 2],
+        bytes[i + 3],
+        bytes[i + 4],
+        bytes[i + 5],
+        bytes[i + 6],
+        bytes[i + 7],
+    ])
+}
+
+/// The word at byte `i` of each of four parts of `len` bytes.
+#[inline(always)]
+fn words_at(parts: &[u8], len: usize, i: usize) -> u64x4
+    requires four { length parts.now ≡ 4 * len }
+    requires inside { i + 8 ≤ len }
+    ensures { HasLanes 4 result (λ j. S512.word_at parts.now (j * len + i)) }
+{
+    u64x4::from_array([
+        word_at(parts, i),
+        word_at(parts, len + i),
+        word_at(parts, 2 * len + i),
+        word_at(parts, 3 * len + i),
+    ])
+}
+
+/// The first 16 words of the schedule are those of the block at byte `from` of each part.
+#[inline(always)]
+pub(crate) fn load(w: &mut [u64x4; 80], parts: &[u8], len: usize, from: usize)
+    requires four { length parts.now ≡ 4 * len }
+    requires inside { from + 128 ≤ len }
+    ensures { (j : ℕ) → j < 4 → BeginsSchedule w.new j (take 128 (drop (j * len + from) parts.now)) }
+{
+    for t in 0..16 {
+        w[t] = words_at(parts, len, from + 8 * t);
+    }
+}
+
+/// The first 16 words of the schedule, where the block is the same in each lane.
+#[inline(always)]
+pub(crate) fn load_same(w: &mut [u64x4; 80], block: &[u8; 128])
+    ensures { (j : ℕ) → j < 4 → BeginsSchedule w.new j block.now }
+{
+    for t in 0..16 {
+        w[t] = u64x4::splat(word_at(block, 8 * t));
+    }
+}
+
+/// W t from the words before it: of t - 2, t - 7, t - 15 and t - 16.
+#[inline(always)]
+fn next_word(w2: u64x4, w7: u64x4, w15: u64x4, w16: u64x4) -> u64x4
+    ensures { HasLanes 4 result (λ j. S512.add64 (S512.add64 (S512.add64
+        (S512.small_sigma1 (slice_index w2 j)) (slice_index w7 j)) (S512.small_sigma0 (slice_index w15 j))) (slice_index w16 j)) }
+{
+    small_sigma1(w2) + w7 + small_sigma0(w15) + w16
+}
+
+/// The whole schedule, from its first 16 words.
+#[inline(always)]
+pub(crate) fn schedule(w: &mut [u64x4; 80])
+    ensures { (j : ℕ) → j < 4 → (b : List ℕ) → BeginsSchedule w.old j b → lane w.new j ≡ S512.schedule b 64 }
+{
+    for t in 16..80 {
+        w[t] = next_word(w[t - 2], w[t - 7], w[t - 15], w[t - 16]);
+    }
+}
