@@ -176,8 +176,8 @@ refuse() {
     some_refused "$name" $((number - 1))
 }
 
-# What veritysetup says where it finds no memory.
-setup_endings='3 Out of memory.'
+# What veritysetup says where it finds no memory, or where clap doesn't.
+setup_endings='3 Out of memory.|1 error: out of memory'
 
 formats() {
     refuse 'format' 0 "$setup_endings" "$veritysetup" format "${image_17_options[@]}" "$data" "$made/hash.img"
@@ -204,8 +204,8 @@ verifies() {
         "$veritysetup" verify "${bare_options[@]}" "$data" "$scratch/bare.img" "$root"
 }
 
-# What fsverity says where it finds no memory.
-file_endings='1 fsverity: out of memory.'
+# What fsverity says where it finds no memory, or where clap doesn't.
+file_endings='1 fsverity: out of memory.|2 error: out of memory'
 
 digests_of_files() {
     prints_lines=yes

@@ -1,10 +1,6 @@
 //! `veritysetup dump` over the files of a runtime.
-ghost use Rattle.std.specs.Prelude.{◌≡◌, IfErr};
-ghost use Rattle.command_line.specs.Printing.{AppendsFront};
-ghost use Rattle.veritysetup.specs.Messages.{option_text};
-ghost use Rattle.veritysetup.specs.Outcomes.{printed};
 ghost use Rattle.veritysetup.specs.Programs.{CommandRun};
-ghost use Rattle.veritysetup.specs.Refusals.{line_offset};
+ghost use Rattle.veritysetup.specs.Outcomes.{printed};
 
 use crate::Line;
 use crate::dump_run::run_dump;
@@ -22,9 +18,7 @@ where
     R: Files + AllocGlobal,
     O: Write,
     M: Write,
-    ensures run { CommandRun result (printed O.contents M.contents out.old out.new msgs.old msgs.new) }
-    ensures refused { IfErr (line_offset line.now) (λ fault. (result ≡ 1) × (out.new ≡ out.old)
-        × AppendsFront (option_text fault) (M.contents msgs.old) (M.contents msgs.new)) }
+    ensures { CommandRun result (printed O.contents M.contents out.old out.new msgs.old msgs.new) }
 {
     let offset = match offset_of(&line.raw(false)) {
         Ok(offset) => offset,

@@ -1,11 +1,10 @@
 //! `veritysetup format` over the files of a runtime.
-ghost use Rattle.std.specs.Prelude.{◌≡◌, ◌⊎◌, ℕ, Bool, IfSome, List, Option};
+ghost use Rattle.std.specs.Prelude.{◌≡◌, IfSome};
 ghost use Rattle.command_line.specs.Printing.{AppendsFront};
 ghost use Rattle.veritysetup.specs.Chosen.{missing_block};
-ghost use Rattle.veritysetup.specs.Messages.{option_text, short_text};
+ghost use Rattle.veritysetup.specs.Messages.{short_text};
 ghost use Rattle.veritysetup.specs.Outcomes.{printed};
 ghost use Rattle.veritysetup.specs.Programs.{CommandRun};
-ghost use Rattle.veritysetup.specs.Refusals.{EndsRefused};
 
 use crate::Line;
 use crate::format_run::run_format;
@@ -42,12 +41,7 @@ where
     R: Identities + Onlooker + RandomSource + AllocGlobal,
     O: Write,
     M: Write,
-    ensures run { CommandRun result (printed O.contents M.contents out.old out.new msgs.old msgs.new) }
-
-    // DATA or random bytes can't be had; or for DATA's length and the random bytes, a refused option ends it so.
-    ensures refused { (result ≡ 4) ⊎ ((same_file : Bool) × (random : Option (List ℕ))
-        × EndsRefused line.now same_file random (λ fault. (result ≡ 1) × (out.new ≡ out.old)
-        × AppendsFront (option_text fault) (M.contents msgs.old) (M.contents msgs.new))) }
+    ensures { CommandRun result (printed O.contents M.contents out.old out.new msgs.old msgs.new) }
 {
     let (file, length) = match open_measured(rt, data) {
         Ok(opened) => opened,

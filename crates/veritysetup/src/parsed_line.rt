@@ -1,8 +1,6 @@
 //! What a command line holds.
 ghost use Rattle.std.specs.Prelude.{◌≡◌, map, option_map, option_copied, string_bytes};
-ghost use Rattle.veritysetup.specs.Options.{texts_of};
 ghost use Rattle.veritysetup.specs.RawWords.{root_word};
-ghost use Rattle.veritysetup.specs.Refusals.{line_texts};
 
 use crate::{CommandName, RawOptions};
 use command_line::text_of;
@@ -51,7 +49,6 @@ impl Line {
         ensures root { option_copied result.root ≡ root_word self.now.command (map string_bytes self.now.files.items) }
         ensures no_superblock { result.no_superblock ≡ self.now.no_superblock }
         ensures same_file { result.same_file ≡ same_file }
-        ensures texts { texts_of result ≡ line_texts self.now same_file }
     {
         RawOptions {
             hash: text_of(&self.hash),

@@ -1,10 +1,7 @@
 //! `veritysetup verify` over the files of a runtime.
-ghost use Rattle.std.specs.Prelude.{◌≡◌, ◌⊎◌, IfErr, None, false, true};
+ghost use Rattle.std.specs.Prelude.{◌≡◌};
 ghost use Rattle.std.specs.Io.KnownBytes.{Keeps};
-ghost use Rattle.command_line.specs.Printing.{AppendsFront};
-ghost use Rattle.veritysetup.specs.Messages.{option_text};
 ghost use Rattle.veritysetup.specs.Programs.{Grows, IsStatus};
-ghost use Rattle.veritysetup.specs.Refusals.{EndsRefused, line_offset};
 
 use crate::Line;
 use crate::hash_offset::offset_of;
@@ -35,12 +32,6 @@ where
     ensures status { IsStatus result }
     ensures grows { Grows (M.contents msgs.old) (M.contents msgs.new) }
     ensures quiet { result ≡ 0 → Keeps (M.contents msgs.old) (M.contents msgs.new) }
-
-    // With a superblock a refused hash offset; without one DATA can't be had, or for its length an option is refused.
-    ensures refused { line.now.no_superblock ≡ false → IfErr (line_offset line.now) (λ fault. (result ≡ 1)
-        × AppendsFront (option_text fault) (M.contents msgs.old) (M.contents msgs.new)) }
-    ensures refused_bare { line.now.no_superblock ≡ true → (result ≡ 4) ⊎ EndsRefused line.now false None (λ fault. (result ≡ 1)
-        × AppendsFront (option_text fault) (M.contents msgs.old) (M.contents msgs.new)) }
 {
     if line.no_superblock {
         return verify_bare(rt, progress, line, data, hash, msgs);
@@ -79,8 +70,6 @@ where
     ensures status { IsStatus result }
     ensures grows { Grows (M.contents msgs.old) (M.contents msgs.new) }
     ensures quiet { result ≡ 0 → Keeps (M.contents msgs.old) (M.contents msgs.new) }
-    ensures refused { (result ≡ 4) ⊎ EndsRefused line.now false None (λ fault. (result ≡ 1)
-        × AppendsFront (option_text fault) (M.contents msgs.old) (M.contents msgs.new)) }
 {
     let (file, length) = match open_measured(rt, data) {
         Ok(opened) => opened,
