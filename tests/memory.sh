@@ -226,13 +226,14 @@ image=$scratch/image.img
 image_17 "$data" "$image"
 bare_options=(--no-superblock --data-block-size 512 --hash-block-size 512 --salt=-)
 
-if command -v cc >/dev/null; then
-    cc -shared -fPIC -O1 -o "$refuser" tests/refuse_memory.c || exit 1
+if cc -shared -fPIC -O1 -o "$refuser" tests/refuse_memory.c; then
     formats
     verifies
     digests_of_files
+elif [ $short = yes ]; then
+    echo "left out: requests of the programs for memory that are refused: there is no C compiler"
 else
-    echo "left out: requests of the programs for memory that are refused: cc is not installed"
+    exit 1
 fi
 if [ $short = yes ]; then first_requests; else run_functions; fi
 finish

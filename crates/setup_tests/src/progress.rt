@@ -163,7 +163,11 @@ fn whether_somebody_looks_on_is_asked_once(rt: HostRuntime) -> Result<(), Fail> 
     .enumerate()
     {
         written(alloc, &disk, words, None)?;
-        assert_eq!(rt; disk.looks()?, number as u64 + 1, "at {words}");
+        assert_eq!(rt;
+            disk.looks()?,
+            (number as u64).saturating_add(1),
+            "at {words}"
+        );
     }
     Ok(())
 }
@@ -194,7 +198,11 @@ fn more_than_four_gib_are_shown_in_mib(rt: HostRuntime) -> Result<(), Fail> {
     }
     let mut expected = Vec::new(alloc);
     for step in 1..79u64 {
-        write!(expected, "\r{} of 5000 MiB, 128 MiB/s\x1b[K", step * 64)?;
+        write!(
+            expected,
+            "\r{} of 5000 MiB, 128 MiB/s\x1b[K",
+            step.saturating_mul(64)
+        )?;
     }
     assert_eq!(rt; disk.standard_error()?.as_slice(), expected.as_slice());
     Ok(())
