@@ -125,22 +125,6 @@ piece_put r m piece at first last holds fa fm la lm some begins ends {ys} is i l
       ]
     ]
 
--- a row of which no byte is the piece's
-pub no_piece : (r m piece : List ℕ) (at first last : ℕ) → HoldsFrom r m at → last ≤ first
-    → ((p : ℕ) → at ≤ p → length m ≤ p → first ≤ p)
-    → ((p : ℕ) → p < at + length r → p < length m + length piece → p < last)
-    → HoldsFrom r (m ++ piece) at
-no_piece r m piece at first last holds none begins ends i lt = elim (cases_lt (at + i) (length m)) [
-  | inl before ↦ unchanged r m piece at i holds lt (inl before)
-  | inr past ↦ elim (cases_lt (at + i) (length m + length piece)) [
-    | inl below ↦
-        let le : first ≤ at + i = begins (at + i) (omega arith) past in
-        let lower : at + i < last = ends (at + i) (omega arith) below in
-        absurd (omega arith)
-    | inr beyond ↦ unchanged r m piece at i holds lt (inr beyond)
-  ]
-]
-
 -- two blocks of the same bytes
 pub same_block : (n : ℕ) (x y : List ℕ) (o p : ℕ) → o + n ≤ length x → p + n ≤ length y
     → ((i : ℕ) → i < n → slice_index x (o + i) ≡ slice_index y (p + i))
