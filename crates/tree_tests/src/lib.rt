@@ -9,8 +9,6 @@ mod comparing;
 #[cfg(test)]
 mod faults_in_turn;
 #[cfg(test)]
-mod four_messages;
-#[cfg(test)]
 mod large_blocks;
 #[cfg(test)]
 mod path_changes;
@@ -19,7 +17,11 @@ mod path_rows;
 #[cfg(test)]
 mod paths;
 #[cfg(test)]
+mod pieces;
+#[cfg(test)]
 mod plain_trees;
+#[cfg(test)]
+mod rows;
 #[cfg(test)]
 mod slots;
 #[cfg(test)]
