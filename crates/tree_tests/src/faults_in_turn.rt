@@ -173,6 +173,11 @@ fn run(
     })
 }
 
+/// Whether a fault is left out since its run would take many small reads: of such only each 13th is tried.
+fn is_left_out(number: u64, piece: usize) -> bool {
+    piece < 64 && number % 13 != 0
+}
+
 impl Expected {
     /// Whether a run ended with this fault, with so many bytes left, when so many hash blocks had closed.
     fn stops(&self, outcome: &Outcome, fault: BuildFault, rest: usize, closed: usize) -> bool {
@@ -200,6 +205,10 @@ impl Expected {
     fn wrong_read(&self, alloc: Global, piece: usize) -> Result<Option<u64>, AllocError> {
         let mut before = 0usize;
         for i in 0..self.plan.blocks() {
+            if is_left_out(i, piece) {
+                before = before.saturating_add(self.reads_of(i, piece));
+                continue;
+            }
             let reads = self.reads_of(i, piece);
             for done in [0, reads / 2] {
                 let failing = Failing {
@@ -222,6 +231,9 @@ impl Expected {
     /// The first data block within which an end of the data isn't answered as it should be.
     fn wrong_end(&self, alloc: Global, piece: usize) -> Result<Option<u64>, AllocError> {
         for i in 0..self.plan.blocks() {
+            if is_left_out(i, piece) {
+                continue;
+            }
             let begun = (i as usize).saturating_mul(self.case.shape.data_block);
             let held = self
                 .bytes
@@ -240,6 +252,9 @@ impl Expected {
     /// The first write whose failing isn't answered as it should be.
     fn wrong_write(&self, alloc: Global, piece: usize) -> Result<Option<usize>, AllocError> {
         for (closed, (level, block, read)) in self.order.iter().enumerate() {
+            if is_left_out(closed as u64, piece) {
+                continue;
+            }
             let failing = Failing {
                 read: 0,
                 write: (closed as u64).saturating_add(1),
@@ -281,9 +296,14 @@ struct Wrong {
 }
 
 /// The first of the trees that isn't as it should be after each fault, or with none.
-fn first_wrong(alloc: Global, trees: &[Expected]) -> Result<Option<Wrong>, Fail> {
+fn first_wrong(
+    alloc: Global,
+    trees: &[Expected],
+    pieces: &[usize],
+) -> Result<Option<Wrong>, Fail> {
     for expected in trees {
-        for piece in PIECES {
+        for piece in pieces {
+            let piece = *piece;
             let wrong = |what| Wrong {
                 what,
                 fan: expected.case.shape.slots,
@@ -310,27 +330,27 @@ fn first_wrong(alloc: Global, trees: &[Expected]) -> Result<Option<Wrong>, Fail>
 #[test]
 fn each_call_fails_in_turn_at_each_fan_out(rt: HostRuntime) -> Result<(), Fail> {
     let trees = fans(rt.alloc())?;
-    assert_eq!(rt; first_wrong(rt.alloc(), trees.as_slice())?, None);
+    assert_eq!(rt; first_wrong(rt.alloc(), trees.as_slice(), &PIECES)?, None);
     Ok(())
 }
 
 #[test]
 fn each_call_fails_in_turn_at_each_block_size(rt: HostRuntime) -> Result<(), Fail> {
     let trees = sizes(rt.alloc())?;
-    assert_eq!(rt; first_wrong(rt.alloc(), trees.as_slice())?, None);
+    assert_eq!(rt; first_wrong(rt.alloc(), trees.as_slice(), &PIECES[..2])?, None);
     Ok(())
 }
 
 #[test]
 fn each_call_fails_in_turn_with_each_function(rt: HostRuntime) -> Result<(), Fail> {
     let trees = functions(rt.alloc())?;
-    assert_eq!(rt; first_wrong(rt.alloc(), trees.as_slice())?, None);
+    assert_eq!(rt; first_wrong(rt.alloc(), trees.as_slice(), &PIECES)?, None);
     Ok(())
 }
 
 #[test]
 fn each_call_fails_in_turn_over_few_blocks(rt: HostRuntime) -> Result<(), Fail> {
     let trees = few_blocks(rt.alloc())?;
-    assert_eq!(rt; first_wrong(rt.alloc(), trees.as_slice())?, None);
+    assert_eq!(rt; first_wrong(rt.alloc(), trees.as_slice(), &PIECES)?, None);
     Ok(())
 }
