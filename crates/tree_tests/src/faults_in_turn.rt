@@ -1,12 +1,14 @@
-//! Each read and each write of a run fails in turn, and the data ends within each block in turn, for trees of many
-//! fan-outs: what is answered, how much was read and what stands on the device, beside trees by plain lists of bytes.
+//! Reads within each data block and each write of a run fail in turn, and the data ends within each block in turn, for
+//! trees of many fan-outs and sources that give few bytes at a time: what is answered, how much was read and what stands
+//! on the device, beside trees by plain lists of bytes.
 use crate::cases::Case;
+use crate::pieces::Pieces;
 use crate::plain_trees::{Closed, closing_order, these_stand};
 use fixtures::data;
 use std::alloc::{AllocError, Global};
 use std::test::Fail;
 use verity_hash::{Algorithm, Digest};
-use verity_tree::{BuildFault, Fused, MemoryDevice, MemorySource, Plan, Store, build};
+use verity_tree::{BuildFault, Fused, MemoryDevice, Plan, Store, build};
 
 /// A tree to be built, and how it is by plain lists.
 #[derive(Drop)]
@@ -56,29 +58,66 @@ fn files(alloc: Global, size: u32) -> Result<Case, Fail> {
 
 /// dm-verity by SHA-256, with blocks of these sizes.
 fn disks(alloc: Global, data_block: u32, hash_block: u32) -> Result<Case, Fail> {
-    let slots = (hash_block as usize / 32, 32);
-    Case::verity(
+    by(
         alloc,
         Algorithm::Sha256,
-        b"salt",
         (data_block, hash_block),
-        slots,
+        (hash_block as usize / 32, 32),
     )
 }
 
-/// Trees with fan-outs of 2 to 128, SHA-512 and data blocks that are too large for four at a time; numbers of data blocks
-/// that are multiples of four, and that aren't.
-fn trees(alloc: Global) -> Result<Vec<Expected>, Fail> {
-    let wide = Case::verity(alloc, Algorithm::Sha512, b"salt", (512, 512), (8, 64))?;
+/// dm-verity, with blocks of these sizes, and so many slots of a width.
+fn by(
+    alloc: Global,
+    algorithm: Algorithm,
+    sizes: (u32, u32),
+    slots: (usize, usize),
+) -> Result<Case, Fail> {
+    Case::verity(alloc, algorithm, b"salt", sizes, slots)
+}
+
+/// Trees with fan-outs of 2 to 128. Their last data blocks are as many as fill rows of eight, or a few more: one to seven;
+/// the last block may be cut.
+fn fans(alloc: Global) -> Result<Vec<Expected>, Fail> {
     let mut cases = Vec::new(alloc);
     cases.push(prepared(alloc, files(alloc, 64)?, 64 * 101 - 9, 7)?)?;
     cases.push(prepared(alloc, files(alloc, 128)?, 128 * 103, 4)?)?;
     cases.push(prepared(alloc, files(alloc, 256)?, 256 * 99 - 1, 3)?)?;
     cases.push(prepared(alloc, disks(alloc, 512, 512)?, 512 * 100, 2)?)?;
     cases.push(prepared(alloc, disks(alloc, 512, 4096)?, 512 * 134, 2)?)?;
-    cases.push(prepared(alloc, disks(alloc, 4096, 512)?, 4096 * 18, 2)?)?;
-    cases.push(prepared(alloc, disks(alloc, 8192, 512)?, 8192 * 17, 2)?)?;
-    cases.push(prepared(alloc, wide, 512 * 65, 3)?)?;
+    cases.push(prepared(alloc, disks(alloc, 512, 512)?, 512 * 48 - 5, 2)?)?;
+    Ok(cases)
+}
+
+/// Trees of larger data blocks, the largest too large for rows.
+fn sizes(alloc: Global) -> Result<Vec<Expected>, Fail> {
+    let mut cases = Vec::new(alloc);
+    cases.push(prepared(alloc, disks(alloc, 4096, 512)?, 4096 * 21, 2)?)?;
+    cases.push(prepared(alloc, disks(alloc, 8192, 512)?, 8192 * 23, 2)?)?;
+    cases.push(prepared(alloc, disks(alloc, 16384, 512)?, 16384 * 19, 2)?)?;
+    cases.push(prepared(alloc, disks(alloc, 32768, 512)?, 32768 * 9, 1)?)?;
+    Ok(cases)
+}
+
+/// Trees by the other hash functions.
+fn functions(alloc: Global) -> Result<Vec<Expected>, Fail> {
+    let small = (512, 512);
+    let (sha1, sha224) = (Algorithm::Sha1, Algorithm::Sha224);
+    let (sha384, sha512) = (Algorithm::Sha384, Algorithm::Sha512);
+    let mut cases = Vec::new(alloc);
+    cases.push(prepared(alloc, by(alloc, sha1, small, (16, 32))?, 512 * 19, 2)?)?;
+    cases.push(prepared(alloc, by(alloc, sha224, small, (16, 32))?, 512 * 29, 2)?)?;
+    cases.push(prepared(alloc, by(alloc, sha384, small, (8, 64))?, 512 * 26, 2)?)?;
+    cases.push(prepared(alloc, by(alloc, sha512, small, (8, 64))?, 512 * 68, 3)?)?;
+    Ok(cases)
+}
+
+/// Trees of two to nine data blocks.
+fn few_blocks(alloc: Global) -> Result<Vec<Expected>, Fail> {
+    let mut cases = Vec::new(alloc);
+    for blocks in 2..10 {
+        cases.push(prepared(alloc, disks(alloc, 512, 512)?, 512 * blocks, 1)?)?;
+    }
     Ok(cases)
 }
 
@@ -100,17 +139,27 @@ struct Outcome {
     calls: u64,
 }
 
-/// A build in which the call of this number fails, of the source or of the device, and none for 0.
+/// The calls that fail, of the source and of the device, by their numbers; none for 0.
+#[derive(Clone, Copy)]
+struct Failing {
+    read: u64,
+    write: u64,
+}
+
+/// No call fails.
+const NONE: Failing = Failing { read: 0, write: 0 };
+
+/// A build from a source that gives so many bytes at a time.
 fn run(
     alloc: Global,
     plan: &Plan,
     bytes: &[u8],
-    read: u64,
-    write: u64,
+    piece: usize,
+    failing: Failing,
 ) -> Result<Outcome, AllocError> {
     let mut store = Store::new(alloc, plan)?;
-    let mut source = Fused::new(MemorySource::new(bytes), read);
-    let mut device = Fused::new(MemoryDevice::new(Vec::new(alloc)), write);
+    let mut source = Fused::new(Pieces::new(bytes, piece), failing.read);
+    let mut device = Fused::new(MemoryDevice::new(Vec::new(alloc)), failing.write);
     let answer = if store.fits(plan) {
         build(plan, &mut store, &mut source, &mut device)
     } else {
@@ -122,6 +171,11 @@ fn run(
         device: Vec::from_slice(alloc, device.inner().bytes())?,
         calls: device.calls(),
     })
+}
+
+/// Whether a fault is left out since its run would take many small reads: of such only each 13th is tried.
+fn is_left_out(number: u64, piece: usize) -> bool {
+    piece < 64 && number % 13 != 0
 }
 
 impl Expected {
@@ -140,34 +194,52 @@ impl Expected {
         self.bytes.len().saturating_sub(read)
     }
 
-    /// The first data block whose failing read isn't answered as it should be.
-    fn wrong_read(&self, alloc: Global) -> Result<Option<u64>, AllocError> {
+    /// How many reads take the bytes of a data block.
+    fn reads_of(&self, i: u64, piece: usize) -> usize {
+        let held = self.after(i as usize).min(self.case.shape.data_block);
+        held.div_ceil(piece.max(1))
+    }
+
+    /// The first data block within which a failing read, the first of the block or the one half way, isn't answered as
+    /// it should be.
+    fn wrong_read(&self, alloc: Global, piece: usize) -> Result<Option<u64>, AllocError> {
+        let mut before = 0usize;
         for i in 0..self.plan.blocks() {
-            let failing = i.saturating_add(1);
-            let outcome = run(alloc, &self.plan, self.bytes.as_slice(), failing, 0)?;
-            let closed = closed_after(self.order.as_slice(), i as usize);
-            let stops = self.stops(
-                &outcome,
-                BuildFault::SourceFailed(i),
-                self.after(i as usize),
-                closed,
-            );
-            if !stops || outcome.calls != closed as u64 {
-                return Ok(Some(i));
+            if is_left_out(i, piece) {
+                before = before.saturating_add(self.reads_of(i, piece));
+                continue;
             }
+            let reads = self.reads_of(i, piece);
+            for done in [0, reads / 2] {
+                let failing = Failing {
+                    read: (before.saturating_add(done) as u64).saturating_add(1),
+                    write: 0,
+                };
+                let outcome = run(alloc, &self.plan, self.bytes.as_slice(), piece, failing)?;
+                let closed = closed_after(self.order.as_slice(), i as usize);
+                let rest = self.after(i as usize).saturating_sub(done.saturating_mul(piece));
+                let stops = self.stops(&outcome, BuildFault::SourceFailed(i), rest, closed);
+                if !stops || outcome.calls != closed as u64 {
+                    return Ok(Some(i));
+                }
+            }
+            before = before.saturating_add(reads);
         }
         Ok(None)
     }
 
     /// The first data block within which an end of the data isn't answered as it should be.
-    fn wrong_end(&self, alloc: Global) -> Result<Option<u64>, AllocError> {
+    fn wrong_end(&self, alloc: Global, piece: usize) -> Result<Option<u64>, AllocError> {
         for i in 0..self.plan.blocks() {
+            if is_left_out(i, piece) {
+                continue;
+            }
             let begun = (i as usize).saturating_mul(self.case.shape.data_block);
             let held = self
                 .bytes
                 .get(..begun.saturating_add((i % 3) as usize))
                 .unwrap_or(&[]);
-            let outcome = run(alloc, &self.plan, held, 0, 0)?;
+            let outcome = run(alloc, &self.plan, held, piece, NONE)?;
             let closed = closed_after(self.order.as_slice(), i as usize);
             let stops = self.stops(&outcome, BuildFault::SourceShort(i), 0, closed);
             if !stops || outcome.calls != closed as u64 {
@@ -178,60 +250,107 @@ impl Expected {
     }
 
     /// The first write whose failing isn't answered as it should be.
-    fn wrong_write(&self, alloc: Global) -> Result<Option<usize>, AllocError> {
+    fn wrong_write(&self, alloc: Global, piece: usize) -> Result<Option<usize>, AllocError> {
         for (closed, (level, block, read)) in self.order.iter().enumerate() {
-            let failing = (closed as u64).saturating_add(1);
-            let outcome = run(alloc, &self.plan, self.bytes.as_slice(), 0, failing)?;
+            if is_left_out(closed as u64, piece) {
+                continue;
+            }
+            let failing = Failing {
+                read: 0,
+                write: (closed as u64).saturating_add(1),
+            };
+            let outcome = run(alloc, &self.plan, self.bytes.as_slice(), piece, failing)?;
             let fault = BuildFault::DeviceFailed {
                 level: *level,
                 block: *block,
             };
             let stops = self.stops(&outcome, fault, self.after(*read), closed);
-            if !stops || outcome.calls != failing {
+            if !stops || outcome.calls != failing.write {
                 return Ok(Some(closed));
             }
         }
         Ok(None)
     }
+
+    /// Whether the tree is as it should be where nothing fails.
+    fn is_built(&self, alloc: Global, piece: usize) -> Result<bool, AllocError> {
+        let outcome = run(alloc, &self.plan, self.bytes.as_slice(), piece, NONE)?;
+        let root = Digest::from_bytes(self.root.as_slice());
+        Ok(root.is_some()
+            && outcome.answer.ok() == root
+            && outcome.device == self.image
+            && outcome.rest == 0)
+    }
+}
+
+/// How many bytes a source gives at a time: all that fit, few that no block is a multiple of, or one.
+const PIECES: [usize; 4] = [usize::MAX, 4095, 7, 1];
+
+/// What isn't as it should be, at which fan-out and number of data blocks, with how many bytes at a time.
+#[derive(Clone, Copy, Debug, PartialEq, Eq)]
+struct Wrong {
+    what: &'static str,
+    fan: usize,
+    blocks: u64,
+    piece: usize,
+}
+
+/// The first of the trees that isn't as it should be after each fault, or with none.
+fn first_wrong(
+    alloc: Global,
+    trees: &[Expected],
+    pieces: &[usize],
+) -> Result<Option<Wrong>, Fail> {
+    for expected in trees {
+        for piece in pieces {
+            let piece = *piece;
+            let wrong = |what| Wrong {
+                what,
+                fan: expected.case.shape.slots,
+                blocks: expected.plan.blocks(),
+                piece,
+            };
+            if expected.wrong_read(alloc, piece)?.is_some() {
+                return Ok(Some(wrong("a failing read")));
+            }
+            if expected.wrong_end(alloc, piece)?.is_some() {
+                return Ok(Some(wrong("an end of the data")));
+            }
+            if expected.wrong_write(alloc, piece)?.is_some() {
+                return Ok(Some(wrong("a failing write")));
+            }
+            if !expected.is_built(alloc, piece)? {
+                return Ok(Some(wrong("no fault")));
+            }
+        }
+    }
+    Ok(None)
 }
 
 #[test]
-fn each_read_fails_in_turn(rt: HostRuntime) -> Result<(), Fail> {
-    for expected in trees(rt.alloc())? {
-        let wrong = expected.wrong_read(rt.alloc())?;
-        assert_eq!(rt; wrong, None, "fan-out {}", expected.case.shape.slots);
-    }
+fn each_call_fails_in_turn_at_each_fan_out(rt: HostRuntime) -> Result<(), Fail> {
+    let trees = fans(rt.alloc())?;
+    assert_eq!(rt; first_wrong(rt.alloc(), trees.as_slice(), &PIECES)?, None);
     Ok(())
 }
 
 #[test]
-fn the_data_ends_within_each_block_in_turn(rt: HostRuntime) -> Result<(), Fail> {
-    for expected in trees(rt.alloc())? {
-        let wrong = expected.wrong_end(rt.alloc())?;
-        assert_eq!(rt; wrong, None, "fan-out {}", expected.case.shape.slots);
-    }
+fn each_call_fails_in_turn_at_each_block_size(rt: HostRuntime) -> Result<(), Fail> {
+    let trees = sizes(rt.alloc())?;
+    assert_eq!(rt; first_wrong(rt.alloc(), trees.as_slice(), &PIECES[..2])?, None);
     Ok(())
 }
 
 #[test]
-fn each_write_of_many_fails_in_turn(rt: HostRuntime) -> Result<(), Fail> {
-    for expected in trees(rt.alloc())? {
-        let wrong = expected.wrong_write(rt.alloc())?;
-        assert_eq!(rt; wrong, None, "fan-out {}", expected.case.shape.slots);
-    }
+fn each_call_fails_in_turn_with_each_function(rt: HostRuntime) -> Result<(), Fail> {
+    let trees = functions(rt.alloc())?;
+    assert_eq!(rt; first_wrong(rt.alloc(), trees.as_slice(), &PIECES)?, None);
     Ok(())
 }
 
 #[test]
-fn without_a_fault_the_trees_are_equal(rt: HostRuntime) -> Result<(), Fail> {
-    let alloc = rt.alloc();
-    for expected in trees(alloc)? {
-        let fan = expected.case.shape.slots;
-        let outcome = run(alloc, &expected.plan, expected.bytes.as_slice(), 0, 0)?;
-        let root = Digest::from_bytes(expected.root.as_slice()).ok_or("a root hash")?;
-        assert_eq!(rt; outcome.answer, Ok(root), "fan-out {fan}");
-        assert_eq!(rt; outcome.device, expected.image, "fan-out {fan}");
-        assert_eq!(rt; outcome.rest, 0, "fan-out {fan}");
-    }
+fn each_call_fails_in_turn_over_few_blocks(rt: HostRuntime) -> Result<(), Fail> {
+    let trees = few_blocks(rt.alloc())?;
+    assert_eq!(rt; first_wrong(rt.alloc(), trees.as_slice(), &PIECES)?, None);
     Ok(())
 }

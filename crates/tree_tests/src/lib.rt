@@ -11,8 +11,6 @@ mod failed_reads;
 #[cfg(test)]
 mod faults_in_turn;
 #[cfg(test)]
-mod four_messages;
-#[cfg(test)]
 mod large_blocks;
 #[cfg(test)]
 mod path_changes;
@@ -21,7 +19,11 @@ mod path_rows;
 #[cfg(test)]
 mod paths;
 #[cfg(test)]
+mod pieces;
+#[cfg(test)]
 mod plain_trees;
+#[cfg(test)]
+mod rows;
 #[cfg(test)]
 mod slots;
 #[cfg(test)]

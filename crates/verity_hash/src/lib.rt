@@ -3,13 +3,13 @@
 
 mod algorithm;
 mod digest;
-mod four_blocks;
 mod hasher;
+mod rows;
 mod salting;
 mod short_bytes;
 
 pub use algorithm::Algorithm;
 pub use digest::Digest;
-pub use four_blocks::salted_four;
+pub use rows::salted_rows;
 pub use salting::{SaltRule, salted};
 pub use short_bytes::ShortBytes;

@@ -1,6 +1,6 @@
 //! What is read, and where each hash block goes.
-ghost use Rattle.std.specs.Prelude.{◌≡◌, ◌+◌, ◌-◌, ◌*◌, ◌^◌, ◌≤◌, ◌<◌, length, map};
-ghost use Rattle.verity_hash.specs.Bytes.{four_blocks};
+ghost use Rattle.std.specs.Prelude.{◌≡◌, ℕ, ◌+◌, ◌-◌, ◌*◌, ◌^◌, ◌≤◌, ◌<◌, [], length, slice_index_or};
+ghost use Rattle.std.specs.Fork.{slice_chunk};
 ghost use Rattle.verity_io.specs.Writing.{most_bytes};
 ghost use Rattle.verity_plan.specs.Plans.{Planned, IsPlanned, byte_of, levels_of, size_of_level, place_of, end_of};
 ghost use Rattle.verity_plan.specs.Plans.{store_length_of, size_under, HasBlock, planned, plan_for_blocks};
@@ -193,12 +193,13 @@ impl Plan {
         self.settings.hash(block)
     }
 
-    /// The salted hashes of four blocks of `size` bytes each, which stand one after another in `blocks`.
-    pub fn hash_four(&self, blocks: &[u8], size: usize) -> [Digest; 4]
-        requires { length blocks.now ≡ 4 * size }
-        ensures { result ≡ map (hash self.now.settings) (four_blocks size blocks.now) }
+    /// The salted hashes of eight blocks of `size` bytes each, which stand one after another in `rows`.
+    pub fn hash_rows(&self, rows: &[u8], size: usize) -> [Digest; 8]
+        requires { length rows.now ≡ 8 * size }
+        ensures { (r : ℕ) → r < 8
+            → slice_index_or result r [] ≡ hash self.now.settings (slice_chunk rows.now size r) }
     {
-        self.settings.hash_four(blocks, size)
+        self.settings.hash_rows(rows, size)
     }
 
     /// The place after the last hash block, counted in hash blocks.

@@ -1,6 +1,6 @@
 //! What a tree is made by.
-ghost use Rattle.std.specs.Prelude.{true, ◌≡◌, ◌*◌, ◌≤◌, ◌<◌, length, map};
-ghost use Rattle.verity_hash.specs.Bytes.{four_blocks};
+ghost use Rattle.std.specs.Prelude.{true, ◌≡◌, ℕ, ◌*◌, ◌≤◌, ◌<◌, [], length, slice_index_or};
+ghost use Rattle.std.specs.Fork.{slice_chunk};
 ghost use Rattle.verity_plan.specs.Settings.{Settings, IsValid, hash, fan, slot_width, digest_len, least_block};
 ghost use Rattle.verity_plan.specs.Settings.{is_block_size, is_verity_block_size, is_of_fsverity, most_block};
 ghost use Rattle.verity_plan.specs.Settings.{most_salt, least_power, rule_of, checked, verity_settings};
@@ -9,7 +9,7 @@ ghost use Rattle.verity_hash.specs.Algorithms.{digest_len_of};
 
 use crate::{HashType, SettingFault};
 use std::marker::Model;
-use verity_hash::{Algorithm, Digest, SaltRule, ShortBytes, salted, salted_four};
+use verity_hash::{Algorithm, Digest, SaltRule, ShortBytes, salted, salted_rows};
 
 /// What a tree is made by: algorithm, salt and where it goes, block sizes. Valid by its type.
 #[derive(Clone, Copy, Debug, PartialEq, Eq)]
@@ -197,14 +197,14 @@ impl TreeSettings {
         salted(self.algorithm, self.rule, self.salt.as_bytes(), block)
     }
 
-    /// The salted hashes of four blocks of `size` bytes each, which stand one after another in `blocks`.
+    /// The salted hashes of eight blocks of `size` bytes each, which stand one after another in `rows`.
     #[tactic(auto, unfolding(crate::specs::Settings::hash))]
-    pub fn hash_four(&self, blocks: &[u8], size: usize) -> [Digest; 4]
-        requires { length blocks.now ≡ 4 * size }
-        ensures { result ≡ map (hash self.now) (four_blocks size blocks.now) }
+    pub fn hash_rows(&self, rows: &[u8], size: usize) -> [Digest; 8]
+        requires { length rows.now ≡ 8 * size }
+        ensures { (r : ℕ) → r < 8 → slice_index_or result r [] ≡ hash self.now (slice_chunk rows.now size r) }
     {
         let salt = self.salt.as_bytes();
-        salted_four(self.algorithm, self.rule, salt, blocks, size)
+        salted_rows(self.algorithm, self.rule, salt, rows, size)
     }
 }
 

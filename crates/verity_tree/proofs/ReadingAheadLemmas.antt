@@ -1,16 +1,16 @@
 -- Data blocks that are read before their turn: their rows, and where a hash block ends.
-use Rattle.std.proofs.Common.{◌≡◌, ◌≢◌, ◌⊎◌, ℕ, zero, suc, ◌+◌, ◌*◌, ◌/◌, ◌%◌, ◌<◌, ◌≤◌, List, [], ◌∷◌, length, take}
+use Rattle.std.proofs.Common.{◌≡◌, ◌≢◌, ◌⊎◌, ℕ, ◌+◌, ◌-◌, ◌*◌, ◌/◌, ◌%◌, ◌<◌, ◌≤◌, List, [], ◌∷◌, length, take}
 use Rattle.std.proofs.Common.{drop}
 use Rattle.std.proofs.Common.{map, slice_index_or, Option, Some, None, Bool, true, false, arith, refl, sym, ap, ◌∙◌}
 use Rattle.std.proofs.Common.{inl, inr, subst}
 use Rattle.std.specs.Fork.{slice_chunk}
 use Rattle.std.proofs.lemmas.Bool.{cases_lt}
 use Rattle.std.proofs.lemmas.List.{drop-take}
-use Rattle.std.proofs.lemmas.Nat.{div-add-mod'}
+use Rattle.std.proofs.lemmas.Nat.{div-add-mod', mod_below}
 use Rattle.std.proofs.lemmas.Slice.{take-put_mid_below}
-use Rattle.std.proofs.Math.Nat.{mul-le-mul_right, mul_assoc, mul_comm}
+use Rattle.std.proofs.Math.Nat.{mul-le-mul_right}
 use borrow.Rule.Slice.PartMut.{put_mid}
-use Rattle.verity_hash.specs.Bytes.{four_blocks}
+use Rattle.verity_hash.proofs.RowLemmas.{each-of-eight}
 use Rattle.verity_io.specs.Counting.{Counts}
 use Rattle.verity_io.specs.Reading.{HasRead}
 use Rattle.verity_plan.specs.Plans.{Planned}
@@ -21,12 +21,6 @@ use Rattle.verity_tree.specs.Steps.ReadingAhead.{IsAhead, IsQuiet, StandsBy, sto
 use Rattle.verity_tree.specs.declared.data_block.BlockFault.{BlockFault}
 use Rattle.verity_tree.specs.declared.reading_ahead.Ahead.{Ahead}
 
--- so many rows take no more room than four
-pub rows-within : (r n b : ℕ) → r < n → r * b + b ≤ n * b
-rows-within r n b lt =
-    let step : r + 1 ≤ n = omega arith in
-    omega (arith, mul-le-mul_right b step)
-
 -- a write further on leaves a row
 pub row-kept : (b r a k : ℕ) (rows new : List ℕ) → r * b + b ≤ a → a ≤ length rows
     → slice_chunk (put_mid a k rows new) b r ≡ slice_chunk rows b r
@@ -35,46 +29,37 @@ row-kept b r a k rows new before within =
     ∙ ap (drop (r * b)) (take-put_mid_below a k rows new (r * b + b) before within)
     ∙ drop-take (r * b) b rows
 
--- what is made of each of four blocks
-pub made-of-row : (f : List ℕ → List ℕ) (b : ℕ) (rows : List ℕ) (r : ℕ) → r < 4
-    → slice_index_or (map f (four_blocks b rows)) r [] ≡ f (slice_chunk rows b r)
-made-of-row f b rows zero lt =
-    let front : 0 * b ≡ 0 = omega arith in
-    ap (λ (n : ℕ). f (take b (drop n rows))) (sym front)
-made-of-row f b rows (suc zero) lt =
-    let second : 1 * b ≡ b = omega arith in
-    ap (λ (n : ℕ). f (take b (drop n rows))) (sym second)
-made-of-row f b rows (suc (suc zero)) lt = refl
-made-of-row f b rows (suc (suc (suc zero))) lt = refl
-made-of-row f b rows (suc (suc (suc (suc r)))) lt = absurd (omega arith)
-
--- four times the same
-pub same-four : (x : List ℕ) (r : ℕ) → r < 4 → slice_index_or (x ∷ x ∷ x ∷ x ∷ []) r [] ≡ x
-same-four x zero lt = refl
-same-four x (suc zero) lt = refl
-same-four x (suc (suc zero)) lt = refl
-same-four x (suc (suc (suc zero))) lt = refl
-same-four x (suc (suc (suc (suc r)))) lt = absurd (omega arith)
+-- eight times the same
+pub same-eight : (x : List ℕ) (r : ℕ) → r < 8
+    → slice_index_or (x ∷ x ∷ x ∷ x ∷ x ∷ x ∷ x ∷ x ∷ []) r [] ≡ x
+same-eight x = each-of-eight
+    (λ (r : ℕ). slice_index_or (x ∷ x ∷ x ∷ x ∷ x ∷ x ∷ x ∷ x ∷ []) r [] ≡ x)
+    refl refl refl refl refl refl refl refl
 
 add-mul-one : (q f : ℕ) → (q + 1) * f ≡ q * f + f
 add-mul-one q f = omega arith
 
-mul_swap : (a b c : ℕ) → a * (b * c) ≡ b * (a * c)
-mul_swap a b c = sym (mul_assoc a b c) ∙ ap (λ (n : ℕ). n * c) (mul_comm a b) ∙ mul_assoc b a c
-
--- where hash blocks hold whole fours of digests, none of a four's data blocks but the last ends one
-pub quiet-four : (f n i k : ℕ) → 0 < f → f % 4 ≡ 0 → i % 4 ≡ 0 → i + 4 ≤ n → i ≤ k → k + 1 < i + 4
+-- of data blocks that go no further than the next end of a hash block, none but the last ends one
+pub quiet-run : (f n i count k : ℕ) → 0 < f → count ≤ f - i % f → i + count ≤ n → i ≤ k → k + 1 < i + count
     → ¬ EndsBlock f n k
-quiet-four f n i k some fours aligned room from to (inr last) = omega arith
-quiet-four f n i k some fours aligned room from to (inl full) =
-    let q = k / f in
-    let g = f / 4 in
-    let whole : f ≡ 4 * g = omega arith in
-    let split : q * f + k % f ≡ k = div-add-mod' k f in
-    let more : (q + 1) * f ≡ q * f + f = add-mul-one q f in
-    let ends : k + 1 ≡ (q + 1) * f = omega (arith, split, full, more) in
-    let times : (q + 1) * f ≡ 4 * ((q + 1) * g) = ap (λ (m : ℕ). (q + 1) * m) whole ∙ mul_swap (q + 1) 4 g in
-    omega (arith, ends, times)
+quiet-run f n i count k some within room from to (inr last) = omega arith
+quiet-run f n i count k some within room from to (inl full) =
+    let q = i / f in
+    let r = k / f in
+    let here : q * f + i % f ≡ i = div-add-mod' i f in
+    let split : r * f + k % f ≡ k = div-add-mod' k f in
+    let low : i % f < f = mod_below i f some in
+    let ends : k + 1 ≡ r * f + f = omega (arith, split, full) in
+    let below : k + 1 < q * f + f = omega (arith, here, low, within, to) in
+    elim (cases_lt r q) [
+      | inl less ↦
+          let step : r + 1 ≤ q = omega arith in
+          let most = mul-le-mul_right f step in
+          omega (arith, ends, here, from, most, add-mul-one r f)
+      | inr more ↦
+          let most = mul-le-mul_right f more in
+          omega (arith, ends, below, most)
+    ]
 
 abbrev given : Option BlockFault → Bool
 given None = false

@@ -11,7 +11,7 @@ ghost use Rattle.verity_tree.specs.declared.closed_block.Task.TheVariants.{Compa
 use crate::cascade::{Stop, carry};
 use crate::closed_block::Task;
 use crate::data_block::BlockFault;
-use crate::reading_ahead::{Ahead, WINDOW, take_next};
+use crate::reading_ahead::{Ahead, WINDOW, needs_window, take_next};
 use verity_hash::Digest;
 use verity_io::{Device, Source};
 use verity_plan::Plan;
@@ -51,12 +51,16 @@ pub(crate) fn pass<S: Source, D: Device>(
         → PassesCompared plan.now (S.remaining source.old) result (D.content device.old) (D.content device.new) }
 {
     let (work, stored) = store.split_at_mut(store.len() - plan.hash_block());
-    pass_over(plan, task, work, stored, source, device)
+    if needs_window(plan) {
+        return pass_with_window(plan, task, work, stored, source, device);
+    }
+    pass_over(plan, task, work, stored, &mut [], source, device)
 }
 
-/// The pass, with the open blocks and the data block in `work`, and a hash block to compare with in `stored`. Data
-/// blocks that are hashed side by side have a window of their own.
-fn pass_over<S: Source, D: Device>(
+/// The pass, with a window for data blocks that are hashed side by side. It isn't inlined, since a function pays for the
+/// size of what it holds as it is entered.
+#[inline(never)]
+fn pass_with_window<S: Source, D: Device>(
     plan: &Plan,
     task: Task,
     work: &mut [u8],
@@ -80,12 +84,41 @@ fn pass_over<S: Source, D: Device>(
     ensures compared { task ≡ Compare → S.tells source.old → D.tells device.old
         → PassesCompared plan.now (S.remaining source.old) result (D.content device.old) (D.content device.new) }
 {
+    pass_over(plan, task, work, stored, &mut [0; WINDOW], source, device)
+}
+
+/// The pass, with the open blocks and the data block in `work`, and a hash block to compare with in `stored`. Data
+/// blocks that are hashed side by side are read into the window, as far as it has room.
+fn pass_over<S: Source, D: Device>(
+    plan: &Plan,
+    task: Task,
+    work: &mut [u8],
+    stored: &mut [u8],
+    window: &mut [u8],
+    source: &mut S,
+    device: &mut D,
+) -> Result<Digest, PassFault>
+    requires room { levels_of plan.now * plan.now.settings.hash_block + plan.now.settings.data_block ≤ length work.old }
+    requires stored { length stored.old ≡ plan.now.settings.hash_block }
+    ensures planned { IsPlanned plan.now }
+    ensures size { IfOk result (λ root. length root ≡ digest_len plan.now.settings) }
+    ensures source_told { S.tells source.old → S.tells source.new }
+    ensures device_told { D.tells device.old → D.tells device.new }
+    ensures source_count { Counts (source_failed result) (S.failures source.old) (S.failures source.new) }
+    ensures device_count { Counts (device_failed task result) (D.failures device.old) (D.failures device.new) }
+    ensures stays { task ≡ Compare → D.tells device.old → D.content device.new ≡ D.content device.old }
+    ensures read { S.tells source.old → Passes plan.now result (S.remaining source.old) (S.remaining source.new) }
+    ensures stands { S.tells source.old → D.tells device.old
+        → PassesImage plan.now (data_blocks plan.now (S.remaining source.old))
+        result (D.content device.old) (D.content device.new) }
+    ensures compared { task ≡ Compare → S.tells source.old → D.tells device.old
+        → PassesCompared plan.now (S.remaining source.old) result (D.content device.old) (D.content device.new) }
+{
     work.fill(0);
-    let mut window = [0; WINDOW];
     let mut root = Digest::zeros(plan.settings().algorithm());
     let mut ahead = Ahead::none(plan);
     for i in 0..plan.blocks() {
-        let digest = match take_next(plan, work, &mut window, i, source, &mut ahead) {
+        let digest = match take_next(plan, work, window, i, source, &mut ahead) {
             Ok(digest) => digest,
             Err(BlockFault::Short) => return Err(PassFault::SourceShort(i)),
             Err(BlockFault::Failed) => return Err(PassFault::SourceFailed(i)),

@@ -1,32 +1,41 @@
-//! Data blocks that are read and hashed before their turn, four side by side.
-ghost use Rattle.std.specs.Prelude.{◌≡◌, ℕ, ◌+◌, ◌%◌, ◌*◌, ◌<◌, ◌≤◌, List, length, IfOk};
+//! Data blocks that are read and hashed before their turn, up to eight side by side.
+ghost use Rattle.std.specs.Prelude.{◌≡◌, ℕ, ◌+◌, ◌*◌, ◌<◌, ◌≤◌, List, length, IfOk};
 ghost use Rattle.std.specs.Fork.{slice_chunk};
 ghost use Rattle.verity_io.specs.Counting.{Counts};
 ghost use Rattle.verity_io.specs.Reading.{HasRead};
 ghost use Rattle.verity_plan.specs.Plans.{levels_of};
-ghost use Rattle.verity_plan.specs.Settings.{digest_len, fan};
+ghost use Rattle.verity_plan.specs.Settings.{digest_len};
 ghost use Rattle.verity_tree.specs.Reading.{bytes_of};
 ghost use Rattle.verity_tree.specs.Steps.DataBlocks.{read_failed};
 ghost use Rattle.verity_tree.specs.Steps.OpenBlocks.{HasOpenBlocks};
-ghost use Rattle.verity_tree.specs.Steps.ReadingAhead.{HoldsRows, IsAhead, IsFilled, IsQuiet, IsRun, ReadsRow};
-ghost use Rattle.verity_tree.specs.Steps.ReadingAhead.{StandsBy, TakesNext, ahead_failed, next_failed, stop_failed};
+ghost use Rattle.verity_tree.specs.Steps.ReadingAhead.{HoldsRows, IsAhead, IsFilled, IsQuiet, IsReadOf, IsRun};
+ghost use Rattle.verity_tree.specs.Steps.ReadingAhead.{ReadsRow, StandsBy, TakesNext, ahead_failed, next_failed};
+ghost use Rattle.verity_tree.specs.Steps.ReadingAhead.{stop_failed};
 
 use crate::data_block::{BlockFault, read_data_block, take_data_block};
-use verity_hash::Digest;
+use verity_hash::{Algorithm, Digest};
 use verity_io::Source;
 use verity_plan::Plan;
 
-/// The size of the largest data blocks that are hashed side by side, in bytes. It is the usual size.
-const MOST_SIZE: usize = 4096;
+/// How many data blocks are hashed side by side at most, each in a row of its own.
+const ROWS: usize = 8;
 
-/// The length of the window that they are read into: four rows, a block in each.
-pub(crate) const WINDOW: usize = 4 * MOST_SIZE;
+/// How many at least: fewer are sooner hashed one after another.
+const LEAST_ROWS: usize = 3;
+
+/// The size of the largest data blocks that are hashed side by side, in bytes.
+const MOST_SIZE: usize = 16384;
+
+/// The length of the window that they are read into.
+pub(crate) const WINDOW: usize = ROWS * MOST_SIZE;
 
 /// Data blocks that were read and hashed before their turn.
 #[derive(Clone, Copy, Debug, PartialEq, Eq)]
 pub(crate) struct Ahead {
-    /// The digest of each block from the next on and below `end`, at its number modulo 4.
-    digests: [Digest; 4],
+    /// The digest of each block from `first` on and below `end`; those after them count for nothing.
+    digests: [Digest; ROWS],
+    /// The number of the first block that was read with them.
+    first: u64,
     /// The number of the block after them.
     end: u64,
     /// Why that one isn't to be had, where the source ended or failed.
@@ -45,7 +54,8 @@ impl Ahead {
         ensures ahead { (bytes : List ℕ) → IsAhead plan.now 0 bytes result bytes }
     {
         Ahead {
-            digests: [Digest::zeros(plan.settings().algorithm()); 4],
+            digests: [Digest::zeros(plan.settings().algorithm()); ROWS],
+            first: 0,
             end: 0,
             fault: None,
         }
@@ -56,7 +66,7 @@ impl Ahead {
 pub(crate) fn take_next<S: Source>(
     plan: &Plan,
     work: &mut [u8],
-    window: &mut [u8; WINDOW],
+    window: &mut [u8],
     i: u64,
     source: &mut S,
     ahead: &mut Ahead,
@@ -79,16 +89,40 @@ pub(crate) fn take_next<S: Source>(
     }
     match ahead.fault {
         Some(fault) if i >= ahead.end => Err(fault),
-        _ => Ok(ahead.digests[(i % 4) as usize]),
+        _ => Ok(ahead.digests[(i - ahead.first) as usize]),
     }
 }
 
-/// Reads and hashes data blocks from `i` on: four where none but the last of them can be the last below a hash block,
-/// and else one.
+/// How many data blocks from `i` on are read together into a window of this length: none of them but the last is the
+/// last below a hash block. It is 1 where they are hashed one by one.
+fn rows_from(plan: &Plan, window: usize, i: u64) -> usize
+    requires { i < plan.now.blocks }
+    ensures some { 0 < result }
+    ensures most { result ≤ 8 }
+    ensures run { IsRun plan.now i result }
+    ensures fits { 1 < result → 8 * plan.now.settings.data_block ≤ window }
+{
+    let fan = plan.fan() as u64;
+    let left = plan.blocks() - i;
+    let rows = left.min(fan - i % fan).min(ROWS as u64) as usize;
+    let alone = plan.settings().algorithm() == Algorithm::Sha1;
+    if alone || rows < LEAST_ROWS || ROWS * plan.data_block() > window {
+        return 1;
+    }
+    rows
+}
+
+/// Whether data blocks are read together, in a window.
+pub(crate) fn needs_window(plan: &Plan) -> bool {
+    let _blocks = plan.blocks();
+    rows_from(plan, WINDOW, 0) > 1
+}
+
+/// Reads and hashes data blocks from `i` on, as many as are read together.
 fn read_ahead<S: Source>(
     plan: &Plan,
     work: &mut [u8],
-    window: &mut [u8; WINDOW],
+    window: &mut [u8],
     i: u64,
     source: &mut S,
 ) -> Ahead
@@ -102,32 +136,40 @@ fn read_ahead<S: Source>(
     ensures ahead { S.tells source.old → (bytes : List ℕ) → HasRead (bytes_of plan.now i) bytes (S.remaining source.old)
         → IsAhead plan.now i bytes result (S.remaining source.new) }
 {
-    let size = plan.data_block();
-    let left = plan.blocks() - i;
-    if size <= MOST_SIZE && plan.fan() % 4 == 0 && i % 4 == 0 && left >= 4 {
-        return read_four(plan, &mut window[..4 * size], i, source);
+    let _blocks = plan.blocks();
+    let count = rows_from(plan, window.len(), i);
+    if count > 1 {
+        return read_run(
+            plan,
+            &mut window[..ROWS * plan.data_block()],
+            i,
+            count,
+            source,
+        );
     }
     match take_data_block(plan, work, i, source) {
         Ok(digest) => Ahead {
-            digests: [digest; 4],
+            digests: [digest; ROWS],
+            first: i,
             end: i + 1,
             fault: None,
         },
         Err(fault) => Ahead {
-            digests: [Digest::zeros(plan.settings().algorithm()); 4],
+            digests: [Digest::zeros(plan.settings().algorithm()); ROWS],
+            first: i,
             end: i,
             fault: Some(fault),
         },
     }
 }
 
-/// Reads four data blocks from `i` on and hashes them side by side. Where the source ends or fails within one, the
-/// digests from it on count for nothing.
-fn read_four<S: Source>(plan: &Plan, rows: &mut [u8], i: u64, source: &mut S) -> Ahead
-    requires room { length rows.old ≡ 4 * plan.now.settings.data_block }
-    requires below { i + 4 ≤ plan.now.blocks }
-    requires aligned { i % 4 ≡ 0 }
-    requires fours { fan plan.now.settings % 4 ≡ 0 }
+/// Reads so many data blocks from `i` on and hashes them side by side. Where there are fewer than eight, or the source
+/// ends or fails within one, the digests of the other rows count for nothing.
+fn read_run<S: Source>(plan: &Plan, rows: &mut [u8], i: u64, count: usize, source: &mut S) -> Ahead
+    requires room { length rows.old ≡ 8 * plan.now.settings.data_block }
+    requires some { 0 < count }
+    requires most { count ≤ 8 }
+    requires run { IsRun plan.now i count }
     ensures told { S.tells source.old → S.tells source.new }
     ensures quiet { IsFilled plan.now i result }
     ensures count { Counts (ahead_failed result) (S.failures source.old) (S.failures source.new) }
@@ -135,39 +177,42 @@ fn read_four<S: Source>(plan: &Plan, rows: &mut [u8], i: u64, source: &mut S) ->
         → IsAhead plan.now i bytes result (S.remaining source.new) }
 {
     let _blocks = plan.blocks();
-    let (count, fault) = read_rows(plan, rows, i, source);
+    let (held, fault) = read_rows(plan, rows, i, count, source);
     Ahead {
-        digests: plan.hash_four(rows, plan.data_block()),
-        end: i + count as u64,
+        digests: plan.hash_rows(rows, plan.data_block()),
+        first: i,
+        end: i + held as u64,
         fault,
     }
 }
 
-/// Reads data blocks from `i` on into the four rows, one after another: how many, and why no more.
+/// Reads so many data blocks from `i` on into the rows, one after another: how many it could read, and why no more.
 fn read_rows<S: Source>(
     plan: &Plan,
     rows: &mut [u8],
     i: u64,
+    count: usize,
     source: &mut S,
 ) -> (usize, Option<BlockFault>)
-    requires room { length rows.old ≡ 4 * plan.now.settings.data_block }
-    requires below { i + 4 ≤ plan.now.blocks }
+    requires room { length rows.old ≡ 8 * plan.now.settings.data_block }
+    requires most { count ≤ 8 }
+    requires below { i + count ≤ plan.now.blocks }
     ensures told { S.tells source.old → S.tells source.new }
     ensures count { Counts (stop_failed result.1) (S.failures source.old) (S.failures source.new) }
-    ensures many { IsRun result.0 result.1 }
+    ensures many { IsReadOf count result.0 result.1 }
     ensures held { S.tells source.old → (bytes : List ℕ) → HasRead (bytes_of plan.now i) bytes (S.remaining source.old)
         → HoldsRows plan.now i bytes result.0 rows.new }
     ensures taken { S.tells source.old → (bytes : List ℕ) → HasRead (bytes_of plan.now i) bytes (S.remaining source.old)
         → StandsBy plan.now (i + result.0) bytes result.1 (S.remaining source.new) }
 {
     let _blocks = plan.blocks();
-    for row in 0..4 {
+    for row in 0..count {
         match read_row(plan, rows, i + row as u64, row, source) {
             Ok(()) => {}
             Err(fault) => return (row, Some(fault)),
         }
     }
-    (4, None)
+    (count, None)
 }
 
 /// Reads data block `i` into a row.
@@ -178,9 +223,9 @@ fn read_row<S: Source>(
     row: usize,
     source: &mut S,
 ) -> Result<(), BlockFault>
-    requires room { length rows.old ≡ 4 * plan.now.settings.data_block }
+    requires room { length rows.old ≡ 8 * plan.now.settings.data_block }
     requires below { i < plan.now.blocks }
-    requires row { row < 4 }
+    requires row { row < 8 }
     ensures told { S.tells source.old → S.tells source.new }
     ensures count { Counts (read_failed result) (S.failures source.old) (S.failures source.new) }
     ensures kept { (r : ℕ) → r < row → slice_chunk rows.new plan.now.settings.data_block r

@@ -1,6 +1,6 @@
 -- Data blocks that are read and hashed before their turn.
 -- For the private steps; not needed to read a public contract.
-use Rattle.std.specs.Prelude.{◌≡◌, ◌≢◌, ◌⊎◌, ℕ, ◌+◌, ◌%◌, ◌<◌, ◌≤◌, Bool, true, false, List, [], length}
+use Rattle.std.specs.Prelude.{◌≡◌, ◌≢◌, ◌⊎◌, ℕ, ◌+◌, ◌-◌, ◌<◌, ◌≤◌, Bool, true, false, List, [], length}
 use Rattle.std.specs.Prelude.{slice_index_or, Option, Some, None, Result, Ok, Err}
 use Rattle.std.specs.Fork.{slice_chunk}
 use Rattle.verity_hash.specs.declared.digest.Digest.{Digest}
@@ -33,10 +33,15 @@ StandsBy p i bytes None after = HasRead (bytes_of p i) bytes after
 StandsBy p i bytes (Some Short) after = EndsWithin p i bytes after
 StandsBy p i bytes (Some Failed) after = FailsWithin p i bytes after
 
--- four blocks, or fewer where the source ended or failed
-abbrev pub IsRun : ℕ → Option BlockFault → Type 0
-IsRun n None = n ≡ 4
-IsRun n (Some fault) = n < 4
+-- so many data blocks from i on are there, and none of them but the last is the last below a hash block
+pub record IsRun (p : Planned) (i count : ℕ) : Type 0 where
+  pub below : i + count ≤ p.blocks
+  pub quiet : (k : ℕ) → i ≤ k → k + 1 < i + count → ¬ EndsBlock (fan p.settings) p.blocks k
+
+-- all of them, or fewer where the source ended or failed
+abbrev pub IsReadOf : ℕ → ℕ → Option BlockFault → Type 0
+IsReadOf count n None = n ≡ count
+IsReadOf count n (Some fault) = n < count
 
 -- whether the source failed
 abbrev pub stop_failed : Option BlockFault → Bool
@@ -53,7 +58,7 @@ next_failed (Err fault) ahead = stop_failed (Some fault)
 
 -- the digests have their length
 abbrev pub HasSizes : Planned → Ahead → Type 0
-HasSizes p ahead = (r : ℕ) → r < 4 → length (slice_index_or ahead.digests r []) ≡ digest_len p.settings
+HasSizes p ahead = (r : ℕ) → r < 8 → length (slice_index_or ahead.digests r []) ≡ digest_len p.settings
 
 -- more is known than data block k: blocks after it, or why there are none
 abbrev pub IsPending : Ahead → ℕ → Type 0
@@ -61,6 +66,8 @@ IsPending ahead k = (k + 1 < ahead.end) ⊎ ((k + 1 ≡ ahead.end) × (ahead.fau
 
 -- what is ahead of data block i: no block of which more is known than it is the last below a hash block
 pub record IsQuiet (p : Planned) (i : ℕ) (ahead : Ahead) : Type 0 where
+  pub begun : ahead.first ≤ i
+  pub room : ahead.end ≤ ahead.first + 8
   pub from : i ≤ ahead.end
   pub to : ahead.end ≤ p.blocks
   pub short : ahead.fault ≢ None → ahead.end < p.blocks
@@ -69,6 +76,8 @@ pub record IsQuiet (p : Planned) (i : ℕ) (ahead : Ahead) : Type 0 where
 
 -- data block i is there, or why it is not
 pub record IsFilled (p : Planned) (i : ℕ) (ahead : Ahead) : Type 0 where
+  pub begun : ahead.first ≤ i
+  pub room : ahead.end ≤ ahead.first + 8
   pub some : (i < ahead.end) ⊎ ((i ≡ ahead.end) × (ahead.fault ≢ None))
   pub to : ahead.end ≤ p.blocks
   pub short : ahead.fault ≢ None → ahead.end < p.blocks
@@ -78,7 +87,7 @@ pub record IsFilled (p : Planned) (i : ℕ) (ahead : Ahead) : Type 0 where
 -- the digests of the data blocks from i on, and where the source stands
 pub record IsAhead (p : Planned) (i : ℕ) (bytes : List ℕ) (ahead : Ahead) (after : List ℕ) : Type 0 where
   pub held : (k : ℕ) → i ≤ k → k < ahead.end
-      → slice_index_or ahead.digests (k % 4) [] ≡ carried p.settings (data_blocks p bytes) k 0
+      → slice_index_or ahead.digests (k - ahead.first) [] ≡ carried p.settings (data_blocks p bytes) k 0
   pub stands : StandsBy p ahead.end bytes ahead.fault after
 
 -- the next data block's digest, or why there is none

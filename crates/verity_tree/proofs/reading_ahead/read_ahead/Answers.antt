@@ -1,7 +1,8 @@
-use Rattle.std.proofs.Common.{◌≡◌, ℕ, ◌%◌, arith, ap, ◌∙◌}
+use Rattle.std.proofs.Common.{◌≡◌, ℕ, ◌-◌, List, length, arith, ap, ◌∙◌, inl, inr, refl, rules}
 use Rattle.verity_tree.specs.Levels.{data_blocks}
 use Rattle.verity_tree.specs.Steps.OpenBlocks.{carried}
-use Rattle.verity_tree.proofs.ReadingAheadLemmas.{same-four}
+use Rattle.verity_tree.proofs.ReadingAheadLemmas.{same-eight, some-fault}
+use Rattle.std.proofs.lemmas.List.{length-replicate}
 use Rattle.verity_tree.proofs.reading_ahead.read_ahead.Goals as goal
 
 pub returns-in-Ok-clause-ahead : goal.returns-in-Ok-clause-ahead
@@ -11,7 +12,21 @@ returns-in-Ok-clause-ahead g c = λ tells bytes read_before.
     record {
       held = λ k from to.
           let here : c.args.i ≡ k = omega arith in
-          same-four c.in-Ok.digest (k % 4) (omega arith) ∙ taken.1
+          same-eight c.in-Ok.digest (k - c.args.i) (omega (arith, here)) ∙ taken.1
           ∙ ap (λ (n : ℕ). carried p.settings (data_blocks p bytes) n 0) here;
       stands = taken.0;
     }
+
+pub returns-in-Err-clause-quiet : goal.returns-in-Err-clause-quiet
+returns-in-Err-clause-quiet g c = record {
+  begun = omega arith;
+  room = omega arith;
+  some = inr (refl, some-fault c.in-Err.fault);
+  to = omega arith;
+  short = λ ne. c.requires.below;
+  quiet = λ k from pending. elim pending [
+    | inl lt ↦ absurd (omega (arith, from, lt))
+    | inr eq ↦ absurd (omega (arith, from, eq.0))
+  ];
+  sizes = λ r lt. ap length (same-eight _ r lt) ∙ search (rules, length-replicate);
+}

@@ -11,7 +11,8 @@ use Rattle.verity_tree.specs.Steps.ReadingAhead.{ReadsRow}
 use Rattle.verity_tree.specs.declared.data_block.BlockFault.{BlockFault}
 use Rattle.verity_tree.specs.declared.data_block.BlockFault.TheVariants.{Short, Failed}
 use Rattle.verity_tree.proofs.DataBlockLemmas.{data-next, failed-within, short-within}
-use Rattle.verity_tree.proofs.ReadingAheadLemmas.{row-kept, rows-within}
+use Rattle.verity_hash.proofs.RowLemmas.{rows-within}
+use Rattle.verity_tree.proofs.ReadingAheadLemmas.{row-kept}
 use Rattle.verity_tree.proofs.reading_ahead.read_row.Goals as goal
 
 reads : (p : Planned) → IsPlanned p → (i row want b a : ℕ) (bytes rest after rows new : List ℕ)
@@ -41,7 +42,7 @@ returns-clause-kept g c = λ r before.
     ap (λ (n : ℕ). c.args.row * n) c.data_block-size.ensures in
     row-kept b r _ _ c.args.rows.now c.read_data_block.new.block
     (omega (arith, place, rows-within r c.args.row b before))
-    (omega (arith, place, c.requires.room, rows-within c.args.row 4 b c.requires.row))
+    (omega (arith, place, c.requires.room, rows-within c.args.row 8 b c.requires.row))
 
 pub returns-clause-taken : goal.returns-clause-taken
 returns-clause-taken g c = λ tells bytes read_before.
@@ -59,6 +60,6 @@ returns-clause-taken g c = λ tells bytes read_before.
       place,
       c.data_block-size.ensures,
       c.requires.room,
-      rows-within c.args.row 4 p.settings.data_block c.requires.row,
+      rows-within c.args.row 8 p.settings.data_block c.requires.row,
     ))
     c.read_data_block.auto.block read_before (c.read_data_block.ensures.bytes tells)

@@ -1,4 +1,4 @@
-use Rattle.std.proofs.Common.{◌≡◌, ◌+◌, ◌%◌, [], None, arith, length, rules, ◌∙◌}
+use Rattle.std.proofs.Common.{◌≡◌, ◌+◌, ◌-◌, [], None, arith, length, rules, ◌∙◌}
 use Rattle.std.proofs.lemmas.List.{get_or_default}
 use Rattle.verity_tree.specs.Steps.ReadingAhead.{IsAhead, IsQuiet}
 use Rattle.verity_tree.proofs.ReadingAheadLemmas.{read-to}
@@ -19,11 +19,12 @@ returns-in_default-clause-taken g c = λ tells bytes before.
           rw (w.ahead-is, w.source-is) (w.read_ahead.ensures.ahead tells bytes read)
       | else-i-ahead w ↦ rw (w.ahead-is, w.source-is) before
     ] in
-    let long : length c.if-i-ahead.ahead.digests ≡ 4 = omega arith in
+    let long : length c.if-i-ahead.ahead.digests ≡ 8 = omega arith in
     let held = filled.held i (omega arith) (omega (arith, quiet.from)) in (
       record {
         held = λ k from to. filled.held k (omega (arith, from)) to;
         stands = filled.stands;
       },
-      get_or_default c.if-i-ahead.ahead.digests (i % 4) c.index-ahead-i.result [] (omega (arith, long)) ∙ held,
+      get_or_default c.if-i-ahead.ahead.digests (i - c.if-i-ahead.ahead.first) c.index-ahead-i.result []
+          (omega (arith, long, quiet.room, quiet.from)) ∙ held,
     )
