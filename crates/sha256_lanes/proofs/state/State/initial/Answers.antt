@@ -1,6 +1,0 @@
-use Rattle.std.proofs.Common.{refl}
-use Rattle.sha256_lanes.proofs.LaneLemmas.{below_four}
-use Rattle.sha256_lanes.proofs.state.State.initial.Goals as goal
-
-pub returns : goal.returns
-returns c = below_four _ refl refl refl refl

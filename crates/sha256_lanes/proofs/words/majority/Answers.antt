@@ -1,8 +1,0 @@
-use Rattle.std.proofs.Common.{slice_index}
-use Rattle.sha256_lanes.proofs.Bitwise.{maj-changed}
-use Rattle.sha256_lanes.proofs.words.majority.Goals as goal
-
-pub returns : goal.returns
-returns c j lt =
-    rw (c.xor-3.ensures j lt, c.and.ensures j lt, c.xor.ensures j lt, c.xor-2.ensures j lt)
-    (maj-changed (slice_index c.args.x j) (slice_index c.args.y j) (slice_index c.args.z j))
