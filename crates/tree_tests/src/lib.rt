@@ -21,6 +21,8 @@ mod paths;
 #[cfg(test)]
 mod plain_trees;
 #[cfg(test)]
+mod side_by_side;
+#[cfg(test)]
 mod slots;
 #[cfg(test)]
 mod trees;
