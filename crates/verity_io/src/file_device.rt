@@ -113,7 +113,8 @@ fn move_to<F: Seek>(file: &mut F, at: u64) -> Result<(), Failed>
     }
 }
 
-// A file system may also refuse a read that would end past the most bytes of a device.
+// A read that would end past the most bytes of a device isn't tried, for Linux refuses it: the answer is the file's end, or
+// a failure where the file has bytes there.
 fn read_from<F: Read + Seek>(file: &mut F, at: u64, buf: &mut [u8]) -> Result<usize, Failed>
     ensures bound { IfOk result (λ k. k ≤ length buf.new) }
     ensures bytes { IfOk result (λ k.
