@@ -82,15 +82,13 @@ def throughput():
     best = least(commands)
     rows = []
     for function, block in BLOCKS:
+        bare = best.get((function, block, "bare", "here"))
+        row = [function, str(block), f"{SIZE / bare:.0f}" if bare else ""]
         for command in ("format", "verify", "digest"):
-            if (function, block, command, "here") not in best:
-                continue
-            bare = best.get((function, block, "bare", "here"))
-            here, other = (best[function, block, command, who] for who in ("here", "Debian's"))
-            speeds = [f"{SIZE / it:.0f}" if it else "" for it in (bare, here, other)]
-            ratios = [f"{bare / here:.2f}" if bare else "", f"{other / here:.2f}"]
-            rows.append([function, str(block), command, *speeds, *ratios])
-    table(["Function", "Block:", "Command", "bare:", "here:", "Debian's:", "here / bare:", "here / Debian's:"], rows)
+            here, other = (best.get((function, block, command, who)) for who in ("here", "Debian's"))
+            row.append(f"{SIZE / here:.0f} ({other / here:.2f})" if here else "")
+        rows.append(row)
+    table(["Function", "Block:", "bare:", "format:", "verify:", "digest:"], rows)
 
 
 def small():
@@ -160,7 +158,8 @@ def surroundings():
     print(f"Programs built for {' and '.join(sorted(built))}, on one core of an {name[1] if name else 'unknown processor'},")
     print(f"{avx2} and {sha}, beside veritysetup {version('veritysetup')} and fsverity {version('fsverity')}:")
     print(f"MiB a second of processor time, for {SIZE} MiB in the page cache with a salt of 32 bytes, the best of {ROUNDS}")
-    print("rounds. `bare` is the hashing of the same blocks, one after another, by the crate `sha2`.")
+    print("rounds; in brackets, how many times Debian's speed that is. `bare` is the hashing of the same blocks, one after")
+    print("another, by the crate `sha2`.")
 
 
 with open(at("data"), "wb") as data:

@@ -1,6 +1,8 @@
 -- The words of a command line as the system gives them: bytes, which may be no text. This project's own.
-use Rattle.std.specs.Prelude.{◌≡◌, ℕ, ◌==◌, ◌&&◌, List, [], ◌∷◌, ◌++◌, IsUtf8, Some, codes, if◌then◌else◌, nat_lt, slice_get, ⊤}
+use Rattle.std.specs.Prelude.{◌≡◌, ℕ, ◌==◌, ◌&&◌, List, [], ◌∷◌, ◌++◌, IsUtf8, Some, codes, if◌then◌else◌, map, nat_lt, slice_get}
+use Rattle.std.specs.Prelude.{String, string_bytes, take, ⊤}
 use Rattle.std.specs.List.{concat, flat_map}
+use Rattle.std.specs.declared.alloc.Global.{Global}
 use Rattle.std.specs.Fmt.{decimal}
 use Rattle.hex.specs.Hex.{encode_lower}
 use Rattle.command_line.specs.declared.system_words.WordsFault.{WordsFault}
@@ -23,7 +25,8 @@ abbrev pub IsNoText : WordsFault → Type 0
 IsNoText (NotText number word) = IsUtf8 word.items → ⊥
 IsNoText Memory = ⊤
 
--- a word that is refused is the one of its number
+-- a word that is refused is the one of its number, and those before it are texts
 abbrev pub IsRefusedIn : List (List ℕ) → WordsFault → Type 0
-IsRefusedIn words (NotText number word) = slice_get words number ≡ Some word.items
+IsRefusedIn words (NotText number word) = (slice_get words number ≡ Some word.items)
+    × ((texts : List (String Global)) × (map string_bytes texts ≡ take number words))
 IsRefusedIn words Memory = ⊤

@@ -1,4 +1,4 @@
-//! Words that are given one after another, put together to a list.
+//! Words that are given one after another, put together into a list.
 ghost use Rattle.std.specs.Prelude.{◌≡◌, List, IfErr, IfOk, map, option_map, slice_get, string_bytes, ℕ};
 ghost use Rattle.command_line.specs.SystemWords.{IsNoText, IsRefusedIn};
 

@@ -2,12 +2,14 @@
 use std::io;
 use std::io::{ErrorKind, Read, Seek, SeekFrom, Write};
 use std::test::Fail;
+use verity_io::MOST_BYTES;
 use verity_tree::{
     Device, Failed, FileDevice, FileSource, Fused, MemoryDevice, MemorySource, Source,
 };
 
 /// A file whose every second read or write is interrupted. A read gives one byte, a write takes one and none past `room`,
-/// and no offset above `top` can be reached. A byte `!` can't be read.
+/// and no offset above `top` can be reached. A byte `!` can't be read, nor, as in Linux, what would end past the largest
+/// offset.
 #[derive(Drop)]
 struct Unsteady {
     bytes: Vec<u8>,
@@ -52,6 +54,9 @@ impl Seek for Unsteady {
 impl Read for Unsteady {
     fn read(&mut self, buf: &mut [u8]) -> io::Result<usize> {
         self.interrupt()?;
+        if buf.len() as u64 > MOST_BYTES.saturating_sub(self.offset) {
+            return Err(io::Error::from(ErrorKind::InvalidInput));
+        }
         let at = self.offset as usize;
         if buf.is_empty() || at >= self.bytes.len() {
             return Ok(0);
@@ -128,6 +133,24 @@ fn a_refused_offset_lies_past_the_end(rt: HostRuntime) -> Result<(), Fail> {
     assert_eq!(rt; device.read_at(4, &mut buf), Ok(0));
     assert_eq!(rt; device.read_at(u64::MAX, &mut buf), Ok(0));
     assert_eq!(rt; device.write_at(4, b"e"), Err(Failed));
+    Ok(())
+}
+
+#[test]
+fn no_file_has_bytes_past_the_largest_offset(rt: HostRuntime) -> Result<(), Fail> {
+    let mut buf = [9u8; 4];
+    let mut file = Unsteady::new(b"abcd".to_vec(rt.alloc())?);
+    file.top = u64::MAX;
+    let mut device = FileDevice::new(file);
+    for at in [
+        MOST_BYTES - 4,
+        MOST_BYTES - 3,
+        MOST_BYTES,
+        MOST_BYTES + 1,
+        u64::MAX,
+    ] {
+        assert_eq!(rt; device.read_at(at, &mut buf), Ok(0));
+    }
     Ok(())
 }
 

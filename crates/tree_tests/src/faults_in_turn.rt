@@ -1,6 +1,6 @@
-//! Reads within each data block and each write of a run fail in turn, and the data ends within each block in turn, for
-//! trees of many fan-outs and sources that give few bytes at a time: what is answered, how much was read and what stands
-//! on the device, beside trees by plain lists of bytes.
+//! Reads within data blocks and each write of a run fail in turn, and the data ends within blocks in turn, for trees of
+//! many fan-outs and sources that give few bytes at a time: what is answered, how much was read and what stands on the
+//! device, beside trees by plain lists of bytes.
 use crate::cases::Case;
 use crate::pieces::Pieces;
 use crate::plain_trees::{Closed, closing_order, these_stand};
@@ -76,26 +76,25 @@ fn by(
     Case::verity(alloc, algorithm, b"salt", sizes, slots)
 }
 
-/// Trees with fan-outs of 2 to 128. Their last data blocks are as many as fill rows of eight, or a few more: one to seven;
-/// the last block may be cut.
+/// Trees with fan-outs of 2 to 16. Their last data blocks are as many as fill rows of eight, or a few more; the last block
+/// may be cut.
 fn fans(alloc: Global) -> Result<Vec<Expected>, Fail> {
     let mut cases = Vec::new(alloc);
-    cases.push(prepared(alloc, files(alloc, 64)?, 64 * 101 - 9, 7)?)?;
-    cases.push(prepared(alloc, files(alloc, 128)?, 128 * 103, 4)?)?;
-    cases.push(prepared(alloc, files(alloc, 256)?, 256 * 99 - 1, 3)?)?;
-    cases.push(prepared(alloc, disks(alloc, 512, 512)?, 512 * 100, 2)?)?;
-    cases.push(prepared(alloc, disks(alloc, 512, 4096)?, 512 * 134, 2)?)?;
-    cases.push(prepared(alloc, disks(alloc, 512, 512)?, 512 * 48 - 5, 2)?)?;
+    cases.push(prepared(alloc, files(alloc, 64)?, 64 * 13 - 9, 4)?)?;
+    cases.push(prepared(alloc, files(alloc, 128)?, 128 * 23, 3)?)?;
+    cases.push(prepared(alloc, files(alloc, 256)?, 256 * 27 - 1, 2)?)?;
+    cases.push(prepared(alloc, disks(alloc, 512, 512)?, 512 * 23, 2)?)?;
+    cases.push(prepared(alloc, disks(alloc, 512, 512)?, 512 * 16 - 5, 1)?)?;
     Ok(cases)
 }
 
 /// Trees of larger data blocks, the largest too large for rows.
 fn sizes(alloc: Global) -> Result<Vec<Expected>, Fail> {
     let mut cases = Vec::new(alloc);
-    cases.push(prepared(alloc, disks(alloc, 4096, 512)?, 4096 * 21, 2)?)?;
-    cases.push(prepared(alloc, disks(alloc, 8192, 512)?, 8192 * 23, 2)?)?;
-    cases.push(prepared(alloc, disks(alloc, 16384, 512)?, 16384 * 19, 2)?)?;
-    cases.push(prepared(alloc, disks(alloc, 32768, 512)?, 32768 * 9, 1)?)?;
+    cases.push(prepared(alloc, disks(alloc, 4096, 512)?, 4096 * 19, 2)?)?;
+    cases.push(prepared(alloc, disks(alloc, 8192, 512)?, 8192 * 13, 1)?)?;
+    cases.push(prepared(alloc, disks(alloc, 16384, 512)?, 16384 * 11, 1)?)?;
+    cases.push(prepared(alloc, disks(alloc, 32768, 512)?, 32768 * 5, 1)?)?;
     Ok(cases)
 }
 
@@ -106,9 +105,9 @@ fn functions(alloc: Global) -> Result<Vec<Expected>, Fail> {
     let (sha384, sha512) = (Algorithm::Sha384, Algorithm::Sha512);
     let mut cases = Vec::new(alloc);
     cases.push(prepared(alloc, by(alloc, sha1, small, (16, 32))?, 512 * 19, 2)?)?;
-    cases.push(prepared(alloc, by(alloc, sha224, small, (16, 32))?, 512 * 29, 2)?)?;
-    cases.push(prepared(alloc, by(alloc, sha384, small, (8, 64))?, 512 * 26, 2)?)?;
-    cases.push(prepared(alloc, by(alloc, sha512, small, (8, 64))?, 512 * 68, 3)?)?;
+    cases.push(prepared(alloc, by(alloc, sha224, small, (16, 32))?, 512 * 21, 2)?)?;
+    cases.push(prepared(alloc, by(alloc, sha384, small, (8, 64))?, 512 * 14, 2)?)?;
+    cases.push(prepared(alloc, by(alloc, sha512, small, (8, 64))?, 512 * 23, 2)?)?;
     Ok(cases)
 }
 
@@ -173,11 +172,6 @@ fn run(
     })
 }
 
-/// Whether a fault is left out since its run would take many small reads: of such only each 13th is tried.
-fn is_left_out(number: u64, piece: usize) -> bool {
-    piece < 64 && number % 13 != 0
-}
-
 impl Expected {
     /// Whether a run ended with this fault, with so many bytes left, when so many hash blocks had closed.
     fn stops(&self, outcome: &Outcome, fault: BuildFault, rest: usize, closed: usize) -> bool {
@@ -201,15 +195,16 @@ impl Expected {
     }
 
     /// The first data block within which a failing read, the first of the block or the one half way, isn't answered as
-    /// it should be.
-    fn wrong_read(&self, alloc: Global, piece: usize) -> Result<Option<u64>, AllocError> {
+    /// it should be, of those tried.
+    fn wrong_read(&self, alloc: Global, tried: Tried) -> Result<Option<u64>, AllocError> {
+        let piece = tried.piece;
         let mut before = 0usize;
         for i in 0..self.plan.blocks() {
-            if is_left_out(i, piece) {
-                before = before.saturating_add(self.reads_of(i, piece));
+            let reads = self.reads_of(i, piece);
+            if i % tried.every.max(1) != 0 {
+                before = before.saturating_add(reads);
                 continue;
             }
-            let reads = self.reads_of(i, piece);
             for done in [0, reads / 2] {
                 let failing = Failing {
                     read: (before.saturating_add(done) as u64).saturating_add(1),
@@ -217,7 +212,9 @@ impl Expected {
                 };
                 let outcome = run(alloc, &self.plan, self.bytes.as_slice(), piece, failing)?;
                 let closed = closed_after(self.order.as_slice(), i as usize);
-                let rest = self.after(i as usize).saturating_sub(done.saturating_mul(piece));
+                let rest = self
+                    .after(i as usize)
+                    .saturating_sub(done.saturating_mul(piece));
                 let stops = self.stops(&outcome, BuildFault::SourceFailed(i), rest, closed);
                 if !stops || outcome.calls != closed as u64 {
                     return Ok(Some(i));
@@ -228,10 +225,10 @@ impl Expected {
         Ok(None)
     }
 
-    /// The first data block within which an end of the data isn't answered as it should be.
-    fn wrong_end(&self, alloc: Global, piece: usize) -> Result<Option<u64>, AllocError> {
+    /// The first data block within which an end of the data isn't answered as it should be, of those tried.
+    fn wrong_end(&self, alloc: Global, tried: Tried) -> Result<Option<u64>, AllocError> {
         for i in 0..self.plan.blocks() {
-            if is_left_out(i, piece) {
+            if i % tried.every.max(1) != 0 {
                 continue;
             }
             let begun = (i as usize).saturating_mul(self.case.shape.data_block);
@@ -239,7 +236,7 @@ impl Expected {
                 .bytes
                 .get(..begun.saturating_add((i % 3) as usize))
                 .unwrap_or(&[]);
-            let outcome = run(alloc, &self.plan, held, piece, NONE)?;
+            let outcome = run(alloc, &self.plan, held, tried.piece, NONE)?;
             let closed = closed_after(self.order.as_slice(), i as usize);
             let stops = self.stops(&outcome, BuildFault::SourceShort(i), 0, closed);
             if !stops || outcome.calls != closed as u64 {
@@ -252,9 +249,6 @@ impl Expected {
     /// The first write whose failing isn't answered as it should be.
     fn wrong_write(&self, alloc: Global, piece: usize) -> Result<Option<usize>, AllocError> {
         for (closed, (level, block, read)) in self.order.iter().enumerate() {
-            if is_left_out(closed as u64, piece) {
-                continue;
-            }
             let failing = Failing {
                 read: 0,
                 write: (closed as u64).saturating_add(1),
@@ -276,15 +270,64 @@ impl Expected {
     fn is_built(&self, alloc: Global, piece: usize) -> Result<bool, AllocError> {
         let outcome = run(alloc, &self.plan, self.bytes.as_slice(), piece, NONE)?;
         let root = Digest::from_bytes(self.root.as_slice());
-        Ok(root.is_some()
-            && outcome.answer.ok() == root
-            && outcome.device == self.image
-            && outcome.rest == 0)
+        Ok(
+            root.is_some()
+                && outcome.answer.ok() == root
+                && outcome.device == self.image
+                && outcome.rest == 0,
+        )
     }
 }
 
-/// How many bytes a source gives at a time: all that fit, few that no block is a multiple of, or one.
-const PIECES: [usize; 4] = [usize::MAX, 4095, 7, 1];
+/// How a source gives its bytes, and which faults are tried.
+#[derive(Clone, Copy)]
+struct Tried {
+    /// How many bytes it gives at a time.
+    piece: usize,
+    /// Of so many data blocks one has failing reads and an end of the data within it.
+    every: u64,
+}
+
+/// A source that gives all that fit, where each data block is tried, and sources that give few bytes at a time, of which
+/// no block is a multiple, or one.
+const TRIED: [Tried; 4] = [
+    Tried {
+        piece: usize::MAX,
+        every: 1,
+    },
+    Tried {
+        piece: 4095,
+        every: 3,
+    },
+    Tried {
+        piece: 7,
+        every: 13,
+    },
+    Tried {
+        piece: 1,
+        every: 13,
+    },
+];
+
+/// The same for many data blocks: one in 13, so that each place among eight is tried, or fewer.
+const TRIED_OF_MANY: [Tried; 4] = [
+    Tried {
+        piece: usize::MAX,
+        every: 13,
+    },
+    Tried {
+        piece: 4095,
+        every: 53,
+    },
+    Tried {
+        piece: 7,
+        every: 53,
+    },
+    Tried {
+        piece: 1,
+        every: 131,
+    },
+];
 
 /// What isn't as it should be, at which fan-out and number of data blocks, with how many bytes at a time.
 #[derive(Clone, Copy, Debug, PartialEq, Eq)]
@@ -295,25 +338,25 @@ struct Wrong {
     piece: usize,
 }
 
-/// The first of the trees that isn't as it should be after each fault, or with none.
+/// The first of the trees that isn't as it should be after one of the faults tried, or with none.
 fn first_wrong(
     alloc: Global,
     trees: &[Expected],
-    pieces: &[usize],
+    sources: &[Tried],
 ) -> Result<Option<Wrong>, Fail> {
     for expected in trees {
-        for piece in pieces {
-            let piece = *piece;
+        for tried in sources {
+            let piece = tried.piece;
             let wrong = |what| Wrong {
                 what,
                 fan: expected.case.shape.slots,
                 blocks: expected.plan.blocks(),
                 piece,
             };
-            if expected.wrong_read(alloc, piece)?.is_some() {
+            if expected.wrong_read(alloc, *tried)?.is_some() {
                 return Ok(Some(wrong("a failing read")));
             }
-            if expected.wrong_end(alloc, piece)?.is_some() {
+            if expected.wrong_end(alloc, *tried)?.is_some() {
                 return Ok(Some(wrong("an end of the data")));
             }
             if expected.wrong_write(alloc, piece)?.is_some() {
@@ -328,29 +371,40 @@ fn first_wrong(
 }
 
 #[test]
-fn each_call_fails_in_turn_at_each_fan_out(rt: HostRuntime) -> Result<(), Fail> {
+fn faults_are_answered_at_fan_outs_of_2_to_16(rt: HostRuntime) -> Result<(), Fail> {
     let trees = fans(rt.alloc())?;
-    assert_eq!(rt; first_wrong(rt.alloc(), trees.as_slice(), &PIECES)?, None);
+    assert_eq!(rt; first_wrong(rt.alloc(), trees.as_slice(), &TRIED)?, None);
     Ok(())
 }
 
 #[test]
-fn each_call_fails_in_turn_at_each_block_size(rt: HostRuntime) -> Result<(), Fail> {
+fn faults_are_answered_at_a_fan_out_of_128(rt: HostRuntime) -> Result<(), Fail> {
+    let alloc = rt.alloc();
+    let tree = prepared(alloc, disks(alloc, 512, 4096)?, 512 * 134, 2)?;
+    assert_eq!(rt; first_wrong(alloc, &[tree], &TRIED_OF_MANY)?, None);
+    Ok(())
+}
+
+#[test]
+fn faults_are_answered_at_each_block_size(rt: HostRuntime) -> Result<(), Fail> {
     let trees = sizes(rt.alloc())?;
-    assert_eq!(rt; first_wrong(rt.alloc(), trees.as_slice(), &PIECES[..2])?, None);
+    assert_eq!(rt;
+        first_wrong(rt.alloc(), trees.as_slice(), &TRIED[..2])?,
+        None
+    );
     Ok(())
 }
 
 #[test]
-fn each_call_fails_in_turn_with_each_function(rt: HostRuntime) -> Result<(), Fail> {
+fn faults_are_answered_with_each_function(rt: HostRuntime) -> Result<(), Fail> {
     let trees = functions(rt.alloc())?;
-    assert_eq!(rt; first_wrong(rt.alloc(), trees.as_slice(), &PIECES)?, None);
+    assert_eq!(rt; first_wrong(rt.alloc(), trees.as_slice(), &TRIED)?, None);
     Ok(())
 }
 
 #[test]
-fn each_call_fails_in_turn_over_few_blocks(rt: HostRuntime) -> Result<(), Fail> {
+fn faults_are_answered_over_two_to_nine_blocks(rt: HostRuntime) -> Result<(), Fail> {
     let trees = few_blocks(rt.alloc())?;
-    assert_eq!(rt; first_wrong(rt.alloc(), trees.as_slice(), &PIECES)?, None);
+    assert_eq!(rt; first_wrong(rt.alloc(), trees.as_slice(), &TRIED)?, None);
     Ok(())
 }

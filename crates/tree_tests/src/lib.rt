@@ -25,6 +25,8 @@ mod plain_trees;
 #[cfg(test)]
 mod rows;
 #[cfg(test)]
+mod side_by_side;
+#[cfg(test)]
 mod slots;
 #[cfg(test)]
 mod trees;

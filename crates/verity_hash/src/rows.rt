@@ -83,8 +83,8 @@ fn side_by_side(
     }
 }
 
-/// The same with a salt before each row, which is padded with zeros to a whole input block. `None` also where the salt
-/// is longer than one.
+/// The same after a salt that is padded with zeros to a whole input block. `None` also for a salt longer than an input
+/// block.
 fn after_padded_salt(
     algorithm: Algorithm,
     salt: &[u8],
@@ -108,8 +108,8 @@ fn after_padded_salt(
 }
 
 /// The salted hashes of eight blocks of `size` bytes each, which stand one after another in `rows`: each is what `salted`
-/// gives for its block. Those of SHA-2 are computed side by side, in much less time; a caller with fewer blocks passes
-/// any bytes in the rows to spare.
+/// gives for its block. Those of SHA-2 are computed side by side, in much less time; a caller with fewer blocks leaves
+/// anything in the other rows.
 pub fn salted_rows(
     algorithm: Algorithm,
     rule: SaltRule,

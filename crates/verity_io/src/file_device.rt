@@ -8,7 +8,7 @@ ghost use Rattle.verity_io.specs.Moving.{file_of, EndsBefore, Fills, From, Stays
 ghost use Rattle.verity_io.specs.Syncing.{is_unsyncable};
 ghost use Rattle.verity_io.specs.Writing.{most_bytes};
 
-use crate::device::Device;
+use crate::device::{Device, MOST_BYTES};
 use crate::failed::{Failed, counted};
 use crate::file_source::read_some;
 use std::fs::{File, OpenFile};
@@ -113,12 +113,17 @@ fn move_to<F: Seek>(file: &mut F, at: u64) -> Result<(), Failed>
     }
 }
 
+// A read that would end past the most bytes of a device isn't tried, for Linux refuses it: the answer is the file's end, or
+// a failure where the file has bytes there.
 fn read_from<F: Read + Seek>(file: &mut F, at: u64, buf: &mut [u8]) -> Result<usize, Failed>
     ensures bound { IfOk result (λ k. k ≤ length buf.new) }
     ensures bytes { IfOk result (λ k.
         EndsBefore (F.stream_position file.old) (F.stream_bytes file.old) at k
         ⊎ From F.stream_position file.old at (λ moved. Fills (F.remaining moved) (F.remaining file.new) k buf.new)) }
 {
+    if buf.len() as u64 > MOST_BYTES.saturating_sub(at) {
+        return read_refused(file, at);
+    }
     match move_to(file, at) {
         Ok(()) => fill(file, buf),
         Err(_) => read_refused(file, at),

@@ -57,8 +57,8 @@ pub(crate) fn pass<S: Source, D: Device>(
     pass_over(plan, task, work, stored, &mut [], source, device)
 }
 
-/// The pass, with a window for data blocks that are hashed side by side. It isn't inlined, since a function pays for the
-/// size of what it holds as it is entered.
+/// The pass, with a window for data blocks that are hashed side by side. It isn't inlined: its
+/// caller would then pay for the window's 128 KiB also where there is none.
 #[inline(never)]
 fn pass_with_window<S: Source, D: Device>(
     plan: &Plan,

@@ -34,11 +34,11 @@ pub(crate) const WINDOW: usize = ROWS * MOST_SIZE;
 pub(crate) struct Ahead {
     /// The digest of each block from `first` on and below `end`; those after them count for nothing.
     digests: [Digest; ROWS],
-    /// The number of the first block that was read with them.
+    /// The number of the first of them.
     first: u64,
     /// The number of the block after them.
     end: u64,
-    /// Why that one isn't to be had, where the source ended or failed.
+    /// Why that one can't be read, where the source ended or failed.
     fault: Option<BlockFault>,
 }
 

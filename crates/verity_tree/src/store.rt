@@ -41,7 +41,7 @@ impl Store {
         self.bytes.len() == plan.store_length()
     }
 
-    /// Lends its bytes. Who has them can't ask for more memory.
+    /// Lends its bytes. Whoever has them can't ask for more memory.
     pub(crate) fn lend(&mut self) -> &mut [u8]
         ensures* kept { sem 𝓛 (Lends the_row (Array byte 0) self.entry result (λ _. self.old)) }
         ensures len { length result.now ≡ self.old.length }
@@ -50,7 +50,7 @@ impl Store {
     }
 }
 
-/// So many zeros, with memory for no more.
+/// `count` zeros, with memory for no more.
 fn zeros(alloc: Global, count: usize) -> Result<Vec<u8>, AllocError>
     ensures length { IfOk result (λ bytes. length bytes.items ≡ count) }
     ensures room { IfOk result (λ bytes. vec_capacity bytes ≡ count) }

@@ -1,5 +1,5 @@
 -- What format makes (veritysetup(8), "format"; cryptsetup's on-disk format page).
-use Rattle.std.specs.Prelude.{◌≡◌, ℕ, ◌*◌, ◌/◌, ◌==◌, nat_lt, Bool, List, Option, Some, None, Result, Err, if◌then◌else◌}
+use Rattle.std.specs.Prelude.{◌≡◌, ℕ, ◌*◌, ◌==◌, Bool, List, Option, Some, None, Result, Err, if◌then◌else◌}
 use Rattle.verity_plan.specs.Settings.{Settings, rule_of}
 use Rattle.verity_plan.specs.Plans.{Planned, base_of, plan_for_blocks}
 use Rattle.verity_plan.specs.declared.hash_type.HashType.{HashType}
@@ -30,7 +30,3 @@ pub record IsChosen (c : Chosen) : Type 0 where
   pub of_type : c.plan.settings.rule ≡ rule_of c.hash_type
   pub whole : c.plan.wanted ≡ c.plan.blocks * c.plan.settings.data_block
   pub based : base_of c.offset c.superblock c.plan.settings.hash_block ≡ Some c.plan.base
-
--- the first data block that isn't whole in data of so many bytes, where more is wanted
-abbrev pub missing_block : Planned → ℕ → Option ℕ
-missing_block p length = if nat_lt length p.wanted then Some (length / p.settings.data_block) else None

@@ -1,7 +1,7 @@
 //! `veritysetup format` over the files of a runtime.
-ghost use Rattle.std.specs.Prelude.{◌≡◌, IfSome};
+ghost use Rattle.std.specs.Prelude.{◌≡◌, ◌<◌, ◌≤◌, ℕ, List, length, IfNone, IfSome};
 ghost use Rattle.command_line.specs.Printing.{AppendsFront};
-ghost use Rattle.veritysetup.specs.Chosen.{missing_block};
+ghost use Rattle.verity_tree.specs.Levels.{whole};
 ghost use Rattle.veritysetup.specs.Messages.{short_text};
 ghost use Rattle.veritysetup.specs.Outcomes.{printed};
 ghost use Rattle.veritysetup.specs.Programs.{CommandRun};
@@ -68,14 +68,14 @@ fn random_bytes<R: RandomSource>(rt: &R, raw: &RawOptions) -> io::Result<Option<
     Ok(Some(draw(&mut rng)))
 }
 
-/// Makes the hash device of an opened data file of this length. HASH is not opened where more data is wanted than
-/// there is.
+/// Makes the hash device of an opened data file of this size. HASH is not opened where more data is wanted than there is:
+/// then the first data block that isn't whole is named.
 fn format_opened<R, O, M>(
     rt: &R,
     progress: &ProgressLine<'_, R>,
     settings: &Settings,
     file: R::File,
-    length: u64,
+    size: u64,
     hash: &str,
     out: &mut O,
     msgs: &mut M,
@@ -85,23 +85,26 @@ where
     O: Write,
     M: Write,
     ensures run { CommandRun result (printed O.contents M.contents out.old out.new msgs.old msgs.new) }
-    ensures short { IfSome (missing_block settings.now.plan length) (λ block. (result ≡ 4) × (out.new ≡ out.old)
-        × AppendsFront (short_text block) (M.contents msgs.old) (M.contents msgs.new)) }
+    ensures short { size < settings.now.plan.wanted → (bytes : List ℕ) → length bytes ≡ size → (result ≡ 4)
+        × (out.new ≡ out.old)
+        × AppendsFront (short_text (whole settings.now.plan bytes)) (M.contents msgs.old) (M.contents msgs.new) }
 {
-    if let Some(block) = missing_block(settings.plan(), length) {
+    if let Some(block) = missing_block(settings.plan(), size) {
         return short_data(rt.alloc(), block, msgs);
     }
     let shown = Shown::new(file, settings.plan().wanted(), progress);
-    let source = FileSource::new(shown, length);
+    let source = FileSource::new(shown, size);
     make(rt, settings, source, hash, out, msgs)
 }
 
-/// The first data block that is not whole in data of this length, where the plan wants more.
-fn missing_block(plan: &Plan, length: u64) -> Option<u64>
-    ensures { result ≡ missing_block plan.now length }
+/// The first data block that is not whole in data of this size, where the plan wants more.
+fn missing_block(plan: &Plan, size: u64) -> Option<u64>
+    ensures enough { IfNone result (plan.now.wanted ≤ size) }
+    ensures short { IfSome result (λ block. (size < plan.now.wanted)
+        × ((bytes : List ℕ) → length bytes ≡ size → block ≡ whole plan.now bytes)) }
 {
-    if length < plan.wanted() {
-        Some(length / u64::from(plan.settings().data_block()))
+    if size < plan.wanted() {
+        Some(size / u64::from(plan.settings().data_block()))
     } else {
         None
     }

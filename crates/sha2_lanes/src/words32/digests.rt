@@ -1,4 +1,4 @@
-//! The digests (FIPS 180-4, 6.2 to 6.5).
+//! The digests (FIPS 180-4, 6.2 and 6.3).
 ghost use Rattle.std.specs.Prelude.{◌≡◌, ℕ, ◌*◌, ◌<◌, length, take, slice_index};
 ghost use Rattle.sha2.specs.Sha256 as S256;
 ghost use Rattle.sha2_lanes.specs.Lanes.{lane, message_of, row};
@@ -68,7 +68,7 @@ fn hash_bytes(state: &[u32x8; 8], j: usize) -> [u8; 32]
     bytes
 }
 
-/// The leftmost 224 bits.
+/// The leftmost 224 bits (6.3).
 fn leftmost_224(bytes: &[u8; 32]) -> [u8; 28]
     ensures { result ≡ take 28 bytes.now }
 {

@@ -1,4 +1,4 @@
-//! The digests (FIPS 180-4, 6.2 to 6.5).
+//! The digests (FIPS 180-4, 6.4 and 6.5).
 ghost use Rattle.std.specs.Prelude.{◌≡◌, ℕ, ◌*◌, ◌<◌, length, take, slice_index};
 ghost use Rattle.sha2.specs.Sha512 as S512;
 ghost use Rattle.sha2_lanes.specs.Lanes.{lane, message_of, row};
@@ -82,7 +82,7 @@ fn hash_bytes(state: &[u64x4; 8], j: usize) -> [u8; 64]
     bytes
 }
 
-/// The leftmost 384 bits.
+/// The leftmost 384 bits (6.5).
 fn leftmost_384(bytes: &[u8; 64]) -> [u8; 48]
     ensures { result ≡ take 48 bytes.now }
 {
