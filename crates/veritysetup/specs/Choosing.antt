@@ -89,8 +89,9 @@ settings_by texts length (Ok chosen) = settings_with texts chosen
 abbrev pub settings : Texts → ℕ → Option (List ℕ) → Result Chosen OptionFault
 settings texts length random = settings_by texts length (parameters texts random)
 
--- where the superblock stands that a command reads, in bytes; by default at the start of the hash device
-abbrev pub superblock_offset : Texts → Result ℕ OptionFault
-superblock_offset texts =
-    or_fault (number_or 0 texts.hash_offset) (BadNumber HashOffset) (λ offset.
+-- where the superblock stands that a command reads, in bytes, by the option's text; by default at the start of the hash
+-- device
+abbrev pub superblock_offset : Option (List ℕ) → Result ℕ OptionFault
+superblock_offset text =
+    or_fault (number_or 0 text) (BadNumber HashOffset) (λ offset.
     or_fault (multiple_of superblock_size offset) BadHashOffset (λ aligned. Ok aligned))

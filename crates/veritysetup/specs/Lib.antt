@@ -6,6 +6,7 @@ pub mod Chosen
 pub mod Choosing
 pub mod CommandLines
 pub mod RawWords
+pub mod Refusals
 pub mod Messages
 pub mod Reports
 pub mod ReportSteps

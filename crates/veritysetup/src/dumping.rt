@@ -1,6 +1,8 @@
 //! `veritysetup dump` over the files of a runtime.
-ghost use Rattle.veritysetup.specs.Programs.{CommandRun};
+ghost use Rattle.std.specs.Prelude.{◌≡◌, IfErr};
 ghost use Rattle.veritysetup.specs.Outcomes.{printed};
+ghost use Rattle.veritysetup.specs.Programs.{CommandRun};
+ghost use Rattle.veritysetup.specs.Refusals.{EndsRefused, line_offset};
 
 use crate::Line;
 use crate::dump_run::run_dump;
@@ -18,7 +20,9 @@ where
     R: Files + AllocGlobal,
     O: Write,
     M: Write,
-    ensures { CommandRun result (printed O.contents M.contents out.old out.new msgs.old msgs.new) }
+    ensures run { CommandRun result (printed O.contents M.contents out.old out.new msgs.old msgs.new) }
+    ensures refused { IfErr (line_offset line.now) (EndsRefused result (M.contents msgs.old) (M.contents msgs.new)) }
+    ensures unprinted { IfErr (line_offset line.now) (λ _. out.new ≡ out.old) }
 {
     let offset = match offset_of(&line.raw(false)) {
         Ok(offset) => offset,

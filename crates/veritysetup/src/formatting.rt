@@ -1,10 +1,13 @@
 //! `veritysetup format` over the files of a runtime.
-ghost use Rattle.std.specs.Prelude.{◌≡◌, ◌<◌, ◌≤◌, ℕ, List, length, IfNone, IfSome};
+ghost use Rattle.std.specs.Prelude.{◌≡◌, ◌<◌, ◌≤◌, ℕ, List, length, IfErr, IfNone, IfSome, option_map};
 ghost use Rattle.command_line.specs.Printing.{AppendsFront};
 ghost use Rattle.verity_tree.specs.Levels.{whole};
+ghost use Rattle.veritysetup.specs.Choosing.{settings};
 ghost use Rattle.veritysetup.specs.Messages.{short_text};
+ghost use Rattle.veritysetup.specs.Options.{texts_of};
 ghost use Rattle.veritysetup.specs.Outcomes.{printed};
 ghost use Rattle.veritysetup.specs.Programs.{CommandRun};
+ghost use Rattle.veritysetup.specs.Refusals.{EndsRefused};
 
 use crate::Line;
 use crate::format_run::run_format;
@@ -53,10 +56,17 @@ where
         Ok(random) => random,
         Err(_) => return no_random_bytes(msgs),
     };
-    match settings_of(&raw, length, random.as_ref()) {
-        Ok(settings) => format_opened(rt, progress, &settings, file, length, hash, out, msgs),
-        Err(fault) => refused_option(rt.alloc(), &fault, msgs),
-    }
+    format_by(
+        rt,
+        progress,
+        &raw,
+        random.as_ref(),
+        file,
+        length,
+        hash,
+        out,
+        msgs,
+    )
 }
 
 /// Random bytes of a generator that the runtime seeds, where salt or UUID is missing.
@@ -66,6 +76,35 @@ fn random_bytes<R: RandomSource>(rt: &R, raw: &RawOptions) -> io::Result<Option<
     }
     let mut rng: StdRng = rand::make_rng(rt)?;
     Ok(Some(draw(&mut rng)))
+}
+
+/// Makes the hash device of an opened data file of this size, by options and random bytes. A refused option opens no
+/// HASH.
+fn format_by<R, O, M>(
+    rt: &R,
+    progress: &ProgressLine<'_, R>,
+    raw: &RawOptions,
+    random: Option<&[u8; 48]>,
+    file: R::File,
+    size: u64,
+    hash: &str,
+    out: &mut O,
+    msgs: &mut M,
+) -> u8
+where
+    R: Files + Onlooker + AllocGlobal,
+    O: Write,
+    M: Write,
+    ensures run { CommandRun result (printed O.contents M.contents out.old out.new msgs.old msgs.new) }
+    ensures refused { IfErr (settings (texts_of raw.now) size (option_map (λ b. b.now) random.entry))
+        (EndsRefused result (M.contents msgs.old) (M.contents msgs.new)) }
+    ensures unprinted { IfErr (settings (texts_of raw.now) size (option_map (λ b. b.now) random.entry))
+        (λ _. out.new ≡ out.old) }
+{
+    match settings_of(raw, size, random) {
+        Ok(settings) => format_opened(rt, progress, &settings, file, size, hash, out, msgs),
+        Err(fault) => refused_option(rt.alloc(), &fault, msgs),
+    }
 }
 
 /// Makes the hash device of an opened data file of this size. HASH is not opened where more data is wanted than there is:

@@ -1,7 +1,7 @@
 //! Where the hash area begins on a hash device, in bytes.
-ghost use Rattle.std.specs.Prelude.{◌≡◌, ◌<◌};
+ghost use Rattle.std.specs.Prelude.{◌≡◌, ◌<◌, option_copied};
 ghost use Rattle.veritysetup.specs.Choosing.{superblock_offset};
-ghost use Rattle.veritysetup.specs.Options.{multiple_of, offset_unit, texts_of};
+ghost use Rattle.veritysetup.specs.Options.{multiple_of, offset_unit};
 
 use crate::options::{OptionFault, OptionName, RawOptions};
 use command_line::number_or;
@@ -11,7 +11,7 @@ use verity_tree::TreeSettings;
 /// The byte at which the superblock stands that dump or verify reads, by default 0 (veritysetup(8), `--hash-offset`).
 /// `BadNumber` where the text is no number, `BadHashOffset` where it is no multiple of 512.
 pub fn offset_of(raw: &RawOptions) -> Result<u64, OptionFault>
-    ensures { result ≡ superblock_offset (texts_of raw.now) }
+    ensures { result ≡ superblock_offset (option_copied raw.now.hash_offset) }
 {
     let offset = number_or(0, raw.hash_offset).ok_or(OptionFault::BadNumber(
         OptionName::HashOffset,

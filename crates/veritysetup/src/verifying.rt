@@ -1,10 +1,14 @@
 //! `veritysetup verify` over the files of a runtime.
-ghost use Rattle.std.specs.Prelude.{◌≡◌};
+ghost use Rattle.std.specs.Prelude.{◌≡◌, IfErr, None, false};
 ghost use Rattle.std.specs.Io.KnownBytes.{Keeps};
+ghost use Rattle.veritysetup.specs.Choosing.{settings};
+ghost use Rattle.veritysetup.specs.Options.{texts_of};
 ghost use Rattle.veritysetup.specs.Programs.{Grows, IsStatus};
+ghost use Rattle.veritysetup.specs.Refusals.{EndsRefused, line_offset};
 
 use crate::Line;
 use crate::hash_offset::offset_of;
+use crate::options::RawOptions;
 use crate::program_messages::{cannot_open, refused_option};
 use crate::settings::settings_of;
 use crate::verify_input::VerifyInput;
@@ -32,6 +36,8 @@ where
     ensures status { IsStatus result }
     ensures grows { Grows (M.contents msgs.old) (M.contents msgs.new) }
     ensures quiet { result ≡ 0 → Keeps (M.contents msgs.old) (M.contents msgs.new) }
+    ensures refused { line.now.no_superblock ≡ false
+        → IfErr (line_offset line.now) (EndsRefused result (M.contents msgs.old) (M.contents msgs.new)) }
 {
     if line.no_superblock {
         return verify_bare(rt, progress, line, data, hash, msgs);
@@ -75,7 +81,30 @@ where
         Ok(opened) => opened,
         Err(_) => return cannot_open(data, msgs),
     };
-    match settings_of(&line.raw(false), length, None) {
+    verify_by(rt, progress, &line.raw(false), file, length, hash, msgs)
+}
+
+/// Verifies a hash device without a superblock against an opened data file of this length, by the options. A refused
+/// option opens no HASH.
+fn verify_by<R, M>(
+    rt: &R,
+    progress: &ProgressLine<'_, R>,
+    raw: &RawOptions,
+    file: R::File,
+    length: u64,
+    hash: &str,
+    msgs: &mut M,
+) -> u8
+where
+    R: Files + Onlooker + AllocGlobal,
+    M: Write,
+    ensures status { IsStatus result }
+    ensures grows { Grows (M.contents msgs.old) (M.contents msgs.new) }
+    ensures quiet { result ≡ 0 → Keeps (M.contents msgs.old) (M.contents msgs.new) }
+    ensures refused { IfErr (settings (texts_of raw.now) length None)
+        (EndsRefused result (M.contents msgs.old) (M.contents msgs.new)) }
+{
+    match settings_of(raw, length, None) {
         Ok(settings) => {
             let shown = Shown::new(file, settings.plan().wanted(), progress);
             let source = FileSource::new(shown, length);
