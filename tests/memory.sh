@@ -145,10 +145,18 @@ stands() {
         cmp -s -n "$(stat -c %s "$scratch/out")" "$scratch/out" "$scratch/whole_out"
 }
 
+# is_whole: a run left and printed what it does where nothing is refused.
+is_whole() {
+    diff -r "$made" "$whole" >/dev/null && cmp -s "$scratch/out" "$scratch/whole_out" &&
+        cmp -s "$scratch/err" "$scratch/whole_err"
+}
+
 # refuse NAME STATUS ENDINGS COMMAND..: the command ends with this status where nothing is refused. Where a request is
-# refused it ends in one of the endings 'STATUS MESSAGE', separated by '|', and what it leaves may stand.
+# refused it ends in one of the endings 'STATUS MESSAGE', separated by '|', and what it leaves may stand. The first
+# requests are for the words, and end as $memory_ending says, or as if nothing were refused where a word keeps more room
+# than it takes. Then come those of clap, in a row, which end as $clap_ending says, and no later one does.
 refuse() {
-    local name=$1 status=$2 endings="|$3|" number=1
+    local name=$1 status=$2 endings=$3 number=1 stage=words expected seen
     shift 3
     rm -rf "$whole" "$before"
     mkdir "$before"
@@ -162,7 +170,20 @@ refuse() {
         rm -f "$scratch/told"
         ending env LD_PRELOAD="$refuser" REFUSED_REQUEST=$number REFUSED_TOLD="$scratch/told" "$@"
         [ -e "$scratch/told" ] || break
-        if [[ $endings = *"|$found $(cat "$scratch/err")|"* ]] && stands; then
+        seen="$found $(cat "$scratch/err")"
+        case $stage,$seen in
+        words,"$clap_ending") stage=clap ;;
+        clap,"$clap_ending") ;;
+        clap,*) stage=rest ;;
+        esac
+        case $stage in
+        words) expected="|$memory_ending|" ;;
+        clap) expected="|$clap_ending|" ;;
+        rest) expected="|$endings|" ;;
+        esac
+        if [[ $expected = *"|$seen|"* ]] && stands; then
+            pass
+        elif [ $stage = words ] && [ $number -gt 1 ] && [ "$found" = "$status" ] && is_whole; then
             pass
         else
             fail "$name: request $number" "status: $found" "message: $(head -c 300 "$scratch/err")" \
@@ -170,51 +191,60 @@ refuse() {
         fi
         number=$((number + 1))
     done
+    same "$name: the last requests" rest $stage
     same "$name: status in the end" "$status" "$found"
     same_bytes "$name: output in the end" "$scratch/whole_out" "$scratch/out"
     same_bytes "$name: messages in the end" "$scratch/whole_err" "$scratch/err"
     some_refused "$name" $((number - 1))
 }
 
-# What veritysetup says where it finds no memory, or where clap doesn't.
-setup_endings='3 Out of memory.|1 error: out of memory'
+# How a run ends where the program finds no memory, and where clap finds none.
+endings_of_setup() {
+    memory_ending='3 Out of memory.'
+    clap_ending='1 error: out of memory'
+}
+
+endings_of_files() {
+    memory_ending='1 fsverity: out of memory.'
+    clap_ending='2 error: out of memory'
+}
 
 formats() {
-    refuse 'format' 0 "$setup_endings" "$veritysetup" format "${image_17_options[@]}" "$data" "$made/hash.img"
+    endings_of_setup
+    refuse 'format' 0 "$memory_ending" "$veritysetup" format "${image_17_options[@]}" "$data" "$made/hash.img"
     prepare() { head -c 4096 /dev/zero | tr '\0' w >"$1/hash.img"; }
-    refuse 'format onto other bytes' 0 "$setup_endings" \
+    refuse 'format onto other bytes' 0 "$memory_ending" \
         "$veritysetup" format "${image_17_options[@]}" --hash-offset 512 "$data" "$made/hash.img"
     prepare() { :; }
-    refuse 'format without a superblock' 0 "$setup_endings" \
+    refuse 'format without a superblock' 0 "$memory_ending" \
         "$veritysetup" format "${bare_options[@]}" "$data" "$made/hash.img"
-    refuse 'format with a refused option' 1 "$setup_endings|1 " \
+    refuse 'format with a refused option' 1 "$memory_ending|1 " \
         "$veritysetup" format "${image_17_options[@]}" --hash md5 "$data" "$made/hash.img"
-    refuse 'format without a data file' 4 "$setup_endings" \
+    refuse 'format without a data file' 4 "$memory_ending" \
         "$veritysetup" format "$scratch/missing" "$made/hash.img"
 }
 
 verifies() {
-    refuse 'dump' 0 "$setup_endings" "$veritysetup" dump "$image"
-    refuse 'dump of other bytes' 1 "$setup_endings|1 " "$veritysetup" dump "$data"
-    refuse 'verify' 0 "$setup_endings" "$veritysetup" verify "$data" "$image" "$root"
-    refuse 'verify with another root hash' 2 "$setup_endings|2 " \
+    endings_of_setup
+    refuse 'dump' 0 "$memory_ending" "$veritysetup" dump "$image"
+    refuse 'dump of other bytes' 1 "$memory_ending|1 " "$veritysetup" dump "$data"
+    refuse 'verify' 0 "$memory_ending" "$veritysetup" verify "$data" "$image" "$root"
+    refuse 'verify with another root hash' 2 "$memory_ending|2 " \
         "$veritysetup" verify "$data" "$image" "${root//[0-4]/5}"
     tail -c +513 "$image" >"$scratch/bare.img"
-    refuse 'verify without a superblock' 0 "$setup_endings" \
+    refuse 'verify without a superblock' 0 "$memory_ending" \
         "$veritysetup" verify "${bare_options[@]}" "$data" "$scratch/bare.img" "$root"
 }
 
-# What fsverity says where it finds no memory, or where clap doesn't.
-file_endings='1 fsverity: out of memory.|2 error: out of memory'
-
 digests_of_files() {
+    endings_of_files
     prints_lines=yes
-    refuse 'digest' 0 "$file_endings" "$fsverity" digest "$data" "$image"
-    refuse 'digest in short' 0 "$file_endings" "$fsverity" digest --compact --for-builtin-sig --salt ab "$data" "$image"
-    refuse 'digest of a missing file' 1 "$file_endings" "$fsverity" digest "$data" "$scratch/missing"
-    refuse 'digest with output files' 0 "$file_endings" "$fsverity" digest --block-size 512 \
+    refuse 'digest' 0 "$memory_ending" "$fsverity" digest "$data" "$image"
+    refuse 'digest in short' 0 "$memory_ending" "$fsverity" digest --compact --for-builtin-sig --salt ab "$data" "$image"
+    refuse 'digest of a missing file' 1 "$memory_ending" "$fsverity" digest "$data" "$scratch/missing"
+    refuse 'digest with output files' 0 "$memory_ending" "$fsverity" digest --block-size 512 \
         --out-merkle-tree "$made/tree" --out-descriptor "$made/descriptor" "$data"
-    refuse 'digest with a refused option' 2 "$file_endings" "$fsverity" digest --salt x "$data"
+    refuse 'digest with a refused option' 2 "$memory_ending" "$fsverity" digest --salt x "$data"
 }
 
 made=$scratch/made
