@@ -24,7 +24,7 @@ impl<'a> Pieces<'a> {
 }
 
 impl<'a> Source for Pieces<'a> {
-    ghost use Rattle.std.specs.Prelude.{⊥, []};
+    ghost use Rattle.std.specs.Prelude.{[]};
 
     // Tests say what it gives.
     ghost tells = { λ _. ⊥ };

@@ -1,4 +1,6 @@
 //! The salted hashes of eight blocks, beside `sha1` and `sha2` over what is hashed for each.
+ghost use Rattle.std.specs.Prelude.{◌<◌};
+
 use fixtures::{Shape, data, filled};
 use std::alloc::{AllocError, Global};
 use std::test::Fail;
@@ -21,7 +23,9 @@ const SALTS: [usize; 10] = [0, 1, 32, 63, 64, 65, 127, 128, 129, 255];
 const SIZES: [usize; 12] = [0, 1, 55, 56, 63, 64, 111, 112, 119, 128, 512, 1024];
 
 /// The input block of FIPS 180-4, figure 1.
-fn input_block(algorithm: Algorithm) -> usize {
+fn input_block(algorithm: Algorithm) -> usize
+    ensures { 0 < result }
+{
     match algorithm {
         Algorithm::Sha1 | Algorithm::Sha224 | Algorithm::Sha256 => 64,
         Algorithm::Sha384 | Algorithm::Sha512 => 128,
