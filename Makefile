@@ -1,6 +1,6 @@
 # The commands that the README names. They need the Rattle toolchain, with `rt` on the PATH; `make help` lists them.
 
-# For which processor programs are built: the one that builds them. CPU=x86-64-v2 makes programs that run everywhere.
+# For which processor programs are built: the one that builds them. CPU=x86-64-v2 makes programs for nearly every x86-64.
 CPU = $(shell ./processor.sh)
 
 # Where `make install` puts things, and what it adds to the programs' names, so that they can stand beside Debian's.
