@@ -1,6 +1,7 @@
 # The commands that the README names. They need the Rattle toolchain, with `rt` on the PATH; `make help` lists them.
 
-# For which processor programs are built: the one that builds them. CPU=x86-64-v2 makes programs for nearly every x86-64.
+# For which processor programs are built: the one that builds them. CPU=x86-64-v2 makes programs for nearly every x86-64
+# processor.
 CPU = $(shell ./processor.sh)
 
 # Where `make install` puts things, and what it adds to the programs' names, so that they can stand beside Debian's.
@@ -8,7 +9,7 @@ PREFIX = /usr/local
 DESTDIR =
 SUFFIX = -proved
 
-# How long `make soak` runs, and with which seed; without one it draws and tells one.
+# How many seconds `make soak` runs, and with which seed; without one it draws one and prints it.
 SECONDS = 1800
 SEED =
 
@@ -33,7 +34,8 @@ test:
 check: programs
 	tests/all.sh --without-gate
 
-# The gate: every proof from nothing, the edits that must be refused, the tests, and the programs' stored runs.
+# The gate: every proof from nothing, the changes to the code that the prover must refuse, the tests of the crates, and
+# the programs' stored runs.
 gate:
 	rt ci
 
@@ -51,8 +53,8 @@ interop: programs
 	SETTINGS=all tests/run.sh tests/interop/differences.sh tests/interop/superblock.sh tests/interop/fsverity.sh \
 	    tests/interop/format.sh tests/interop/verify.sh
 
-# Random runs of both programs beside a second reading of the definitions in Python and Debian's programs. Needs these
-# and python3.
+# Random runs of both programs, compared with a second implementation of the definitions in Python and with Debian's
+# programs. Needs these and python3.
 soak: programs
 	tests/soak.sh SECONDS=$(SECONDS) SEED=$(SEED)
 
@@ -77,23 +79,26 @@ install uninstall: export SUFFIX := $(SUFFIX)
 install uninstall:
 	@./install.sh $@
 
-# Removes what was built and what the proofs left for later ones.
+# Removes what was built, and what is kept of the proofs, so that all is proved anew.
 clean:
 	rm -rf bin crates/*/out
 
 help:
-	@echo 'make run             proves and builds fsverity, and prints the digest of a file'
-	@echo 'make programs        proves and builds bin/fsverity and bin/veritysetup (CPU)'
-	@echo 'make test            all tests: the gate, the programs as a user runs them, documents, comparisons'
-	@echo 'make check           all tests but the gate'
-	@echo 'make gate            every proof from nothing, wrong bodies, tests, stored runs'
-	@echo 'make check-programs  runs the programs as a user would'
-	@echo 'make out-of-memory   refuses each request for memory in turn'
-	@echo "make interop         compares them with Debian's programs, over all settings"
-	@echo 'make soak            random runs of both programs, for half an hour (SECONDS, SEED)'
-	@echo 'make kernel          has the Linux kernel open the images, in a virtual machine (KERNEL, MODULES)'
-	@echo 'make bench           measures speed and memory, beside bare hashing and the programs of Debian'
-	@echo 'make reproducible    builds once more in another folder, and compares the programs'
-	@echo 'make install         installs programs, manual pages and completion (PREFIX, DESTDIR, SUFFIX)'
-	@echo 'make uninstall       removes what make install with the same words has installed'
-	@echo 'make clean           removes what was built'
+	@echo 'Times are for four cores. A + means: make programs runs first, which takes 15 minutes the first time.'
+	@echo 'In brackets: what you can set, as in: make soak SECONDS=60'
+	@echo
+	@echo 'make run             10 minutes    proves and builds fsverity, and prints the digest of a file'
+	@echo 'make programs        15 minutes    proves and builds bin/fsverity and bin/veritysetup [CPU]'
+	@echo 'make test            75 minutes    all tests: the gate, the programs as a user runs them, documents, comparisons'
+	@echo 'make check           5 minutes +   all tests but the gate'
+	@echo 'make gate            65 minutes    every proof from nothing, code changes that the prover must refuse, tests of the crates'
+	@echo 'make check-programs  30 seconds +  runs the programs as a user would'
+	@echo 'make out-of-memory   7 minutes +   refuses each request for memory in turn'
+	@echo 'make interop         10 minutes +  compares the programs with those of Debian, over all settings'
+	@echo 'make soak            30 minutes +  random runs of both programs, compared with other programs [SECONDS, SEED]'
+	@echo 'make kernel          10 minutes +  has the Linux kernel open the images, in a virtual machine [KERNEL, MODULES]'
+	@echo 'make bench           5 minutes +   measures speed and memory, beside bare hashing and the programs of Debian'
+	@echo 'make reproducible    5 minutes +   builds once more in another folder, and compares the programs'
+	@echo 'make install         seconds       installs programs, manual pages and completion [PREFIX, DESTDIR, SUFFIX]'
+	@echo 'make uninstall       seconds       removes what make install has installed; give it the same settings'
+	@echo 'make clean           seconds       removes what was built, and what is kept of the proofs'

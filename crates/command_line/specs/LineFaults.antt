@@ -1,5 +1,5 @@
--- Why a command line is refused: by clap, which may run out of memory itself, or for want of memory for the copies of a
--- line that clap takes.
+-- Why a command line is refused: clap refuses it, perhaps since clap itself has no memory; or clap takes it, and there
+-- is no memory for the copies of its words.
 use Rattle.std.specs.Prelude.{◌≡◌, []}
 use Rattle.clap.specs.Kinds.{HasKind, Kinds}
 use Rattle.clap.specs.Words.{kind_of}
@@ -7,7 +7,7 @@ use Rattle.clap.specs.declared.error.ErrorKind.TheVariants.{OutOfMemory}
 use Rattle.command_line.specs.declared.line_fault.LineFault.{LineFault}
 use Rattle.command_line.specs.declared.line_fault.LineFault.TheVariants.{Refused, Memory}
 
--- there is no memory for the copies; what clap refuses is no such fault, for want of memory neither
+-- there is no memory for the copies; a line that clap refuses isn't meant, even if clap itself had no memory
 abbrev pub IsMemory : LineFault → Type 0
 IsMemory (Refused e) = ⊥
 IsMemory Memory = Unit {0}

@@ -45,7 +45,7 @@ impl FileStatus {
 }
 
 impl FileIdentity {
-    /// Which file the system tells it to be; nothing for kinds of file other than the two.
+    /// Which file it is, by what the system says of it; nothing if it is neither a regular file nor a block device.
     pub fn of_status(status: &FileStatus) -> Option<FileIdentity>
         ensures { result ≡ identity_of status.now }
     {
@@ -63,16 +63,16 @@ impl FileIdentity {
         }
     }
 
-    /// What the system says of a file; nothing for other kinds of file.
+    /// Which file it is, by what the system says of it; nothing if it is neither a regular file nor a block device.
     pub fn of_metadata(metadata: &Metadata) -> Option<FileIdentity> {
         FileIdentity::of_status(&FileStatus::of_metadata(metadata))
     }
 }
 
-/// A runtime whose system tells which file a path or an opened file is. To ask opens and makes no file.
+/// A runtime whose system tells which file a path or an opened file is. Asking opens no file and makes none.
 pub trait Identities: Files {
-    /// The file that a path leads to, symbolic links followed. `None` where there is none yet, where it is no regular
-    /// file and no block device, or where the system doesn't say.
+    /// The file that a path leads to, symbolic links followed. `None` if there is none yet, if it is neither a regular
+    /// file nor a block device, or if the system doesn't say.
     fn path_identity(&self, path: &str) -> Option<FileIdentity>;
 
     /// The file that was opened. `None` as with a path.

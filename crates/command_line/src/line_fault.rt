@@ -10,7 +10,7 @@ use thiserror::Error;
 /// Why a command line is refused.
 #[derive(Debug, Drop, Error)]
 pub enum LineFault {
-    /// clap refuses it, for want of memory too, and says why.
+    /// clap refuses it and says why, also if clap itself has no memory.
     #[error(transparent)]
     Refused(clap::Error),
     /// There was not enough memory for the copies of the words.

@@ -56,8 +56,9 @@ fn line_of(alloc: Global, matches: &ArgMatches<'_>) -> Result<Line, AllocError>
 }
 
 /// Reads the words of a command line, the program's name first: `fsverity digest`, its options, each once, and the
-/// names of the files (fsverity(1)). What clap refuses, for want of memory too, is `Refused`, with clap's text; the help
-/// flag and the help command are switched off. `Memory` is out of memory for the copies of a line that clap takes.
+/// names of the files (fsverity(1)). What clap refuses, also if clap itself has no memory, is `Refused`, with clap's
+/// text; the help flag and the help command are switched off. `Memory` means that clap takes the line, and that there
+/// is no memory for the copies of its words.
 pub fn read_words(alloc: Global, words: &[&str]) -> Result<Line, LineFault>
     ensures holds { IfOk result (HoldsCommand (subcommand_of fsverity_app (map (λ w. w.now) words.now))) }
     ensures only { IfOk result (λ _. fault_of fsverity_app (map (λ w. w.now) words.now) ≡ []) }

@@ -1,4 +1,5 @@
 -- How a run ends that refuses an option of its command line.
+-- For the private steps; not needed to read a public contract.
 use Rattle.std.specs.Prelude.{◌≡◌, ℕ, List, Option, Result, option_map, string_bytes}
 use Rattle.command_line.specs.Printing.{AppendsFront}
 use Rattle.veritysetup.specs.Choosing.{superblock_offset}

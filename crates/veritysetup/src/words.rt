@@ -157,9 +157,9 @@ fn line_of(
 }
 
 /// Reads the words of a command line, the program's name first: `veritysetup format`, `dump` or `verify`, its options,
-/// each once, and its files (veritysetup(8)). What clap refuses, for want of memory too, is `Refused`, with clap's text and
-/// the usage of the command; the help flags and the help command are switched off. `Memory` is out of memory for the
-/// copies of a line that clap takes.
+/// each once, and its files (veritysetup(8)). What clap refuses, also if clap itself has no memory, is `Refused`, with
+/// clap's text and the usage of the command; the help flags and the help command are switched off. `Memory` means that
+/// clap takes the line, and that there is no memory for the copies of its words.
 pub fn read_words(alloc: Global, words: &[&str]) -> Result<Line, LineFault>
     ensures holds { IfOk result (HoldsCommand (subcommand_of veritysetup_app (map (λ w. w.now) words.now))) }
     ensures only { IfOk result (λ _. fault_of veritysetup_app (map (λ w. w.now) words.now) ≡ []) }

@@ -10,7 +10,7 @@ both() {
     ours "$status" "$out" "$err" "$BIN/$name" "${@/#HASH/$hash}"
 }
 
-row 'data and hash area in one file, under whichever names, where they overlap'
+row 'data and hash area that overlap in one file, under any names'
 cp "$data" "$scratch/file"
 ln -s file "$scratch/link"
 ln "$scratch/file" "$scratch/hard"
@@ -22,11 +22,11 @@ for name in file link hard ./file; do
     done
 done
 
-row 'other options of `verify` with a superblock than `--hash-offset`'
+row 'options of `verify` other than `--hash-offset`, with a superblock'
 both_format
 both 0 '' veritysetup verify --hash no --salt x --data-blocks 0 --data-block-size 768 "$data" HASH "$root"
 
-row 'a tail of DATA that is no whole block'
+row 'a tail of DATA that is shorter than a block'
 both_format
 mv "$hash" "$scratch/image"
 { cat "$data" && echo tail; } >"$scratch/longer"
