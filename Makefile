@@ -58,7 +58,8 @@ interop: programs
 soak: programs
 	tests/soak.sh SECONDS=$(SECONDS) SEED=$(SEED)
 
-# The Linux kernel opens the images, in a virtual machine. KERNEL=FILE and MODULES=FOLDER take a kernel that isn't in /boot.
+# The Linux kernel opens the images, in a virtual machine. KERNEL=FILE and MODULES=FOLDER take a kernel that isn't in
+# /boot.
 kernel: programs
 	tests/kernel.sh
 
@@ -89,9 +90,9 @@ help:
 	@echo
 	@echo 'make run             10 minutes    proves and builds fsverity, and prints the digest of a file'
 	@echo 'make programs        15 minutes    proves and builds bin/fsverity and bin/veritysetup [CPU]'
-	@echo 'make test            75 minutes    all tests: the gate, the programs as a user runs them, documents, comparisons'
+	@echo 'make test            75 minutes    all tests: gate, the programs as a user runs them, documents, comparisons'
 	@echo 'make check           5 minutes +   all tests but the gate'
-	@echo 'make gate            65 minutes    every proof from nothing, code changes that the prover must refuse, tests of the crates'
+	@echo 'make gate            65 minutes    every proof from nothing, code changes that must be refused, tests of the crates'
 	@echo 'make check-programs  30 seconds +  runs the programs as a user would'
 	@echo 'make out-of-memory   7 minutes +   refuses each request for memory in turn'
 	@echo 'make interop         10 minutes +  compares the programs with those of Debian, over all settings'
