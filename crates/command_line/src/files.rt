@@ -10,7 +10,7 @@ use std::rt::Files;
 /// A file opened for reading. A folder is refused, which some systems open and then let nobody read.
 pub fn open_readable<R: Files>(rt: &R, path: &str) -> io::Result<R::File> {
     let file = File::open(rt, path)?;
-    no_folder(&file.metadata()?)?;
+    refuse_folder(&file.metadata()?)?;
     Ok(file)
 }
 
@@ -35,13 +35,13 @@ pub fn open_writable<R: Files>(rt: &R, path: &str) -> io::Result<R::File> {
 /// Whether the system tells that a path leads to a folder.
 pub fn is_folder<R: Files>(rt: &R, path: &str) -> bool {
     match rt.metadata(path) {
-        Ok(metadata) => no_folder(&metadata).is_err(),
+        Ok(metadata) => metadata.is_dir(),
         Err(_) => false,
     }
 }
 
 /// Refuses what the system tells to be a folder.
-fn no_folder(metadata: &Metadata) -> io::Result<()>
+fn refuse_folder(metadata: &Metadata) -> io::Result<()>
     ensures folder { OnErr result (IsDir (file_type metadata.now)) }
     ensures other { OnOk result (IsDir (file_type metadata.now) → ⊥) }
 {

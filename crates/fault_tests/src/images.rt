@@ -92,7 +92,7 @@ impl Setup {
     }
 
     /// Format: the data is read once, each hash block is written as it closes, then the superblock, then the report is
-    /// printed, and the system is asked to keep it all.
+    /// printed, and the system is asked to keep it all, and the name of a new file in its folder, if that can be opened.
     pub fn format(&self, alloc: Global) -> Result<Scene, AllocError> {
         let tree = self.tree(alloc)?;
         let mut steps = Steps::new(alloc);
@@ -109,6 +109,10 @@ impl Setup {
         }
         steps.prints(self.report(alloc, Some(tree.root.as_slice()))?)?;
         steps.call(Call::Sync, "Cannot write hash.img.\n", Effect::Nothing)?;
+        if self.before.is_none() {
+            steps.tries(Call::Open)?;
+            steps.call(Call::Sync, "Cannot write hash.img.\n", Effect::Nothing)?;
+        }
         let mut files: Files = Vec::new(alloc);
         files.push(("data", self.data(alloc)?))?;
         if let Some(length) = self.before {

@@ -84,7 +84,8 @@ fn front(alloc: Global, bytes: &[u8], room: usize) -> Result<Vec<u8>, AllocError
 }
 
 impl Ending {
-    /// Goes on by one step. The answer is the message where it fails, as the call of this number and kind.
+    /// Goes on by one step. The answer is the status and the message where the run ends with it, as the call of this
+    /// number and kind fails.
     fn goes_on<'a>(
         &mut self,
         alloc: Global,
@@ -92,27 +93,30 @@ impl Ending {
         trial: &Trial,
         program: Program,
         number: usize,
-    ) -> Result<Option<&'a [u8]>, AllocError> {
+    ) -> Result<Option<(u8, &'a [u8])>, AllocError> {
+        if let Step::Calls(call, _, _) | Step::Tries(call) = step {
+            for (kind, made) in CALLS.iter().zip(self.calls.iter_mut()) {
+                if kind == call {
+                    *made = made.saturating_add(1);
+                }
+            }
+        }
         match step {
             Step::Prints(text) => {
                 let room = trial.room.saturating_sub(self.out.len());
                 let text = text.as_bytes();
                 let printed = front(alloc, text, room)?;
                 self.out.extend_from_slice(printed.as_slice())?;
-                Ok((room < text.len()).then_some(program.unwritten()))
+                Ok((room < text.len()).then_some((program.failed(), program.unwritten())))
             }
             Step::Calls(call, message, effect) => {
-                for (kind, made) in CALLS.iter().zip(self.calls.iter_mut()) {
-                    if kind == call {
-                        *made = made.saturating_add(1);
-                    }
-                }
                 if trial.failing == (*call, number) {
-                    return Ok(Some(message.as_bytes()));
+                    return Ok(Some((program.failed(), message.as_bytes())));
                 }
                 effect.leave(alloc, &mut self.files)?;
                 Ok(None)
             }
+            Step::Tries(call) => Ok((trial.failing == (*call, number)).then_some((0, b"".as_slice()))),
         }
     }
 
@@ -172,11 +176,15 @@ impl Scene {
         for (done, step) in self.steps.iter().enumerate() {
             let before = self.steps.get(..done).unwrap_or(&[]);
             let number = match step {
-                Step::Calls(call, _, _) => count_of(before, *call).saturating_add(1),
+                Step::Calls(call, _, _) | Step::Tries(call) => {
+                    count_of(before, *call).saturating_add(1)
+                }
                 Step::Prints(_) => 0,
             };
-            if let Some(message) = ending.goes_on(alloc, step, trial, self.program, number)? {
-                ending.status = self.program.failed();
+            if let Some((status, message)) =
+                ending.goes_on(alloc, step, trial, self.program, number)?
+            {
+                ending.status = status;
                 ending.msgs = front(alloc, message, trial.message_room)?;
                 break;
             }
@@ -184,10 +192,11 @@ impl Scene {
         Ok(ending)
     }
 
-    /// A disk with the null device and the files.
+    /// A disk with the null device, the current folder and the files.
     fn disk(&self, alloc: Global) -> io::Result<Disk> {
         let disk = Disk::new(alloc);
         disk.make_kind("/dev/null", Kind::Character, Vec::new(alloc))?;
+        disk.make_kind(".", Kind::Folder, Vec::new(alloc))?;
         for (name, bytes) in &self.files {
             disk.make(name, bytes.to_vec(alloc)?)?;
         }
@@ -233,7 +242,7 @@ impl Scene {
 fn count_of(steps: &[Step], call: Call) -> usize {
     let mut count = 0usize;
     for step in steps {
-        if let Step::Calls(other, _, _) = step
+        if let Step::Calls(other, _, _) | Step::Tries(other) = step
             && *other == call
         {
             count = count.saturating_add(1);

@@ -21,6 +21,8 @@ pub enum Effect {
 pub enum Step {
     /// A call of a file, the message where it fails, and what it leaves.
     Calls(Call, String, Effect),
+    /// A call of a file after which the run is done where it fails, without a message.
+    Tries(Call),
     /// A text is printed.
     Prints(String),
 }
@@ -96,6 +98,12 @@ impl Steps {
     pub fn call(&mut self, call: Call, message: &str, effect: Effect) -> Result<(), AllocError> {
         let message = String::from_str(self.alloc, message)?;
         self.list.push(Step::Calls(call, message, effect))?;
+        Ok(())
+    }
+
+    /// One more call of a file, after which the run is done where it fails.
+    pub fn tries(&mut self, call: Call) -> Result<(), AllocError> {
+        self.list.push(Step::Tries(call))?;
         Ok(())
     }
 

@@ -42,7 +42,7 @@ pub struct Contents {
     pub refused: Vec<String>,
     /// What was opened, a line each.
     pub opened: String,
-    /// What was opened and closed again, a line each.
+    /// What was opened, synced and closed again, a line each.
     pub held: String,
     /// What was written to standard error.
     pub standard_error: Vec<u8>,
@@ -100,7 +100,7 @@ impl Contents {
         }
     }
 
-    /// Writes down that a file was opened or closed, by its first name.
+    /// Writes down that a file was opened, synced or closed, by its first name.
     pub fn hold(&mut self, word: &str, number: usize) -> Result<(), AllocError> {
         for (name, other) in &self.names {
             if *other == number {

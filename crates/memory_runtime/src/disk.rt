@@ -135,8 +135,8 @@ impl Disk {
         Ok(String::from_str(self.alloc, self.seen()?.opened.as_str())?)
     }
 
-    /// What was opened and closed again, in order, a line each, as `open hash` and `close hash`. A file goes by its first
-    /// name.
+    /// What was opened, synced and closed again, in order, a line each, as `open hash`, `sync hash` and `close hash`. A
+    /// file goes by its first name.
     pub fn held(&self) -> io::Result<String> {
         Ok(String::from_str(self.alloc, self.seen()?.held.as_str())?)
     }
@@ -187,6 +187,12 @@ impl Disk {
         let number = contents.open(self.alloc, how, name)?;
         contents.hold("open", number)?;
         Ok(number)
+    }
+
+    /// Syncs the file of this number. It is written down where it doesn't fail.
+    pub(crate) fn sync(&self, number: usize) -> io::Result<()> {
+        self.count(Call::Sync)?;
+        Ok(self.changed()?.hold("sync", number)?)
     }
 
     /// Writes down that a file was closed.

@@ -133,10 +133,10 @@ impl OpenFile for MemoryFile<'_> {
     }
 
     fn sync_all(&self) -> io::Result<()> {
-        self.disk.count(Call::Sync)
+        self.disk.sync(self.number)
     }
 
     fn sync_data(&self) -> io::Result<()> {
-        self.disk.count(Call::Sync)
+        self.disk.sync(self.number)
     }
 }

@@ -19,6 +19,8 @@ mod images;
 #[cfg(test)]
 mod messages;
 #[cfg(test)]
+mod new_names;
+#[cfg(test)]
 mod offsets;
 #[cfg(test)]
 mod program_files;

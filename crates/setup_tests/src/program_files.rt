@@ -11,7 +11,10 @@ const NULL_FILES: &str = "/dev/null: read\n/dev/null: read\n/dev/null: read\n";
 
 /// Words, and what is opened after the null files.
 const OPENED: [(&str, &str); 10] = [
-    ("format data hash", "data: read\nhash: read write create\n"),
+    (
+        "format data hash",
+        "data: read\nhash: read write create\n.: read\n",
+    ),
     ("format --data-blocks 3 data hash", "data: read\n"),
     ("format --hash md5 data hash", "data: read\n"),
     ("format data data", "data: read\n"),
@@ -38,11 +41,11 @@ fn files_are_opened_in_order(rt: HostRuntime) -> Result<(), Fail> {
     Ok(())
 }
 
-/// Words, and what is opened and closed while the null files are open.
+/// Words, and what is opened, synced and closed while the null files are open.
 const HELD: [(&str, &str); 4] = [
     (
         "format data hash",
-        "open data\nopen hash\nclose hash\nclose data\n",
+        "open data\nopen hash\nsync hash\nopen .\nsync .\nclose .\nclose hash\nclose data\n",
     ),
     ("dump hash.img", "open hash.img\nclose hash.img\n"),
     (

@@ -11,10 +11,11 @@ use veritysetup::{ProgressLine, run_program};
 pub const OPTIONS_17: &str =
     "--data-block-size 512 --hash-block-size 512 --salt=- --uuid 00112233-4455-4677-8899-aabbccddeeff";
 
-/// A disk with the null device and a file `data`.
+/// A disk with the null device, the current folder and a file `data`.
 pub fn disk_of(alloc: Global, data: &[u8]) -> io::Result<Disk> {
     let disk = Disk::new(alloc);
     disk.make_kind("/dev/null", Kind::Character, Vec::new(alloc))?;
+    disk.make_kind(".", Kind::Folder, Vec::new(alloc))?;
     disk.make("data", data.to_vec(alloc)?)?;
     Ok(disk)
 }

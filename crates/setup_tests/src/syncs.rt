@@ -55,52 +55,21 @@ impl OpenFile for Unsynced {
 
 /// The kinds of an error that say that a file can't be synced.
 const LET_PASS: [ErrorKind; 3] = [
+    ErrorKind::ReadOnlyFilesystem,
     ErrorKind::InvalidInput,
     ErrorKind::Unsupported,
-    ErrorKind::ReadOnlyFilesystem,
 ];
 
-/// The other kinds.
-const FAILURES: [ErrorKind; 39] = [
-    ErrorKind::NotFound,
-    ErrorKind::PermissionDenied,
-    ErrorKind::ConnectionRefused,
-    ErrorKind::ConnectionReset,
-    ErrorKind::HostUnreachable,
-    ErrorKind::NetworkUnreachable,
-    ErrorKind::ConnectionAborted,
-    ErrorKind::NotConnected,
-    ErrorKind::AddrInUse,
-    ErrorKind::AddrNotAvailable,
-    ErrorKind::NetworkDown,
-    ErrorKind::BrokenPipe,
-    ErrorKind::AlreadyExists,
-    ErrorKind::WouldBlock,
-    ErrorKind::NotADirectory,
-    ErrorKind::IsADirectory,
-    ErrorKind::DirectoryNotEmpty,
-    ErrorKind::FilesystemLoop,
-    ErrorKind::StaleNetworkFileHandle,
-    ErrorKind::InvalidData,
-    ErrorKind::TimedOut,
-    ErrorKind::WriteZero,
-    ErrorKind::StorageFull,
-    ErrorKind::NotSeekable,
+/// Kinds that the disk's own troubles have, and two that say little. By the contract every kind but the three is a failure.
+const FAILURES: [ErrorKind; 8] = [
     ErrorKind::QuotaExceeded,
+    ErrorKind::StorageFull,
     ErrorKind::FileTooLarge,
-    ErrorKind::ResourceBusy,
-    ErrorKind::ExecutableFileBusy,
-    ErrorKind::Deadlock,
-    ErrorKind::CrossesDevices,
-    ErrorKind::TooManyLinks,
-    ErrorKind::InvalidFilename,
-    ErrorKind::ArgumentListTooLong,
+    ErrorKind::StaleNetworkFileHandle,
+    ErrorKind::PermissionDenied,
     ErrorKind::Interrupted,
-    ErrorKind::UnexpectedEof,
-    ErrorKind::OutOfMemory,
-    ErrorKind::InProgress,
-    ErrorKind::Other,
     ErrorKind::Uncategorized,
+    ErrorKind::Other,
 ];
 
 #[test]

@@ -18,3 +18,4 @@ pub mod FormatRun
 pub mod VerifyRun
 pub mod VerifySteps
 pub mod Programs
+pub mod Folders

@@ -11,6 +11,7 @@ ghost use Rattle.veritysetup.specs.Refusals.{EndsRefused};
 
 use crate::Line;
 use crate::format_run::run_format;
+use crate::keeping::{is_missing, keep};
 use crate::options::RawOptions;
 use crate::program_messages::{
     cannot_open, cannot_write, no_random_bytes, refused_option, short_data,
@@ -149,7 +150,7 @@ fn missing_block(plan: &Plan, size: u64) -> Option<u64>
     }
 }
 
-/// Opens HASH, makes it, and asks the system to keep it.
+/// Opens HASH, makes it, and asks the system to keep it, with its name if it is a new file.
 fn make<R, S, O, M>(
     rt: &R,
     settings: &Settings,
@@ -166,6 +167,7 @@ where
     ensures { CommandRun result (printed O.contents M.contents out.old out.new msgs.old msgs.new) }
 {
     let mut source = source;
+    let is_new = is_missing(rt, hash);
     let mut device = match open_writable(rt, hash) {
         Ok(file) => FileDevice::new(file),
         Err(_) => return cannot_open(hash, msgs),
@@ -182,7 +184,7 @@ where
     if status != 0 {
         return status;
     }
-    match device.sync() {
+    match keep(rt, &device, hash, is_new) {
         Ok(()) => 0,
         Err(Failed) => cannot_write(hash, msgs),
     }

@@ -9,6 +9,7 @@ mod format_run;
 mod formatting;
 mod hash_area;
 mod hash_offset;
+mod keeping;
 mod messages;
 mod option_numbers;
 mod options;

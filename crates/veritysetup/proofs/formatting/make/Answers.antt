@@ -4,8 +4,8 @@ use Rattle.veritysetup.proofs.formatting.make.Goals as goal
 pub returns-then-status-ne0 : goal.returns-then-status-ne0
 returns-then-status-ne0 g c = formatted _ _ _ _ _ _ c.run_format-status.ensures.run
 
-pub returns-in-Ok-sync : goal.returns-in-Ok-sync
-returns-in-Ok-sync g c =
+pub returns-in-Ok-keep : goal.returns-in-Ok-keep
+returns-in-Ok-keep g c =
     done _ _ (formatted _ _ _ _ _ _ c.run_format-status.ensures.run) c.if-status-ne0.false
 
 pub returns : goal.returns
