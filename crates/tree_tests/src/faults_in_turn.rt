@@ -288,8 +288,22 @@ struct Tried {
     every: u64,
 }
 
-/// A source that gives all that fit, where each data block is tried, and sources that give few bytes at a time, of which
-/// no block is a multiple, or one.
+/// Each data block is tried, over sources that give all that fit, and few bytes at a time, of which no block is a multiple,
+/// or one.
+const EACH_TRIED: [Tried; 4] = [
+    Tried {
+        piece: usize::MAX,
+        every: 1,
+    },
+    Tried {
+        piece: 4095,
+        every: 1,
+    },
+    Tried { piece: 7, every: 1 },
+    Tried { piece: 1, every: 1 },
+];
+
+/// The same, where of sources that give few bytes at a time one data block in three or in 13 is tried.
 const TRIED: [Tried; 4] = [
     Tried {
         piece: usize::MAX,
@@ -373,7 +387,10 @@ fn first_wrong(
 #[test]
 fn faults_are_answered_at_fan_outs_of_2_to_16(rt: HostRuntime) -> Result<(), Fail> {
     let trees = fans(rt.alloc())?;
-    assert_eq!(rt; first_wrong(rt.alloc(), trees.as_slice(), &TRIED)?, None);
+    assert_eq!(rt;
+        first_wrong(rt.alloc(), trees.as_slice(), &EACH_TRIED)?,
+        None
+    );
     Ok(())
 }
 
