@@ -1,7 +1,8 @@
 //! The program fsverity over a runtime in memory: what is opened when, the lines, every message of its own, and the
 //! statuses.
+use crate::digest_words::USAGE;
 use fixtures::{NO_TEXT, Said, Shape, data, descriptor, filled};
-use fsverity::{ProgressLine, run_program};
+use fsverity::{ProgressLine, read_words, run_program};
 use memory_runtime::{Disk, Kind, MemoryRuntime};
 use sha2::{Digest as Hasher, Sha256, Sha512};
 use std::alloc::{AllocError, Global};
@@ -121,6 +122,20 @@ fn refused_options_open_nothing(rt: HostRuntime) -> Result<(), Fail> {
     Ok(())
 }
 
+/// What is said of refused words: what clap says, once, and then the usage where clap's text doesn't end with it.
+fn refusal(alloc: Global, line: &str) -> Result<String, Fail> {
+    let mut words = Vec::new(alloc);
+    for word in line.split(' ') {
+        words.push(word)?;
+    }
+    let fault = read_words(alloc, words.as_slice()).err().ok_or("a fault")?;
+    let mut text = format!(in alloc; "{fault}")?;
+    if !text.as_str().ends_with(USAGE) {
+        text.push_str(USAGE.strip_prefix('\n').unwrap_or(USAGE))?;
+    }
+    Ok(text)
+}
+
 #[test]
 fn refused_lines_open_nothing(rt: HostRuntime) -> Result<(), Fail> {
     let alloc = rt.alloc();
@@ -135,8 +150,10 @@ fn refused_lines_open_nothing(rt: HostRuntime) -> Result<(), Fail> {
         let said = run(alloc, &disk, words);
         assert_eq!(rt; said.status, 2, "at {words}");
         assert!(rt; said.out.is_empty(), "at {words}");
-        assert!(rt; said.msgs.starts_with(b"error: "), "at {words}");
-        assert!(rt; said.msgs.ends_with(b" FILE...\n"), "at {words}");
+        let expected = refusal(alloc, words)?;
+        assert!(rt; expected.as_str().starts_with("error: "), "at {words}");
+        assert!(rt; expected.as_str().ends_with(USAGE), "at {words}");
+        assert_eq!(rt; said.msgs.as_slice(), expected.as_bytes(), "at {words}");
         assert_eq!(rt; disk.opened()?.as_str(), "", "at {words}");
     }
     Ok(())

@@ -115,18 +115,22 @@ fn lines_are_refused(rt: HostRuntime) -> Result<(), Fail> {
     Ok(())
 }
 
+/// How the text of a refusal ends.
+pub const USAGE: &str = "
+
+Usage: fsverity digest [--hash-alg NAME] [--block-size BYTES] [--salt HEX]
+           [--compact] [--for-builtin-sig] [--out-merkle-tree FILE]
+           [--out-descriptor FILE] FILE...
+";
+
 #[test]
 fn refusals_end_with_the_usage(rt: HostRuntime) -> Result<(), Fail> {
     let alloc = rt.alloc();
-    let usage = "\n
-Usage: fsverity digest [--hash-alg NAME] [--block-size BYTES] [--salt HEX]
-           [--compact] [--for-builtin-sig] [--out-merkle-tree FILE]
-           [--out-descriptor FILE] FILE...\n";
     for text in ["measure a", "--help", "digest"] {
         let words = words_of(alloc, "fsverity", text)?;
         let fault = read_words(alloc, words.as_slice()).err().ok_or("a fault")?;
         let told = format!(in alloc; "{fault}")?;
-        assert!(rt; told.as_str().ends_with(usage), "at {text}");
+        assert!(rt; told.as_str().ends_with(USAGE), "at {text}");
     }
     Ok(())
 }

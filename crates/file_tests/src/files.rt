@@ -4,6 +4,7 @@ use std::io;
 use std::io::{ErrorKind, Read, Seek, SeekFrom, Write};
 use std::test::Fail;
 use verity_format::put_all;
+use verity_io::MOST_BYTES;
 use verity_tree::{Device, Failed, FileDevice, FileSource, Source};
 
 /// An offset that no u32 holds.
@@ -141,6 +142,21 @@ fn long_blocks_stand_at_far_offsets(rt: HostRuntime) -> Result<(), Fail> {
         assert_eq!(rt; device.read_at(100, &mut stored), Err(Failed), "at {piece}");
         assert_eq!(rt; device.write_at(100, b"a"), Err(Failed), "at {piece}");
     }
+    Ok(())
+}
+
+/// The last bytes of the longest file. A read that would end past them isn't tried.
+#[test]
+fn a_block_ends_at_the_largest_offset(rt: HostRuntime) -> Result<(), Fail> {
+    let alloc = rt.alloc();
+    let first = MOST_BYTES - 4;
+    let file = Sparse::new(first, b"abcd".to_vec(alloc)?, usize::MAX, 0);
+    let mut device = FileDevice::new(file);
+    let mut buf = [9u8; 4];
+    assert_eq!(rt; device.read_at(first, &mut buf), Ok(4));
+    assert_eq!(rt; buf.as_slice(), b"abcd".as_slice());
+    assert_eq!(rt; device.read_at(first + 1, &mut buf), Err(Failed));
+    assert_eq!(rt; device.read_at(MOST_BYTES, &mut buf), Ok(0));
     Ok(())
 }
 

@@ -74,6 +74,7 @@ fn a_file_that_is_named_twice_stays(rt: HostRuntime) -> Result<(), Fail> {
         ("--out-descriptor two", "two"),
         ("--out-merkle-tree hard --out-descriptor made", "hard"),
         ("--out-merkle-tree other --out-descriptor soft", "soft"),
+        ("--out-merkle-tree hard --out-descriptor soft", "hard"),
         ("--out-merkle-tree other --out-descriptor other", "other"),
         (
             "--out-merkle-tree other --out-descriptor other_hard",
@@ -183,9 +184,11 @@ fn a_folder_is_no_output_file(rt: HostRuntime) -> Result<(), Fail> {
         "--out-descriptor folder",
         "--out-merkle-tree folder --out-descriptor made",
         "--out-merkle-tree made --out-descriptor folder",
+        "--out-merkle-tree folder --out-descriptor second_folder",
     ] {
         let disk = disk(alloc)?;
         disk.make_kind("folder", Kind::Folder, Vec::new(alloc))?;
+        disk.make_kind("second_folder", Kind::Folder, Vec::new(alloc))?;
         let words = format!(in alloc; "fsverity digest {options} two")?;
         let said = run(alloc, &disk, words.as_str());
         let message = b"fsverity: cannot open folder.\n".as_slice();

@@ -1,10 +1,12 @@
 //! Hash areas at an offset, without a superblock, and in one file with the data.
+ghost use Rattle.std.specs.Prelude.{[]};
+
 use crate::images::{SMALL, formatted, image_17};
 use crate::setup_options::DEFAULTS;
 use fixtures::{REPORT_17, Report, filled};
 use std::alloc::{AllocError, Global};
 use std::test::Fail;
-use verity_tree::{MemoryDevice, MemorySource};
+use verity_tree::{Device, Failed, MemoryDevice, MemorySource};
 use veritysetup::{
     OptionFault, OptionName, RawOptions, Settings, VerifyInput, offset_of, run_dump, run_verify,
     settings_of,
@@ -228,6 +230,68 @@ fn superblocks_stand_at_their_offset(rt: HostRuntime) -> Result<(), Fail> {
         );
         assert_eq!(rt; found, status, "at {offset}");
         assert_eq!(rt; out_bytes.as_slice(), out.as_bytes(), "at {offset}");
+        assert_eq!(rt; msgs.as_slice(), message.as_bytes(), "at {offset}");
+    }
+    Ok(())
+}
+
+/// A device of which these bytes from an offset on are the last, too far for memory. It has no others.
+#[derive(Clone, Copy)]
+struct Far<'a> {
+    offset: u64,
+    bytes: &'a [u8],
+}
+
+impl Device for Far<'_> {
+    ghost tells = { λ _. ⊥ };
+
+    ghost content = { λ _. [] };
+
+    ghost failures = { λ _. 0 };
+
+    fn read_at(&mut self, at: u64, buf: &mut [u8]) -> Result<usize, Failed> {
+        if at != self.offset {
+            return Ok(0);
+        }
+        let count = buf.len().min(self.bytes.len());
+        buf[..count].copy_from_slice(&self.bytes[..count]);
+        Ok(count)
+    }
+
+    fn write_at(&mut self, _at: u64, _bytes: &[u8]) -> Result<(), Failed> {
+        Ok(())
+    }
+}
+
+/// A superblock of 17 blocks at the last offset at which its three hash blocks end at the largest offset or before it, and
+/// at the next one.
+#[test]
+fn an_area_past_the_largest_offset_is_too_large(rt: HostRuntime) -> Result<(), Fail> {
+    let alloc = rt.alloc();
+    let image = image_17(alloc)?;
+    let root = hex::encode(alloc, image.root.as_slice())?;
+    let root = root.as_str();
+    for (offset, status, message) in [
+        (
+            9_223_372_036_854_773_248,
+            2,
+            "Verification failed: level 0 block 0 is missing.\n",
+        ),
+        (
+            9_223_372_036_854_773_760,
+            1,
+            "Data or hash area is too large.\n",
+        ),
+    ] {
+        let mut msgs = Vec::new(alloc);
+        let mut source = MemorySource::new(image.data.as_slice());
+        let mut device = Far {
+            offset,
+            bytes: &image.device[..512.min(image.device.len())],
+        };
+        let input = VerifyInput::Stored { offset, root };
+        let found = run_verify(alloc, &input, &mut source, &mut device, &mut msgs);
+        assert_eq!(rt; found, status, "at {offset}");
         assert_eq!(rt; msgs.as_slice(), message.as_bytes(), "at {offset}");
     }
     Ok(())

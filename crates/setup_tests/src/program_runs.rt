@@ -1,11 +1,12 @@
 //! The program over files in memory: what its options choose, its own messages, and what stands after it.
 use crate::images::image_of;
-use fixtures::{NO_TEXT, REPORT_17, Report, Said, filled};
+use crate::setup_words::{DUMP_USAGE, FORMAT_USAGE, VERIFY_USAGE};
+use fixtures::{NO_TEXT, REPORT_17, Report, Said, filled, words_of};
 use memory_runtime::{Call, Disk, Kind, MemoryRuntime};
 use std::alloc::Global;
 use std::io;
 use std::test::Fail;
-use veritysetup::{ProgressLine, run_program};
+use veritysetup::{ProgressLine, read_words, run_program};
 
 /// The options of the image of 17 blocks.
 pub const OPTIONS_17: &str =
@@ -193,27 +194,33 @@ fn no_random_bytes_make_no_file(rt: HostRuntime) -> Result<(), Fail> {
     Ok(())
 }
 
+/// What is said of refused words: what clap says, once, and then the usage where clap's text doesn't end with it.
+fn refusal(alloc: Global, words: &str, usage: &str) -> Result<String, Fail> {
+    let words = words_of(alloc, "veritysetup", words)?;
+    let fault = read_words(alloc, words.as_slice()).err().ok_or("a fault")?;
+    let mut text = format!(in alloc; "{fault}")?;
+    if !text.as_str().ends_with(usage) {
+        text.push_str(usage.strip_prefix('\n').unwrap_or(usage))?;
+    }
+    Ok(text)
+}
+
 #[test]
 fn refused_words_open_no_file(rt: HostRuntime) -> Result<(), Fail> {
     let alloc = rt.alloc();
     let disk = disk_of(alloc, &[5; 8192])?;
     for (words, usage) in [
-        ("format data", " DATA HASH\n"),
-        ("format data hash --salt", " [--no-superblock] DATA HASH\n"),
-        (
-            "dump hash --hash-offset",
-            "\n\nUsage: veritysetup dump [--hash-offset BYTES] HASH\n",
-        ),
-        (
-            "verify data hash 00 --salt",
-            " [--no-superblock] DATA HASH ROOT\n",
-        ),
+        ("format data", FORMAT_USAGE),
+        ("format data hash --salt", FORMAT_USAGE),
+        ("dump hash --hash-offset", DUMP_USAGE),
+        ("verify data hash 00 --salt", VERIFY_USAGE),
     ] {
         let said = run(alloc, &disk, words)?;
         assert_eq!(rt; said.status, 1, "at {words}");
-        let text = String::from_utf8(said.msgs)?;
-        assert!(rt; text.as_str().starts_with("error: "), "at {words}");
-        assert!(rt; text.as_str().ends_with(usage), "at {words}");
+        let expected = refusal(alloc, words, usage)?;
+        assert!(rt; expected.as_str().starts_with("error: "), "at {words}");
+        assert!(rt; expected.as_str().ends_with(usage), "at {words}");
+        assert_eq!(rt; said.msgs.as_slice(), expected.as_bytes(), "at {words}");
     }
     let mut runtime = MemoryRuntime::new(alloc, &disk, "veritysetup format data");
     let (word, shown) = NO_TEXT;

@@ -114,10 +114,7 @@ const USAGES: [(&str, &str); 7] = [
     ("format data", FORMAT_USAGE),
     ("format --help", FORMAT_USAGE),
     ("format --salt ab --salt ab data hash", FORMAT_USAGE),
-    (
-        "dump",
-        "\n\nUsage: veritysetup dump [--hash-offset BYTES] HASH\n",
-    ),
+    ("dump", DUMP_USAGE),
     ("verify data hash", VERIFY_USAGE),
 ];
 
@@ -128,14 +125,19 @@ Usage: veritysetup format [options] DATA HASH
        veritysetup verify [options] DATA HASH ROOT
 ";
 
-const FORMAT_USAGE: &str = "
+pub const FORMAT_USAGE: &str = "
 
 Usage: veritysetup format [--hash NAME] [--format TYPE] [--data-block-size BYTES]
            [--hash-block-size BYTES] [--data-blocks NUMBER] [--salt HEX] [--uuid UUID]
            [--hash-offset BYTES] [--no-superblock] DATA HASH
 ";
 
-const VERIFY_USAGE: &str = "
+pub const DUMP_USAGE: &str = "
+
+Usage: veritysetup dump [--hash-offset BYTES] HASH
+";
+
+pub const VERIFY_USAGE: &str = "
 
 Usage: veritysetup verify [--hash NAME] [--format TYPE] [--data-block-size BYTES]
            [--hash-block-size BYTES] [--data-blocks NUMBER] [--salt HEX]

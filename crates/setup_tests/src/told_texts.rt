@@ -1,5 +1,5 @@
-//! Messages of any length, told to writers that are slow or soon full.
-use command_line::{tell, tell_pieces, tell_text};
+//! Texts and messages of any length, for writers that are slow or soon full.
+use command_line::{PrintFault, print_whole, tell, tell_pieces, tell_text};
 use fixtures::Narrow;
 use std::alloc::AllocError;
 use std::test::Fail;
@@ -37,5 +37,27 @@ fn pieces_are_told_in_order(rt: HostRuntime) -> Result<(), Fail> {
         let front = text.as_bytes().get(..room);
         assert_eq!(rt; Some(msgs.bytes.as_slice()), front, "at {room}");
     }
+    Ok(())
+}
+
+#[test]
+fn long_texts_are_printed_whole(rt: HostRuntime) -> Result<(), Fail> {
+    let alloc = rt.alloc();
+    let text = "0123456789abcdef".repeat(alloc, 4096)?;
+    for (room, answer) in [
+        (65_536, Ok(())),
+        (65_535, Err(PrintFault::Output(65_535))),
+        (0, Err(PrintFault::Output(0))),
+    ] {
+        let mut out = Narrow::new(Vec::new(alloc), room, 1000);
+        let copy = String::from_str(alloc, text.as_str());
+        assert_eq!(rt; print_whole(copy, &mut out), answer, "at {room}");
+        let front = text.as_bytes().get(..room);
+        assert_eq!(rt; Some(out.bytes.as_slice()), front, "at {room}");
+    }
+    let mut out = Vec::new(alloc);
+    let answer = print_whole(Err(AllocError), &mut out);
+    assert_eq!(rt; answer, Err(PrintFault::Memory));
+    assert!(rt; out.is_empty());
     Ok(())
 }

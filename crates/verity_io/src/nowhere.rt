@@ -1,5 +1,6 @@
 //! A device that keeps nothing.
-ghost use Rattle.std.specs.Prelude.{[]};
+ghost use Rattle.std.specs.Prelude.{◌≡◌, ◌≤◌, Ok, [], length, IfOk};
+ghost use Rattle.verity_io.specs.Counting.{CountsFailure};
 
 use crate::device::Device;
 use crate::failed::Failed;
@@ -15,7 +16,12 @@ impl Device for Nowhere {
 
     ghost failures = { λ _. 0 };
 
-    fn read_at(&mut self, _at: u64, _buf: &mut [u8]) -> Result<usize, Failed> {
+    /// There is nothing to read.
+    fn read_at(&mut self, _at: u64, buf: &mut [u8]) -> Result<usize, Failed>
+        ensures nothing { result ≡ Ok 0 }
+        ensures bound { IfOk result (λ k. k ≤ length buf.new) }
+        ensures count { CountsFailure 0 0 result }
+    {
         Ok(0)
     }
 
