@@ -24,7 +24,7 @@ data=$scratch/data.img
 hash=$scratch/hash.img
 sample 1200000 >"$data"
 for function in sha256 sha512 sha1; do
-    for block in 512 4096 16384 65536; do
+    for block in 512 4096 16384 32768 65536; do
         rm -f "$hash"
         within "$BIN/veritysetup" format --hash "$function" --data-block-size "$block" --hash-block-size "$block" \
             --salt=abcd "$data" "$hash" >"$scratch/report" 2>&1

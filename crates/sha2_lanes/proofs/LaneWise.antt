@@ -1,5 +1,5 @@
 -- Lane by lane: what an operator on vectors of n lanes does to lane j, and the words of a lane.
-use Rattle.std.proofs.Common.{◌≡◌, ℕ, zero, suc, ◌+◌, ◌<◌, List, [], ◌∷◌, ◌++◌, length, slice_index, get_or, take, set, map, refl, ap, sym, ◌∙◌, arith}
+use Rattle.std.proofs.Common.{◌≡◌, ℕ, zero, suc, ◌+◌, ◌<◌, ◌≤◌, List, [], ◌∷◌, ◌++◌, length, slice_index, get_or, take, set, map, refl, ap, sym, ◌∙◌, arith}
 use Rattle.std.specs.Simd.Lanes.{zip2}
 use Rattle.std.specs.Prelude.{replicate}
 use Rattle.std.proofs.lemmas.Simd.{get_or-zip2, length-zip2, get_or-replicate}
@@ -73,6 +73,11 @@ eight_cases P a b c d e f g h (suc (suc (suc (suc (suc zero))))) lt = f
 eight_cases P a b c d e f g h (suc (suc (suc (suc (suc (suc zero)))))) lt = g
 eight_cases P a b c d e f g h (suc (suc (suc (suc (suc (suc (suc zero))))))) lt = h
 eight_cases P a b c d e f g h (suc (suc (suc (suc (suc (suc (suc (suc j)))))))) lt = absurd (omega arith)
+
+-- and of each of the first n of them
+pub first_cases : {n : ℕ} (P : ℕ → Type 0) → n ≤ 8 → (0 < n → P 0) → (1 < n → P 1) → (2 < n → P 2) → (3 < n → P 3)
+    → (4 < n → P 4) → (5 < n → P 5) → (6 < n → P 6) → (7 < n → P 7) → (j : ℕ) → j < n → P j
+first_cases {n} P most a b c d e f g h j lt = eight_cases (λ i. i < n → P i) a b c d e f g h j (omega arith) lt
 
 -- and of each of four
 pub four_cases : (P : ℕ → Type 0) → P 0 → P 1 → P 2 → P 3 → (j : ℕ) → j < 4 → P j

@@ -1,5 +1,5 @@
 -- The padded message (5.1.2), row by row.
-use Rattle.std.proofs.Common.{◌≡◌, ℕ, ◌+◌, ◌-◌, ◌*◌, ◌/◌, ◌%◌, ◌^◌, ◌<◌, ◌≤◌, List, [], ◌∷◌, ◌++◌, length, slice_index, take, drop, ap, sym, ◌∙◌, arith, ◌⊎◌}
+use Rattle.std.proofs.Common.{◌≡◌, ℕ, ◌+◌, ◌-◌, ◌*◌, ◌/◌, ◌%◌, ◌^◌, ◌≤◌, List, [], ◌∷◌, ◌++◌, length, slice_index, take, drop, ap, sym, ◌∙◌, arith, ◌⊎◌}
 use Rattle.std.specs.Prelude.{replicate}
 use Rattle.std.specs.Int.{w128, to_be_bytes}
 use Rattle.std.proofs.lemmas.List.{append_assoc, length-append, length-replicate, length-drop, length-take-le}
@@ -8,7 +8,7 @@ use Rattle.sha2_lanes.specs.Lanes.{message_of, HoldsFrom}
 use Rattle.sha2_lanes.specs.Words64.{block_count, padded_row}
 use Rattle.sha2_lanes.proofs.Pieces.{row_whole, block_of_part, same_outside, length-part, length-pieces}
 
--- how many zeros follow the byte 1000 0000
+-- how many zeros follow the byte that begins with the bit 1
 abbrev pub zero_count : ℕ → ℕ
 zero_count n = (239 - n % 128) % 128
 
@@ -52,22 +52,22 @@ row_filled r m at n is long room holds =
     (λ i lt. holds i lt ∙ ap (λ z. slice_index z (at + i)) (padded_is m))
 
 -- a block inside part j
-pub padded_part : (before parts : List ℕ) (len : ℕ) (after : List ℕ) (j at : ℕ) → j < 4 → length parts ≡ 4 * len
+pub padded_part : (before parts : List ℕ) (len : ℕ) (after : List ℕ) (j at : ℕ) → j * len + len ≤ length parts
     → length before ≤ at → at + 128 ≤ length before + len
     → take 128 (drop (j * len + (at - length before)) parts) ≡ padded_row (message_of before parts len after j) at
-padded_part before parts len after j at lt long le room =
-    block_of_part 4 128 before parts len after (S512.padding (length (message_of before parts len after j))) j at lt long le room
+padded_part before parts len after j at within le room =
+    block_of_part 128 before parts len after (S512.padding (length (message_of before parts len after j))) j at within le room
 
 -- a block with no byte of the parts
-pub padded_outside : (before parts : List ℕ) (len : ℕ) (after : List ℕ) (j at : ℕ) → j < 4 → length parts ≡ 4 * len
+pub padded_outside : (before parts : List ℕ) (len : ℕ) (after : List ℕ) (j at : ℕ) → j * len + len ≤ length parts
     → at + 128 ≤ 128 * block_count (length before + len + length after)
     → (at + 128 ≤ length before) ⊎ (length before + len ≤ at)
     → padded_row (before ++ take len parts ++ after) at ≡ padded_row (message_of before parts len after j) at
-padded_outside before parts len after j at lt long room place =
+padded_outside before parts len after j at within room place =
     let first = take len parts in
     let part = take len (drop (j * len) parts) in
     let width : length first ≡ len = length-take-le len parts (omega arith) in
-    let width' : length part ≡ len = length-part 4 parts len j lt long in
+    let width' : length part ≡ len = length-part parts len (j * len) within in
     let n = length before + len + length after in
     let n1 : length (before ++ first ++ after) ≡ n = length-pieces before first after len width in
     let n2 : length (before ++ part ++ after) ≡ n = length-pieces before part after len width' in

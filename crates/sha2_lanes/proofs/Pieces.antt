@@ -164,29 +164,27 @@ row_kept n i j xs ys k lt room =
     ∙ (ap (drop (i * n)) (take-put_mid_below (j * n) k xs ys (i * n + n) below room)
     ∙ (sym (between_is xs (i * n) (i * n + n)) ∙ ap (λ z. take z (drop (i * n) xs)) (sym width))))
 
--- ---- the parts of n messages
+-- ---- the parts
 
--- part j ends within them
+-- part j of n ends within them
 pub part_below : (n j len : ℕ) → j < n → j * len + len ≤ n * len
 part_below n j len lt =
     let ends : (j + 1) * len ≤ n * len = mul-le-mul_right len (omega arith) in
     omega arith
 
-pub length-part : (n : ℕ) (parts : List ℕ) (len j : ℕ) → j < n → length parts ≡ n * len → length (take len (drop (j * len) parts)) ≡ len
-length-part n parts len j lt long =
-    let room : j * len + len ≤ n * len = part_below n j len lt in
-    length-take-le len (drop (j * len) parts) (omega (arith, length-drop (j * len) parts))
+pub length-part : (parts : List ℕ) (len at : ℕ) → at + len ≤ length parts → length (take len (drop at parts)) ≡ len
+length-part parts len at room = length-take-le len (drop at parts) (omega (arith, length-drop at parts))
 
 pub length-pieces : (before part after : List ℕ) (len : ℕ) → length part ≡ len → length (before ++ part ++ after) ≡ length before + len + length after
 length-pieces before part after len is =
     omega (arith, length-append (before ++ part) after, length-append before part, is)
 
-pub length-message_of : (n : ℕ) (before parts : List ℕ) (len : ℕ) (after : List ℕ) (j : ℕ) → j < n → length parts ≡ n * len
+pub length-message_of : (before parts : List ℕ) (len : ℕ) (after : List ℕ) (j : ℕ) → j * len + len ≤ length parts
     → length (message_of before parts len after j) ≡ length before + len + length after
-length-message_of n before parts len after j lt long =
-    length-pieces before (take len (drop (j * len) parts)) after len (length-part n parts len j lt long)
+length-message_of before parts len after j room =
+    length-pieces before (take len (drop (j * len) parts)) after len (length-part parts len (j * len) room)
 
--- ---- the blocks of n messages, each followed by some padding
+-- ---- the blocks of messages, each followed by some padding
 
 -- a byte of a piece in the middle
 pub byte_of_middle : (before part after pad : List ℕ) (p : ℕ) → length before ≤ p → p < length before + length part
@@ -199,15 +197,14 @@ byte_of_middle before part after pad p le lt =
     ∙ get_or-append_right before part (length before) p 0 refl le)
 
 -- a block that lies inside part j
-pub block_of_part : (n size : ℕ) (before parts : List ℕ) (len : ℕ) (after pad : List ℕ) (j at : ℕ) → j < n → length parts ≡ n * len
+pub block_of_part : (size : ℕ) (before parts : List ℕ) (len : ℕ) (after pad : List ℕ) (j at : ℕ) → j * len + len ≤ length parts
     → length before ≤ at → at + size ≤ length before + len
     → take size (drop (j * len + (at - length before)) parts) ≡ take size (drop at (message_of before parts len after j ++ pad))
-block_of_part n size before parts len after pad j at lt long le room =
+block_of_part size before parts len after pad j at within le room =
     let part = take len (drop (j * len) parts) in
-    let width : length part ≡ len = length-part n parts len j lt long in
-    let ends : j * len + len ≤ n * len = part_below n j len lt in
+    let width : length part ≡ len = length-part parts len (j * len) within in
     let whole : at + size ≤ length (message_of before parts len after j ++ pad) =
-    omega (arith, length-append (message_of before parts len after j) pad, length-message_of n before parts len after j lt long) in
+    omega (arith, length-append (message_of before parts len after j) pad, length-message_of before parts len after j within) in
     same_block size parts (message_of before parts len after j ++ pad) (j * len + (at - length before)) at (omega arith) whole
     (λ i below.
     let short : at + i - length before < len = omega arith in
@@ -242,17 +239,12 @@ same_outside size before a b rest len at la lb room place =
           ∙ sym (byte_after before b rest (at + i) (omega arith)))
     ])
 
--- ---- the first n of the parts, and those after them
+-- ---- the parts after the first ones
 
-pub part_of_first : (n : ℕ) (parts : List ℕ) (len j : ℕ) → j < n → n * len ≤ length parts
-    → take len (drop (j * len) (take (n * len) parts)) ≡ take len (drop (j * len) parts)
-part_of_first n parts len j lt room =
-    let ends : j * len + len ≤ n * len = part_below n j len lt in
-    let long : length (take (n * len) parts) ≡ n * len = length-take-le (n * len) parts room in
-    let first_room : j * len + len ≤ length (take (n * len) parts) = omega arith in
-    let whole_room : j * len + len ≤ length parts = omega arith in
-    same_block len (take (n * len) parts) parts (j * len) (j * len) first_room whole_room
-    (λ i below. let inside : j * len + i < n * len = omega arith in get_or-take (n * len) parts (j * len + i) 0 inside)
+pub length_of_rest : (parts : List ℕ) (from : ℕ) → from ≤ length parts → length (between from (length parts) parts) ≡ length parts - from
+length_of_rest parts from le =
+    let all : length parts ≤ length parts = omega arith in
+    ap length (between_to_end parts from (length parts) all) ∙ length-drop from parts
 
 pub part_of_rest : (parts : List ℕ) (len from at j : ℕ) → at ≡ from + j * len → at + len ≤ length parts
     → take len (drop (j * len) (between from (length parts) parts)) ≡ take len (drop at parts)

@@ -1,3 +1,4 @@
+-- For the private steps; not needed to read a public contract.
 -- SHA-224 and SHA-256 of eight messages side by side, by the definitions of `sha2`.
 use Rattle.std.specs.Prelude.{◌≡◌, ℕ, ◌<◌, ◌+◌, ◌/◌, List, take, drop}
 use Rattle.sha2.specs.Sha256.{rounds, first_words, padded_message}

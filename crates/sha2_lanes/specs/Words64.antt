@@ -1,3 +1,4 @@
+-- For the private steps; not needed to read a public contract.
 -- SHA-384 and SHA-512 of four messages side by side, by the definitions of `sha2`.
 use Rattle.std.specs.Prelude.{◌≡◌, ℕ, ◌<◌, ◌+◌, ◌/◌, List, take, drop}
 use Rattle.sha2.specs.Sha512.{rounds, first_words, padded_message}

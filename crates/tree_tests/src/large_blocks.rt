@@ -1,6 +1,7 @@
 //! The largest block sizes, where memory is ample.
 use crate::cases::Case;
 use fixtures::data;
+use std::alloc::Global;
 use std::test::Fail;
 use verity_hash::Algorithm;
 use verity_tree::{
@@ -68,6 +69,48 @@ fn the_largest_blocks_have_trees(rt: HostRuntime) -> Result<(), Fail> {
         assert!(rt; bytes.len() as u64 == plan.wanted());
         let plain = root_by_levels(alloc, &plan, bytes.as_slice())?;
         assert_eq!(rt; plain.as_bytes(), expected.root.as_slice(), "at {length}");
+    }
+    Ok(())
+}
+
+/// Whether a tree over some data is built as by plain lists, and the plain second body has the same root hash.
+fn has_its_tree(alloc: Global, case: &Case, bytes: &[u8]) -> Result<bool, Fail> {
+    let plan = Plan::for_bytes(&case.settings, bytes.len() as u64, 0)?;
+    let expected = case.shape.tree(alloc, bytes, plan.levels())?;
+    let image = expected.image(alloc, 0)?;
+    let mut store = Store::new(alloc, &plan)?;
+    if !store.fits(&plan) || bytes.len() as u64 != plan.wanted() {
+        return Ok(false);
+    }
+    let mut source = MemorySource::new(bytes);
+    let mut device = MemoryDevice::new(Vec::new(alloc));
+    let root = build(&plan, &mut store, &mut source, &mut device)?;
+    let plain = root_by_levels(alloc, &plan, bytes)?;
+    let (made, whole) = (root.as_bytes(), device.bytes());
+    Ok(made == expected.root.as_slice() && whole == image.as_slice() && plain == root)
+}
+
+/// Blocks of 32768 bytes are hashed four side by side, of 16384 eight, and larger ones one by one: fewer blocks than go
+/// together, as many, and some more. The last block is never full.
+#[test]
+fn blocks_round_the_size_of_the_window_have_trees(rt: HostRuntime) -> Result<(), Fail> {
+    let alloc = rt.alloc();
+    let (sha256, sha512) = (Algorithm::Sha256, Algorithm::Sha512);
+    for size in [16_384u32, 32_768, 65_536] {
+        let wide = size as usize;
+        let cases = [
+            Case::fsverity(alloc, sha256, b"salt", size, (wide / 32, 32))?,
+            Case::fsverity(alloc, sha512, &[], size, (wide / 64, 64))?,
+            Case::verity(alloc, sha256, b"salt", (size, 512), (16, 32))?,
+            Case::original(alloc, sha512, b"salt", (size, 512), (8, 64))?,
+        ];
+        for case in &cases {
+            for blocks in [1usize, 2, 3, 4, 5, 7, 8, 9, 17] {
+                let bytes = data(alloc, wide.saturating_mul(blocks).saturating_sub(100))?;
+                let same = has_its_tree(alloc, case, bytes.as_slice())?;
+                assert!(rt; same, "{blocks} blocks of {size} bytes");
+            }
+        }
     }
     Ok(())
 }

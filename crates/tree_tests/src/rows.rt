@@ -1,4 +1,4 @@
-//! The salted hashes of eight blocks, beside `sha1` and `sha2` over what is hashed for each.
+//! The salted hashes of one to eight blocks, beside `sha1` and `sha2` over what is hashed for each.
 ghost use Rattle.std.specs.Prelude.{◌<◌};
 
 use fixtures::{Shape, data, filled};
@@ -51,21 +51,22 @@ fn shape(
     Ok(shape)
 }
 
-/// The first of eight blocks of a size whose salted hash isn't that by plain lists.
+/// The first of `count` blocks of one size whose salted hash isn't that by plain lists.
 fn wrong_row(
     alloc: Global,
     algorithm: Algorithm,
     rule: SaltRule,
     salt: &[u8],
     rows: &[u8],
+    count: usize,
 ) -> Result<Option<usize>, Fail> {
-    let size = rows.len() / 8;
-    if rows.len() != 8 * size {
-        return Err("eight rows".into());
+    if count == 0 || count > 8 || rows.len() % count != 0 {
+        return Err("one to eight rows".into());
     }
+    let size = rows.len() / count;
     let shape = shape(alloc, algorithm, rule, salt)?;
-    let digests = salted_rows(algorithm, rule, salt, rows, size);
-    for (r, digest) in digests.iter().enumerate() {
+    let digests = salted_rows(algorithm, rule, salt, rows, size, count);
+    for (r, digest) in digests.iter().take(count).enumerate() {
         let from = r.saturating_mul(size);
         let block = rows.get(from..from.saturating_add(size)).unwrap_or(&[]);
         let expected = shape.digest(alloc, block)?;
@@ -77,7 +78,7 @@ fn wrong_row(
 }
 
 #[test]
-fn each_of_eight_blocks_has_its_salted_hash(rt: HostRuntime) -> Result<(), Fail> {
+fn each_of_one_to_eight_blocks_has_its_salted_hash(rt: HostRuntime) -> Result<(), Fail> {
     let alloc = rt.alloc();
     let salts = data(alloc, 255)?;
     let bytes = data(alloc, 8 * 1024)?;
@@ -86,9 +87,11 @@ fn each_of_eight_blocks_has_its_salted_hash(rt: HostRuntime) -> Result<(), Fail>
             for len in SALTS {
                 let salt = salts.get(..len).ok_or("a salt")?;
                 for size in SIZES {
-                    let rows = bytes.get(..size.saturating_mul(8)).ok_or("eight rows")?;
-                    let wrong = wrong_row(alloc, algorithm, rule, salt, rows)?;
-                    assert_eq!(rt; wrong, None, "a salt of {len} bytes, blocks of {size}");
+                    for count in 1..=8usize {
+                        let rows = bytes.get(..size.saturating_mul(count)).ok_or("rows")?;
+                        let wrong = wrong_row(alloc, algorithm, rule, salt, rows, count)?;
+                        assert_eq!(rt; wrong, None, "a salt of {len} bytes, {count} of {size}");
+                    }
                 }
             }
         }

@@ -1,5 +1,5 @@
-//! Eight messages hashed side by side: the examples of FIPS 180-4 in each lane, and lengths round the borders of blocks,
-//! with bytes before and after the parts, beside the crate `sha2`.
+//! One to eight messages hashed side by side: the examples of FIPS 180-4 in each lane, and lengths round the borders of
+//! blocks, with bytes before and after the parts, beside the crate `sha2`.
 use fixtures::data;
 use sha2::{Digest, Sha224, Sha256, Sha384, Sha512};
 use sha2_lanes::{sha224, sha256, sha384, sha512};
@@ -21,40 +21,42 @@ const FUNCTIONS: [Function; 4] = [
     Function::Sha512,
 ];
 
-/// What eight messages are made of: some bytes, their parts of one length, and more bytes.
+/// What the messages are made of: some bytes, `count` parts of one length, and more bytes.
 #[derive(Clone, Copy)]
 struct Pieces<'a> {
     before: &'a [u8],
     parts: &'a [u8],
     len: usize,
+    count: usize,
     after: &'a [u8],
 }
 
-/// The eight digests, one after another.
+/// The digests of the messages, one after another.
 fn side_by_side(alloc: Global, function: Function, pieces: &Pieces) -> Result<Vec<u8>, Fail> {
-    let (before, parts, len, after) = (pieces.before, pieces.parts, pieces.len, pieces.after);
-    if len > 4096 || parts.len() != 8 * len {
-        return Err("eight parts".into());
+    let (before, parts, after) = (pieces.before, pieces.parts, pieces.after);
+    let (len, count) = (pieces.len, pieces.count);
+    if count == 0 || count > 8 || parts.len() != count.saturating_mul(len) {
+        return Err("one to eight parts".into());
     }
     let mut all = Vec::new(alloc);
     match function {
         Function::Sha224 => {
-            for digest in sha224(before, parts, len, after) {
+            for digest in sha224(before, parts, len, count, after).iter().take(count) {
                 all.extend_from_slice(digest.as_slice())?;
             }
         }
         Function::Sha256 => {
-            for digest in sha256(before, parts, len, after) {
+            for digest in sha256(before, parts, len, count, after).iter().take(count) {
                 all.extend_from_slice(digest.as_slice())?;
             }
         }
         Function::Sha384 => {
-            for digest in sha384(before, parts, len, after) {
+            for digest in sha384(before, parts, len, count, after).iter().take(count) {
                 all.extend_from_slice(digest.as_slice())?;
             }
         }
         Function::Sha512 => {
-            for digest in sha512(before, parts, len, after) {
+            for digest in sha512(before, parts, len, count, after).iter().take(count) {
                 all.extend_from_slice(digest.as_slice())?;
             }
         }
@@ -65,7 +67,7 @@ fn side_by_side(alloc: Global, function: Function, pieces: &Pieces) -> Result<Ve
 /// The digests of the same messages by `sha2`, one after another.
 fn one_by_one(alloc: Global, function: Function, pieces: &Pieces) -> Result<Vec<u8>, Fail> {
     let mut all = Vec::new(alloc);
-    for j in 0..8usize {
+    for j in 0..pieces.count {
         let mut message = Vec::new(alloc);
         let from = pieces.len.saturating_mul(j);
         message.extend_from_slice(pieces.before)?;
@@ -157,9 +159,9 @@ const EXAMPLES: [Example; 12] = [
     },
 ];
 
-/// Other bytes seven times, and the message as part `j` of the eight.
-fn eight_with(alloc: Global, message: &[u8], j: usize) -> Result<Vec<u8>, Fail> {
-    let mut parts = data(alloc, message.len().saturating_mul(8))?;
+/// `count` parts: the message as part `j`, and other bytes in the rest.
+fn parts_with(alloc: Global, message: &[u8], j: usize, count: usize) -> Result<Vec<u8>, Fail> {
+    let mut parts = data(alloc, message.len().saturating_mul(count))?;
     let from = message.len().saturating_mul(j);
     for (i, byte) in message.iter().enumerate() {
         if let Some(place) = parts.get_mut(from.saturating_add(i)) {
@@ -172,26 +174,39 @@ fn eight_with(alloc: Global, message: &[u8], j: usize) -> Result<Vec<u8>, Fail> 
 #[test]
 fn the_standards_examples_in_each_lane(rt: HostRuntime) -> Result<(), Fail> {
     for example in &EXAMPLES {
-        for j in 0..8usize {
-            let parts = eight_with(rt.alloc(), example.message, j)?;
-            let pieces = Pieces {
-                before: &[],
-                parts: parts.as_slice(),
-                len: example.message.len(),
-                after: &[],
-            };
-            let all = side_by_side(rt.alloc(), example.function, &pieces)?;
-            let size = example.digits.len() / 2;
-            let from = size.saturating_mul(j);
-            let digest = all
-                .as_slice()
-                .get(from..from.saturating_add(size))
-                .unwrap_or(&[]);
-            let text = hex::encode(rt.alloc(), digest)?;
-            assert_eq!(rt; text.as_str(), example.digits, "lane {j}");
+        for count in 1..=8usize {
+            for j in 0..count {
+                let digits = digits_of_part(rt.alloc(), example, j, count)?;
+                assert_eq!(rt; digits.as_str(), example.digits, "lane {j} of {count}");
+            }
         }
     }
     Ok(())
+}
+
+/// The digest of the example's message, as part `j` of `count`.
+fn digits_of_part(
+    alloc: Global,
+    example: &Example,
+    j: usize,
+    count: usize,
+) -> Result<String, Fail> {
+    let parts = parts_with(alloc, example.message, j, count)?;
+    let pieces = Pieces {
+        before: &[],
+        parts: parts.as_slice(),
+        len: example.message.len(),
+        count,
+        after: &[],
+    };
+    let all = side_by_side(alloc, example.function, &pieces)?;
+    let size = example.digits.len() / 2;
+    let from = size.saturating_mul(j);
+    let digest = all
+        .as_slice()
+        .get(from..from.saturating_add(size))
+        .unwrap_or(&[]);
+    Ok(hex::encode(alloc, digest)?)
 }
 
 /// Lengths of parts, and of whole messages, round the borders of blocks of 64 and of 128 bytes and of their padding.
@@ -199,20 +214,25 @@ const BORDERS: [usize; 13] = [0, 1, 54, 55, 56, 63, 64, 111, 112, 119, 120, 127,
 
 const SALTS: [usize; 6] = [0, 1, 32, 64, 255, 256];
 
-/// Whether the eight digests of each function are those of `sha2`, with the salt before the parts and with it after them.
+/// Whether the digests of one to eight messages by each function are those of `sha2`, with the salt before the parts
+/// and with it after them.
 fn same_as_one_by_one(alloc: Global, salt: &[u8], parts: &[u8], len: usize) -> Result<bool, Fail> {
-    for function in FUNCTIONS {
-        for (before, after) in [(salt, &salt[..0]), (&salt[..0], salt)] {
-            let pieces = Pieces {
-                before,
-                parts,
-                len,
-                after,
-            };
-            let all = side_by_side(alloc, function, &pieces)?;
-            let expected = one_by_one(alloc, function, &pieces)?;
-            if all.as_slice() != expected.as_slice() {
-                return Ok(false);
+    for count in 1..=8usize {
+        let parts = parts.get(..count.saturating_mul(len)).ok_or("eight parts")?;
+        for function in FUNCTIONS {
+            for (before, after) in [(salt, &salt[..0]), (&salt[..0], salt)] {
+                let pieces = Pieces {
+                    before,
+                    parts,
+                    len,
+                    count,
+                    after,
+                };
+                let all = side_by_side(alloc, function, &pieces)?;
+                let expected = one_by_one(alloc, function, &pieces)?;
+                if all.as_slice() != expected.as_slice() {
+                    return Ok(false);
+                }
             }
         }
     }
@@ -266,6 +286,7 @@ fn bytes_before_and_after_at_once(rt: HostRuntime) -> Result<(), Fail> {
                 before: bytes.as_slice().get(..size).unwrap_or(&[]),
                 parts: parts.as_slice(),
                 len: 300,
+                count: 8,
                 after: bytes
                     .as_slice()
                     .get(7..(size / 2).saturating_add(7))

@@ -1,5 +1,5 @@
-//! The salted hashes of eight blocks, which stand in rows of one size.
-ghost use Rattle.std.specs.Prelude.{◌≡◌, ℕ, ◌*◌, ◌<◌, ◌≤◌, ◌++◌, [], length, slice_index_or, IfSome};
+//! The salted hashes of one to eight blocks, which stand in rows of one size.
+ghost use Rattle.std.specs.Prelude.{◌≡◌, ℕ, ◌+◌, ◌*◌, ◌<◌, ◌≤◌, ◌++◌, [], length, slice_index_or, IfSome};
 ghost use Rattle.std.specs.Fork.{slice_chunk};
 ghost use Rattle.verity_hash.specs.Algorithms.{hash_of};
 ghost use Rattle.verity_hash.specs.Salted.{salted_hash};
@@ -9,38 +9,34 @@ use crate::hasher::digest_of;
 use crate::salting::ZEROS;
 use crate::{Algorithm, Digest, SaltRule, salted};
 
-/// Row `r` of eight.
+/// Row `r`.
 fn row(rows: &[u8], size: usize, r: usize) -> &[u8]
-    requires whole { length rows.now ≡ 8 * size }
-    requires below { r < 8 }
+    requires { r * size + size ≤ length rows.now }
     ensures { result.now ≡ slice_chunk rows.now size r }
 {
     let from = r * size;
     &rows[from..from + size]
 }
 
-/// The salted hashes of eight blocks, one after another.
+/// The salted hashes of `count` blocks, one after another.
 fn one_by_one(
     algorithm: Algorithm,
     rule: SaltRule,
     salt: &[u8],
     rows: &[u8],
     size: usize,
+    count: usize,
 ) -> [Digest; 8]
-    requires { length rows.now ≡ 8 * size }
-    ensures { (r : ℕ) → r < 8
+    requires whole { length rows.now ≡ count * size }
+    requires most { count ≤ 8 }
+    ensures { (r : ℕ) → r < count
         → slice_index_or result r [] ≡ salted_hash algorithm rule salt.now (slice_chunk rows.now size r) }
 {
-    [
-        salted(algorithm, rule, salt, row(rows, size, 0)),
-        salted(algorithm, rule, salt, row(rows, size, 1)),
-        salted(algorithm, rule, salt, row(rows, size, 2)),
-        salted(algorithm, rule, salt, row(rows, size, 3)),
-        salted(algorithm, rule, salt, row(rows, size, 4)),
-        salted(algorithm, rule, salt, row(rows, size, 5)),
-        salted(algorithm, rule, salt, row(rows, size, 6)),
-        salted(algorithm, rule, salt, row(rows, size, 7)),
-    ]
+    let mut digests = [Digest::zeros(algorithm); 8];
+    for r in 0..count {
+        digests[r] = salted(algorithm, rule, salt, row(rows, size, r));
+    }
+    digests
 }
 
 /// Eight digests, from their bytes.
@@ -61,24 +57,35 @@ fn digests_of<const N: usize>(bytes: &[[u8; N]; 8]) -> [Digest; 8]
     ]
 }
 
-/// The hashes of eight rows side by side, with the same bytes before each and after each. `None` for a function that is
-/// computed for one message at a time.
+/// The hashes of `count` rows side by side, with the same bytes before each and after each. `None` for a function that
+/// is computed for one message at a time.
 fn side_by_side(
     algorithm: Algorithm,
     before: &[u8],
     rows: &[u8],
     size: usize,
+    count: usize,
     after: &[u8],
 ) -> Option<[Digest; 8]>
-    requires { length rows.now ≡ 8 * size }
-    ensures { IfSome result (λ digests. (r : ℕ) → r < 8 → slice_index_or digests r []
+    requires whole { length rows.now ≡ count * size }
+    requires some { 0 < count }
+    requires most { count ≤ 8 }
+    ensures { IfSome result (λ digests. (r : ℕ) → r < count → slice_index_or digests r []
         ≡ hash_of algorithm (before.now ++ slice_chunk rows.now size r ++ after.now)) }
 {
     match algorithm {
-        Algorithm::Sha256 => Some(digests_of(&sha2_lanes::sha256(before, rows, size, after))),
-        Algorithm::Sha224 => Some(digests_of(&sha2_lanes::sha224(before, rows, size, after))),
-        Algorithm::Sha512 => Some(digests_of(&sha2_lanes::sha512(before, rows, size, after))),
-        Algorithm::Sha384 => Some(digests_of(&sha2_lanes::sha384(before, rows, size, after))),
+        Algorithm::Sha256 => Some(digests_of(&sha2_lanes::sha256(
+            before, rows, size, count, after,
+        ))),
+        Algorithm::Sha224 => Some(digests_of(&sha2_lanes::sha224(
+            before, rows, size, count, after,
+        ))),
+        Algorithm::Sha512 => Some(digests_of(&sha2_lanes::sha512(
+            before, rows, size, count, after,
+        ))),
+        Algorithm::Sha384 => Some(digests_of(&sha2_lanes::sha384(
+            before, rows, size, count, after,
+        ))),
         Algorithm::Sha1 => None,
     }
 }
@@ -90,13 +97,16 @@ fn after_padded_salt(
     salt: &[u8],
     rows: &[u8],
     size: usize,
+    count: usize,
 ) -> Option<[Digest; 8]>
-    requires { length rows.now ≡ 8 * size }
-    ensures { IfSome result (λ digests. (r : ℕ) → r < 8 → slice_index_or digests r []
+    requires whole { length rows.now ≡ count * size }
+    requires some { 0 < count }
+    requires most { count ≤ 8 }
+    ensures { IfSome result (λ digests. (r : ℕ) → r < count → slice_index_or digests r []
         ≡ salted_hash algorithm PaddedBefore salt.now (slice_chunk rows.now size r)) }
 {
     if salt.is_empty() {
-        return side_by_side(algorithm, &[], rows, size, &[]);
+        return side_by_side(algorithm, &[], rows, size, count, &[]);
     }
     let input_block = algorithm.input_block();
     if salt.len() > input_block {
@@ -104,30 +114,34 @@ fn after_padded_salt(
     }
     let mut padded = ZEROS;
     padded[..salt.len()].copy_from_slice(salt);
-    side_by_side(algorithm, &padded[..input_block], rows, size, &[])
+    side_by_side(algorithm, &padded[..input_block], rows, size, count, &[])
 }
 
-/// The salted hashes of eight blocks of `size` bytes each, which stand one after another in `rows`: each is what `salted`
-/// gives for its block. Those of SHA-2 are computed side by side, in much less time; a caller with fewer blocks leaves
-/// anything in the other rows.
+/// The salted hashes of `count` blocks of `size` bytes each, one to eight, which stand one after another in `rows`:
+/// each is what `salted` gives for its block. The digests after theirs count for nothing. Those of SHA-2 are computed
+/// side by side, in much less time: any number of them by SHA-224 and SHA-256 takes as long as eight, and by SHA-384
+/// and SHA-512 one to four take half as long as five to eight.
 pub fn salted_rows(
     algorithm: Algorithm,
     rule: SaltRule,
     salt: &[u8],
     rows: &[u8],
     size: usize,
+    count: usize,
 ) -> [Digest; 8]
-    requires { length rows.now ≡ 8 * size }
-    ensures { (r : ℕ) → r < 8
+    requires whole { length rows.now ≡ count * size }
+    requires some { 0 < count }
+    requires most { count ≤ 8 }
+    ensures { (r : ℕ) → r < count
         → slice_index_or result r [] ≡ salted_hash algorithm rule salt.now (slice_chunk rows.now size r) }
 {
     let digests = match rule {
-        SaltRule::Before => side_by_side(algorithm, salt, rows, size, &[]),
-        SaltRule::After => side_by_side(algorithm, &[], rows, size, salt),
-        SaltRule::PaddedBefore => after_padded_salt(algorithm, salt, rows, size),
+        SaltRule::Before => side_by_side(algorithm, salt, rows, size, count, &[]),
+        SaltRule::After => side_by_side(algorithm, &[], rows, size, count, salt),
+        SaltRule::PaddedBefore => after_padded_salt(algorithm, salt, rows, size, count),
     };
     match digests {
         Some(digests) => digests,
-        None => one_by_one(algorithm, rule, salt, rows, size),
+        None => one_by_one(algorithm, rule, salt, rows, size, count),
     }
 }

@@ -193,13 +193,16 @@ impl Plan {
         self.settings.hash(block)
     }
 
-    /// The salted hashes of eight blocks of `size` bytes each, which stand one after another in `rows`.
-    pub fn hash_rows(&self, rows: &[u8], size: usize) -> [Digest; 8]
-        requires { length rows.now ≡ 8 * size }
-        ensures { (r : ℕ) → r < 8
+    /// The salted hashes of `count` blocks of `size` bytes each, one to eight, which stand one after another in
+    /// `rows`. The digests after theirs count for nothing.
+    pub fn hash_rows(&self, rows: &[u8], size: usize, count: usize) -> [Digest; 8]
+        requires whole { length rows.now ≡ count * size }
+        requires some { 0 < count }
+        requires most { count ≤ 8 }
+        ensures { (r : ℕ) → r < count
             → slice_index_or result r [] ≡ hash self.now.settings (slice_chunk rows.now size r) }
     {
-        self.settings.hash_rows(rows, size)
+        self.settings.hash_rows(rows, size, count)
     }
 
     /// The place after the last hash block, counted in hash blocks.

@@ -197,14 +197,17 @@ impl TreeSettings {
         salted(self.algorithm, self.rule, self.salt.as_bytes(), block)
     }
 
-    /// The salted hashes of eight blocks of `size` bytes each, which stand one after another in `rows`.
+    /// The salted hashes of `count` blocks of `size` bytes each, one to eight, which stand one after another in
+    /// `rows`. The digests after theirs count for nothing.
     #[tactic(auto, unfolding(crate::specs::Settings::hash))]
-    pub fn hash_rows(&self, rows: &[u8], size: usize) -> [Digest; 8]
-        requires { length rows.now ≡ 8 * size }
-        ensures { (r : ℕ) → r < 8 → slice_index_or result r [] ≡ hash self.now (slice_chunk rows.now size r) }
+    pub fn hash_rows(&self, rows: &[u8], size: usize, count: usize) -> [Digest; 8]
+        requires whole { length rows.now ≡ count * size }
+        requires some { 0 < count }
+        requires most { count ≤ 8 }
+        ensures { (r : ℕ) → r < count → slice_index_or result r [] ≡ hash self.now (slice_chunk rows.now size r) }
     {
         let salt = self.salt.as_bytes();
-        salted_rows(self.algorithm, self.rule, salt, rows, size)
+        salted_rows(self.algorithm, self.rule, salt, rows, size, count)
     }
 }
 

@@ -23,11 +23,8 @@ const ROWS: usize = 8;
 /// How many at least: fewer are sooner hashed one after another.
 const LEAST_ROWS: usize = 3;
 
-/// The size of the largest data blocks that are hashed side by side, in bytes.
-const MOST_SIZE: usize = 16384;
-
-/// The length of the window that they are read into.
-pub(crate) const WINDOW: usize = ROWS * MOST_SIZE;
+/// The length of the window that they are read into, in bytes: eight data blocks of 16384, or four of 32768.
+pub(crate) const WINDOW: usize = 131_072;
 
 /// Data blocks that were read and hashed before their turn.
 #[derive(Clone, Copy, Debug, PartialEq, Eq)]
@@ -93,20 +90,21 @@ pub(crate) fn take_next<S: Source>(
     }
 }
 
-/// How many data blocks from `i` on are read together into a window of this length: none of them but the last is the
-/// last below a hash block. It is 1 where they are hashed one by one.
+/// How many data blocks from `i` on are read together into a window of this length: as many as it has room for, and
+/// none of them but the last is the last below a hash block. It is 1 where they are hashed one by one.
 fn rows_from(plan: &Plan, window: usize, i: u64) -> usize
     requires { i < plan.now.blocks }
     ensures some { 0 < result }
     ensures most { result ≤ 8 }
     ensures run { IsRun plan.now i result }
-    ensures fits { 1 < result → 8 * plan.now.settings.data_block ≤ window }
+    ensures fits { 1 < result → result * plan.now.settings.data_block ≤ window }
 {
     let fan = plan.fan() as u64;
     let left = plan.blocks() - i;
-    let rows = left.min(fan - i % fan).min(ROWS as u64) as usize;
+    let room = ROWS.min(window / plan.data_block());
+    let rows = left.min(fan - i % fan).min(room as u64) as usize;
     let alone = plan.settings().algorithm() == Algorithm::Sha1;
-    if alone || rows < LEAST_ROWS || ROWS * plan.data_block() > window {
+    if alone || rows < LEAST_ROWS {
         return 1;
     }
     rows
@@ -114,6 +112,7 @@ fn rows_from(plan: &Plan, window: usize, i: u64) -> usize
 
 /// Whether data blocks are read together, in a window.
 pub(crate) fn needs_window(plan: &Plan) -> bool {
+    // The call tells the proof that a plan has a data block.
     let _blocks = plan.blocks();
     rows_from(plan, WINDOW, 0) > 1
 }
@@ -136,12 +135,13 @@ fn read_ahead<S: Source>(
     ensures ahead { S.tells source.old → (bytes : List ℕ) → HasRead (bytes_of plan.now i) bytes (S.remaining source.old)
         → IsAhead plan.now i bytes result (S.remaining source.new) }
 {
+    // The call tells the proof that the number of data blocks is a `u64`.
     let _blocks = plan.blocks();
     let count = rows_from(plan, window.len(), i);
     if count > 1 {
         return read_run(
             plan,
-            &mut window[..ROWS * plan.data_block()],
+            &mut window[..count * plan.data_block()],
             i,
             count,
             source,
@@ -163,10 +163,10 @@ fn read_ahead<S: Source>(
     }
 }
 
-/// Reads so many data blocks from `i` on and hashes them side by side. Where there are fewer than eight, or the source
-/// ends or fails within one, the digests of the other rows count for nothing.
+/// Reads `count` data blocks from `i` on and hashes them side by side. Where the source ends or fails within one, the
+/// digests of its row and of those after it count for nothing.
 fn read_run<S: Source>(plan: &Plan, rows: &mut [u8], i: u64, count: usize, source: &mut S) -> Ahead
-    requires room { length rows.old ≡ 8 * plan.now.settings.data_block }
+    requires room { length rows.old ≡ count * plan.now.settings.data_block }
     requires some { 0 < count }
     requires most { count ≤ 8 }
     requires run { IsRun plan.now i count }
@@ -176,17 +176,18 @@ fn read_run<S: Source>(plan: &Plan, rows: &mut [u8], i: u64, count: usize, sourc
     ensures ahead { S.tells source.old → (bytes : List ℕ) → HasRead (bytes_of plan.now i) bytes (S.remaining source.old)
         → IsAhead plan.now i bytes result (S.remaining source.new) }
 {
+    // The call tells the proof that the number of data blocks is a `u64`.
     let _blocks = plan.blocks();
     let (held, fault) = read_rows(plan, rows, i, count, source);
     Ahead {
-        digests: plan.hash_rows(rows, plan.data_block()),
+        digests: plan.hash_rows(rows, plan.data_block(), count),
         first: i,
         end: i + held as u64,
         fault,
     }
 }
 
-/// Reads so many data blocks from `i` on into the rows, one after another: how many it could read, and why no more.
+/// Reads `count` data blocks from `i` on into the rows, one after another: how many it could read, and why no more.
 fn read_rows<S: Source>(
     plan: &Plan,
     rows: &mut [u8],
@@ -194,8 +195,7 @@ fn read_rows<S: Source>(
     count: usize,
     source: &mut S,
 ) -> (usize, Option<BlockFault>)
-    requires room { length rows.old ≡ 8 * plan.now.settings.data_block }
-    requires most { count ≤ 8 }
+    requires room { length rows.old ≡ count * plan.now.settings.data_block }
     requires below { i + count ≤ plan.now.blocks }
     ensures told { S.tells source.old → S.tells source.new }
     ensures count { Counts (stop_failed result.1) (S.failures source.old) (S.failures source.new) }
@@ -205,6 +205,7 @@ fn read_rows<S: Source>(
     ensures taken { S.tells source.old → (bytes : List ℕ) → HasRead (bytes_of plan.now i) bytes (S.remaining source.old)
         → StandsBy plan.now (i + result.0) bytes result.1 (S.remaining source.new) }
 {
+    // The call tells the proof that the number of data blocks is a `u64`.
     let _blocks = plan.blocks();
     for row in 0..count {
         match read_row(plan, rows, i + row as u64, row, source) {
@@ -223,9 +224,8 @@ fn read_row<S: Source>(
     row: usize,
     source: &mut S,
 ) -> Result<(), BlockFault>
-    requires room { length rows.old ≡ 8 * plan.now.settings.data_block }
+    requires room { row * plan.now.settings.data_block + plan.now.settings.data_block ≤ length rows.old }
     requires below { i < plan.now.blocks }
-    requires row { row < 8 }
     ensures told { S.tells source.old → S.tells source.new }
     ensures count { Counts (read_failed result) (S.failures source.old) (S.failures source.new) }
     ensures kept { (r : ℕ) → r < row → slice_chunk rows.new plan.now.settings.data_block r

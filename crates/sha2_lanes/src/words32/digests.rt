@@ -1,5 +1,5 @@
 //! The digests (FIPS 180-4, 6.2 and 6.3).
-ghost use Rattle.std.specs.Prelude.{◌≡◌, ℕ, ◌*◌, ◌<◌, length, take, slice_index};
+ghost use Rattle.std.specs.Prelude.{◌≡◌, ℕ, ◌+◌, ◌*◌, ◌<◌, ◌≤◌, length, take, slice_index};
 ghost use Rattle.sha2.specs.Sha256 as S256;
 ghost use Rattle.sha2_lanes.specs.Lanes.{lane, message_of, row};
 
@@ -34,10 +34,12 @@ fn in_each_lane(words: &[u32; 8]) -> [u32x8; 8]
     ]
 }
 
-/// The hash value of each message, where `state` is the initial one.
+/// Takes `state` from the initial hash value to that of each message. What it is in the lanes to spare counts for
+/// nothing.
 fn hash(state: &mut [u32x8; 8], before: &[u8], parts: &[u8], len: usize, after: &[u8])
-    requires { length parts.now ≡ 8 * len }
-    ensures { (j : ℕ) → j < 8 → lane state.new j ≡ S256.final_hash (lane state.old j) (message_of before.now parts.now len after.now j) }
+    requires { len ≤ length parts.now }
+    ensures { (j : ℕ) → j < 8 → j * len + len ≤ length parts.now
+        → lane state.new j ≡ S256.final_hash (lane state.old j) (message_of before.now parts.now len after.now j) }
 {
     let mut w = [u32x8::splat(0); 64];
     let n = before.len() as u128 + len as u128 + after.len() as u128;
@@ -77,11 +79,14 @@ fn leftmost_224(bytes: &[u8; 32]) -> [u8; 28]
     digest
 }
 
-/// The SHA-256 digests of eight messages of one length. Message `j` is `before`, then part `j` of `parts`, which have
-/// `len` bytes each, then `after`.
-pub fn sha256(before: &[u8], parts: &[u8], len: usize, after: &[u8]) -> [[u8; 32]; 8]
-    requires eight { length parts.now ≡ 8 * len }
-    ensures { (j : ℕ) → j < 8 → row result j ≡ S256.sha256 (message_of before.now parts.now len after.now j) }
+/// The SHA-256 digests of `count` messages of one length, one to eight. Message `j` is `before`, then part `j` of
+/// `parts`, which have `len` bytes each, then `after`. The digests after those of the messages count for nothing. Each
+/// number of messages takes the same time.
+pub fn sha256(before: &[u8], parts: &[u8], len: usize, count: usize, after: &[u8]) -> [[u8; 32]; 8]
+    requires whole { length parts.now ≡ count * len }
+    requires some { 0 < count }
+    requires most { count ≤ 8 }
+    ensures { (j : ℕ) → j < count → row result j ≡ S256.sha256 (message_of before.now parts.now len after.now j) }
 {
     let mut state = in_each_lane(&INITIAL_HASH_256);
     hash(&mut state, before, parts, len, after);
@@ -97,11 +102,14 @@ pub fn sha256(before: &[u8], parts: &[u8], len: usize, after: &[u8]) -> [[u8; 32
     ]
 }
 
-/// The SHA-224 digests of eight messages of one length. Message `j` is `before`, then part `j` of `parts`, which have
-/// `len` bytes each, then `after`.
-pub fn sha224(before: &[u8], parts: &[u8], len: usize, after: &[u8]) -> [[u8; 28]; 8]
-    requires eight { length parts.now ≡ 8 * len }
-    ensures { (j : ℕ) → j < 8 → row result j ≡ S256.sha224 (message_of before.now parts.now len after.now j) }
+/// The SHA-224 digests of `count` messages of one length, one to eight. Message `j` is `before`, then part `j` of
+/// `parts`, which have `len` bytes each, then `after`. The digests after those of the messages count for nothing. Each
+/// number of messages takes the same time.
+pub fn sha224(before: &[u8], parts: &[u8], len: usize, count: usize, after: &[u8]) -> [[u8; 28]; 8]
+    requires whole { length parts.now ≡ count * len }
+    requires some { 0 < count }
+    requires most { count ≤ 8 }
+    ensures { (j : ℕ) → j < count → row result j ≡ S256.sha224 (message_of before.now parts.now len after.now j) }
 {
     let mut state = in_each_lane(&INITIAL_HASH_224);
     hash(&mut state, before, parts, len, after);

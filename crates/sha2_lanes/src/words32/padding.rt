@@ -6,7 +6,7 @@ ghost use Rattle.std.specs.Prelude.{◌≡◌, ℕ, ◌+◌, ◌*◌, ◌<◌, �
 ghost use Rattle.sha2_lanes.specs.Lanes.{message_of};
 ghost use Rattle.sha2_lanes.specs.Words32.{BeginsSchedule, block_count, padded_row};
 
-use crate::rows::put;
+use crate::rows::{places_of, put};
 use crate::words32::schedule::{load, load_same};
 use std::simd::prelude::*;
 
@@ -18,7 +18,8 @@ pub(crate) fn block_count(n: u128) -> usize
     ((n + 8) / 64 + 1) as usize
 }
 
-/// The 64 bytes from byte `at` on of a padded message: its pieces, the byte 1000 0000, zeros, and its length in bits.
+/// The 64 bytes from byte `at` on of a padded message: its pieces, the bit 1 and seven zeros, zeros, and its
+/// length in bits.
 #[inline(always)]
 fn padded_row(before: &[u8], part: &[u8], after: &[u8], at: u128) -> [u8; 64]
     requires { at + 64 ≤ 64 * block_count (length before.now + length part.now + length after.now) }
@@ -42,22 +43,25 @@ fn padded_row(before: &[u8], part: &[u8], after: &[u8], at: u128) -> [u8; 64]
     row
 }
 
-/// The 64 bytes from byte `at` on of each padded message, one row after the other.
+/// The 64 bytes from byte `at` on of each padded message, one row after the other. A lane to spare has a row too.
 fn padded_rows(before: &[u8], parts: &[u8], len: usize, after: &[u8], at: u128) -> [u8; 512]
-    requires eight { length parts.now ≡ 8 * len }
+    requires some { len ≤ length parts.now }
     requires inside { at + 64 ≤ 64 * block_count (length before.now + len + length after.now) }
-    ensures { (j : ℕ) → j < 8 → take 64 (drop (j * 64) result) ≡ padded_row (message_of before.now parts.now len after.now j) at }
+    ensures { (j : ℕ) → j < 8 → j * len + len ≤ length parts.now
+        → take 64 (drop (j * 64) result) ≡ padded_row (message_of before.now parts.now len after.now j) at }
 {
+    let places = places_of(parts.len(), len);
     let mut rows = [0u8; 512];
     for j in 0..8 {
-        let part = &parts[j * len..j * len + len];
+        let part = &parts[places[j]..places[j] + len];
         rows[j * 64..j * 64 + 64].copy_from_slice(&padded_row(before, part, after, at));
     }
     rows
 }
 
-/// The words of block `k` of each padded message. A block inside the parts is loaded from where it lies, and one that
-/// has no byte of them, as the last one often has none, is made once for all lanes.
+/// Sets the first 16 words of the schedule to those of block `k` of each padded message. A block inside the parts is
+/// loaded from where it lies, and one that has no byte of them, as the last one often has none, is made once for all
+/// lanes.
 #[inline(always)]
 pub(crate) fn load_block(
     w: &mut [u32x8; 64],
@@ -67,9 +71,10 @@ pub(crate) fn load_block(
     after: &[u8],
     k: usize,
 )
-    requires eight { length parts.now ≡ 8 * len }
+    requires some { len ≤ length parts.now }
     requires inside { k < block_count (length before.now + len + length after.now) }
-    ensures { (j : ℕ) → j < 8 → BeginsSchedule w.new j (padded_row (message_of before.now parts.now len after.now j) (k * 64)) }
+    ensures { (j : ℕ) → j < 8 → j * len + len ≤ length parts.now
+        → BeginsSchedule w.new j (padded_row (message_of before.now parts.now len after.now j) (k * 64)) }
 {
     let at = k as u128 * 64;
     let start = before.len() as u128;

@@ -4,6 +4,7 @@ ghost use Rattle.sha2.specs.Sha256 as S256;
 ghost use Rattle.sha2_lanes.specs.Lanes.{HasLanes, lane};
 ghost use Rattle.sha2_lanes.specs.Words32.{BeginsSchedule};
 
+use crate::rows::places_of;
 use crate::words32::functions::{small_sigma0, small_sigma1};
 use std::simd::prelude::*;
 
@@ -16,38 +17,40 @@ fn word_at(bytes: &[u8], i: usize) -> u32
     u32::from_be_bytes([bytes[i], bytes[i + 1], bytes[i + 2], bytes[i + 3]])
 }
 
-/// The word at byte `i` of each of eight parts of `len` bytes.
+/// The word at byte `i` of each lane's part.
 #[inline(always)]
-fn words_at(parts: &[u8], len: usize, i: usize) -> u32x8
-    requires eight { length parts.now ≡ 8 * len }
-    requires inside { i + 4 ≤ len }
-    ensures { HasLanes 8 result (λ j. S256.word_at parts.now (j * len + i)) }
+fn words_at(parts: &[u8], places: &[usize; 8], i: usize) -> u32x8
+    requires { (j : ℕ) → j < 8 → slice_index places.now j + i + 4 ≤ length parts.now }
+    ensures { HasLanes 8 result (λ j. S256.word_at parts.now (slice_index places.now j + i)) }
 {
     u32x8::from_array([
-        word_at(parts, i),
-        word_at(parts, len + i),
-        word_at(parts, 2 * len + i),
-        word_at(parts, 3 * len + i),
-        word_at(parts, 4 * len + i),
-        word_at(parts, 5 * len + i),
-        word_at(parts, 6 * len + i),
-        word_at(parts, 7 * len + i),
+        word_at(parts, places[0] + i),
+        word_at(parts, places[1] + i),
+        word_at(parts, places[2] + i),
+        word_at(parts, places[3] + i),
+        word_at(parts, places[4] + i),
+        word_at(parts, places[5] + i),
+        word_at(parts, places[6] + i),
+        word_at(parts, places[7] + i),
     ])
 }
 
-/// The first 16 words of the schedule are those of the block at byte `from` of each part.
+/// Sets the first 16 words of the schedule to those of the block at byte `from` of each part. What they are in the
+/// lanes to spare counts for nothing.
 #[inline(always)]
 pub(crate) fn load(w: &mut [u32x8; 64], parts: &[u8], len: usize, from: usize)
-    requires eight { length parts.now ≡ 8 * len }
+    requires some { len ≤ length parts.now }
     requires inside { from + 64 ≤ len }
-    ensures { (j : ℕ) → j < 8 → BeginsSchedule w.new j (take 64 (drop (j * len + from) parts.now)) }
+    ensures { (j : ℕ) → j < 8 → j * len + len ≤ length parts.now
+        → BeginsSchedule w.new j (take 64 (drop (j * len + from) parts.now)) }
 {
+    let places = places_of(parts.len(), len);
     for t in 0..16 {
-        w[t] = words_at(parts, len, from + 4 * t);
+        w[t] = words_at(parts, &places, from + 4 * t);
     }
 }
 
-/// The first 16 words of the schedule, where the block is the same in each lane.
+/// Sets the first 16 words of the schedule to those of a block that is the same in each lane.
 #[inline(always)]
 pub(crate) fn load_same(w: &mut [u32x8; 64], block: &[u8; 64])
     ensures { (j : ℕ) → j < 8 → BeginsSchedule w.new j block.now }
@@ -66,7 +69,7 @@ fn next_word(w2: u32x8, w7: u32x8, w15: u32x8, w16: u32x8) -> u32x8
     small_sigma1(w2) + w7 + small_sigma0(w15) + w16
 }
 
-/// The whole schedule, from its first 16 words.
+/// Makes the whole schedule from its first 16 words.
 #[inline(always)]
 pub(crate) fn schedule(w: &mut [u32x8; 64])
     ensures { (j : ℕ) → j < 8 → (b : List ℕ) → BeginsSchedule w.old j b → lane w.new j ≡ S256.schedule b 48 }

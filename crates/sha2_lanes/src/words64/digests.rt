@@ -1,5 +1,5 @@
 //! The digests (FIPS 180-4, 6.4 and 6.5).
-ghost use Rattle.std.specs.Prelude.{◌≡◌, ℕ, ◌*◌, ◌<◌, length, take, slice_index};
+ghost use Rattle.std.specs.Prelude.{◌≡◌, ℕ, ◌+◌, ◌*◌, ◌<◌, ◌≤◌, length, take, slice_index};
 ghost use Rattle.sha2.specs.Sha512 as S512;
 ghost use Rattle.sha2_lanes.specs.Lanes.{lane, message_of, row};
 
@@ -48,10 +48,12 @@ fn in_each_lane(words: &[u64; 8]) -> [u64x4; 8]
     ]
 }
 
-/// The hash value of each message, where `state` is the initial one.
+/// Takes `state` from the initial hash value to that of each message. What it is in the lanes to spare counts for
+/// nothing.
 fn hash(state: &mut [u64x4; 8], before: &[u8], parts: &[u8], len: usize, after: &[u8])
-    requires { length parts.now ≡ 4 * len }
-    ensures { (j : ℕ) → j < 4 → lane state.new j ≡ S512.final_hash (lane state.old j) (message_of before.now parts.now len after.now j) }
+    requires { len ≤ length parts.now }
+    ensures { (j : ℕ) → j < 4 → j * len + len ≤ length parts.now
+        → lane state.new j ≡ S512.final_hash (lane state.old j) (message_of before.now parts.now len after.now j) }
 {
     let mut w = [u64x4::splat(0); 80];
     let n = before.len() as u128 + len as u128 + after.len() as u128;
@@ -91,17 +93,17 @@ fn leftmost_384(bytes: &[u8; 64]) -> [u8; 48]
     digest
 }
 
-/// The hash values of four messages, in bytes, from an initial hash value.
-fn hashed(
+/// The hash values of the first four messages, or of as many as there are, in bytes, from an initial hash value.
+fn hashed_four(
     initial: &[u64; 8],
     before: &[u8],
     parts: &[u8],
     len: usize,
     after: &[u8],
 ) -> [[u8; 64]; 4]
-    requires { length parts.now ≡ 4 * len }
-    ensures { (j : ℕ) → j < 4 →
-        row result j ≡ S512.digest_bytes (S512.final_hash initial.now (message_of before.now parts.now len after.now j)) 8 }
+    requires { len ≤ length parts.now }
+    ensures { (j : ℕ) → j < 4 → j * len + len ≤ length parts.now
+        → row result j ≡ S512.digest_bytes (S512.final_hash initial.now (message_of before.now parts.now len after.now j)) 8 }
 {
     let mut state = in_each_lane(initial);
     hash(&mut state, before, parts, len, after);
@@ -113,25 +115,52 @@ fn hashed(
     ]
 }
 
-/// The SHA-512 digests of eight messages of one length. Message `j` is `before`, then part `j` of `parts`, which have
-/// `len` bytes each, then `after`.
-pub fn sha512(before: &[u8], parts: &[u8], len: usize, after: &[u8]) -> [[u8; 64]; 8]
-    requires eight { length parts.now ≡ 8 * len }
-    ensures { (j : ℕ) → j < 8 → row result j ≡ S512.sha512 (message_of before.now parts.now len after.now j) }
+/// The hash values of `count` messages, in bytes, from an initial hash value. For four or fewer there is no second
+/// pass.
+fn hashed(
+    initial: &[u64; 8],
+    before: &[u8],
+    parts: &[u8],
+    len: usize,
+    count: usize,
+    after: &[u8],
+) -> [[u8; 64]; 8]
+    requires whole { length parts.now ≡ count * len }
+    requires some { 0 < count }
+    requires most { count ≤ 8 }
+    ensures { (j : ℕ) → j < count
+        → row result j ≡ S512.digest_bytes (S512.final_hash initial.now (message_of before.now parts.now len after.now j)) 8 }
 {
-    let [a, b, c, d] = hashed(&INITIAL_HASH_512, before, &parts[..4 * len], len, after);
-    let [e, f, g, h] = hashed(&INITIAL_HASH_512, before, &parts[4 * len..], len, after);
+    let [a, b, c, d] = hashed_four(initial, before, parts, len, after);
+    if count <= 4 {
+        return [a, b, c, d, a, b, c, d];
+    }
+    let [e, f, g, h] = hashed_four(initial, before, &parts[4 * len..], len, after);
     [a, b, c, d, e, f, g, h]
 }
 
-/// The SHA-384 digests of eight messages of one length. Message `j` is `before`, then part `j` of `parts`, which have
-/// `len` bytes each, then `after`.
-pub fn sha384(before: &[u8], parts: &[u8], len: usize, after: &[u8]) -> [[u8; 48]; 8]
-    requires eight { length parts.now ≡ 8 * len }
-    ensures { (j : ℕ) → j < 8 → row result j ≡ S512.sha384 (message_of before.now parts.now len after.now j) }
+/// The SHA-512 digests of `count` messages of one length, one to eight. Message `j` is `before`, then part `j` of
+/// `parts`, which have `len` bytes each, then `after`. The digests after those of the messages count for nothing. Five
+/// to eight messages take twice as long as one to four.
+pub fn sha512(before: &[u8], parts: &[u8], len: usize, count: usize, after: &[u8]) -> [[u8; 64]; 8]
+    requires whole { length parts.now ≡ count * len }
+    requires some { 0 < count }
+    requires most { count ≤ 8 }
+    ensures { (j : ℕ) → j < count → row result j ≡ S512.sha512 (message_of before.now parts.now len after.now j) }
 {
-    let [a, b, c, d] = hashed(&INITIAL_HASH_384, before, &parts[..4 * len], len, after);
-    let [e, f, g, h] = hashed(&INITIAL_HASH_384, before, &parts[4 * len..], len, after);
+    hashed(&INITIAL_HASH_512, before, parts, len, count, after)
+}
+
+/// The SHA-384 digests of `count` messages of one length, one to eight. Message `j` is `before`, then part `j` of
+/// `parts`, which have `len` bytes each, then `after`. The digests after those of the messages count for nothing. Five
+/// to eight messages take twice as long as one to four.
+pub fn sha384(before: &[u8], parts: &[u8], len: usize, count: usize, after: &[u8]) -> [[u8; 48]; 8]
+    requires whole { length parts.now ≡ count * len }
+    requires some { 0 < count }
+    requires most { count ≤ 8 }
+    ensures { (j : ℕ) → j < count → row result j ≡ S512.sha384 (message_of before.now parts.now len after.now j) }
+{
+    let [a, b, c, d, e, f, g, h] = hashed(&INITIAL_HASH_384, before, parts, len, count, after);
     [
         leftmost_384(&a),
         leftmost_384(&b),

@@ -6,7 +6,7 @@ ghost use Rattle.std.specs.Prelude.{◌≡◌, ℕ, ◌+◌, ◌*◌, ◌<◌, �
 ghost use Rattle.sha2_lanes.specs.Lanes.{message_of};
 ghost use Rattle.sha2_lanes.specs.Words64.{BeginsSchedule, block_count, padded_row};
 
-use crate::rows::put;
+use crate::rows::{places_of, put};
 use crate::words64::schedule::{load, load_same};
 use std::simd::prelude::*;
 
@@ -18,7 +18,8 @@ pub(crate) fn block_count(n: u128) -> usize
     ((n + 16) / 128 + 1) as usize
 }
 
-/// The 128 bytes from byte `at` on of a padded message: its pieces, the byte 1000 0000, zeros, and its length in bits.
+/// The 128 bytes from byte `at` on of a padded message: its pieces, the bit 1 and seven zeros, zeros, and its
+/// length in bits.
 #[inline(always)]
 fn padded_row(before: &[u8], part: &[u8], after: &[u8], at: u128) -> [u8; 128]
     requires { at + 128 ≤ 128 * block_count (length before.now + length part.now + length after.now) }
@@ -42,22 +43,25 @@ fn padded_row(before: &[u8], part: &[u8], after: &[u8], at: u128) -> [u8; 128]
     row
 }
 
-/// The 128 bytes from byte `at` on of each padded message, one row after the other.
+/// The 128 bytes from byte `at` on of each padded message, one row after the other. A lane to spare has a row too.
 fn padded_rows(before: &[u8], parts: &[u8], len: usize, after: &[u8], at: u128) -> [u8; 512]
-    requires four { length parts.now ≡ 4 * len }
+    requires some { len ≤ length parts.now }
     requires inside { at + 128 ≤ 128 * block_count (length before.now + len + length after.now) }
-    ensures { (j : ℕ) → j < 4 → take 128 (drop (j * 128) result) ≡ padded_row (message_of before.now parts.now len after.now j) at }
+    ensures { (j : ℕ) → j < 4 → j * len + len ≤ length parts.now
+        → take 128 (drop (j * 128) result) ≡ padded_row (message_of before.now parts.now len after.now j) at }
 {
+    let places = places_of(parts.len(), len);
     let mut rows = [0u8; 512];
     for j in 0..4 {
-        let part = &parts[j * len..j * len + len];
+        let part = &parts[places[j]..places[j] + len];
         rows[j * 128..j * 128 + 128].copy_from_slice(&padded_row(before, part, after, at));
     }
     rows
 }
 
-/// The words of block `k` of each padded message. A block inside the parts is loaded from where it lies, and one that
-/// has no byte of them, as the last one often has none, is made once for all lanes.
+/// Sets the first 16 words of the schedule to those of block `k` of each padded message. A block inside the parts is
+/// loaded from where it lies, and one that has no byte of them, as the last one often has none, is made once for all
+/// lanes.
 #[inline(always)]
 pub(crate) fn load_block(
     w: &mut [u64x4; 80],
@@ -67,9 +71,10 @@ pub(crate) fn load_block(
     after: &[u8],
     k: usize,
 )
-    requires four { length parts.now ≡ 4 * len }
+    requires some { len ≤ length parts.now }
     requires inside { k < block_count (length before.now + len + length after.now) }
-    ensures { (j : ℕ) → j < 4 → BeginsSchedule w.new j (padded_row (message_of before.now parts.now len after.now j) (k * 128)) }
+    ensures { (j : ℕ) → j < 4 → j * len + len ≤ length parts.now
+        → BeginsSchedule w.new j (padded_row (message_of before.now parts.now len after.now j) (k * 128)) }
 {
     let at = k as u128 * 128;
     let start = before.len() as u128;

@@ -4,6 +4,7 @@ ghost use Rattle.sha2.specs.Sha512 as S512;
 ghost use Rattle.sha2_lanes.specs.Lanes.{HasLanes, lane};
 ghost use Rattle.sha2_lanes.specs.Words64.{BeginsSchedule};
 
+use crate::rows::places_of;
 use crate::words64::functions::{small_sigma0, small_sigma1};
 use std::simd::prelude::*;
 
@@ -25,34 +26,36 @@ fn word_at(bytes: &[u8], i: usize) -> u64
     ])
 }
 
-/// The word at byte `i` of each of four parts of `len` bytes.
+/// The word at byte `i` of each lane's part.
 #[inline(always)]
-fn words_at(parts: &[u8], len: usize, i: usize) -> u64x4
-    requires four { length parts.now ≡ 4 * len }
-    requires inside { i + 8 ≤ len }
-    ensures { HasLanes 4 result (λ j. S512.word_at parts.now (j * len + i)) }
+fn words_at(parts: &[u8], places: &[usize; 8], i: usize) -> u64x4
+    requires { (j : ℕ) → j < 4 → slice_index places.now j + i + 8 ≤ length parts.now }
+    ensures { HasLanes 4 result (λ j. S512.word_at parts.now (slice_index places.now j + i)) }
 {
     u64x4::from_array([
-        word_at(parts, i),
-        word_at(parts, len + i),
-        word_at(parts, 2 * len + i),
-        word_at(parts, 3 * len + i),
+        word_at(parts, places[0] + i),
+        word_at(parts, places[1] + i),
+        word_at(parts, places[2] + i),
+        word_at(parts, places[3] + i),
     ])
 }
 
-/// The first 16 words of the schedule are those of the block at byte `from` of each part.
+/// Sets the first 16 words of the schedule to those of the block at byte `from` of each part. What they are in the
+/// lanes to spare counts for nothing.
 #[inline(always)]
 pub(crate) fn load(w: &mut [u64x4; 80], parts: &[u8], len: usize, from: usize)
-    requires four { length parts.now ≡ 4 * len }
+    requires some { len ≤ length parts.now }
     requires inside { from + 128 ≤ len }
-    ensures { (j : ℕ) → j < 4 → BeginsSchedule w.new j (take 128 (drop (j * len + from) parts.now)) }
+    ensures { (j : ℕ) → j < 4 → j * len + len ≤ length parts.now
+        → BeginsSchedule w.new j (take 128 (drop (j * len + from) parts.now)) }
 {
+    let places = places_of(parts.len(), len);
     for t in 0..16 {
-        w[t] = words_at(parts, len, from + 8 * t);
+        w[t] = words_at(parts, &places, from + 8 * t);
     }
 }
 
-/// The first 16 words of the schedule, where the block is the same in each lane.
+/// Sets the first 16 words of the schedule to those of a block that is the same in each lane.
 #[inline(always)]
 pub(crate) fn load_same(w: &mut [u64x4; 80], block: &[u8; 128])
     ensures { (j : ℕ) → j < 4 → BeginsSchedule w.new j block.now }
@@ -71,7 +74,7 @@ fn next_word(w2: u64x4, w7: u64x4, w15: u64x4, w16: u64x4) -> u64x4
     small_sigma1(w2) + w7 + small_sigma0(w15) + w16
 }
 
-/// The whole schedule, from its first 16 words.
+/// Makes the whole schedule from its first 16 words.
 #[inline(always)]
 pub(crate) fn schedule(w: &mut [u64x4; 80])
     ensures { (j : ℕ) → j < 4 → (b : List ℕ) → BeginsSchedule w.old j b → lane w.new j ≡ S512.schedule b 64 }

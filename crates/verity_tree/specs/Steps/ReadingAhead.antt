@@ -22,9 +22,9 @@ ReadsRow p i bytes (Ok _) row after =
 ReadsRow p i bytes (Err Short) row after = EndsWithin p i bytes after
 ReadsRow p i bytes (Err Failed) row after = FailsWithin p i bytes after
 
--- so many data blocks from i on stand in the rows
+-- `count` data blocks from i on stand in the rows
 abbrev pub HoldsRows : Planned → ℕ → List ℕ → ℕ → List ℕ → Type 0
-HoldsRows p i bytes n rows = (r : ℕ) → r < n
+HoldsRows p i bytes count rows = (r : ℕ) → r < count
     → hash p.settings (slice_chunk rows p.settings.data_block r) ≡ carried p.settings (data_blocks p bytes) (i + r) 0
 
 -- where the source stands before data block i, or why that is not to be had
@@ -33,7 +33,7 @@ StandsBy p i bytes None after = HasRead (bytes_of p i) bytes after
 StandsBy p i bytes (Some Short) after = EndsWithin p i bytes after
 StandsBy p i bytes (Some Failed) after = FailsWithin p i bytes after
 
--- so many data blocks from i on are there, and none of them but the last is the last below a hash block
+-- `count` data blocks from i on are there, and none of them but the last is the last below a hash block
 pub record IsRun (p : Planned) (i count : ℕ) : Type 0 where
   pub below : i + count ≤ p.blocks
   pub quiet : (k : ℕ) → i ≤ k → k + 1 < i + count → ¬ EndsBlock (fan p.settings) p.blocks k
@@ -56,9 +56,9 @@ abbrev pub next_failed : Result Digest BlockFault → Ahead → Bool
 next_failed (Ok digest) ahead = ahead_failed ahead
 next_failed (Err fault) ahead = stop_failed (Some fault)
 
--- the digests have their length
+-- the digests of the blocks ahead have their length
 abbrev pub HasSizes : Planned → Ahead → Type 0
-HasSizes p ahead = (r : ℕ) → r < 8 → length (slice_index_or ahead.digests r []) ≡ digest_len p.settings
+HasSizes p ahead = (r : ℕ) → ahead.first + r < ahead.end → length (slice_index_or ahead.digests r []) ≡ digest_len p.settings
 
 -- more is known than data block k: blocks after it, or why there are none
 abbrev pub IsPending : Ahead → ℕ → Type 0

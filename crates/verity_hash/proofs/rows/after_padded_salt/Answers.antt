@@ -14,14 +14,14 @@ use Rattle.verity_hash.specs.declared.salting.SaltRule.TheVariants.{PaddedBefore
 use Rattle.verity_hash.proofs.Filled.{filled-front, input_block_of-bounds}
 use Rattle.verity_hash.proofs.rows.after_padded_salt.Goals as goal
 
-salted-by : (algorithm : Algorithm) (salt before rows : List ℕ) (size : ℕ) (result : Option (List Digest))
+salted-by : (algorithm : Algorithm) (salt before rows : List ℕ) (size count : ℕ) (result : Option (List Digest))
     → before ≡ filled (next_multiple_of (length salt) (input_block_of algorithm)) salt
-    → IfSome result (λ digests. (r : ℕ) → r < 8
+    → IfSome result (λ digests. (r : ℕ) → r < count
     → slice_index_or digests r [] ≡ hash_of algorithm (before ++ slice_chunk rows size r ++ []))
-    → IfSome result (λ digests. (r : ℕ) → r < 8
+    → IfSome result (λ digests. (r : ℕ) → r < count
     → slice_index_or digests r [] ≡ salted_hash algorithm PaddedBefore salt (slice_chunk rows size r))
-salted-by algorithm salt before rows size None is h = h
-salted-by algorithm salt before rows size (Some digests) is h = λ r lt.
+salted-by algorithm salt before rows size count None is h = h
+salted-by algorithm salt before rows size count (Some digests) is h = λ r lt.
     let block : List ℕ = slice_chunk rows size r in
     let padded : List ℕ = filled (next_multiple_of (length salt) (input_block_of algorithm)) salt in
     h r lt ∙ ap (λ (xs : List ℕ). hash_of algorithm (xs ++ block ++ [])) is
@@ -36,6 +36,6 @@ returns c =
     let most : length salt ≤ input_block_of c.args.algorithm = omega (arith, w, c.if-salt-input_block.false) in
     let padded = filled-front salt c.copy_from_slice.new.self (input_block_of c.args.algorithm)
     c.copy_from_slice.ensures.after some most bounds.1 in
-    salted-by c.args.algorithm salt _ c.args.rows.now c.args.size c.side_by_side-2.result
+    salted-by c.args.algorithm salt _ c.args.rows.now c.args.size c.args.count c.side_by_side-2.result
     (ap (λ (k : ℕ). take k (c.copy_from_slice.new.self ++ drop (length salt) (replicate 128 0))) w ∙ padded)
     c.side_by_side-2.ensures

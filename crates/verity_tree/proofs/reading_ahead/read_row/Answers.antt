@@ -42,7 +42,7 @@ returns-clause-kept g c = λ r before.
     ap (λ (n : ℕ). c.args.row * n) c.data_block-size.ensures in
     row-kept b r _ _ c.args.rows.now c.read_data_block.new.block
     (omega (arith, place, rows-within r c.args.row b before))
-    (omega (arith, place, c.requires.room, rows-within c.args.row 8 b c.requires.row))
+    (omega (arith, place, c.requires.room))
 
 pub returns-clause-taken : goal.returns-clause-taken
 returns-clause-taken g c = λ tells bytes read_before.
@@ -55,11 +55,5 @@ returns-clause-taken g c = λ tells bytes read_before.
     reads p c.wanted.ensures.planned c.args.i c.args.row c.min-want.result b _ bytes
     (g.S.Source.remaining c.args.source.now) (g.S.Source.remaining c.read_data_block.new.source) c.args.rows.now
     c.read_data_block.new.block c.read_data_block.result c.data_block-size.ensures place c.requires.below w
-    (omega (
-      arith,
-      place,
-      c.data_block-size.ensures,
-      c.requires.room,
-      rows-within c.args.row 8 p.settings.data_block c.requires.row,
-    ))
+    (omega (arith, place, c.data_block-size.ensures, c.requires.room))
     c.read_data_block.auto.block read_before (c.read_data_block.ensures.bytes tells)

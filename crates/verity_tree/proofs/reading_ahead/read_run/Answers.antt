@@ -72,7 +72,11 @@ returns-clause-quiet g c =
     let p = c.args.plan.now in
     filled-run p c.args.i c.args.count c.read_rows-held.result.0 _ c.requires.some c.requires.most c.requires.run
     c.read_rows-held.ensures.many refl refl
-    (λ r lt. ap length (c.hash_rows.ensures r lt) ∙ length-hash p.settings _)
+    (λ r lt.
+    ap length
+    (c.hash_rows.ensures r
+    (omega (arith, lt, most-read c.args.count c.read_rows-held.result.0 c.read_rows-held.result.1 c.read_rows-held.ensures.many)))
+    ∙ length-hash p.settings _)
 
 pub returns-clause-ahead : goal.returns-clause-ahead
 returns-clause-ahead g c = λ tells bytes read_before.
@@ -85,7 +89,7 @@ returns-clause-ahead g c = λ tells bytes read_before.
           let r = k - c.args.i in
           let low : r < n = omega (arith, from, lt) in
           let back : c.args.i + r ≡ k = omega (arith, from) in
-          c.hash_rows.ensures r (omega (arith, low, most, c.requires.most))
+          c.hash_rows.ensures r (omega (arith, low, most))
           ∙ ap (λ (b : ℕ). hash p.settings (slice_chunk rows b r)) c.data_block.ensures
           ∙ c.read_rows-held.ensures.held tells bytes read_before r low
           ∙ ap (λ (m : ℕ). carried p.settings (data_blocks p bytes) m 0) back;

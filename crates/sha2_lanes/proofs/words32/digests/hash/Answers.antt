@@ -7,18 +7,18 @@ use Rattle.sha2_lanes.proofs.Padding32.{blocks_of}
 use Rattle.sha2_lanes.proofs.words32.digests.hash.Goals as goal
 
 pub loop-k-init : goal.loop-k-init
-loop-k-init c j lt = hash_start _ _
+loop-k-init c j lt within = hash_start _ _
 
 pub loop-k-preserved : goal.loop-k-preserved
-loop-k-preserved c j lt =
-    hash_more _ _ c.loop-k.k (c.loop-k.invariant j lt) refl
-    (c.compress.ensures j lt _ (c.load_block.ensures j lt))
+loop-k-preserved c j lt within =
+    hash_more _ _ c.loop-k.k (c.loop-k.invariant j lt within) refl
+    (c.compress.ensures j lt _ (c.load_block.ensures j lt within))
 
 pub returns : goal.returns
-returns c j lt =
+returns c j lt within =
     let m = message_of c.args.before.now c.args.parts.now c.args.len c.args.after.now j in
-    c.loop-k.invariant j lt
+    c.loop-k.invariant j lt within
     ∙ ap (S256.hash_after (lane c.args.state.now j) (S256.padded_message m))
     (blocks_of m c.loop-k.k (length c.args.before.now + c.args.len + length c.args.after.now)
-    (length-message_of 8 c.args.before.now c.args.parts.now c.args.len c.args.after.now j lt c.requires)
+    (length-message_of c.args.before.now c.args.parts.now c.args.len c.args.after.now j within)
     (omega (arith, c.block_count-k-end.ensures)))

@@ -1,4 +1,4 @@
-use Rattle.std.proofs.Common.{◌≡◌, ℕ, ◌<◌, ◌+◌, ◌*◌, length, take, drop}
+use Rattle.std.proofs.Common.{◌≡◌, ℕ, ◌<◌, ◌≤◌, ◌+◌, ◌*◌, length, take, drop}
 use Rattle.sha2.specs.Sha256 as S256
 use Rattle.sha2_lanes.specs.Lanes.{lane}
 use Rattle.sha2_lanes.proofs.words32.schedule.load.Given as goal
@@ -6,5 +6,6 @@ use Rattle.sha2_lanes.proofs.words32.schedule.load.Given as goal
 abbrev pub invariant-loop-t : goal.invariant-loop-t
 invariant-loop-t l = record {
   long : length l.w ≡ 64;
-  words : (j : ℕ) → j < 8 → take l.t (lane l.w j) ≡ S256.first_words (take 64 (drop (j * l.len + l.from) l.parts)) l.t;
+  words : (j : ℕ) → j < 8 → j * l.len + l.len ≤ length l.parts
+      → take l.t (lane l.w j) ≡ S256.first_words (take 64 (drop (j * l.len + l.from) l.parts)) l.t;
 }

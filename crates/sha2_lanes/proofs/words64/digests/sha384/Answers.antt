@@ -1,29 +1,19 @@
-use Rattle.std.proofs.Common.{◌≡◌, ℕ, ◌+◌, ◌*◌, ◌<◌, ◌≤◌, ◌++◌, List, length, take, ap, arith}
-use Rattle.sha2.specs.Sha512 as S512
+use Rattle.std.proofs.Common.{◌≡◌, ℕ, ◌<◌, List, take, refl}
 use Rattle.sha2_lanes.specs.Lanes.{row, message_of}
-use Rattle.sha2_lanes.proofs.LaneWise.{eight_cases}
-use Rattle.sha2_lanes.proofs.Pieces.{part_of_first, part_of_rest}
+use Rattle.sha2_lanes.proofs.LaneWise.{first_cases}
 use Rattle.sha2_lanes.proofs.Hash64.{sha384_is}
 use Rattle.sha2_lanes.proofs.words64.digests.sha384.Goals as goal
 
 pub returns : goal.returns
 returns c =
-    let before = c.args.before.now in
-    let parts = c.args.parts.now in
-    let len = c.args.len in
-    let after = c.args.after.now in
-    let first = λ (j : ℕ) (lt : j < 4) (d : List ℕ) (cut : d ≡ take 48 (row c.hashed.result j)).
-    sha384_is (message_of before parts len after j) cut (c.hashed.ensures j lt)
-    (ap (λ z. S512.final_hash S512.initial_hash_384 (before ++ z ++ after)) (part_of_first 4 parts len j lt (omega (arith, c.requires.eight)))) in
-    let second = λ (j : ℕ) (lt : j < 4) (i : ℕ) (place : i * len ≡ 4 * len + j * len) (room : i * len + len ≤ length parts) (d : List ℕ) (cut : d ≡ take 48 (row c.hashed-2.result j)).
-    sha384_is (message_of before parts len after i) cut (c.hashed-2.ensures j lt)
-    (ap (λ z. S512.final_hash S512.initial_hash_384 (before ++ z ++ after)) (part_of_rest parts len (4 * len) (i * len) j place room)) in
-    eight_cases _
-    (first 0 (omega arith) _ c.leftmost_384.ensures)
-    (first 1 (omega arith) _ c.leftmost_384-2.ensures)
-    (first 2 (omega arith) _ c.leftmost_384-3.ensures)
-    (first 3 (omega arith) _ c.leftmost_384-4.ensures)
-    (second 0 (omega arith) 4 (omega arith) (omega (arith, c.requires.eight)) _ c.leftmost_384-5.ensures)
-    (second 1 (omega arith) 5 (omega arith) (omega (arith, c.requires.eight)) _ c.leftmost_384-6.ensures)
-    (second 2 (omega arith) 6 (omega arith) (omega (arith, c.requires.eight)) _ c.leftmost_384-7.ensures)
-    (second 3 (omega arith) 7 (omega arith) (omega (arith, c.requires.eight)) _ c.leftmost_384-8.ensures)
+    let is = λ (j : ℕ) (lt : j < c.args.count) (d : List ℕ) (cut : d ≡ take 48 (row c.hashed.result j)).
+    sha384_is (message_of c.args.before.now c.args.parts.now c.args.len c.args.after.now j) cut (c.hashed.ensures j lt) refl in
+    first_cases _ c.requires.most
+    (λ lt. is 0 lt _ c.leftmost_384.ensures)
+    (λ lt. is 1 lt _ c.leftmost_384-2.ensures)
+    (λ lt. is 2 lt _ c.leftmost_384-3.ensures)
+    (λ lt. is 3 lt _ c.leftmost_384-4.ensures)
+    (λ lt. is 4 lt _ c.leftmost_384-5.ensures)
+    (λ lt. is 5 lt _ c.leftmost_384-6.ensures)
+    (λ lt. is 6 lt _ c.leftmost_384-7.ensures)
+    (λ lt. is 7 lt _ c.leftmost_384-8.ensures)

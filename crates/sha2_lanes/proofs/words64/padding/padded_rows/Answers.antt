@@ -1,8 +1,7 @@
-use Rattle.std.proofs.Common.{◌≡◌, ◌+◌, ◌-◌, ◌*◌, ◌≤◌, ◌++◌, length, take, drop, ap, ◌∙◌, arith, rules, below_more}
+use Rattle.std.proofs.Common.{◌≡◌, ◌+◌, ◌-◌, ◌*◌, ◌≤◌, ◌++◌, length, slice_index, take, drop, ap, ◌∙◌, arith, rules, below_more}
 use Rattle.std.proofs.lemmas.Slice.{overwrites}
-use Rattle.sha2_lanes.specs.Lanes.{message_of}
 use Rattle.sha2_lanes.specs.Words64.{padded_row}
-use Rattle.sha2_lanes.proofs.Pieces.{row_written, row_kept, length-message_of}
+use Rattle.sha2_lanes.proofs.Pieces.{row_written, row_kept, length-part, length-pieces}
 use Rattle.sha2_lanes.proofs.Padding64.{length-padded_row}
 use Rattle.sha2_lanes.proofs.words64.padding.padded_rows.Goals as goal
 
@@ -16,18 +15,23 @@ loop-j-preserved c =
     let at = c.args.at in
     let written = c.copy_from_slice.new.self in
     let k = j * 128 + 128 - j * 128 in
-    let width : j * len + len - j * len ≡ len = omega arith in
+    let place = slice_index c.places_of-places.result j in
+    let width : place + len - place ≡ len = omega arith in
+    let inside = c.places_of-places.ensures.inside j (omega (arith, c.loop-j-test.true)) in
     let room : j * 128 ≤ length c.loop-j.rows = omega (arith, c.loop-j.invariant.long) in
-    let is : written ≡ padded_row (message_of before parts len after j) at =
+    let is : written ≡ padded_row (before ++ take len (drop place parts) ++ after) at =
     c.copy_from_slice.ensures.after
-    ∙ (c.padded_row.ensures ∙ ap (λ z. padded_row (before ++ take z (drop (j * len) parts) ++ after) at) width) in
+    ∙ (c.padded_row.ensures ∙ ap (λ z. padded_row (before ++ take z (drop place parts) ++ after) at) width) in
     let size : length written ≡ 128 =
     ap length is
-    ∙ length-padded_row (message_of before parts len after j) at (length before + len + length after)
-    (length-message_of 4 before parts len after j c.loop-j-test.true c.requires.four) c.requires.inside in
+    ∙ length-padded_row (before ++ take len (drop place parts) ++ after) at (length before + len + length after)
+    (length-pieces before (take len (drop place parts)) after len (length-part parts len place inside)) c.requires.inside in
     record {
       long = search (rules, overwrites);
       written = below_more _ _
-          (λ i lt. row_kept 128 i j c.loop-j.rows written k lt room ∙ c.loop-j.invariant.written i lt)
-          (row_written 128 j c.loop-j.rows written k room size ∙ is);
+          (λ i lt within. row_kept 128 i j c.loop-j.rows written k lt room ∙ c.loop-j.invariant.written i lt within)
+          (λ within.
+          row_written 128 j c.loop-j.rows written k room size ∙ is
+          ∙ ap (λ z. padded_row (before ++ take len (drop z parts) ++ after) at)
+          (c.places_of-places.ensures.own j (omega (arith, c.loop-j-test.true)) within));
     }

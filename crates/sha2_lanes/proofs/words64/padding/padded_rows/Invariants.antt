@@ -1,4 +1,4 @@
-use Rattle.std.proofs.Common.{◌≡◌, ℕ, ◌*◌, ◌<◌, length, take, drop}
+use Rattle.std.proofs.Common.{◌≡◌, ℕ, ◌+◌, ◌*◌, ◌<◌, ◌≤◌, length, take, drop}
 use Rattle.sha2_lanes.specs.Lanes.{message_of}
 use Rattle.sha2_lanes.specs.Words64.{padded_row}
 use Rattle.sha2_lanes.proofs.words64.padding.padded_rows.Given as goal
@@ -6,5 +6,6 @@ use Rattle.sha2_lanes.proofs.words64.padding.padded_rows.Given as goal
 abbrev pub invariant-loop-j : goal.invariant-loop-j
 invariant-loop-j l = record {
   long : length l.rows ≡ 512;
-  written : (i : ℕ) → i < l.j → take 128 (drop (i * 128) l.rows) ≡ padded_row (message_of l.before l.parts l.len l.after i) l.at;
+  written : (i : ℕ) → i < l.j → i * l.len + l.len ≤ length l.parts
+      → take 128 (drop (i * 128) l.rows) ≡ padded_row (message_of l.before l.parts l.len l.after i) l.at;
 }

@@ -1,4 +1,4 @@
-use Rattle.std.proofs.Common.{◌≡◌, ℕ, ◌<◌, ◌+◌, ◌*◌, length, take, drop}
+use Rattle.std.proofs.Common.{◌≡◌, ℕ, ◌<◌, ◌≤◌, ◌+◌, ◌*◌, length, take, drop}
 use Rattle.sha2.specs.Sha512 as S512
 use Rattle.sha2_lanes.specs.Lanes.{lane}
 use Rattle.sha2_lanes.proofs.words64.schedule.load.Given as goal
@@ -6,5 +6,6 @@ use Rattle.sha2_lanes.proofs.words64.schedule.load.Given as goal
 abbrev pub invariant-loop-t : goal.invariant-loop-t
 invariant-loop-t l = record {
   long : length l.w ≡ 80;
-  words : (j : ℕ) → j < 4 → take l.t (lane l.w j) ≡ S512.first_words (take 128 (drop (j * l.len + l.from) l.parts)) l.t;
+  words : (j : ℕ) → j < 4 → j * l.len + l.len ≤ length l.parts
+      → take l.t (lane l.w j) ≡ S512.first_words (take 128 (drop (j * l.len + l.from) l.parts)) l.t;
 }

@@ -1,7 +1,5 @@
-use Rattle.std.proofs.Common.{arith, ap, length, inl, inr, refl, rules, ◌∙◌}
-use Rattle.std.proofs.lemmas.List.{length-replicate}
+use Rattle.std.proofs.Common.{arith, inl, inr, refl}
 use Rattle.verity_tree.proofs.DataBlockLemmas.{HasRead-none}
-use Rattle.verity_tree.proofs.ReadingAheadLemmas.{same-eight}
 use Rattle.verity_tree.proofs.reading_ahead.Ahead.none.Goals as goal
 
 pub returns-clause-quiet : goal.returns-clause-quiet
@@ -15,7 +13,7 @@ returns-clause-quiet c = record {
     | inl lt ↦ absurd (omega (arith, lt))
     | inr eq ↦ absurd (eq.1 refl)
   ];
-  sizes = λ r lt. ap length (same-eight _ r lt) ∙ search (rules, length-replicate);
+  sizes = λ r lt. absurd (omega (arith, lt));
 }
 
 pub returns-clause-ahead : goal.returns-clause-ahead
