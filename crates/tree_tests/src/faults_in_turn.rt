@@ -76,8 +76,8 @@ fn by(
     Case::verity(alloc, algorithm, b"salt", sizes, slots)
 }
 
-/// Trees with fan-outs of 2 to 16. Their last data blocks are as many as fill rows of eight, or a few more; the last block
-/// may be cut.
+/// Trees with fan-outs of 2 to 16. Their last data blocks are as many as fill rows of eight, or a few more; the last
+/// block may be cut.
 fn fans(alloc: Global) -> Result<Vec<Expected>, Fail> {
     let mut cases = Vec::new(alloc);
     cases.push(prepared(alloc, files(alloc, 64)?, 64 * 13 - 9, 4)?)?;
@@ -88,13 +88,14 @@ fn fans(alloc: Global) -> Result<Vec<Expected>, Fail> {
     Ok(cases)
 }
 
-/// Trees of larger data blocks, the largest too large for rows.
+/// Trees of larger data blocks: in rows of eight, in rows of four, and the largest too large for rows.
 fn sizes(alloc: Global) -> Result<Vec<Expected>, Fail> {
     let mut cases = Vec::new(alloc);
     cases.push(prepared(alloc, disks(alloc, 4096, 512)?, 4096 * 19, 2)?)?;
     cases.push(prepared(alloc, disks(alloc, 8192, 512)?, 8192 * 13, 1)?)?;
     cases.push(prepared(alloc, disks(alloc, 16384, 512)?, 16384 * 11, 1)?)?;
-    cases.push(prepared(alloc, disks(alloc, 32768, 512)?, 32768 * 5, 1)?)?;
+    cases.push(prepared(alloc, disks(alloc, 32768, 512)?, 32768 * 7, 1)?)?;
+    cases.push(prepared(alloc, disks(alloc, 65536, 512)?, 65536 * 3, 1)?)?;
     Ok(cases)
 }
 

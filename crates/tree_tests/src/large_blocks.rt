@@ -90,13 +90,24 @@ fn has_its_tree(alloc: Global, case: &Case, bytes: &[u8]) -> Result<bool, Fail> 
     Ok(made == expected.root.as_slice() && whole == image.as_slice() && plain == root)
 }
 
-/// Blocks of 32768 bytes are hashed four side by side, of 16384 eight, and larger ones one by one: fewer blocks than go
-/// together, as many, and some more. The last block is never full.
+/// Sizes of data blocks, and how many: of 32768 bytes four are hashed side by side, of 16384 eight, and larger ones one
+/// by one.
+const COUNTS: [(u32, usize); 8] = [
+    (16_384, 9),
+    (32_768, 1),
+    (32_768, 2),
+    (32_768, 3),
+    (32_768, 4),
+    (32_768, 5),
+    (32_768, 9),
+    (65_536, 3),
+];
+
 #[test]
 fn blocks_round_the_size_of_the_window_have_trees(rt: HostRuntime) -> Result<(), Fail> {
     let alloc = rt.alloc();
     let (sha256, sha512) = (Algorithm::Sha256, Algorithm::Sha512);
-    for size in [16_384u32, 32_768, 65_536] {
+    for (size, blocks) in COUNTS {
         let wide = size as usize;
         let cases = [
             Case::fsverity(alloc, sha256, b"salt", size, (wide / 32, 32))?,
@@ -104,12 +115,11 @@ fn blocks_round_the_size_of_the_window_have_trees(rt: HostRuntime) -> Result<(),
             Case::verity(alloc, sha256, b"salt", (size, 512), (16, 32))?,
             Case::original(alloc, sha512, b"salt", (size, 512), (8, 64))?,
         ];
+        // The last block isn't full.
+        let bytes = data(alloc, wide.saturating_mul(blocks).saturating_sub(100))?;
         for case in &cases {
-            for blocks in [1usize, 2, 3, 4, 5, 7, 8, 9, 17] {
-                let bytes = data(alloc, wide.saturating_mul(blocks).saturating_sub(100))?;
-                let same = has_its_tree(alloc, case, bytes.as_slice())?;
-                assert!(rt; same, "{blocks} blocks of {size} bytes");
-            }
+            let same = has_its_tree(alloc, case, bytes.as_slice())?;
+            assert!(rt; same, "{blocks} blocks of {size} bytes");
         }
     }
     Ok(())
