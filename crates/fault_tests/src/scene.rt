@@ -116,7 +116,9 @@ impl Ending {
                 effect.leave(alloc, &mut self.files)?;
                 Ok(None)
             }
-            Step::Tries(call) => Ok((trial.failing == (*call, number)).then_some((0, b"".as_slice()))),
+            Step::Tries(call) => Ok(
+                (trial.failing == (*call, number)).then_some((0, b"".as_slice())),
+            ),
         }
     }
 
@@ -181,9 +183,13 @@ impl Scene {
                 }
                 Step::Prints(_) => 0,
             };
-            if let Some((status, message)) =
-                ending.goes_on(alloc, step, trial, self.program, number)?
-            {
+            if let Some((status, message)) = ending.goes_on(
+                alloc,
+                step,
+                trial,
+                self.program,
+                number,
+            )? {
                 ending.status = status;
                 ending.msgs = front(alloc, message, trial.message_room)?;
                 break;
