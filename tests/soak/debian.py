@@ -96,7 +96,7 @@ def dump(line, scene, ours, drawn, theirs):
 def verify(line, scene, ours, drawn, theirs):
     """Both accept the image, or neither does; with status 2 where whole blocks differ."""
     area, data, device, _ = compared(line, scene)
-    if area.offset >= 2**63:
+    if area.offset >= 2**63 or " is not UTF-8: " in ours.err:
         return None
     words = option_words(area) if area.uuid is None else [f"--hash-offset={area.offset}"]
     found = theirs("verify", *words, *line.words)
