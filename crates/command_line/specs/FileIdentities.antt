@@ -1,9 +1,9 @@
 -- Which file it is, by what stat(2) tells: a regular file by the device that it lies on and its number there, a block
 -- device by its own number, whichever node names it.
 use Rattle.std.specs.Prelude.{◌≡◌, ◌⊎◌, ℕ, List, Option, Some, None, IsSome, if◌then◌else◌}
-use Rattle.command_line.specs.declared.file_identity.FileIdentity.{FileIdentity}
-use Rattle.command_line.specs.declared.file_identity.FileIdentity.TheVariants.{Regular, BlockDevice}
-use Rattle.command_line.specs.declared.file_identity.FileStatus.{FileStatus}
+use Rattle.command_line.specs.declared.files.identity.FileIdentity.{FileIdentity}
+use Rattle.command_line.specs.declared.files.identity.FileIdentity.TheVariants.{Regular, BlockDevice}
+use Rattle.command_line.specs.declared.files.identity.FileStatus.{FileStatus}
 
 -- the file that the system tells it to be
 abbrev pub identity_of : FileStatus → Option FileIdentity

@@ -4,8 +4,8 @@ use Rattle.std.specs.Prelude.{◌≡◌, []}
 use Rattle.clap.specs.Kinds.{HasKind, Kinds}
 use Rattle.clap.specs.Words.{kind_of}
 use Rattle.clap.specs.declared.error.ErrorKind.TheVariants.{OutOfMemory}
-use Rattle.command_line.specs.declared.line_fault.LineFault.{LineFault}
-use Rattle.command_line.specs.declared.line_fault.LineFault.TheVariants.{Refused, Memory}
+use Rattle.command_line.specs.declared.words.line_fault.LineFault.{LineFault}
+use Rattle.command_line.specs.declared.words.line_fault.LineFault.TheVariants.{Refused, Memory}
 
 -- there is no memory for the copies; a line that clap refuses isn't meant, even if clap itself had no memory
 abbrev pub IsMemory : LineFault → Type 0

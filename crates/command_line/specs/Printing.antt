@@ -1,8 +1,8 @@
 -- What writing a text or a message leaves in a writer, as far as the writer tells what it holds.
 use Rattle.std.specs.Prelude.{ℕ, ◌<◌, List, length, take, Option, Result, Ok, Err}
 use Rattle.std.specs.Io.KnownBytes.{Appends, Keeps}
-use Rattle.command_line.specs.declared.print_fault.PrintFault.{PrintFault}
-use Rattle.command_line.specs.declared.print_fault.PrintFault.TheVariants.{Memory, Output}
+use Rattle.command_line.specs.declared.printing.print_fault.PrintFault.{PrintFault}
+use Rattle.command_line.specs.declared.printing.print_fault.PrintFault.TheVariants.{Memory, Output}
 
 -- so many of the text's first bytes are added, perhaps none and perhaps all
 abbrev pub AppendsFront : List ℕ → Option (List ℕ) → Option (List ℕ) → Type 0

@@ -5,8 +5,8 @@ use Rattle.std.specs.List.{concat, flat_map}
 use Rattle.std.specs.declared.alloc.Global.{Global}
 use Rattle.std.specs.Fmt.{decimal}
 use Rattle.hex.specs.Hex.{encode_lower}
-use Rattle.command_line.specs.declared.system_words.WordsFault.{WordsFault}
-use Rattle.command_line.specs.declared.system_words.WordsFault.TheVariants.{NotText, Memory}
+use Rattle.command_line.specs.declared.words.system_words.WordsFault.{WordsFault}
+use Rattle.command_line.specs.declared.words.system_words.WordsFault.TheVariants.{NotText, Memory}
 
 -- a byte as it is shown: a backslash twice, printable ASCII as it is, any other by two hexadecimal digits
 abbrev pub shown_byte : ℕ → List ℕ

@@ -7,13 +7,13 @@ use Rattle.std.specs.Io.KnownBytes.{Appends}
 use Rattle.command_line.proofs.Fronts.{appends_nothing, pieces_more}
 use Rattle.verity_format.proofs.KnownLemmas.{appends_twice}
 use Rattle.verity_plan.specs.Settings.{Settings}
-use Rattle.fsverity.specs.Lines.{line}
-use Rattle.fsverity.specs.Opening.{OpenerChange}
-use Rattle.fsverity.specs.Runs.{HasReason, IsLargeAt, Run, StandsOf, WritesUpTo, file_line, has_digest, lines, stop}
-use Rattle.fsverity.specs.RunSteps.{HasOneAt, Step, StopsStep, WritesLine, WritesPart, WritesStep}
-use Rattle.fsverity.specs.declared.digest_fault.DigestFault.TheVariants.{TooLarge, SourceShort, SourceFailed, DeviceFailed, Memory}
-use Rattle.fsverity.specs.declared.run_fault.RunFault.{RunFault}
-use Rattle.fsverity.specs.declared.run_fault.RunFault.TheVariants.{NotOpened, Digest, NotWritten}
+use Rattle.fsverity.specs.Texts.Lines.{line}
+use Rattle.fsverity.specs.Openers.Opening.{OpenerChange}
+use Rattle.fsverity.specs.Runs.Digest.{HasReason, IsLargeAt, Run, StandsOf, WritesUpTo, file_line, has_digest, lines, stop}
+use Rattle.fsverity.specs.Runs.DigestSteps.{HasOneAt, Step, StopsStep, WritesLine, WritesPart, WritesStep}
+use Rattle.fsverity.specs.declared.runs.digest_fault.DigestFault.TheVariants.{TooLarge, SourceShort, SourceFailed, DeviceFailed, Memory}
+use Rattle.fsverity.specs.declared.runs.run_fault.RunFault.{RunFault}
+use Rattle.fsverity.specs.declared.runs.run_fault.RunFault.TheVariants.{NotOpened, Digest, NotWritten}
 
 -- one more element passes
 pub passes_more : {A : Type 0} (p : A → Bool) (xs : List A) (i : ℕ) (x : A) → slice_get xs i ≡ Some x → p x ≡ true →

@@ -6,10 +6,10 @@ use Rattle.verity_tree.specs.Steps.ClosedBlocks.{Closes, IsCause, closed_block}
 use Rattle.verity_plan.specs.Plans.{Planned, byte_of}
 use Rattle.verity_tree.specs.Verdicts.{stored}
 use Rattle.verity_io.specs.Writing.{put, Spoiled}
-use Rattle.verity_tree.specs.declared.closed_block.Cause.{Cause}
-use Rattle.verity_tree.specs.declared.closed_block.Cause.TheVariants.{Failed, Differs}
-use Rattle.verity_tree.specs.declared.closed_block.Task.{Task}
-use Rattle.verity_tree.specs.declared.closed_block.Task.TheVariants.{Write, Compare}
+use Rattle.verity_tree.specs.declared.pass.closed_block.Cause.{Cause}
+use Rattle.verity_tree.specs.declared.pass.closed_block.Cause.TheVariants.{Failed, Differs}
+use Rattle.verity_tree.specs.declared.pass.closed_block.Task.{Task}
+use Rattle.verity_tree.specs.declared.pass.closed_block.Task.TheVariants.{Write, Compare}
 
 -- bytes that stand at a place are as if put there
 pub put-same : (device bytes : List ℕ) (at k : ℕ) → 0 < k → length bytes ≡ k → take k (drop at device) ≡ bytes

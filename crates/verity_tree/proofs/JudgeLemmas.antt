@@ -16,11 +16,11 @@ use Rattle.verity_tree.specs.Levels.{root, data_blocks, whole}
 use Rattle.verity_plan.specs.Plans.{Planned, IsPlanned}
 use Rattle.verity_plan.specs.Settings.{fan}
 use Rattle.verity_tree.specs.Verdicts.{NoneDiffers, StandsThere, differs, judged, part_of, stored, verdict}
-use Rattle.verity_tree.specs.declared.cascade.Stop.{Stop}
+use Rattle.verity_tree.specs.declared.pass.cascade.Stop.{Stop}
 use Rattle.verity_tree.specs.declared.comparing.CompareFault.TheVariants.{SourceShort, RootDiffers}
 use Rattle.verity_tree.specs.declared.comparing.CompareFault.TheVariants as F
-use Rattle.verity_tree.specs.declared.closed_block.Cause.{Cause}
-use Rattle.verity_tree.specs.declared.closed_block.Cause.TheVariants.{Failed, Differs}
+use Rattle.verity_tree.specs.declared.pass.closed_block.Cause.{Cause}
+use Rattle.verity_tree.specs.declared.pass.closed_block.Cause.TheVariants.{Failed, Differs}
 use Rattle.verity_tree.specs.Steps.ClosedBlocks.{IsCause, closed_block}
 use Rattle.verity_tree.specs.declared.part.Part.{Part}
 use Rattle.verity_tree.proofs.OrderSplit.{order-prefix}

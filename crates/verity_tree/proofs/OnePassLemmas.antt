@@ -24,7 +24,7 @@ use Rattle.verity_tree.proofs.OpenBlockSteps.{hash_block_of-none}
 use Rattle.verity_tree.specs.Steps.ClosedBlocks.{IsCause, closed_block}
 use Rattle.verity_tree.specs.Steps.OnePass.{StopsFor}
 use Rattle.verity_tree.specs.Verdicts.{NoneDiffers, StandsThere}
-use Rattle.verity_tree.specs.declared.cascade.Stop.{Stop}
+use Rattle.verity_tree.specs.declared.pass.cascade.Stop.{Stop}
 
 zero_div : (w : ℕ) → 0 < w → 0 / w ≡ 0
 zero_div w some = let e : 0 ≡ 0 * w + 0 = omega arith in ap (λ (x : ℕ). x / w) e ∙ div-mul-add 0 w 0 some

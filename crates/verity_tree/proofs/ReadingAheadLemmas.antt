@@ -18,8 +18,8 @@ use Rattle.verity_plan.specs.Settings.{fan}
 use Rattle.verity_tree.specs.Reading.{bytes_of}
 use Rattle.verity_tree.specs.Steps.Cascade.{EndsBlock}
 use Rattle.verity_tree.specs.Steps.ReadingAhead.{IsAhead, IsQuiet, StandsBy, stop_failed}
-use Rattle.verity_tree.specs.declared.data_block.BlockFault.{BlockFault}
-use Rattle.verity_tree.specs.declared.reading_ahead.Ahead.{Ahead}
+use Rattle.verity_tree.specs.declared.pass.data_block.BlockFault.{BlockFault}
+use Rattle.verity_tree.specs.declared.pass.reading_ahead.Ahead.{Ahead}
 
 -- a write further on leaves a row
 pub row-kept : (b r a k : ℕ) (rows new : List ℕ) → r * b + b ≤ a → a ≤ length rows

@@ -6,8 +6,8 @@ ghost use Rattle.verity_tree.specs.Levels.{data_blocks};
 ghost use Rattle.verity_plan.specs.Plans.{store_length_of};
 ghost use Rattle.verity_plan.specs.Settings.{digest_len};
 
-use crate::closed_block::Task;
-use crate::one_pass::{PassFault, pass};
+use crate::pass::closed_block::Task;
+use crate::pass::one_pass::{PassFault, pass};
 use crate::store::Store;
 use verity_hash::Digest;
 use verity_io::{Device, Nowhere, Source};

@@ -2,10 +2,10 @@
 ghost use Rattle.std.specs.Prelude.{◌≡◌, length};
 ghost use Rattle.verity_plan.specs.Plans.{store_length_of};
 
-use crate::cascade::Stop;
-use crate::closed_block::{Cause, Task};
-use crate::one_pass::{PassFault, pass};
 use crate::part::Part;
+use crate::pass::cascade::Stop;
+use crate::pass::closed_block::{Cause, Task};
+use crate::pass::one_pass::{PassFault, pass};
 use crate::store::Store;
 use verity_hash::Digest;
 use verity_io::{Device, Source};

@@ -3,13 +3,13 @@ use Rattle.std.proofs.Common.{◌≡◌, ◌∙◌, ◌≤◌, ℕ, zero, suc, a
 use Rattle.std.specs.Io.KnownBytes.{Appends, Keeps}
 use Rattle.command_line.specs.Printing.{AppendsFront}
 use Rattle.verity_io.specs.Counting.{Change}
-use Rattle.veritysetup.specs.Chosen.{Chosen}
-use Rattle.veritysetup.specs.FormatRun.{FormatRun, PrintsReport, fault_status, fault_text}
-use Rattle.veritysetup.specs.Outcomes.{Printed, message_of, status_of}
-use Rattle.veritysetup.specs.Programs.{CommandRun, Grows}
-use Rattle.veritysetup.specs.declared.format_run.FormatFault.{FormatFault}
-use Rattle.veritysetup.specs.declared.format_run.FormatFault.TheVariants.{Store, Build, Superblock, Report}
-use Rattle.command_line.specs.declared.print_fault.PrintFault.TheVariants.{Memory, Output}
+use Rattle.veritysetup.specs.Options.Chosen.{Chosen}
+use Rattle.veritysetup.specs.Runs.Format.{FormatRun, PrintsReport, fault_status, fault_text}
+use Rattle.veritysetup.specs.Runs.Outcomes.{Printed, message_of, status_of}
+use Rattle.veritysetup.specs.Program.Answers.{CommandRun, Grows}
+use Rattle.veritysetup.specs.declared.runs.format.FormatFault.{FormatFault}
+use Rattle.veritysetup.specs.declared.runs.format.FormatFault.TheVariants.{Store, Build, Superblock, Report}
+use Rattle.command_line.specs.declared.printing.print_fault.PrintFault.TheVariants.{Memory, Output}
 
 -- no byte is added to a writer that nothing was written to
 pub nothing_added : (held : Option (List ℕ)) → Appends held held []

@@ -7,14 +7,14 @@ use Rattle.verity_plan.specs.Settings.{Settings, hash, fan}
 use Rattle.verity_tree.specs.ClosingOrder.{closing, closes}
 use Rattle.verity_tree.specs.Image.{tree_block, written}
 use Rattle.verity_plan.specs.Plans.{Planned, byte_of, levels_of}
-use Rattle.verity_tree.specs.declared.cascade.Stop.{Stop}
-use Rattle.verity_tree.specs.declared.closed_block.Task.{Task}
+use Rattle.verity_tree.specs.declared.pass.cascade.Stop.{Stop}
+use Rattle.verity_tree.specs.declared.pass.closed_block.Task.{Task}
 use Rattle.verity_tree.specs.Steps.ClosedBlocks.{IsCause, call_failed, closed_block}
 use Rattle.verity_tree.specs.Verdicts.{NoneDiffers, stored}
 use Rattle.verity_tree.specs.Steps.OpenBlocks.{Arrival, IsNext, filling, IsCarriedOn, IsKept, IsClosed}
 use Rattle.verity_io.specs.Writing.{put, Spoiled}
-use Rattle.verity_tree.specs.declared.cascade.LevelStep.{LevelStep}
-use Rattle.verity_tree.specs.declared.cascade.LevelStep.TheVariants.{Open, Closed, Stopped}
+use Rattle.verity_tree.specs.declared.pass.cascade.LevelStep.{LevelStep}
+use Rattle.verity_tree.specs.declared.pass.cascade.LevelStep.TheVariants.{Open, Closed, Stopped}
 
 -- the blocks of the levels below m that close with data block i, counted from 0, where all of them do
 abbrev pub closed_to : ℕ → ℕ → ℕ → List (ℕ × ℕ)

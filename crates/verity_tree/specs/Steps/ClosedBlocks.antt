@@ -4,10 +4,10 @@ use Rattle.std.specs.Prelude.{◌≡◌, ◌≢◌, ℕ, Bool, true, false, List
 use Rattle.verity_io.specs.Writing.{put, Spoiled}
 use Rattle.verity_plan.specs.Plans.{Planned, byte_of}
 use Rattle.verity_tree.specs.Verdicts.{part_of, stored}
-use Rattle.verity_tree.specs.declared.closed_block.Cause.{Cause}
-use Rattle.verity_tree.specs.declared.closed_block.Cause.TheVariants.{Failed, Differs}
-use Rattle.verity_tree.specs.declared.closed_block.Task.{Task}
-use Rattle.verity_tree.specs.declared.closed_block.Task.TheVariants.{Write, Compare}
+use Rattle.verity_tree.specs.declared.pass.closed_block.Cause.{Cause}
+use Rattle.verity_tree.specs.declared.pass.closed_block.Cause.TheVariants.{Failed, Differs}
+use Rattle.verity_tree.specs.declared.pass.closed_block.Task.{Task}
+use Rattle.verity_tree.specs.declared.pass.closed_block.Task.TheVariants.{Write, Compare}
 
 -- a hash block that has closed: its level, its number in the level, and its bytes
 pub record ClosedBlock : Type 0 where

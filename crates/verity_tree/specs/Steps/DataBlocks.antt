@@ -9,8 +9,8 @@ use Rattle.verity_plan.specs.Plans.{Planned}
 use Rattle.verity_tree.specs.Levels.{data_blocks}
 use Rattle.verity_tree.specs.Reading.{EndsWithin, FailsWithin, bytes_of}
 use Rattle.verity_tree.specs.Steps.OpenBlocks.{carried}
-use Rattle.verity_tree.specs.declared.data_block.BlockFault.{BlockFault}
-use Rattle.verity_tree.specs.declared.data_block.BlockFault.TheVariants.{Short, Failed}
+use Rattle.verity_tree.specs.declared.pass.data_block.BlockFault.{BlockFault}
+use Rattle.verity_tree.specs.declared.pass.data_block.BlockFault.TheVariants.{Short, Failed}
 
 -- the next bytes, and zeros after them
 pub record HoldsBlock (want size : ℕ) (before after block : List ℕ) : Type 0 where

@@ -11,14 +11,14 @@ use Rattle.verity_tree.specs.Levels.{root, data_blocks}
 use Rattle.verity_plan.specs.Plans.{Planned}
 use Rattle.verity_plan.specs.Settings.{fan}
 use Rattle.verity_tree.specs.Verdicts.{NoneDiffers}
-use Rattle.verity_tree.specs.declared.cascade.Stop.{Stop}
-use Rattle.verity_tree.specs.declared.closed_block.Task.{Task}
-use Rattle.verity_tree.specs.declared.closed_block.Cause.{Cause}
-use Rattle.verity_tree.specs.declared.closed_block.Cause.TheVariants as cause
+use Rattle.verity_tree.specs.declared.pass.cascade.Stop.{Stop}
+use Rattle.verity_tree.specs.declared.pass.closed_block.Task.{Task}
+use Rattle.verity_tree.specs.declared.pass.closed_block.Cause.{Cause}
+use Rattle.verity_tree.specs.declared.pass.closed_block.Cause.TheVariants as cause
 use Rattle.verity_tree.specs.declared.comparing.CompareFault.{CompareFault}
 use Rattle.verity_tree.specs.declared.comparing.CompareFault.TheVariants as fault
-use Rattle.verity_tree.specs.declared.one_pass.PassFault.{PassFault}
-use Rattle.verity_tree.specs.declared.one_pass.PassFault.TheVariants.{SourceShort, SourceFailed, Stopped}
+use Rattle.verity_tree.specs.declared.pass.one_pass.PassFault.{PassFault}
+use Rattle.verity_tree.specs.declared.pass.one_pass.PassFault.TheVariants.{SourceShort, SourceFailed, Stopped}
 
 -- the answer, and how much was read
 abbrev pub Passes : Planned → Result Digest PassFault → List ℕ → List ℕ → Type 0

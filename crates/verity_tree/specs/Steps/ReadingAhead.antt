@@ -11,9 +11,9 @@ use Rattle.verity_tree.specs.Levels.{data_blocks}
 use Rattle.verity_tree.specs.Reading.{EndsWithin, FailsWithin, bytes_of}
 use Rattle.verity_tree.specs.Steps.Cascade.{EndsBlock}
 use Rattle.verity_tree.specs.Steps.OpenBlocks.{carried}
-use Rattle.verity_tree.specs.declared.data_block.BlockFault.{BlockFault}
-use Rattle.verity_tree.specs.declared.data_block.BlockFault.TheVariants.{Short, Failed}
-use Rattle.verity_tree.specs.declared.reading_ahead.Ahead.{Ahead}
+use Rattle.verity_tree.specs.declared.pass.data_block.BlockFault.{BlockFault}
+use Rattle.verity_tree.specs.declared.pass.data_block.BlockFault.TheVariants.{Short, Failed}
+use Rattle.verity_tree.specs.declared.pass.reading_ahead.Ahead.{Ahead}
 
 -- data block i stands in a row, or the source ended or failed within it
 abbrev pub ReadsRow : Planned → ℕ → List ℕ → Result Unit BlockFault → List ℕ → List ℕ → Type 0

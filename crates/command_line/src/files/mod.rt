@@ -1,0 +1,5 @@
+//! Opening of files, and which file a path leads to.
+
+pub(crate) mod identity;
+pub(crate) mod null_files;
+pub(crate) mod opening;

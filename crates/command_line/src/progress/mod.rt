@@ -1,0 +1,5 @@
+//! How far long work is, on a terminal.
+
+pub(crate) mod onlooker;
+pub(crate) mod progress_line;
+pub(crate) mod shown;

@@ -1,0 +1,92 @@
+//! The line that says how far long work is.
+ghost use Rattle.std.specs.Prelude.{◌≡◌};
+ghost use Rattle.command_line.specs.Showing.{cleared_inner};
+
+use crate::progress::onlooker::Onlooker;
+use std::cell::Cell;
+use std::io;
+use std::io::Write;
+use std::time::Instant;
+
+/// A line on standard error that says how far long work is. It is rewritten in place, and whatever else is written goes
+/// through a `Cleared`, which erases it first. What the terminal shows no contract can say.
+#[derive(Drop)]
+pub struct ProgressLine<'a, R> {
+    rt: &'a R,
+    /// After how many bytes the line is written again, and `None` where nobody looks on.
+    step: Option<u64>,
+    stands: Cell<bool>,
+}
+
+impl<'a, R: Onlooker> ProgressLine<'a, R> {
+    /// No line stands yet. The runtime is asked here, and only here, whether somebody looks on.
+    pub fn new(rt: &'a R) -> Self {
+        ProgressLine {
+            rt,
+            step: rt.step(),
+            stands: Cell::new(false),
+        }
+    }
+
+    /// Erases the line where it stands (ECMA-48, "EL").
+    pub fn erase(&self) {
+        if self.stands.replace(false) {
+            let _ = eprint!(self.rt; "\r\x1b[K");
+        }
+    }
+
+    /// After how many bytes the line is written again, where somebody looks on.
+    pub(crate) fn step(&self) -> Option<u64> {
+        self.step
+    }
+
+    /// What the clock reads, where it can be read.
+    pub(crate) fn now(&self) -> Option<Instant> {
+        Instant::now(self.rt).ok()
+    }
+
+    /// Writes the line, in place of the one that stands. Without a clock it has no rate.
+    pub(crate) fn draw(&self, done: u64, total: u64, start: Option<Instant>) {
+        self.stands.set(true);
+        let (done, total) = (done >> 20, total >> 20);
+        let _ = match self.rate(done, start) {
+            Some(rate) => eprint!(self.rt; "\r{done} of {total} MiB, {rate} MiB/s\x1b[K"),
+            None => eprint!(self.rt; "\r{done} of {total} MiB\x1b[K"),
+        };
+    }
+
+    /// How many MiB were done in a second, on average since the start.
+    fn rate(&self, done: u64, start: Option<Instant>) -> Option<u64> {
+        let millis = start?.elapsed(self.rt).ok()?.as_millis();
+        u64::try_from((done as u128 * 1000).checked_div(millis)?).ok()
+    }
+}
+
+/// A writer to which nothing is written before the line is erased.
+#[derive(Drop)]
+pub struct Cleared<'a, R, W> {
+    line: &'a ProgressLine<'a, R>,
+    inner: W,
+}
+
+impl<'a, R: Onlooker, W: Write> Cleared<'a, R, W> {
+    /// A writer that passes everything on.
+    pub fn new(line: &'a ProgressLine<'a, R>, inner: W) -> Self
+        ensures { cleared_inner result ≡ inner }
+    {
+        Cleared { line, inner }
+    }
+}
+
+impl<R: Onlooker, W: Write> Write for Cleared<'_, R, W> {
+    ghost contents = { λ w. W.contents w.inner };
+
+    fn write(&mut self, buf: &[u8]) -> io::Result<usize> {
+        self.line.erase();
+        self.inner.write(buf)
+    }
+
+    fn flush(&mut self) -> io::Result<()> {
+        self.inner.flush()
+    }
+}

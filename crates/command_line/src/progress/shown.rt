@@ -1,0 +1,85 @@
+//! A reader that shows how far its reading is.
+ghost use Rattle.std.specs.Prelude.{◌≡◌};
+ghost use Rattle.command_line.specs.Showing.{shown_inner};
+
+use crate::progress::onlooker::Onlooker;
+use crate::progress::progress_line::ProgressLine;
+use std::io;
+use std::io::Read;
+use std::time::Instant;
+
+/// How far a reading is.
+#[derive(Drop)]
+struct Progress<'a, R> {
+    line: &'a ProgressLine<'a, R>,
+    /// How many bytes were read, and how many there are.
+    done: u64,
+    total: u64,
+    /// After how many bytes the line is written again, and `None` where it isn't written at all.
+    step: Option<u64>,
+    /// At how many bytes it is written next.
+    next: u64,
+    start: Option<Instant>,
+}
+
+impl<'a, R: Onlooker> Progress<'a, R> {
+    /// Nothing is read yet. The line is written where somebody looks on and there are more bytes than four steps.
+    fn new(line: &'a ProgressLine<'a, R>, total: u64) -> Self {
+        let (step, start) = match line.step() {
+            Some(step) if step.saturating_mul(4) < total => (Some(step), line.now()),
+            _ => (None, None),
+        };
+        Progress {
+            line,
+            done: 0,
+            total,
+            step,
+            next: step.unwrap_or(0),
+            start,
+        }
+    }
+
+    /// So many bytes more were read.
+    fn advance(&mut self, count: usize) {
+        let Some(step) = self.step else {
+            return;
+        };
+        self.done = self.done.saturating_add(count as u64);
+        if self.done >= self.next {
+            self.next = self.done.saturating_add(step);
+            self.line.draw(self.done, self.total, self.start);
+        }
+    }
+}
+
+/// A reader that shows how far its reading is, where somebody looks on and it has more bytes than four of the runtime's
+/// steps. Its reads are those of the reader within.
+#[derive(Drop)]
+pub struct Shown<'a, R, F> {
+    inner: F,
+    progress: Progress<'a, R>,
+}
+
+impl<'a, R: Onlooker, F: Read> Shown<'a, R, F> {
+    /// Shows the reading of so many bytes.
+    pub fn new(inner: F, total: u64, line: &'a ProgressLine<'a, R>) -> Self
+        ensures { shown_inner result ≡ inner }
+    {
+        Shown {
+            inner,
+            progress: Progress::new(line, total),
+        }
+    }
+}
+
+impl<R: Onlooker, F: Read> Read for Shown<'_, R, F> {
+    ghost remaining = { λ s. F.remaining s.inner };
+
+    fn read(&mut self, buf: &mut [u8]) -> io::Result<usize> {
+        let outcome = self.inner.read(buf);
+        if let Ok(count) = &outcome {
+            self.progress.advance(*count);
+        }
+        outcome
+    }
+}

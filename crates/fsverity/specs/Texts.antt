@@ -1,0 +1,3 @@
+-- What is printed: the lines of digests.
+pub mod Lines
+pub mod Messages

@@ -1,0 +1,2 @@
+-- From the words of a command line to a line.
+pub mod CommandLines

@@ -1,0 +1,5 @@
+//! The program over any runtime: files and streams.
+
+pub(crate) mod entry;
+pub(crate) mod output_files;
+pub(crate) mod outputs;

@@ -1,0 +1,180 @@
+//! A run over one file with output files.
+ghost use Rattle.std.specs.Prelude.{◌≡◌, ◌↔◌, ◌⊎◌, length, false, IfOk, IsTrue};
+ghost use Rattle.verity_hash.specs.declared.salting.SaltRule.TheVariants.{PaddedBefore};
+ghost use Rattle.verity_plan.specs.Settings.{digest_len};
+ghost use Rattle.verity_io.specs.Counting.{Counts, change};
+ghost use Rattle.fsverity.specs.Runs.FileDigest.{Digests, IsDescribed, Stands, device_failed, is_too_large, source_failed};
+ghost use Rattle.fsverity.specs.Runs.Outputs.{IsWritten, OutputRun, Reads, Wanted, WritesTexts, WritesTree};
+ghost use Rattle.fsverity.specs.Runs.Outputs.{digested, output_task, written};
+ghost use Rattle.fsverity.specs.Runs.OutputSteps.{PutsDescriptor};
+ghost use Rattle.fsverity.specs.declared.runs.digest_fault.DigestFault.TheVariants.{TooLarge};
+
+use crate::texts::line_printing::print_line;
+use crate::{DigestFault, FileDigest, Form, OutputFault, digest_file, digest_file_with_tree};
+use std::alloc::Global;
+use std::io::Write;
+use verity_format::{PutFault, put_all};
+use verity_tree::{Device, Source, TreeSettings};
+
+/// The digest of a file, whose tree is written where it is wanted.
+fn digest_wanted<S: Source, D: Device>(
+    alloc: Global,
+    settings: &TreeSettings,
+    size: u64,
+    source: &mut S,
+    want_tree: bool,
+    tree: &mut D,
+) -> Result<FileDigest, DigestFault>
+    requires { settings.now.rule ≡ PaddedBefore }
+    ensures source_told { S.tells source.old → S.tells source.new }
+    ensures tree_told { D.tells tree.old → D.tells tree.new }
+    ensures kept { want_tree ≡ false → tree.new ≡ tree.old }
+    ensures too_large { (result ≡ Err TooLarge) ↔ IsTrue (is_too_large settings.now size) }
+    ensures described { IfOk result
+        (IsDescribed settings.now size (S.tells source.old) (S.remaining source.old)) }
+    ensures length { IfOk result (λ made. length made.digest ≡ digest_len settings.now) }
+    ensures source_count { Counts (source_failed result) (S.failures source.old) (S.failures source.new) }
+    ensures tree_count { Counts (device_failed result) (D.failures tree.old) (D.failures tree.new) }
+    ensures bytes { S.tells source.old
+        → Digests settings.now size result (S.remaining source.old) (S.remaining source.new) }
+    ensures stands { S.tells source.old → D.tells tree.old → Wanted want_tree
+        (Stands settings.now size (S.remaining source.old) result (D.content tree.old) (D.content tree.new))
+        (D.content tree.new ≡ D.content tree.old) }
+{
+    if want_tree {
+        digest_file_with_tree(alloc, settings, size, source, tree)
+    } else {
+        digest_file(alloc, settings, size, source)
+    }
+}
+
+/// Writes the descriptor where it is wanted. The fault says how many of its bytes were taken.
+fn put_descriptor<W: Write>(
+    made: &FileDigest,
+    wanted: bool,
+    descriptor: &mut W,
+) -> Result<(), PutFault>
+    ensures kept { wanted ≡ false → descriptor.new ≡ descriptor.old }
+    ensures put { PutsDescriptor made.now.descriptor wanted result
+        (W.contents descriptor.old) (W.contents descriptor.new) }
+{
+    if wanted {
+        put_all(descriptor, &made.descriptor)
+    } else {
+        Ok(())
+    }
+}
+
+/// Writes the tree, the descriptor and the line of a file.
+fn write_outputs<S: Source, D: Device, W: Write, O: Write>(
+    alloc: Global,
+    settings: &TreeSettings,
+    form: Form,
+    name: &str,
+    size: u64,
+    source: &mut S,
+    want_tree: bool,
+    tree: &mut D,
+    want_descriptor: bool,
+    descriptor: &mut W,
+    out: &mut O,
+) -> Result<(), OutputFault>
+    requires { settings.now.rule ≡ PaddedBefore }
+    ensures source_told { S.tells source.old → S.tells source.new }
+    ensures tree_told { D.tells tree.old → D.tells tree.new }
+    ensures tree_kept { want_tree ≡ false → tree.new ≡ tree.old }
+    ensures descriptor_kept { want_descriptor ≡ false → descriptor.new ≡ descriptor.old }
+    ensures too_large { (digested result ≡ Err TooLarge) ↔ IsTrue (is_too_large settings.now size) }
+    ensures read { S.tells source.old
+        → Reads (output_task settings.now form name.now size want_tree want_descriptor)
+        (digested result) (S.remaining source.old) (S.remaining source.new) }
+    ensures stands { S.tells source.old → D.tells tree.old
+        → WritesTree (output_task settings.now form name.now size want_tree want_descriptor)
+        (S.remaining source.old) (digested result) (D.content tree.old) (D.content tree.new) }
+    ensures written { WritesTexts (output_task settings.now form name.now size want_tree want_descriptor)
+        result (S.tells source.old) (S.remaining source.old)
+        (written W.contents O.contents descriptor.old descriptor.new out.old out.new) }
+    ensures source_count { Counts (source_failed (digested result)) (S.failures source.old) (S.failures source.new) }
+    ensures tree_count { Counts (device_failed (digested result)) (D.failures tree.old) (D.failures tree.new) }
+{
+    let made = match digest_wanted(alloc, settings, size, source, want_tree, tree) {
+        Ok(made) => made,
+        Err(fault) => return Err(OutputFault::Digest(fault)),
+    };
+    match put_descriptor(&made, want_descriptor, descriptor) {
+        Ok(()) => {}
+        Err(PutFault(taken)) => return Err(OutputFault::Descriptor(taken)),
+    }
+    match print_line(alloc, settings, form, name, &made, out) {
+        Ok(()) => Ok(()),
+        Err(fault) => Err(OutputFault::Line(fault)),
+    }
+}
+
+/// Digests one file of `size` bytes, and writes what is wanted of it: the hash blocks of its tree to `tree`, the top
+/// level first at its start, then the 256 bytes of the descriptor to `descriptor`, then the line to `out` (fsverity(1),
+/// "--out-merkle-tree", "--out-descriptor"). What is not wanted stays.
+///
+/// The status is 0 where all is written. The first fault ends the run with status 1: its message goes to `msgs` as
+/// far as that takes it, and nothing that comes later is written. The caller sees to settings of fs-verity.
+pub fn run_digest_to<S: Source, D: Device, W: Write, O: Write, M: Write>(
+    alloc: Global,
+    settings: &TreeSettings,
+    form: Form,
+    name: &str,
+    size: u64,
+    source: &mut S,
+    want_tree: bool,
+    tree: &mut D,
+    want_descriptor: bool,
+    descriptor: &mut W,
+    out: &mut O,
+    msgs: &mut M,
+) -> u8
+    requires { settings.now.rule ≡ PaddedBefore }
+    ensures status { (result ≡ 0) ⊎ (result ≡ 1) }
+    ensures source_told { S.tells source.old → S.tells source.new }
+    ensures tree_told { D.tells tree.old → D.tells tree.new }
+
+    // What is not wanted stays, and so do the messages where all is written.
+    ensures tree_kept { want_tree ≡ false → tree.new ≡ tree.old }
+    ensures descriptor_kept { want_descriptor ≡ false → descriptor.new ≡ descriptor.old }
+    ensures quiet { result ≡ 0 → msgs.new ≡ msgs.old }
+
+    // Status 0: the file was read once, and what is wanted is written.
+    ensures all { result ≡ 0 → S.tells source.old
+        → IsWritten (output_task settings.now form name.now size want_tree want_descriptor)
+        (change S.tells S.remaining S.failures source.old source.new)
+        (change D.tells D.content D.failures tree.old tree.new)
+        (written W.contents O.contents descriptor.old descriptor.new out.old out.new) }
+
+    // Each status: one outcome says what became of source, tree, descriptor, out and msgs, and which count rose.
+    ensures run { OutputRun (output_task settings.now form name.now size want_tree want_descriptor) result
+        (change S.tells S.remaining S.failures source.old source.new)
+        (change D.tells D.content D.failures tree.old tree.new)
+        (record {
+          written = written W.contents O.contents descriptor.old descriptor.new out.old out.new;
+          msgs_before = M.contents msgs.old;
+          msgs_after = M.contents msgs.new;
+        }) }
+{
+    match write_outputs(
+        alloc,
+        settings,
+        form,
+        name,
+        size,
+        source,
+        want_tree,
+        tree,
+        want_descriptor,
+        descriptor,
+        out,
+    ) {
+        Ok(()) => 0,
+        Err(fault) => {
+            fault.tell(alloc, name, msgs);
+            1
+        }
+    }
+}

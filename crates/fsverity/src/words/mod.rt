@@ -1,0 +1,4 @@
+//! From the words of a command line to a line.
+
+pub(crate) mod line;
+pub(crate) mod reading;

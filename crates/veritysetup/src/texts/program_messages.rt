@@ -1,0 +1,106 @@
+//! Messages of the program's own, one line each. The answer is the status that goes with each.
+ghost use Rattle.std.specs.Prelude.{◌≡◌};
+ghost use Rattle.command_line.specs.LineFaults.{IsMemory};
+ghost use Rattle.command_line.specs.Printing.{AppendsFront};
+ghost use Rattle.veritysetup.specs.Texts.Messages.{memory_text, option_text, short_text};
+ghost use Rattle.veritysetup.specs.Program.Answers.{IsRefusal, words_status, words_text};
+ghost use Rattle.veritysetup.specs.Program.Answers.{incomplete_text, no_random_text, unopened_text, unwritten_text};
+
+use crate::options::raw_options::OptionFault;
+use crate::texts::messages::{OUT_OF_MEMORY, build_message, option_message};
+use command_line::{LineFault, WordsFault, not_text_message, tell, tell_pieces, tell_text};
+use std::alloc::Global;
+use std::io::Write;
+use verity_tree::BuildFault;
+
+/// The file could not be opened, or its length not be found.
+pub fn cannot_open<M: Write>(path: &str, msgs: &mut M) -> u8
+    ensures status { result ≡ 4 }
+    ensures message { AppendsFront (unopened_text path.now) (M.contents msgs.old) (M.contents msgs.new) }
+{
+    tell_pieces(&["Cannot open ", path, ".\n"], msgs);
+    4
+}
+
+/// The system does not keep what was written to the file.
+pub fn cannot_write<M: Write>(path: &str, msgs: &mut M) -> u8
+    ensures status { result ≡ 4 }
+    ensures message { AppendsFront (unwritten_text path.now) (M.contents msgs.old) (M.contents msgs.new) }
+{
+    tell_pieces(&["Cannot write ", path, ".\n"], msgs);
+    4
+}
+
+/// The data ends before the end of a block that is wanted.
+pub fn short_data<M: Write>(alloc: Global, block: u64, msgs: &mut M) -> u8
+    ensures status { result ≡ 4 }
+    ensures message { AppendsFront (short_text block) (M.contents msgs.old) (M.contents msgs.new) }
+{
+    tell(build_message(alloc, &BuildFault::SourceShort(block)), msgs);
+    4
+}
+
+/// There are no random bytes.
+pub fn no_random_bytes<M: Write>(msgs: &mut M) -> u8
+    ensures status { result ≡ 4 }
+    ensures message { AppendsFront no_random_text (M.contents msgs.old) (M.contents msgs.new) }
+{
+    tell_text("Cannot get random bytes.\n", msgs);
+    4
+}
+
+/// There is no memory for the command line.
+pub fn out_of_memory<M: Write>(msgs: &mut M) -> u8
+    ensures status { result ≡ 3 }
+    ensures message { AppendsFront memory_text (M.contents msgs.old) (M.contents msgs.new) }
+{
+    tell_text(OUT_OF_MEMORY, msgs);
+    3
+}
+
+/// An option is refused.
+pub fn refused_option<M: Write>(alloc: Global, fault: &OptionFault, msgs: &mut M) -> u8
+    ensures status { result ≡ 1 }
+    ensures message { AppendsFront (option_text fault.now) (M.contents msgs.old) (M.contents msgs.new) }
+{
+    tell(option_message(alloc, fault), msgs);
+    1
+}
+
+/// The command line is accepted, but without a file that it must have. `clap` lets no such line pass.
+pub fn incomplete_line<M: Write>(msgs: &mut M) -> u8
+    ensures status { result ≡ 1 }
+    ensures message { AppendsFront incomplete_text (M.contents msgs.old) (M.contents msgs.new) }
+{
+    tell_text("error: the command line is not complete\n", msgs);
+    1
+}
+
+/// The words of the command line can't be had: one is no text, or there is no memory for them.
+pub fn refused_words<M: Write>(alloc: Global, fault: &WordsFault, msgs: &mut M) -> u8
+    ensures status { result ≡ words_status fault.now }
+    ensures refusal { IsRefusal result }
+    ensures message { AppendsFront (words_text fault.now) (M.contents msgs.old) (M.contents msgs.new) }
+{
+    match fault {
+        WordsFault::NotText(number, word) => {
+            tell(not_text_message(alloc, *number, word.as_slice()), msgs);
+            1
+        }
+        WordsFault::Memory => out_of_memory(msgs),
+    }
+}
+
+/// The command line is refused, with `clap`'s text and the usage, or there is no memory for the copies of it.
+pub fn refused_line<M: Write>(fault: &LineFault, usage: &str, msgs: &mut M) -> u8
+    ensures refusal { IsRefusal result }
+    ensures memory { IsMemory fault.now → (result ≡ 3)
+        × AppendsFront memory_text (M.contents msgs.old) (M.contents msgs.new) }
+    ensures refused { (IsMemory fault.now → ⊥) → result ≡ 1 }
+{
+    if fault.is_memory() {
+        return out_of_memory(msgs);
+    }
+    fault.tell(usage, msgs);
+    1
+}
