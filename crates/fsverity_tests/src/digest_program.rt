@@ -1,6 +1,6 @@
 //! The program fsverity over a runtime in memory: what is opened when, the lines, every message of its own, and the
 //! statuses.
-use crate::digest_words::USAGE;
+use crate::words::USAGE;
 use fixtures::{NO_TEXT, Said, Shape, data, descriptor, filled};
 use fsverity::{ProgressLine, read_words, run_program};
 use memory_runtime::{Disk, Kind, MemoryRuntime};

@@ -1,5 +1,5 @@
-//! Tests of what fsverity does: its command line and options, the digests of files, and the program over files in memory.
-//! Expected bytes come from the kernel's page on fs-verity, expected digests from `sha2` over stated bytes.
+//! Tests of what fsverity does: its command line and options, the digests of files, and the program over files in
+//! memory. Expected bytes come from the kernel's page on fs-verity, expected digests from `sha2` over stated bytes.
 #![tactic(auto)]
 
 #[cfg(test)]

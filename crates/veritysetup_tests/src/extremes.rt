@@ -1,7 +1,7 @@
 //! Runs with no option at all, and with the largest blocks, the longest salt and the longest path.
 use crate::images::{formatted, formatted_at, image_of};
+use crate::options::{DEFAULTS, counted};
 use crate::program_runs::{disk_of, run};
-use crate::setup_options::{DEFAULTS, counted};
 use fixtures::{REPORT_1, Report, Shape, lay, one_block};
 use std::test::Fail;
 use verity_hash::Algorithm;

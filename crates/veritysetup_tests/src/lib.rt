@@ -1,5 +1,6 @@
-//! Tests of what veritysetup does: its command line and options, the runs of format, dump and verify, and the program over
-//! files in memory. Expected bytes come from the formats' public pages, expected digests from `sha2` over stated bytes.
+//! Tests of what veritysetup does: its command line and options, the runs of format, dump and verify, and the program
+//! over files in memory. Expected bytes come from the formats' public pages, expected digests from `sha2` over stated
+//! bytes.
 #![tactic(auto)]
 
 #[cfg(test)]

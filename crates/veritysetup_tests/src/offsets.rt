@@ -2,7 +2,7 @@
 ghost use Rattle.std.specs.Prelude.{[]};
 
 use crate::images::{SMALL, formatted, image_17};
-use crate::setup_options::DEFAULTS;
+use crate::options::DEFAULTS;
 use fixtures::{REPORT_17, Report, filled};
 use std::alloc::{AllocError, Global};
 use std::test::Fail;

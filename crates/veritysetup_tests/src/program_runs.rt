@@ -1,6 +1,6 @@
 //! The program over files in memory: what its options choose, its own messages, and what stands after it.
 use crate::images::image_of;
-use crate::setup_words::{DUMP_USAGE, FORMAT_USAGE, VERIFY_USAGE};
+use crate::words::{DUMP_USAGE, FORMAT_USAGE, VERIFY_USAGE};
 use fixtures::{NO_TEXT, REPORT_17, Report, Said, filled, words_of};
 use memory_runtime::{Call, Disk, Kind, MemoryRuntime};
 use std::alloc::Global;
