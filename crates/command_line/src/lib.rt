@@ -19,7 +19,7 @@ pub use printing::print_fault::{PrintFault, print_whole};
 pub use progress::onlooker::Onlooker;
 pub use progress::progress_line::{Cleared, ProgressLine};
 pub use progress::shown::Shown;
-pub use words::arguments::{flag, option, program, word, words};
+pub use words::arguments::{flag, option, positional, positionals, program};
 pub use words::copies::{copied_value, copied_values, is_given};
 pub use words::line_fault::LineFault;
 pub use words::system_words::{WordsFault, given_words, not_text_message};

@@ -1,7 +1,7 @@
 //! Words of the system, and texts copied out of command lines, where memory is ample.
 use clap::Command;
 use command_line::{
-    copied_value, copied_values, given_words, option, program, text_of, texts_of, words,
+    copied_value, copied_values, given_words, option, positionals, program, text_of, texts_of,
 };
 use memory_runtime::{Disk, MemoryRuntime};
 use std::test::Fail;
@@ -57,7 +57,7 @@ fn values_are_copied(rt: HostRuntime) -> Result<(), Fail> {
     let inner = Command::new(alloc, "inner")
         .arg(option(alloc, "given"))?
         .arg(option(alloc, "missing"))?
-        .arg(words(alloc, "names"))?;
+        .arg(positionals(alloc, "names"))?;
     let command = program(alloc, "program").subcommand(inner)?;
     let line = [
         "program",

@@ -22,16 +22,16 @@ pub fn flag<'a>(alloc: Global, name: &'a str) -> Arg<'a>
     Arg::new(alloc, name).long(name).action(ArgAction::SetTrue)
 }
 
-/// A word that has to be given, in order among the words beside the options.
-pub fn word<'a>(alloc: Global, name: &'a str) -> Arg<'a>
+/// A positional argument that has to be given.
+pub fn positional<'a>(alloc: Global, name: &'a str) -> Arg<'a>
     ensures rule { rule_of result ≡ word_rule name.entry.now }
     ensures local { result.global ≡ false }
 {
     Arg::new(alloc, name).action(ArgAction::Set).required(true)
 }
 
-/// The words beside the options, one or more.
-pub fn words<'a>(alloc: Global, name: &'a str) -> Arg<'a>
+/// The positional arguments, one or more.
+pub fn positionals<'a>(alloc: Global, name: &'a str) -> Arg<'a>
     ensures rule { rule_of result ≡ words_rule name.entry.now }
     ensures local { result.global ≡ false }
 {

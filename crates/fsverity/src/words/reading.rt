@@ -8,7 +8,7 @@ ghost use Rattle.fsverity.specs.Words.CommandLines.{HoldsCommand, HoldsRows, dig
 
 use crate::{Line, LineFault};
 use clap::{ArgMatches, Command};
-use command_line::{copied_value, copied_values, flag, is_given, option, program, words};
+use command_line::{copied_value, copied_values, flag, is_given, option, positionals, program};
 use std::alloc::{AllocError, Global};
 
 /// The usage text of the program and of its command.
@@ -28,7 +28,7 @@ fn digest_command<'a>(alloc: Global) -> Result<Command<'a>, AllocError>
         .arg(flag(alloc, "for-builtin-sig"))?
         .arg(option(alloc, "out-merkle-tree"))?
         .arg(option(alloc, "out-descriptor"))?
-        .arg(words(alloc, "files"))
+        .arg(positionals(alloc, "files"))
 }
 
 fn command<'a>(alloc: Global) -> Result<Command<'a>, AllocError>

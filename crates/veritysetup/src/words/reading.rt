@@ -10,7 +10,7 @@ ghost use Rattle.veritysetup.specs.Words.CommandLines.{with_offset_rule, with_tr
 
 use crate::{CommandName, Line};
 use clap::{ArgMatches, Command};
-use command_line::{LineFault, copied_value, flag, is_given, option, program, word};
+use command_line::{LineFault, copied_value, flag, is_given, option, positional, program};
 use std::alloc::{AllocError, Global};
 
 /// The usage text where no command is known.
@@ -73,15 +73,15 @@ fn format_command<'a>(alloc: Global) -> Result<Command<'a>, AllocError>
     with_offset_option(alloc, with_tree_options(alloc, command)?)?
         .arg(option(alloc, "uuid"))?
         .arg(flag(alloc, "no-superblock"))?
-        .arg(word(alloc, "DATA"))?
-        .arg(word(alloc, "HASH"))
+        .arg(positional(alloc, "DATA"))?
+        .arg(positional(alloc, "HASH"))
 }
 
 fn dump_command<'a>(alloc: Global) -> Result<Command<'a>, AllocError>
     ensures { IfOk result (Defines dump_app) }
 {
     let command = Command::new(alloc, "dump").override_usage(DUMP_USAGE);
-    with_offset_option(alloc, command)?.arg(word(alloc, "HASH"))
+    with_offset_option(alloc, command)?.arg(positional(alloc, "HASH"))
 }
 
 fn verify_command<'a>(alloc: Global) -> Result<Command<'a>, AllocError>
@@ -90,9 +90,9 @@ fn verify_command<'a>(alloc: Global) -> Result<Command<'a>, AllocError>
     let command = Command::new(alloc, "verify").override_usage(VERIFY_USAGE);
     with_offset_option(alloc, with_tree_options(alloc, command)?)?
         .arg(flag(alloc, "no-superblock"))?
-        .arg(word(alloc, "DATA"))?
-        .arg(word(alloc, "HASH"))?
-        .arg(word(alloc, "ROOT"))
+        .arg(positional(alloc, "DATA"))?
+        .arg(positional(alloc, "HASH"))?
+        .arg(positional(alloc, "ROOT"))
 }
 
 fn command<'a>(alloc: Global) -> Result<Command<'a>, AllocError>
