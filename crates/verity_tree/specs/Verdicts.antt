@@ -1,13 +1,13 @@
 -- Whether the hash blocks that a device holds are the tree's, and which is the first in closing order that is not
 -- (veritysetup(8), `verify`; the order and the parts are this project's own).
-use Rattle.std.specs.Prelude.{◌≡◌, ℕ, ◌+◌, ◌-◌, ◌*◌, Bool, not, min, List, length, take, drop, find, All}
+use Rattle.std.specs.Prelude.{◌≡◌, ◌≤◌, ℕ, ◌+◌, ◌-◌, ◌*◌, Bool, not, min, List, length, take, drop, find, All}
 use Rattle.std.specs.Prelude.{nat_lt, Option, Some, None, Result, Ok, Err, if◌then◌else◌}
 use Rattle.std.specs.List.{range_with_len}
 use Rattle.std.specs.Str.{bytes_eq}
 use Rattle.verity_tree.specs.ClosingOrder.{order}
 use Rattle.verity_tree.specs.Image.{tree_block}
 use Rattle.verity_tree.specs.Levels.{root, data_blocks, whole}
-use Rattle.verity_plan.specs.Plans.{Planned, byte_of, size_under}
+use Rattle.verity_plan.specs.Plans.{Planned, HasBlock, byte_of, size_under}
 use Rattle.verity_plan.specs.Settings.{Settings, digest_len, fan, slot_width}
 use Rattle.verity_tree.specs.declared.comparing.CompareFault.{CompareFault}
 use Rattle.verity_tree.specs.declared.comparing.CompareFault.TheVariants.{SourceShort}
@@ -18,6 +18,12 @@ use Rattle.verity_tree.specs.declared.part.Part.TheVariants.{Missing, Child, Spa
 -- the bytes that a device holds for a block of a level: fewer than a hash block where it ends before
 abbrev pub stored : Planned → List ℕ → ℕ → ℕ → List ℕ
 stored p device level block = take p.settings.hash_block (drop (byte_of p level block) device)
+
+-- the device holds the whole tree above the data, each hash block at its place, and the root hash is the tree's
+pub record HoldsTree (p : Planned) (device bytes digest : List ℕ) : Type 0 where
+  pub enough : p.wanted ≤ length bytes
+  pub stands : (l j : ℕ) → HasBlock p l j → stored p device l j ≡ tree_block p.settings (data_blocks p bytes) l j
+  pub root_is : root p.settings (data_blocks p bytes) ≡ digest
 
 -- the digest in a slot of a hash block
 abbrev pub digest_in : Settings → List ℕ → ℕ → List ℕ

@@ -3,10 +3,12 @@ use Rattle.std.specs.Prelude.{◌≡◌, ℕ, Bool, true, false, List, Option, S
 use Rattle.verity_format.specs.SuperblockFields.{SuperblockFields}
 use Rattle.verity_format.specs.Superblocks.{IsSuperblock}
 use Rattle.verity_io.specs.Counting.{Change, Counts}
+use Rattle.verity_io.specs.Reading.{HasRead}
 use Rattle.verity_plan.specs.Plans.{Planned}
 use Rattle.verity_plan.specs.declared.plan_fault.PlanFault.{PlanFault}
 use Rattle.verity_tree.specs.Comparing.{CompareReads, Judges}
 use Rattle.verity_tree.specs.Comparing as comparing
+use Rattle.verity_tree.specs.Verdicts.{HoldsTree}
 use Rattle.verity_tree.specs.declared.comparing.CompareFault.{CompareFault}
 use Rattle.verity_tree.specs.declared.comparing.CompareFault.TheVariants as fault
 use Rattle.veritysetup.specs.Options.Chosen.{plan_at}
@@ -117,9 +119,14 @@ Verifies input device before after (Err Store) =
     ((plan : Planned) × (root : List ℕ) × Trusts input device plan root) × (after ≡ before)
 Verifies input device before after (Err (Compare fault)) = Compares input device before after (Err fault)
 
--- what status 0 stands for
-abbrev pub IsVerified : VerifyInput → List ℕ → List ℕ → List ℕ → Type 0
-IsVerified input device before after = Verifies input device before after (Ok tt)
+-- what status 0 stands for: the device holds the whole tree above the data, of which just the wanted bytes were read, and
+-- the root hash is the tree's
+pub record IsVerified (input : VerifyInput) (device before after : List ℕ) : Type 0 where
+  pub plan : Planned
+  pub root : List ℕ
+  pub trusted : Trusts input device plan root
+  pub holds : HoldsTree plan device before root
+  pub read : HasRead plan.wanted before after
 
 -- the device could not be read at the superblock
 abbrev pub input_unread : InputFault → Bool
