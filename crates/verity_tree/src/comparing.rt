@@ -69,28 +69,7 @@ pub fn compare<S: Source, D: Device>(
     ensures verdict { S.tells source.old → D.tells device.old
         → Judges plan.now (D.content device.old) (S.remaining source.old) root.now result }
 {
-    judge(plan, store.lend(), source, device, root)
-}
-
-/// The comparison, in the bytes of a store.
-fn judge<S: Source, D: Device>(
-    plan: &Plan,
-    store: &mut [u8],
-    source: &mut S,
-    device: &mut D,
-    root: &Digest,
-) -> Result<(), CompareFault>
-    requires { length store.old ≡ store_length_of plan.now }
-    ensures stands { D.tells device.old → D.content device.new ≡ D.content device.old }
-    ensures source_told { S.tells source.old → S.tells source.new }
-    ensures device_told { D.tells device.old → D.tells device.new }
-    ensures source_count { Counts (source_failed result) (S.failures source.old) (S.failures source.new) }
-    ensures device_count { Counts (device_failed result) (D.failures device.old) (D.failures device.new) }
-    ensures read { S.tells source.old → CompareReads plan.now result (S.remaining source.old) (S.remaining source.new) }
-    ensures verdict { S.tells source.old → D.tells device.old
-        → Judges plan.now (D.content device.old) (S.remaining source.old) root.now result }
-{
-    match pass(plan, Task::Compare, store, source, device) {
+    match pass(plan, Task::Compare, store.lend(), source, device) {
         Ok(computed) => {
             if computed.as_bytes() == root.as_bytes() {
                 Ok(())

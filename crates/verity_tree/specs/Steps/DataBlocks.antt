@@ -18,12 +18,6 @@ pub record HoldsBlock (want size : ℕ) (before after block : List ℕ) : Type 0
   pub bytes : block ≡ filled size (take want before)
   pub rest : after ≡ drop want before
 
--- the next bytes over the front of a block
-pub record HoldsFront (want : ℕ) (before after old new : List ℕ) : Type 0 where
-  pub enough : want ≤ length before
-  pub bytes : new ≡ take want before ++ drop want old
-  pub rest : after ≡ drop want before
-
 -- fewer bytes than were wanted were read
 pub record StopsWithin (want : ℕ) (before after : List ℕ) : Type 0 where
   pub count : ℕ
@@ -35,10 +29,6 @@ pub record StopsWithin (want : ℕ) (before after : List ℕ) : Type 0 where
 abbrev pub StopsBy : BlockFault → ℕ → List ℕ → List ℕ → Type 0
 StopsBy Short want before after = (length before < want) × (after ≡ [])
 StopsBy Failed want before after = StopsWithin want before after
-
-abbrev pub ReadsFront : Result Unit BlockFault → ℕ → List ℕ → List ℕ → List ℕ → List ℕ → Type 0
-ReadsFront (Ok _) want before after old new = HoldsFront want before after old new
-ReadsFront (Err fault) want before after old new = StopsBy fault want before after
 
 abbrev pub ReadsBlock : Result Unit BlockFault → ℕ → ℕ → List ℕ → List ℕ → List ℕ → Type 0
 ReadsBlock (Ok _) want size before after block = HoldsBlock want size before after block

@@ -5,7 +5,7 @@ ghost use Rattle.verity_io.specs.Reading.{HasRead};
 ghost use Rattle.verity_plan.specs.Plans.{levels_of};
 ghost use Rattle.verity_plan.specs.Settings.{digest_len};
 ghost use Rattle.verity_tree.specs.Reading.{bytes_of};
-ghost use Rattle.verity_tree.specs.Steps.DataBlocks.{ReadsBlock, ReadsFront, TakesDataBlock, read_failed};
+ghost use Rattle.verity_tree.specs.Steps.DataBlocks.{ReadsBlock, TakesDataBlock, read_failed};
 ghost use Rattle.verity_tree.specs.Steps.OpenBlocks.{HasOpenBlocks};
 
 use verity_hash::Digest;
@@ -33,28 +33,12 @@ pub(crate) fn read_data_block<S: Source>(
     ensures bytes { S.tells source.old
         → ReadsBlock result want (length block.old) (S.remaining source.old) (S.remaining source.new) block.new }
 {
-    match read_front(source, block, want) {
-        Ok(()) => {
-            block[want..].fill(0);
-            Ok(())
-        }
-        Err(fault) => Err(fault),
-    }
-}
-
-/// Reads the next bytes to the front of a block.
-fn read_front<S: Source>(source: &mut S, block: &mut [u8], want: usize) -> Result<(), BlockFault>
-    requires { want ≤ length block.old }
-    ensures told { S.tells source.old → S.tells source.new }
-    ensures count { Counts (read_failed result) (S.failures source.old) (S.failures source.new) }
-    ensures bytes { S.tells source.old
-        → ReadsFront result want (S.remaining source.old) (S.remaining source.new) block.old block.new }
-{
     match read_block(source, &mut block[..want]) {
         Ok(count) => {
             if count < want {
                 return Err(BlockFault::Short);
             }
+            block[want..].fill(0);
             Ok(())
         }
         Err(_) => Err(BlockFault::Failed),

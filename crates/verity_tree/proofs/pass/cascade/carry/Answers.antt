@@ -26,12 +26,12 @@ pub loop-level-init : goal.loop-level-init
 unfolding written
 loop-level-init g c = record {
   size = c.requires.digest;
-  place = place-first c.args.i (fan c.args.plan.now.settings);
+  place = place-first c.args.i (fan c.args.job.now.plan.settings);
   ends = λ none. absurd (omega (arith, none));
   told = λ t. t;
   failures = refl;
-  carries = λ blocks many first stands. IsCarrying-first c.args.plan.now.settings blocks c.args.i
-      (levels_of c.args.plan.now) c.args.opened.now c.args.digest first stands;
+  carries = λ blocks many first stands. IsCarrying-first c.args.job.now.plan.settings blocks c.args.i
+      (levels_of c.args.job.now.plan) c.args.opened.now c.args.digest first stands;
   image = λ _ blocks many first stands. refl;
   stays = λ _ _. refl;
   compared = λ _ _ blocks many first stands. (refl, All-nil _);
@@ -39,7 +39,7 @@ loop-level-init g c = record {
 
 pub step_level-requires-clause-here : goal.step_level-requires-clause-here
 step_level-requires-clause-here g c =
-    let p = c.args.plan.now in
+    let p = c.args.job.now.plan in
     let m = c.loop-level.level in
     let some : 0 < fan p.settings = omega (arith, c.fan-fan.ensures.two, c.fan-fan.ensures.value) in
     let here = closing-place (fan p.settings) c.args.i m c.loop-level.index
@@ -51,7 +51,7 @@ step_level-requires-clause-here g c =
 
 pub loop-level-preserved : goal.loop-level-preserved
 loop-level-preserved g c =
-    let p = c.args.plan.now in
+    let p = c.args.job.now.plan in
     let s = p.settings in
     let m = c.loop-level.level in
     let levels = levels_of p in
@@ -113,7 +113,7 @@ loop-level-preserved g c =
 
 pub returns-in-Open-clause-carries : goal.returns-in-Open-clause-carries
 returns-in-Open-clause-carries g c = λ blocks many first stands.
-    let p = c.args.plan.now in
+    let p = c.args.job.now.plan in
     let s = p.settings in
     let m = c.loop-level.level in
     let size : c.hash_block-size.result ≡ s.hash_block = c.hash_block-size.ensures in
@@ -129,7 +129,7 @@ returns-in-Open-clause-carries g c = λ blocks many first stands.
 
 pub returns-in-Open-clause-device : goal.returns-in-Open-clause-device
 returns-in-Open-clause-device g c = λ tells blocks many first stands.
-    let p = c.args.plan.now in
+    let p = c.args.job.now.plan in
     let s = p.settings in
     let inv = c.loop-level.invariant in
     let last = c.blocks-blocks.ensures.value in
@@ -145,7 +145,7 @@ returns-in-Open-clause-device g c = λ tells blocks many first stands.
 
 pub returns-in-Open-clause-compared : goal.returns-in-Open-clause-compared
 returns-in-Open-clause-compared g c = λ compare tells blocks many first stands.
-    let p = c.args.plan.now in
+    let p = c.args.job.now.plan in
     let s = p.settings in
     let inv = c.loop-level.invariant in
     let last = c.blocks-blocks.ensures.value in
@@ -163,7 +163,7 @@ returns-in-Open-clause-compared g c = λ compare tells blocks many first stands.
 
 pub returns-in-Stopped-clause-compared : goal.returns-in-Stopped-clause-compared
 returns-in-Stopped-clause-compared g c = λ compare tells blocks many first stands.
-    let p = c.args.plan.now in
+    let p = c.args.job.now.plan in
     let s = p.settings in
     let m = c.loop-level.level in
     let inv = c.loop-level.invariant in
@@ -199,7 +199,7 @@ returns-in-Stopped-clause-compared g c = λ compare tells blocks many first stan
 
 pub returns-in-Stopped-clause-carries : goal.returns-in-Stopped-clause-carries
 returns-in-Stopped-clause-carries g c = λ blocks many first stands.
-    let p = c.args.plan.now in
+    let p = c.args.job.now.plan in
     let s = p.settings in
     let m = c.loop-level.level in
     let inv = c.loop-level.invariant in
@@ -216,7 +216,7 @@ returns-in-Stopped-clause-carries g c = λ blocks many first stands.
 
 pub returns-in-Stopped-clause-device : goal.returns-in-Stopped-clause-device
 returns-in-Stopped-clause-device g c = λ tells blocks many first stands.
-    let p = c.args.plan.now in
+    let p = c.args.job.now.plan in
     let s = p.settings in
     let m = c.loop-level.level in
     let inv = c.loop-level.invariant in
@@ -231,7 +231,7 @@ returns-in-Stopped-clause-device g c = λ tells blocks many first stands.
 
 pub returns-clause-carries : goal.returns-clause-carries
 returns-clause-carries g c = λ blocks many first stands.
-    let p = c.args.plan.now in
+    let p = c.args.job.now.plan in
     let s = p.settings in
     let inv = c.loop-level.invariant in
     let all : c.loop-level.level ≡ levels_of p =
@@ -244,7 +244,7 @@ returns-clause-carries g c = λ blocks many first stands.
 
 pub returns-clause-device : goal.returns-clause-device
 returns-clause-device g c = λ tells blocks many first stands.
-    let p = c.args.plan.now in
+    let p = c.args.job.now.plan in
     let s = p.settings in
     let inv = c.loop-level.invariant in
     let all : c.loop-level.level ≡ levels_of p =
@@ -260,7 +260,7 @@ returns-clause-device g c = λ tells blocks many first stands.
 
 pub returns-clause-compared : goal.returns-clause-compared
 returns-clause-compared g c = λ compare tells blocks many first stands.
-    let p = c.args.plan.now in
+    let p = c.args.job.now.plan in
     let s = p.settings in
     let inv = c.loop-level.invariant in
     let all : c.loop-level.level ≡ levels_of p =
@@ -287,7 +287,7 @@ returns-in-Stopped-clause-stays g c = λ compare tells.
 
 pub returns-in-Stopped-clause-ends : goal.returns-in-Stopped-clause-ends
 returns-in-Stopped-clause-ends g c =
-    let p = c.args.plan.now in
+    let p = c.args.job.now.plan in
     ends-here (fan p.settings) p.blocks c.args.i c.loop-level.level c.loop-level.index _ c.loop-level.invariant.place
     (ap (λ (n : ℕ). eqb (c.args.i + 1) n) c.blocks-blocks.ensures.value) c.loop-level.invariant.ends
     c.in-Stopped.ensures.level

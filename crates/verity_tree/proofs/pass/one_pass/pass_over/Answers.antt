@@ -20,7 +20,7 @@ use Rattle.verity_tree.proofs.pass.one_pass.pass_over.Goals as goal
 pub loop-i-init : goal.loop-i-init
 unfolding written order
 loop-i-init g c =
-    let p = c.args.plan.now in
+    let p = c.args.job.now.plan in
     let planned = c.blocks-i-end.ensures.planned in
     record {
       size = c.fill.ensures.len;
@@ -42,7 +42,7 @@ loop-i-init g c =
 
 pub loop-i-preserved : goal.loop-i-preserved
 loop-i-preserved g c =
-    let p = c.args.plan.now in
+    let p = c.args.job.now.plan in
     let s = p.settings in
     let bytes = g.S.Source.remaining c.args.source.now in
     let blocks = data_blocks p bytes in
@@ -86,7 +86,7 @@ loop-i-preserved g c =
 
 pub returns-in-Err-clause-read : goal.returns-in-Err-clause-read
 returns-in-Err-clause-read g c = λ tells.
-    let p = c.args.plan.now in
+    let p = c.args.job.now.plan in
     let bytes = g.S.Source.remaining c.args.source.now in
     let blocks = data_blocks p bytes in
     let inv = c.loop-i.invariant in
@@ -101,7 +101,7 @@ returns-in-Err-clause-read g c = λ tells.
 
 pub returns-in-Err-clause-stands : goal.returns-in-Err-clause-stands
 returns-in-Err-clause-stands g c = λ tells told.
-    let p = c.args.plan.now in
+    let p = c.args.job.now.plan in
     let bytes = g.S.Source.remaining c.args.source.now in
     let blocks = data_blocks p bytes in
     let inv = c.loop-i.invariant in
@@ -116,7 +116,7 @@ returns-in-Err-clause-stands g c = λ tells told.
 
 pub returns-in-Err-clause-compared : goal.returns-in-Err-clause-compared
 returns-in-Err-clause-compared g c = λ compare tells told.
-    let p = c.args.plan.now in
+    let p = c.args.job.now.plan in
     let bytes = g.S.Source.remaining c.args.source.now in
     let blocks = data_blocks p bytes in
     let inv = c.loop-i.invariant in

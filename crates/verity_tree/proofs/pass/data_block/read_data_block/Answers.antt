@@ -1,6 +1,6 @@
 use Rattle.std.proofs.Common.{length, drop, arith, ap, sym, ◌∙◌, refl, length-append}
 use Rattle.std.proofs.lemmas.List.{drop_at, length-take-le}
-use Rattle.verity_tree.proofs.pass.data_block.read_front.Goals as goal
+use Rattle.verity_tree.proofs.pass.data_block.read_data_block.Goals as goal
 
 pub returns-in-Err-clause-bytes : goal.returns-in-Err-clause-bytes
 returns-in-Err-clause-bytes g c = λ tells.
