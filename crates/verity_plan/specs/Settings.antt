@@ -106,9 +106,7 @@ is_verity_block_size size = is_block_size least_verity_block size
 abbrev pub is_of_fsverity : Algorithm → Bool
 is_of_fsverity Sha256 = true
 is_of_fsverity Sha512 = true
-is_of_fsverity Sha1 = false
-is_of_fsverity Sha224 = false
-is_of_fsverity Sha384 = false
+is_of_fsverity _ = false
 
 -- settings that a tree can be made by
 pub record IsValid (s : Settings) : Type 0 where

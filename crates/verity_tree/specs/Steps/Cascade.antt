@@ -52,9 +52,8 @@ StepsCompared p level a (Stopped cause) before after = (after ≡ before)
 
 -- whether a call of the device failed
 abbrev pub step_failed : Task → LevelStep → Bool
-step_failed task Open = false
-step_failed task (Closed above) = false
 step_failed task (Stopped cause) = call_failed task cause
+step_failed task _ = false
 
 abbrev pub carry_failed : Task → Result Digest Stop → Bool
 carry_failed task (Ok digest) = false

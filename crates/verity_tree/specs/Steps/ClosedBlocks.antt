@@ -44,9 +44,8 @@ Closes p Compare closed (Err (Differs part)) before after =
 
 -- whether a call of the device failed
 abbrev pub call_failed : Task → Cause → Bool
-call_failed Write cause = true
-call_failed Compare Failed = true
 call_failed Compare (Differs part) = false
+call_failed _ _ = true
 
 abbrev pub close_failed : Task → Result Unit Cause → Bool
 close_failed task (Ok _) = false

@@ -36,13 +36,16 @@ ReadsBlock (Err fault) want size before after block = StopsBy fault want before 
 
 -- whether the source failed
 abbrev pub read_failed : {X : Type 0} → Result X BlockFault → Bool
-read_failed (Ok _) = false
-read_failed (Err Short) = false
 read_failed (Err Failed) = true
+read_failed _ = false
 
--- data block i of these bytes is taken, or the source ended or failed within it
+-- the source ended or failed within data block i
+abbrev pub StopsInBlock : Planned → ℕ → List ℕ → BlockFault → List ℕ → Type 0
+StopsInBlock p i bytes Short after = EndsWithin p i bytes after
+StopsInBlock p i bytes Failed after = FailsWithin p i bytes after
+
+-- data block i of these bytes is read and hashed, or the source ended or failed within it
 abbrev pub TakesDataBlock : Planned → ℕ → List ℕ → Result Digest BlockFault → List ℕ → Type 0
 TakesDataBlock p i bytes (Ok digest) after =
     HasRead (bytes_of p (i + 1)) bytes after × (digest ≡ carried p.settings (data_blocks p bytes) i 0)
-TakesDataBlock p i bytes (Err Short) after = EndsWithin p i bytes after
-TakesDataBlock p i bytes (Err Failed) after = FailsWithin p i bytes after
+TakesDataBlock p i bytes (Err fault) after = StopsInBlock p i bytes fault after

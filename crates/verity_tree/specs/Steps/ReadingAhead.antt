@@ -8,8 +8,9 @@ use Rattle.verity_io.specs.Reading.{HasRead}
 use Rattle.verity_plan.specs.Plans.{Planned}
 use Rattle.verity_plan.specs.Settings.{hash, fan, digest_len}
 use Rattle.verity_tree.specs.Levels.{data_blocks}
-use Rattle.verity_tree.specs.Reading.{EndsWithin, FailsWithin, bytes_of}
+use Rattle.verity_tree.specs.Reading.{bytes_of}
 use Rattle.verity_tree.specs.Steps.Cascade.{EndsBlock}
+use Rattle.verity_tree.specs.Steps.DataBlocks.{StopsInBlock}
 use Rattle.verity_tree.specs.Steps.OpenBlocks.{carried}
 use Rattle.verity_tree.specs.declared.pass.data_block.BlockFault.{BlockFault}
 use Rattle.verity_tree.specs.declared.pass.data_block.BlockFault.TheVariants.{Short, Failed}
@@ -19,8 +20,7 @@ use Rattle.verity_tree.specs.declared.pass.reading_ahead.Ahead.{Ahead}
 abbrev pub ReadsRow : Planned → ℕ → List ℕ → Result Unit BlockFault → List ℕ → List ℕ → Type 0
 ReadsRow p i bytes (Ok _) row after =
     HasRead (bytes_of p (i + 1)) bytes after × (hash p.settings row ≡ carried p.settings (data_blocks p bytes) i 0)
-ReadsRow p i bytes (Err Short) row after = EndsWithin p i bytes after
-ReadsRow p i bytes (Err Failed) row after = FailsWithin p i bytes after
+ReadsRow p i bytes (Err fault) row after = StopsInBlock p i bytes fault after
 
 -- `count` data blocks from i on stand in the rows
 abbrev pub HoldsRows : Planned → ℕ → List ℕ → ℕ → List ℕ → Type 0
@@ -30,8 +30,7 @@ HoldsRows p i bytes count rows = (r : ℕ) → r < count
 -- where the source stands before data block i, or why that is not to be had
 abbrev pub StandsBy : Planned → ℕ → List ℕ → Option BlockFault → List ℕ → Type 0
 StandsBy p i bytes None after = HasRead (bytes_of p i) bytes after
-StandsBy p i bytes (Some Short) after = EndsWithin p i bytes after
-StandsBy p i bytes (Some Failed) after = FailsWithin p i bytes after
+StandsBy p i bytes (Some fault) after = StopsInBlock p i bytes fault after
 
 -- `count` data blocks from i on are there, and none of them but the last is the last below a hash block
 pub record IsRun (p : Planned) (i count : ℕ) : Type 0 where
@@ -45,9 +44,8 @@ IsReadOf count n (Some fault) = n < count
 
 -- whether the source failed
 abbrev pub stop_failed : Option BlockFault → Bool
-stop_failed None = false
-stop_failed (Some Short) = false
 stop_failed (Some Failed) = true
+stop_failed _ = false
 
 abbrev pub ahead_failed : Ahead → Bool
 ahead_failed ahead = stop_failed ahead.fault
