@@ -1,4 +1,4 @@
--- Fans and slot widths as powers of two.
+-- Fan-outs and slot widths as powers of two.
 use Rattle.std.proofs.Common.{◌≡◌, ℕ, zero, suc, ◌+◌, ◌*◌, ◌/◌, ◌^◌, ◌<◌, ◌≤◌, max, true, false, ltb, leb, arith, ap}
 use Rattle.std.proofs.Common.{refl, inl, inr}
 use Rattle.std.proofs.lemmas.Bool.Decides.{nat_tests}
@@ -17,7 +17,7 @@ use Rattle.verity_plan.specs.Settings.{least_power, log2}
 use Rattle.verity_plan.proofs.LeastLemmas.{IsLeast, IsLeast-same, IsLeast-least_from}
 use Rattle.verity_plan.proofs.CountLemmas.{lt-pow_self}
 
--- what the logarithm is the least of
+-- the logarithm is the least exponent that passes its test
 log2-found : (n : ℕ) → IsLeast (λ m. nat_lt n (2 ^ (m + 1))) 0 (log2 n)
 unfolding log2
 log2-found n =
@@ -97,7 +97,7 @@ pub slot_count-quotient : (len size k : ℕ) → 2 ^ k ≤ size / len → size /
 unfolding slot_count
 slot_count-quotient len size k low high = ap (λ (m : ℕ). 2 ^ m) (log2-is (size / len) k low high)
 
--- so many are within a quotient
+-- a number whose product with the divisor fits is within the quotient
 le-quotient : (n size len : ℕ) → 0 < len → n * len ≤ size → n ≤ size / len
 le-quotient n size len some fits = elim (cases_lt (size / len) n) [
   | inl less ↦
@@ -122,7 +122,7 @@ digest_len_of-most Sha1 = omega arith
 digest_len_of-most Sha224 = omega arith
 digest_len_of-most Sha384 = omega arith
 
--- what a block size is
+-- the least block size
 block_least : (least size : ℕ) → is_block_size least size ≡ true → least ≤ size
 block_least least size h = grind (arith, nat_tests, h)
 
@@ -146,7 +146,7 @@ two_from_power : (n k : ℕ) → 2 ≤ n → n < 2 * 2 ^ k → 2 ≤ 2 ^ k
 two_from_power n zero two high = absurd (omega (arith, two, high, pow-zero 2))
 two_from_power n (suc k) two high = omega (arith, pow-suc 2 k, pow_pos k)
 
--- a fan-out is at least 2 where two digests fit
+-- a fan-out is at least 2 if two digests fit
 pub slot_count-two : (len size : ℕ) → 0 < len → 2 * len ≤ size → 2 ≤ slot_count len size
 unfolding slot_count
 slot_count-two len size some two =

@@ -58,7 +58,7 @@ pub least_power-half : (len : ℕ) → 0 < len → least_power len < 2 * len
 unfolding least_power
 least_power-half len some = half_short len _ some (least_power-found len)
 
--- where so many digests fit into a power of two, so many of their slots do, each the least power of two that holds one
+-- if some digests fit into a power of two, so do their slots, each the least power of two that holds a digest
 slots_fit_power : (len b k w : ℕ) → 0 < len → 2 ^ k * len ≤ 2 ^ b → IsLeast (λ m. nat_le len (2 ^ m)) 0 w
     → 2 ^ k * 2 ^ w ≤ 2 ^ b
 slots_fit_power len b k zero some low found =
@@ -83,7 +83,7 @@ unfolding slot_count least_power
 power_fits len b some one =
     slots_fit_power len b _ _ some (slot_count-fits len (2 ^ b) some one) (least_power-found len)
 
--- as many slots as the fan fit, by the rule
+-- as many slots as the fan-out fit, by the rule
 width_fits : (rule : SaltRule) (len size : ℕ) → 0 < len → len ≤ size → is_power_of_two size ≡ true
     → slot_count len size * width_by rule len ≤ size
 width_fits Before len size some one power =
@@ -103,7 +103,7 @@ pub digest-slot : (s : Settings) → digest_len s ≤ slot_width s
 unfolding slot_width
 digest-slot s = width_above s.rule (digest_len s)
 
--- as many slots as the fan fit
+-- as many slots as the fan-out fit
 pub fan-fits : (s : Settings) → IsValid s → fan s * slot_width s ≤ s.hash_block
 unfolding fan slot_width
 fan-fits s valid =
@@ -119,7 +119,7 @@ hash_block-some s two fits =
     let wide : 1 ≤ slot_width s = omega (arith, digest-slot s, digest_len_of-pos s.algorithm) in
     omega (arith, mul-le-mul_left (fan s) wide, two, fits)
 
--- as many digests as the fan fit, where one does
+-- as many digests as the fan-out fit, if one does
 pub fan-digests : (s : Settings) → digest_len s ≤ s.hash_block → fan s * digest_len s ≤ s.hash_block
 unfolding fan
 fan-digests s one = slot_count-fits (digest_len s) s.hash_block (digest_len_of-pos s.algorithm) one

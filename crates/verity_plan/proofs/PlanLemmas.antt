@@ -35,7 +35,7 @@ div_ceil-half n a two more =
     div_ceil-le n a ((n + 1) / 2) (omega arith) (omega (arith, mul-le-mul_left ((n + 1) / 2) two)) in
     omega (arith, half)
 
--- where more than one block is left there is a level more
+-- if more than one block is left, there is one more level
 pub levels-more : (fan n k size : ℕ) → 2 ≤ fan → size ≡ div_ceil n (fan ^ k) → 1 < size → k < level_count fan n
 levels-more fan n k size two is more =
     let count = IsLevelCount-level_count fan n two in
@@ -54,7 +54,7 @@ levels-more fan n k size two is more =
           ))
     ]
 
--- where one block is left there is no level more
+-- if one block is left, there are no more levels
 pub levels-all : (fan n k size : ℕ) → 2 ≤ fan → size ≡ div_ceil n (fan ^ k) → size ≤ 1 → level_count fan n ≤ k
 levels-all fan n k size two is one =
     let count = IsLevelCount-level_count fan n two in

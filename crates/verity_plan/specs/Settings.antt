@@ -116,7 +116,7 @@ pub record IsValid (s : Settings) : Type 0 where
   pub one_size : s.rule ≡ PaddedBefore → s.data_block ≡ s.hash_block
   pub known : s.rule ≡ PaddedBefore → is_of_fsverity s.algorithm ≡ true
 
--- where a hash type has its salt
+-- where the salt goes in a hash type
 abbrev pub rule_of : HashType → SaltRule
 rule_of Original = After
 rule_of Current = Before

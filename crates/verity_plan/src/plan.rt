@@ -45,11 +45,11 @@ ghost use Rattle.std.specs.Int.{div_ceil};
 ghost use Rattle.verity_plan.specs.Counts.{level_count, blocks_from};
 
 impl Plan {
-    /// A plan for so many whole data blocks, with the hash area from block `base` on, counted in hash blocks (Linux
-    /// kernel, dm-verity page, "Construction Parameters").
+    /// A plan for a number of whole data blocks, with the hash area from block `base` on, counted in hash blocks
+    /// (Linux kernel, dm-verity page, "Construction Parameters").
     ///
-    /// `NoData` for no blocks; else `TooLarge` where the data area or the hash area, which ends after the last hash
-    /// block, would go past 2^63 - 1 bytes.
+    /// `NoData` if there are no blocks; else `TooLarge` if the data area or the hash area, which ends after the last
+    /// hash block, would go past 2^63 - 1 bytes.
     pub fn for_blocks(settings: &TreeSettings, blocks: u64, base: u64) -> Result<Plan, PlanFault>
         ensures { result ≡ plan_for_blocks settings.now blocks base }
     {
@@ -59,11 +59,11 @@ impl Plan {
         }
     }
 
-    /// A plan for so many bytes, the last data block perhaps not whole, with the hash area from block `base` on,
+    /// A plan for a number of bytes, the last data block perhaps not whole, with the hash area from block `base` on,
     /// counted in hash blocks (Linux kernel, fs-verity page, "Merkle tree").
     ///
-    /// `NoData` for no bytes; else `TooLarge` where the data area, in whole blocks, or the hash area would go past
-    /// 2^63 - 1 bytes.
+    /// `NoData` if there are no bytes; else `TooLarge` if the data area, in whole blocks, or the hash area would go
+    /// past 2^63 - 1 bytes.
     pub fn for_bytes(settings: &TreeSettings, size: u64, base: u64) -> Result<Plan, PlanFault>
         ensures { result ≡ plan_for_bytes settings.now size base }
     {

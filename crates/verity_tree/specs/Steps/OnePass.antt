@@ -27,7 +27,7 @@ abbrev pub build_answer : Result Digest PassFault → Result Digest BuildFault
 build_answer (Ok digest) = Ok digest
 build_answer (Err (SourceShort i)) = Err (build.SourceShort i)
 build_answer (Err (SourceFailed i)) = Err (build.SourceFailed i)
-build_answer (Err (Stopped stop)) = Err (build.DeviceFailed stop.level stop.block)
+build_answer (Err (Stopped stop)) = Err (build.DeviceFailed stop.level stop.index)
 
 -- the answer, and how much was read
 abbrev pub Passes : Planned → Result Digest PassFault → List ℕ → List ℕ → Type 0
@@ -43,13 +43,13 @@ pub record StopsFor (p : Planned) (bytes device : List ℕ) (stop : Stop) : Type
   pub below : i < p.blocks
   pub enough : bytes_of p (i + 1) ≤ length bytes
   pub done : List (ℕ × ℕ)
-  pub next : ComesNext (order (fan p.settings) p.blocks (i + 1)) done (stop.level, stop.block)
+  pub next : ComesNext (order (fan p.settings) p.blocks (i + 1)) done (stop.level, stop.index)
   pub same : NoneDiffers p (data_blocks p bytes) device done
   pub cause_is : IsCause p
-      (closed_block stop.level stop.block (tree_block p.settings (data_blocks p bytes) stop.level stop.block)) device
+      (closed_block stop.level stop.index (tree_block p.settings (data_blocks p bytes) stop.level stop.index)) device
       stop.cause
 
--- a comparison leaves the device, and comes as far as nothing differs
+-- a comparison leaves the device as it is, and goes on as long as nothing differs
 abbrev pub PassesCompared : Planned → List ℕ → Result Digest PassFault → List ℕ → List ℕ → Type 0
 PassesCompared p bytes (Ok digest) before after =
     (after ≡ before) × NoneDiffers p (data_blocks p bytes) before (order (fan p.settings) p.blocks p.blocks)
@@ -68,10 +68,10 @@ abbrev pub device_failed : Task → Result Digest PassFault → Bool
 device_failed task (Err (Stopped stop)) = call_failed task stop.cause
 device_failed task _ = false
 
--- what a comparison answers where a hash block stops its pass, by the cause
+-- what a comparison answers if a hash block stops its pass, by the cause
 abbrev pub fault_by : ℕ → ℕ → Cause → CompareFault
 fault_by level block cause.Failed = fault.DeviceFailed level block
 fault_by level block (cause.Differs part) = fault.Differs level block part
 
 abbrev pub fault_of : Stop → CompareFault
-fault_of stop = fault_by stop.level stop.block stop.cause
+fault_of stop = fault_by stop.level stop.index stop.cause

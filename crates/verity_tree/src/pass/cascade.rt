@@ -5,7 +5,7 @@ ghost use Rattle.verity_io.specs.Counting.{Counts};
 ghost use Rattle.verity_tree.specs.Steps.Cascade.{Carries, CarriesCompared, CarriesDevice, StepsCompared, StepsDevice};
 ghost use Rattle.verity_tree.specs.Steps.Cascade.{EndsBlock, StepsLevel, carry_failed, step_failed};
 ghost use Rattle.verity_tree.specs.declared.pass.closed_block.Task.TheVariants.{Compare};
-ghost use Rattle.verity_tree.specs.Steps.OpenBlocks.{HasOpenBlocks, arrival, carried};
+ghost use Rattle.verity_tree.specs.Steps.OpenBlocks.{HasOpenBlocks, arrival, level_digest};
 ghost use Rattle.verity_plan.specs.Plans.{Planned, HasBlock, levels_of};
 ghost use Rattle.verity_plan.specs.Settings.{digest_len, fan};
 
@@ -16,7 +16,7 @@ use verity_io::Device;
 /// What became of a level's open block.
 #[derive(Clone, Copy, Debug, PartialEq, Eq)]
 pub(crate) enum LevelStep {
-    /// It has room.
+    /// It has room for more digests.
     Open,
     /// It has closed, and this is its digest.
     Closed(Digest),
@@ -28,7 +28,7 @@ pub(crate) enum LevelStep {
 #[derive(Clone, Copy, Debug, PartialEq, Eq)]
 pub(crate) struct Stop {
     pub level: usize,
-    pub block: u64,
+    pub index: u64,
     pub cause: Cause,
 }
 
@@ -111,16 +111,16 @@ pub(crate) fn carry<D: Device>(
     ensures ends { IfErr result (λ _. EndsBlock (fan job.now.plan.settings) job.now.plan.blocks i) }
     ensures count { Counts (carry_failed job.now.task result) (D.failures device.old) (D.failures device.new) }
     ensures carries { (blocks : List (List ℕ)) → job.now.plan.blocks ≡ length blocks
-        → digest ≡ carried job.now.plan.settings blocks i 0
+        → digest ≡ level_digest job.now.plan.settings blocks i 0
         → HasOpenBlocks job.now.plan.settings blocks 0 (levels_of job.now.plan) i opened.old
         → Carries job.now.plan blocks i result opened.new }
     ensures device { D.tells device.old → (blocks : List (List ℕ)) → job.now.plan.blocks ≡ length blocks
-        → digest ≡ carried job.now.plan.settings blocks i 0
+        → digest ≡ level_digest job.now.plan.settings blocks i 0
         → HasOpenBlocks job.now.plan.settings blocks 0 (levels_of job.now.plan) i opened.old
         → CarriesDevice job.now.plan blocks i result (D.content device.old) (D.content device.new) }
     ensures stays { job.now.task ≡ Compare → D.tells device.old → D.content device.new ≡ D.content device.old }
     ensures compared { job.now.task ≡ Compare → D.tells device.old → (blocks : List (List ℕ)) → job.now.plan.blocks ≡ length blocks
-        → digest ≡ carried job.now.plan.settings blocks i 0
+        → digest ≡ level_digest job.now.plan.settings blocks i 0
         → HasOpenBlocks job.now.plan.settings blocks 0 (levels_of job.now.plan) i opened.old
         → CarriesCompared job.now.plan blocks i result (D.content device.old) (D.content device.new) }
 {
@@ -129,7 +129,7 @@ pub(crate) fn carry<D: Device>(
     let last = i + 1 == blocks;
     let fan = plan.fan() as u64;
     let size = plan.hash_block();
-    let mut carried = digest;
+    let mut current = digest;
     let mut index = i;
     for level in 0..plan.levels() {
         let from = level * size;
@@ -137,20 +137,20 @@ pub(crate) fn carry<D: Device>(
         let next = NextDigest {
             index,
             last,
-            digest: &carried,
+            digest: &current,
         };
         match step_level(job, level, &next, bytes, stored, device) {
-            LevelStep::Closed(above) => carried = above,
-            LevelStep::Open => return Ok(carried),
+            LevelStep::Closed(above) => current = above,
+            LevelStep::Open => return Ok(current),
             LevelStep::Stopped(cause) => {
                 return Err(Stop {
                     level,
-                    block: index / fan,
+                    index: index / fan,
                     cause,
                 });
             }
         }
         index /= fan;
     }
-    Ok(carried)
+    Ok(current)
 }

@@ -27,7 +27,7 @@ pub(crate) enum PassFault {
     Stopped(Stop),
 }
 
-/// Passes over the data once, in a store, and does with each hash block, as it closes, what the task says.
+/// Passes over the data once, with a store to work in, and does what the task says with each hash block that closes.
 pub(crate) fn pass<S: Source, D: Device>(
     plan: &Plan,
     task: Task,
@@ -58,8 +58,8 @@ pub(crate) fn pass<S: Source, D: Device>(
     pass_over(&job, work, stored, &mut [], source, device)
 }
 
-/// The pass, with a window for data blocks that are hashed side by side. It isn't inlined: its
-/// caller would then pay for the window's 128 KiB also where there is none.
+/// The pass, with a window for data blocks that are hashed side by side. It isn't inlined, since its caller would then
+/// pay for the window's 128 KiB even if there is none.
 #[inline(never)]
 fn pass_with_window<S: Source, D: Device>(
     job: &Job,
@@ -87,7 +87,7 @@ fn pass_with_window<S: Source, D: Device>(
     pass_over(job, work, stored, &mut [0; WINDOW], source, device)
 }
 
-/// The pass, with the open blocks and the data block in `work`, and a hash block to compare with in `stored`. Data
+/// The pass, with or without a window: the open blocks and the data block are in `work`, and a hash block to compare with in `stored`. Data
 /// blocks that are hashed side by side are read into the window, as far as it has room.
 fn pass_over<S: Source, D: Device>(
     job: &Job,

@@ -3,7 +3,7 @@ use Rattle.verity_plan.specs.Settings.{hash, fan}
 use Rattle.verity_io.specs.Writing.{put, Spoiled}
 use Rattle.verity_plan.proofs.FitLemmas.{hash_block-some}
 use Rattle.verity_tree.proofs.OpenBlockLemmas.{length-hash}
-use Rattle.verity_tree.proofs.OpenBlockSteps.{slot-room, filling-put, slots-all, slots-left}
+use Rattle.verity_tree.proofs.OpenBlockSteps.{slot-room, open_block_with-put, slots-all, slots-left}
 use Rattle.verity_tree.specs.Steps.ClosedBlocks.{IsCause, closed_block}
 use Rattle.verity_plan.specs.Plans.{byte_of}
 use Rattle.verity_tree.specs.Verdicts.{stored}
@@ -24,7 +24,7 @@ returns-then-not-next-clause-level g c = record {
   room = slots-left c.args.job.now.plan.settings c.args.next.now.index c.fan-fan.result c.fan-fan.ensures.value c.if-slot-fan.true;
   more = c.if-not-next.true;
   filled = λ below next.
-      filling-put c.args.job.now.plan.settings below c.args.next.now.index c.fan-fan.result c.slot_width.result c.args.bytes.now
+      open_block_with-put c.args.job.now.plan.settings below c.args.next.now.index c.fan-fan.result c.slot_width.result c.args.bytes.now
       c.put_slot.new.block c.args.next.now.digest.now
       c.fan-fan.ensures.value c.slot_width.ensures c.fan-fan.ensures.two c.fan-fan.ensures.fits c.put_slot.ensures next;
 }
@@ -40,7 +40,7 @@ returns-in-Ok-clause-level g c = record {
   zeros = c.fill.ensures.after (λ y e. e) ∙ ap (λ (n : ℕ). replicate n 0) (c.put_slot.auto.block ∙ c.requires.size);
   len = ap length c.hash-above.ensures ∙ length-hash c.args.job.now.plan.settings c.put_slot.new.block;
   hashed = λ below next. c.hash-above.ensures ∙ ap (hash c.args.job.now.plan.settings)
-      (filling-put c.args.job.now.plan.settings below c.args.next.now.index c.fan-fan.result c.slot_width.result c.args.bytes.now
+      (open_block_with-put c.args.job.now.plan.settings below c.args.next.now.index c.fan-fan.result c.slot_width.result c.args.bytes.now
       c.put_slot.new.block c.args.next.now.digest.now
       c.fan-fan.ensures.value c.slot_width.ensures c.fan-fan.ensures.two c.fan-fan.ensures.fits c.put_slot.ensures
       next);
@@ -67,7 +67,7 @@ returns-in-Ok-clause-device g c = λ tells below next.
     ∙ ap (λ (n : ℕ). put before (byte_of p c.args.level (c.args.next.now.index / n)) c.put_slot.new.block)
     c.fan-fan.ensures.value
     ∙ ap (λ (xs : List ℕ). put before (byte_of p c.args.level (c.args.next.now.index / fan s)) xs)
-    (filling-put s below c.args.next.now.index c.fan-fan.result c.slot_width.result c.args.bytes.now c.put_slot.new.block
+    (open_block_with-put s below c.args.next.now.index c.fan-fan.result c.slot_width.result c.args.bytes.now c.put_slot.new.block
     c.args.next.now.digest.now
     c.fan-fan.ensures.value c.slot_width.ensures c.fan-fan.ensures.two c.fan-fan.ensures.fits c.put_slot.ensures next)
 
@@ -90,7 +90,7 @@ returns-in-Ok-clause-compared g c = λ compare tells.
       same.0,
       λ below next.
           ap (λ (n : ℕ). stored p before c.args.level (c.args.next.now.index / n)) (sym c.fan-fan.ensures.value) ∙ same.1
-          ∙ filling-put s below c.args.next.now.index c.fan-fan.result c.slot_width.result c.args.bytes.now c.put_slot.new.block
+          ∙ open_block_with-put s below c.args.next.now.index c.fan-fan.result c.slot_width.result c.args.bytes.now c.put_slot.new.block
           c.args.next.now.digest.now
           c.fan-fan.ensures.value c.slot_width.ensures c.fan-fan.ensures.two c.fan-fan.ensures.fits c.put_slot.ensures
           next,
@@ -107,7 +107,7 @@ returns-in-Err-clause-compared g c = λ compare tells.
       stop.0,
       λ below next.
           subst (λ (xs : List ℕ). IsCause p (closed_block c.args.level (c.args.next.now.index / fan s) xs) before c.in-Err.cause)
-          (filling-put s below c.args.next.now.index c.fan-fan.result c.slot_width.result c.args.bytes.now c.put_slot.new.block
+          (open_block_with-put s below c.args.next.now.index c.fan-fan.result c.slot_width.result c.args.bytes.now c.put_slot.new.block
           c.args.next.now.digest.now
           c.fan-fan.ensures.value c.slot_width.ensures c.fan-fan.ensures.two c.fan-fan.ensures.fits c.put_slot.ensures
           next)

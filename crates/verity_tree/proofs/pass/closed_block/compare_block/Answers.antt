@@ -15,11 +15,11 @@ returns-then-eq c =
 pub returns : goal.returns
 returns c =
     let p = c.args.plan.now in
-    let held = c.args.stored.now in
-    let whole : take c.args.count held ≡ held = take_all c.args.count held (omega arith) in
-    let long : nat_lt (length held) p.settings.hash_block ≡ false =
+    let on_device = c.args.stored.now in
+    let whole : take c.args.count on_device ≡ on_device = take_all c.args.count on_device (omega arith) in
+    let long : nat_lt (length on_device) p.settings.hash_block ≡ false =
     let h = c.requires.stored in grind (arith, nat_tests, h) in (
-      λ same. let yes = (bytes_eq-Decides held c.args.bytes.now).1 (sym whole ∙ same) in let bad : true
+      λ same. let yes = (bytes_eq-Decides on_device c.args.bytes.now).1 (sym whole ∙ same) in let bad : true
           ≡ false = sym yes ∙ sym c.eq.ensures ∙ c.if-eq.false in cc,
       c.part_between.ensures
           ∙ sym (ap (λ (xs : List ℕ). part_of p c.args.level c.args.index xs c.args.bytes.now) whole ∙ rw long refl),
