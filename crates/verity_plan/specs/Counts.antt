@@ -1,4 +1,4 @@
--- How many hash blocks each level has, where a hash block holds fan slots and there are n data blocks (Linux kernel,
+-- How many hash blocks each level has, if a hash block has fan slots and there are n data blocks (Linux kernel,
 -- dm-verity page, "Hash Tree").
 use Rattle.std.specs.Prelude.{◌<◌, ◌≤◌, ℕ, ◌+◌, ◌^◌, nat_le}
 use Rattle.std.specs.List.{range_with_len, sum_by}

@@ -17,7 +17,7 @@ pub record Planned : Type 0 where
   pub wanted : ℕ
   pub base : ℕ
 
--- the number of data blocks of so many bytes
+-- the number of data blocks of a size in bytes
 abbrev pub block_count : Settings → ℕ → ℕ
 block_count s size = div_ceil size s.data_block
 
@@ -26,8 +26,8 @@ abbrev pub superblock_size : ℕ
 superblock_size = 512
 
 -- where the hash area begins, in hash blocks: at the first whole hash block after a superblock at this offset, or at
--- the offset where there is no superblock (cryptsetup's on-disk format page; veritysetup(8), `--hash-offset`); none
--- where the superblock's end, or the offset, is past the limit
+-- the offset if there is no superblock (cryptsetup's on-disk format page; veritysetup(8), `--hash-offset`); none if the
+-- superblock's end, or the offset, is past the limit
 abbrev pub base_of : ℕ → Bool → ℕ → Option ℕ
 base_of offset true hash_block =
     if nat_le (offset + superblock_size) most_bytes then Some (div_ceil (offset + superblock_size) hash_block) else None
@@ -78,14 +78,14 @@ pub record IsPlanned (p : Planned) : Type 0 where
   pub hash_most : end_of p * p.settings.hash_block ≤ most_bytes
 
 -- the plan, or why there is none
-abbrev pub planned : Planned → Result Planned PlanFault
-planned p = if p.blocks == 0 then Err NoData else (if has_room p then Ok p else Err TooLarge)
+abbrev pub valid_plan : Planned → Result Planned PlanFault
+valid_plan p = if p.blocks == 0 then Err NoData else (if has_room p then Ok p else Err TooLarge)
 
 -- a plan for whole data blocks
 abbrev pub plan_for_blocks : Settings → ℕ → ℕ → Result Planned PlanFault
 plan_for_blocks s blocks base =
-    planned (record { settings = s; blocks = blocks; wanted = blocks * s.data_block; base = base })
+    valid_plan (record { settings = s; blocks = blocks; wanted = blocks * s.data_block; base = base })
 
--- a plan for so many bytes, the last block perhaps not whole
+-- a plan for a size in bytes, the last block perhaps not whole
 abbrev pub plan_for_bytes : Settings → ℕ → ℕ → Result Planned PlanFault
-plan_for_bytes s size base = planned (record { settings = s; blocks = block_count s size; wanted = size; base = base })
+plan_for_bytes s size base = valid_plan (record { settings = s; blocks = block_count s size; wanted = size; base = base })

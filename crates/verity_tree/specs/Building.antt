@@ -25,19 +25,14 @@ BuildsImage p blocks (Err (DeviceFailed level block)) before after = StopsAt p b
 
 -- whether the answer is a failure of the source, or of the device
 abbrev pub source_failed : Result Digest BuildFault → Bool
-source_failed (Ok digest) = false
-source_failed (Err (SourceShort i)) = false
 source_failed (Err (SourceFailed i)) = true
-source_failed (Err (DeviceFailed level block)) = false
+source_failed _ = false
 
 abbrev pub device_failed : Result Digest BuildFault → Bool
-device_failed (Ok digest) = false
-device_failed (Err (SourceShort i)) = false
-device_failed (Err (SourceFailed i)) = false
 device_failed (Err (DeviceFailed level block)) = true
+device_failed _ = false
 
 -- a fault of the source
 abbrev pub IsOfSource : BuildFault → Type 0
-IsOfSource (SourceShort i) = Unit {0}
-IsOfSource (SourceFailed i) = Unit {0}
 IsOfSource (DeviceFailed level block) = ⊥
+IsOfSource _ = Unit {0}

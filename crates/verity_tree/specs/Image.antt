@@ -13,14 +13,14 @@ abbrev pub tree_block : Settings → List (List ℕ) → ℕ → ℕ → List �
 tree_block s blocks l j = slice_index_or (level s blocks l) j []
 
 -- a device with these blocks (level, block) of the tree put at their places, one after another
-unfoldable pub written : Settings → List (List ℕ) → ℕ → List (ℕ × ℕ) → List ℕ → List ℕ
-written s blocks base [] device = device
-written s blocks base (p ∷ pairs) device =
-    written s blocks base pairs (put device (byte_at s (length blocks) base p.0 p.1) (tree_block s blocks p.0 p.1))
+unfoldable pub device_with : Settings → List (List ℕ) → ℕ → List (ℕ × ℕ) → List ℕ → List ℕ
+device_with s blocks base [] device = device
+device_with s blocks base (p ∷ pairs) device =
+    device_with s blocks base pairs (put device (byte_at s (length blocks) base p.0 p.1) (tree_block s blocks p.0 p.1))
 
 -- a device with the tree's blocks that closed after i data blocks put at their places
 abbrev pub begun_after : Planned → List (List ℕ) → ℕ → List ℕ → List ℕ
-begun_after p blocks i before = written p.settings blocks p.base (order (fan p.settings) p.blocks i) before
+begun_after p blocks i before = device_with p.settings blocks p.base (order (fan p.settings) p.blocks i) before
 
 -- a device with all of the tree's blocks put at their places
 abbrev pub begun : Planned → List (List ℕ) → List ℕ → List ℕ
@@ -30,5 +30,5 @@ begun p blocks before = begun_after p blocks p.blocks before
 pub record StopsAt (p : Planned) (blocks : List (List ℕ)) (pair : ℕ × ℕ) (before after : List ℕ) : Type 0 where
   pub done : List (ℕ × ℕ)
   pub next : ComesNext (order (fan p.settings) p.blocks p.blocks) done pair
-  pub spoiled : Spoiled (written p.settings blocks p.base done before) (byte_of p pair.0 pair.1) p.settings.hash_block
+  pub spoiled : Spoiled (device_with p.settings blocks p.base done before) (byte_of p pair.0 pair.1) p.settings.hash_block
       after

@@ -15,7 +15,7 @@ use Rattle.verity_tree.specs.declared.comparing.CompareFault.TheVariants.{Differ
 use Rattle.verity_tree.specs.declared.part.Part.{Part}
 use Rattle.verity_tree.specs.declared.part.Part.TheVariants.{Missing, Child, Spare}
 
--- the bytes that a device holds for a block of a level: fewer than a hash block where it ends before
+-- the bytes that are stored for a block of a level: fewer than a hash block if the device ends before its end
 abbrev pub stored : Planned → List ℕ → ℕ → ℕ → List ℕ
 stored p device level block = take p.settings.hash_block (drop (byte_of p level block) device)
 
@@ -31,8 +31,8 @@ digest_in s bytes slot = take (digest_len s) (drop (slot * slot_width s) bytes)
 
 -- the first used slot whose digests differ in two hash blocks of this place
 abbrev pub first_slot : Planned → ℕ → ℕ → List ℕ → List ℕ → Option ℕ
-first_slot p level block held computed =
-    find (λ slot. not (bytes_eq (digest_in p.settings held slot) (digest_in p.settings computed slot)))
+first_slot p level block on_device computed =
+    find (λ slot. not (bytes_eq (digest_in p.settings on_device slot) (digest_in p.settings computed slot)))
     (range_with_len 0 (min (fan p.settings) (size_under p level - block * fan p.settings)))
 
 -- where a whole block differs: in the digest of a child, counted through the level, or in other bytes
@@ -40,10 +40,10 @@ abbrev pub part_at : ℕ → Option ℕ → Part
 part_at first (Some slot) = Child (first + slot)
 part_at first None = Spare
 
--- where the bytes that are held for a block of a level differ from the tree's
+-- where the bytes that are stored for a block of a level differ from the tree's
 abbrev pub part_of : Planned → ℕ → ℕ → List ℕ → List ℕ → Part
-part_of p level block held computed = if nat_lt (length held) p.settings.hash_block then Missing
-    else (part_at (block * fan p.settings) (first_slot p level block held computed))
+part_of p level block on_device computed = if nat_lt (length on_device) p.settings.hash_block then Missing
+    else (part_at (block * fan p.settings) (first_slot p level block on_device computed))
 
 -- the block that a device holds is not the tree's
 abbrev pub differs : Planned → List (List ℕ) → List ℕ → ℕ × ℕ → Bool
@@ -57,9 +57,9 @@ difference p blocks device pair =
     (part_of p pair.0 pair.1 (stored p device pair.0 pair.1) (tree_block p.settings blocks pair.0 pair.1))
 
 -- without a difference: short data, another root, or all is right
-abbrev pub judged : Planned → List ℕ → List ℕ → Option (ℕ × ℕ) → List ℕ → Result Unit CompareFault
-judged p device bytes (Some pair) digest = Err (difference p (data_blocks p bytes) device pair)
-judged p device bytes None digest = if nat_lt (whole p bytes) p.blocks then Err (SourceShort (whole p bytes))
+abbrev pub verdict_by : Planned → List ℕ → List ℕ → Option (ℕ × ℕ) → List ℕ → Result Unit CompareFault
+verdict_by p device bytes (Some pair) digest = Err (difference p (data_blocks p bytes) device pair)
+verdict_by p device bytes None digest = if nat_lt (whole p bytes) p.blocks then Err (SourceShort (whole p bytes))
     else (if bytes_eq (root p.settings (data_blocks p bytes)) digest then Ok tt
     else Err (RootDiffers (root p.settings (data_blocks p bytes))))
 
@@ -67,7 +67,7 @@ judged p device bytes None digest = if nat_lt (whole p bytes) p.blocks then Err 
 -- the data blocks that are there, then short data, then the root
 abbrev pub verdict : Planned → List ℕ → List ℕ → List ℕ → Result Unit CompareFault
 verdict p device bytes digest =
-    judged p device bytes
+    verdict_by p device bytes
     (find (differs p (data_blocks p bytes) device) (order (fan p.settings) p.blocks (whole p bytes))) digest
 
 -- the device holds this block of the tree

@@ -46,8 +46,7 @@ pub fn right_devices_hold_the_tree()
         × (HoldsTree p device bytes digest → verdict p device bytes digest ≡ Ok tt) }
 {}
 
-/// A data block and its path have one answer: accepted exactly where the path holds at every level, else the first
-/// fault.
+/// A data block and its path have one answer: accepted exactly if the path holds at every level, else the first fault.
 pub fn one_answer_is_right()
     ensures { (p : Planned) (i : ℕ) (block path root : List ℕ) (x y : Result Unit PathFault)
         → ChecksBlock p i block path root x → ChecksBlock p i block path root y → x ≡ y }

@@ -17,6 +17,13 @@ pub(crate) enum Task {
     Compare,
 }
 
+/// What a pass over the data has to do: for which plan, and what with each hash block.
+#[derive(Clone, Copy, Debug, PartialEq, Eq)]
+pub(crate) struct Job {
+    pub plan: Plan,
+    pub task: Task,
+}
+
 /// Why a pass stops at a hash block.
 #[derive(Clone, Copy, Debug, PartialEq, Eq)]
 pub(crate) enum Cause {
@@ -28,56 +35,55 @@ pub(crate) enum Cause {
 
 /// Writes a closed hash block, or compares it, by way of a buffer for the stored one, with what stands at its place.
 pub(crate) fn close<D: Device>(
-    plan: &Plan,
-    task: Task,
+    job: &Job,
     level: usize,
-    block: u64,
+    index: u64,
     bytes: &[u8],
     stored: &mut [u8],
     device: &mut D,
 ) -> Result<(), Cause>
-    requires here { HasBlock plan.now level block }
-    requires size { length bytes.now ≡ plan.now.settings.hash_block }
-    requires stored { length stored.old ≡ plan.now.settings.hash_block }
+    requires here { HasBlock job.now.plan level index }
+    requires size { length bytes.now ≡ job.now.plan.settings.hash_block }
+    requires stored { length stored.old ≡ job.now.plan.settings.hash_block }
     ensures told { D.tells device.old → D.tells device.new }
-    ensures count { Counts (close_failed task result) (D.failures device.old) (D.failures device.new) }
+    ensures count { Counts (close_failed job.now.task result) (D.failures device.old) (D.failures device.new) }
     ensures device { D.tells device.old
-        → Closes plan.now task (closed_block level block bytes.now)
+        → Closes job.now.plan job.now.task (closed_block level index bytes.now)
         result (D.content device.old) (D.content device.new) }
 {
-    let at = plan.byte(level, block);
-    match task {
+    let at = job.plan.byte(level, index);
+    match job.task {
         Task::Write => match device.write_at(at, bytes) {
             Ok(()) => Ok(()),
             Err(_) => Err(Cause::Failed),
         },
         Task::Compare => match device.read_at(at, stored) {
-            Ok(count) => compared(plan, level, block, bytes, stored, count),
+            Ok(count) => compare_block(&job.plan, level, index, bytes, stored, count),
             Err(_) => Err(Cause::Failed),
         },
     }
 }
 
-/// What a block that was read, the first `count` bytes of it, says beside the computed one.
-fn compared(
+/// Compares the stored block, of which the first `count` bytes were read, with the computed one.
+fn compare_block(
     plan: &Plan,
     level: usize,
-    block: u64,
+    index: u64,
     bytes: &[u8],
-    held: &[u8],
+    stored: &[u8],
     count: usize,
 ) -> Result<(), Cause>
-    requires here { HasBlock plan.now level block }
+    requires here { HasBlock plan.now level index }
     requires size { length bytes.now ≡ plan.now.settings.hash_block }
-    requires held { length held.now ≡ plan.now.settings.hash_block }
+    requires stored { length stored.now ≡ plan.now.settings.hash_block }
     requires count { count ≤ plan.now.settings.hash_block }
-    ensures { ComparesBlock plan.now (closed_block level block bytes.now) (take count held.now) result }
+    ensures { ComparesBlock plan.now (closed_block level index bytes.now) (take count stored.now) result }
 {
-    if count < held.len() {
+    if count < stored.len() {
         return Err(Cause::Differs(Part::Missing));
     }
-    if held == bytes {
+    if stored == bytes {
         return Ok(());
     }
-    Err(Cause::Differs(part_between(plan, level, block, held, bytes)))
+    Err(Cause::Differs(part_between(plan, level, index, stored, bytes)))
 }

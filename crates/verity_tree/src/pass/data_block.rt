@@ -5,7 +5,7 @@ ghost use Rattle.verity_io.specs.Reading.{HasRead};
 ghost use Rattle.verity_plan.specs.Plans.{levels_of};
 ghost use Rattle.verity_plan.specs.Settings.{digest_len};
 ghost use Rattle.verity_tree.specs.Reading.{bytes_of};
-ghost use Rattle.verity_tree.specs.Steps.DataBlocks.{ReadsBlock, ReadsFront, TakesDataBlock, read_failed};
+ghost use Rattle.verity_tree.specs.Steps.DataBlocks.{ReadsBlock, TakesDataBlock, read_failed};
 ghost use Rattle.verity_tree.specs.Steps.OpenBlocks.{HasOpenBlocks};
 
 use verity_hash::Digest;
@@ -21,40 +21,24 @@ pub(crate) enum BlockFault {
     Failed,
 }
 
-/// Reads the next `want` bytes into a block, and fills the rest of it with zeros.
+/// Reads the next `data_len` bytes into a block, and fills the rest of it with zeros.
 pub(crate) fn read_data_block<S: Source>(
     source: &mut S,
     block: &mut [u8],
-    want: usize,
+    data_len: usize,
 ) -> Result<(), BlockFault>
-    requires { want ≤ length block.old }
+    requires { data_len ≤ length block.old }
     ensures told { S.tells source.old → S.tells source.new }
     ensures count { Counts (read_failed result) (S.failures source.old) (S.failures source.new) }
     ensures bytes { S.tells source.old
-        → ReadsBlock result want (length block.old) (S.remaining source.old) (S.remaining source.new) block.new }
+        → ReadsBlock result data_len (length block.old) (S.remaining source.old) (S.remaining source.new) block.new }
 {
-    match read_front(source, block, want) {
-        Ok(()) => {
-            block[want..].fill(0);
-            Ok(())
-        }
-        Err(fault) => Err(fault),
-    }
-}
-
-/// Reads the next bytes to the front of a block.
-fn read_front<S: Source>(source: &mut S, block: &mut [u8], want: usize) -> Result<(), BlockFault>
-    requires { want ≤ length block.old }
-    ensures told { S.tells source.old → S.tells source.new }
-    ensures count { Counts (read_failed result) (S.failures source.old) (S.failures source.new) }
-    ensures bytes { S.tells source.old
-        → ReadsFront result want (S.remaining source.old) (S.remaining source.new) block.old block.new }
-{
-    match read_block(source, &mut block[..want]) {
+    match read_block(source, &mut block[..data_len]) {
         Ok(count) => {
-            if count < want {
+            if count < data_len {
                 return Err(BlockFault::Short);
             }
+            block[data_len..].fill(0);
             Ok(())
         }
         Err(_) => Err(BlockFault::Failed),
@@ -75,13 +59,13 @@ pub(crate) fn take_data_block<S: Source>(
     ensures count { Counts (read_failed result) (S.failures source.old) (S.failures source.new) }
     ensures opened { (blocks : List (List ℕ)) → HasOpenBlocks plan.now.settings blocks 0 (levels_of plan.now) i work.old
         → HasOpenBlocks plan.now.settings blocks 0 (levels_of plan.now) i work.new }
-    ensures taken { S.tells source.old → (bytes : List ℕ) → HasRead (bytes_of plan.now i) bytes (S.remaining source.old)
+    ensures read { S.tells source.old → (bytes : List ℕ) → HasRead (bytes_of plan.now i) bytes (S.remaining source.old)
         → TakesDataBlock plan.now i bytes result (S.remaining source.new) }
 {
     let size = plan.data_block();
     let from = plan.levels() * plan.hash_block();
-    let want = (size as u64).min(plan.wanted() - i * size as u64) as usize;
-    match read_data_block(source, &mut work[from..from + size], want) {
+    let data_len = (size as u64).min(plan.wanted() - i * size as u64) as usize;
+    match read_data_block(source, &mut work[from..from + size], data_len) {
         Ok(()) => Ok(plan.hash(&work[from..from + size])),
         Err(fault) => Err(fault),
     }

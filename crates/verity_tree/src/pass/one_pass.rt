@@ -9,7 +9,7 @@ ghost use Rattle.verity_plan.specs.Settings.{digest_len};
 ghost use Rattle.verity_tree.specs.declared.pass.closed_block.Task.TheVariants.{Compare};
 
 use crate::pass::cascade::{Stop, carry};
-use crate::pass::closed_block::Task;
+use crate::pass::closed_block::{Job, Task};
 use crate::pass::data_block::BlockFault;
 use crate::pass::reading_ahead::{Ahead, WINDOW, needs_window, take_next};
 use verity_hash::Digest;
@@ -27,7 +27,7 @@ pub(crate) enum PassFault {
     Stopped(Stop),
 }
 
-/// Passes over the data once, in a store, and does with each hash block, as it closes, what the task says.
+/// Passes over the data once, with a store to work in, and does what the task says with each hash block that closes.
 pub(crate) fn pass<S: Source, D: Device>(
     plan: &Plan,
     task: Task,
@@ -51,69 +51,69 @@ pub(crate) fn pass<S: Source, D: Device>(
         → PassesCompared plan.now (S.remaining source.old) result (D.content device.old) (D.content device.new) }
 {
     let (work, stored) = store.split_at_mut(store.len() - plan.hash_block());
+    let job = Job { plan: *plan, task };
     if needs_window(plan) {
-        return pass_with_window(plan, task, work, stored, source, device);
+        return pass_with_window(&job, work, stored, source, device);
     }
-    pass_over(plan, task, work, stored, &mut [], source, device)
+    pass_over(&job, work, stored, &mut [], source, device)
 }
 
-/// The pass, with a window for data blocks that are hashed side by side. It isn't inlined: its
-/// caller would then pay for the window's 128 KiB also where there is none.
+/// The pass, with a window for data blocks that are hashed side by side. It isn't inlined, since its caller would then
+/// pay for the window's 128 KiB even if there is none.
 #[inline(never)]
 fn pass_with_window<S: Source, D: Device>(
-    plan: &Plan,
-    task: Task,
+    job: &Job,
     work: &mut [u8],
     stored: &mut [u8],
     source: &mut S,
     device: &mut D,
 ) -> Result<Digest, PassFault>
-    requires room { levels_of plan.now * plan.now.settings.hash_block + plan.now.settings.data_block ≤ length work.old }
-    requires stored { length stored.old ≡ plan.now.settings.hash_block }
-    ensures planned { IsPlanned plan.now }
-    ensures size { IfOk result (λ root. length root ≡ digest_len plan.now.settings) }
+    requires room { levels_of job.now.plan * job.now.plan.settings.hash_block + job.now.plan.settings.data_block ≤ length work.old }
+    requires stored { length stored.old ≡ job.now.plan.settings.hash_block }
+    ensures planned { IsPlanned job.now.plan }
+    ensures size { IfOk result (λ root. length root ≡ digest_len job.now.plan.settings) }
     ensures source_told { S.tells source.old → S.tells source.new }
     ensures device_told { D.tells device.old → D.tells device.new }
     ensures source_count { Counts (source_failed result) (S.failures source.old) (S.failures source.new) }
-    ensures device_count { Counts (device_failed task result) (D.failures device.old) (D.failures device.new) }
-    ensures stays { task ≡ Compare → D.tells device.old → D.content device.new ≡ D.content device.old }
-    ensures read { S.tells source.old → Passes plan.now result (S.remaining source.old) (S.remaining source.new) }
+    ensures device_count { Counts (device_failed job.now.task result) (D.failures device.old) (D.failures device.new) }
+    ensures stays { job.now.task ≡ Compare → D.tells device.old → D.content device.new ≡ D.content device.old }
+    ensures read { S.tells source.old → Passes job.now.plan result (S.remaining source.old) (S.remaining source.new) }
     ensures stands { S.tells source.old → D.tells device.old
-        → PassesImage plan.now (data_blocks plan.now (S.remaining source.old))
+        → PassesImage job.now.plan (data_blocks job.now.plan (S.remaining source.old))
         result (D.content device.old) (D.content device.new) }
-    ensures compared { task ≡ Compare → S.tells source.old → D.tells device.old
-        → PassesCompared plan.now (S.remaining source.old) result (D.content device.old) (D.content device.new) }
+    ensures compared { job.now.task ≡ Compare → S.tells source.old → D.tells device.old
+        → PassesCompared job.now.plan (S.remaining source.old) result (D.content device.old) (D.content device.new) }
 {
-    pass_over(plan, task, work, stored, &mut [0; WINDOW], source, device)
+    pass_over(job, work, stored, &mut [0; WINDOW], source, device)
 }
 
-/// The pass, with the open blocks and the data block in `work`, and a hash block to compare with in `stored`. Data
+/// The pass, with or without a window: the open blocks and the data block are in `work`, and a hash block to compare with in `stored`. Data
 /// blocks that are hashed side by side are read into the window, as far as it has room.
 fn pass_over<S: Source, D: Device>(
-    plan: &Plan,
-    task: Task,
+    job: &Job,
     work: &mut [u8],
     stored: &mut [u8],
     window: &mut [u8],
     source: &mut S,
     device: &mut D,
 ) -> Result<Digest, PassFault>
-    requires room { levels_of plan.now * plan.now.settings.hash_block + plan.now.settings.data_block ≤ length work.old }
-    requires stored { length stored.old ≡ plan.now.settings.hash_block }
-    ensures planned { IsPlanned plan.now }
-    ensures size { IfOk result (λ root. length root ≡ digest_len plan.now.settings) }
+    requires room { levels_of job.now.plan * job.now.plan.settings.hash_block + job.now.plan.settings.data_block ≤ length work.old }
+    requires stored { length stored.old ≡ job.now.plan.settings.hash_block }
+    ensures planned { IsPlanned job.now.plan }
+    ensures size { IfOk result (λ root. length root ≡ digest_len job.now.plan.settings) }
     ensures source_told { S.tells source.old → S.tells source.new }
     ensures device_told { D.tells device.old → D.tells device.new }
     ensures source_count { Counts (source_failed result) (S.failures source.old) (S.failures source.new) }
-    ensures device_count { Counts (device_failed task result) (D.failures device.old) (D.failures device.new) }
-    ensures stays { task ≡ Compare → D.tells device.old → D.content device.new ≡ D.content device.old }
-    ensures read { S.tells source.old → Passes plan.now result (S.remaining source.old) (S.remaining source.new) }
+    ensures device_count { Counts (device_failed job.now.task result) (D.failures device.old) (D.failures device.new) }
+    ensures stays { job.now.task ≡ Compare → D.tells device.old → D.content device.new ≡ D.content device.old }
+    ensures read { S.tells source.old → Passes job.now.plan result (S.remaining source.old) (S.remaining source.new) }
     ensures stands { S.tells source.old → D.tells device.old
-        → PassesImage plan.now (data_blocks plan.now (S.remaining source.old))
+        → PassesImage job.now.plan (data_blocks job.now.plan (S.remaining source.old))
         result (D.content device.old) (D.content device.new) }
-    ensures compared { task ≡ Compare → S.tells source.old → D.tells device.old
-        → PassesCompared plan.now (S.remaining source.old) result (D.content device.old) (D.content device.new) }
+    ensures compared { job.now.task ≡ Compare → S.tells source.old → D.tells device.old
+        → PassesCompared job.now.plan (S.remaining source.old) result (D.content device.old) (D.content device.new) }
 {
+    let plan = &job.plan;
     work.fill(0);
     let mut root = Digest::zeros(plan.settings().algorithm());
     let mut ahead = Ahead::none(plan);
@@ -123,7 +123,7 @@ fn pass_over<S: Source, D: Device>(
             Err(BlockFault::Short) => return Err(PassFault::SourceShort(i)),
             Err(BlockFault::Failed) => return Err(PassFault::SourceFailed(i)),
         };
-        root = match carry(plan, task, work, stored, i, digest, device) {
+        root = match carry(job, work, stored, i, digest, device) {
             Ok(above) => above,
             Err(stop) => return Err(PassFault::Stopped(stop)),
         };

@@ -20,7 +20,7 @@ use verity_plan::Plan;
 /// How many data blocks are hashed side by side at most, each in a row of its own.
 const ROWS: usize = 8;
 
-/// How many at least: fewer are sooner hashed one after another.
+/// How many at least: fewer are hashed faster one after another.
 const LEAST_ROWS: usize = 3;
 
 /// The length of the window that they are read into, in bytes: eight data blocks of 16384, or four of 32768.
@@ -33,9 +33,9 @@ pub(crate) struct Ahead {
     digests: [Digest; ROWS],
     /// The number of the first of them.
     first: u64,
-    /// The number of the block after them.
+    /// The number of the first block after them.
     end: u64,
-    /// Why that one can't be read, where the source ended or failed.
+    /// Why the block at `end` can't be read, if the source ended or failed within it.
     fault: Option<BlockFault>,
 }
 
@@ -59,7 +59,7 @@ impl Ahead {
     }
 }
 
-/// The digest of data block `i`, which is read now or was before.
+/// The digest of data block `i`, which is read now or was read ahead.
 pub(crate) fn take_next<S: Source>(
     plan: &Plan,
     work: &mut [u8],
@@ -78,7 +78,7 @@ pub(crate) fn take_next<S: Source>(
         → Counts (next_failed result ahead.new) start (S.failures source.new) }
     ensures opened { (blocks : List (List ℕ)) → HasOpenBlocks plan.now.settings blocks 0 (levels_of plan.now) i work.old
         → HasOpenBlocks plan.now.settings blocks 0 (levels_of plan.now) i work.new }
-    ensures taken { S.tells source.old → (bytes : List ℕ) → IsAhead plan.now i bytes ahead.old (S.remaining source.old)
+    ensures read { S.tells source.old → (bytes : List ℕ) → IsAhead plan.now i bytes ahead.old (S.remaining source.old)
         → TakesNext plan.now i bytes result ahead.new (S.remaining source.new) }
 {
     if i >= ahead.end && ahead.fault.is_none() {
@@ -91,7 +91,7 @@ pub(crate) fn take_next<S: Source>(
 }
 
 /// How many data blocks from `i` on are read together into a window of this length: as many as it has room for, and
-/// none of them but the last is the last below a hash block. It is 1 where they are hashed one by one.
+/// none past the last data block below a hash block. It is 1 if they are hashed one by one.
 fn rows_from(plan: &Plan, window: usize, i: u64) -> usize
     requires { i < plan.now.blocks }
     ensures some { 0 < result }
@@ -163,7 +163,7 @@ fn read_ahead<S: Source>(
     }
 }
 
-/// Reads `count` data blocks from `i` on and hashes them side by side. Where the source ends or fails within one, the
+/// Reads `count` data blocks from `i` on and hashes them side by side. If the source ends or fails within one, the
 /// digests of its row and of those after it count for nothing.
 fn read_run<S: Source>(plan: &Plan, rows: &mut [u8], i: u64, count: usize, source: &mut S) -> Ahead
     requires room { length rows.old ≡ count * plan.now.settings.data_block }
@@ -178,11 +178,11 @@ fn read_run<S: Source>(plan: &Plan, rows: &mut [u8], i: u64, count: usize, sourc
 {
     // The call tells the proof that the number of data blocks is a `u64`.
     let _blocks = plan.blocks();
-    let (held, fault) = read_rows(plan, rows, i, count, source);
+    let (read, fault) = read_rows(plan, rows, i, count, source);
     Ahead {
         digests: plan.hash_rows(rows, plan.data_block(), count),
         first: i,
-        end: i + held as u64,
+        end: i + read as u64,
         fault,
     }
 }
@@ -200,9 +200,9 @@ fn read_rows<S: Source>(
     ensures told { S.tells source.old → S.tells source.new }
     ensures count { Counts (stop_failed result.1) (S.failures source.old) (S.failures source.new) }
     ensures many { IsReadOf count result.0 result.1 }
-    ensures held { S.tells source.old → (bytes : List ℕ) → HasRead (bytes_of plan.now i) bytes (S.remaining source.old)
+    ensures rows { S.tells source.old → (bytes : List ℕ) → HasRead (bytes_of plan.now i) bytes (S.remaining source.old)
         → HoldsRows plan.now i bytes result.0 rows.new }
-    ensures taken { S.tells source.old → (bytes : List ℕ) → HasRead (bytes_of plan.now i) bytes (S.remaining source.old)
+    ensures read { S.tells source.old → (bytes : List ℕ) → HasRead (bytes_of plan.now i) bytes (S.remaining source.old)
         → StandsBy plan.now (i + result.0) bytes result.1 (S.remaining source.new) }
 {
     // The call tells the proof that the number of data blocks is a `u64`.
@@ -230,12 +230,12 @@ fn read_row<S: Source>(
     ensures count { Counts (read_failed result) (S.failures source.old) (S.failures source.new) }
     ensures kept { (r : ℕ) → r < row → slice_chunk rows.new plan.now.settings.data_block r
         ≡ slice_chunk rows.old plan.now.settings.data_block r }
-    ensures taken { S.tells source.old → (bytes : List ℕ) → HasRead (bytes_of plan.now i) bytes (S.remaining source.old)
+    ensures read { S.tells source.old → (bytes : List ℕ) → HasRead (bytes_of plan.now i) bytes (S.remaining source.old)
         → ReadsRow plan.now i bytes result (slice_chunk rows.new plan.now.settings.data_block row)
         (S.remaining source.new) }
 {
     let size = plan.data_block();
     let from = row * size;
-    let want = (size as u64).min(plan.wanted() - i * size as u64) as usize;
-    read_data_block(source, &mut rows[from..from + size], want)
+    let data_len = (size as u64).min(plan.wanted() - i * size as u64) as usize;
+    read_data_block(source, &mut rows[from..from + size], data_len)
 }

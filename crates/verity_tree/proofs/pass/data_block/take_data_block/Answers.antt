@@ -11,14 +11,14 @@ use Rattle.verity_tree.proofs.DataBlockLemmas.{data-next, failed-within, short-w
 use Rattle.verity_tree.proofs.pass.data_block.take_data_block.Goals as goal
 
 -- a source that stopped within the block
-stops : (p : Planned) → IsPlanned p → (i want b : ℕ) (bytes rest after : List ℕ) (fault : BlockFault)
+stops : (p : Planned) → IsPlanned p → (i data_len b : ℕ) (bytes rest after : List ℕ) (fault : BlockFault)
     → b ≡ p.settings.data_block → i < p.blocks
-    → want ≡ min b (p.wanted - i * b) → HasRead (bytes_of p i) bytes rest → StopsBy fault want rest after
+    → data_len ≡ min b (p.wanted - i * b) → HasRead (bytes_of p i) bytes rest → StopsBy fault data_len rest after
     → TakesDataBlock p i bytes (Err fault) after
-stops p planned i want b bytes rest after Short e below w read_before h =
-    short-within p planned i want b bytes rest after e below w read_before h.0 h.1
-stops p planned i want b bytes rest after Failed e below w read_before h =
-    failed-within p planned i want b bytes rest after e below w read_before h
+stops p planned i data_len b bytes rest after Short e below w read_before h =
+    short-within p planned i data_len b bytes rest after e below w read_before h.0 h.1
+stops p planned i data_len b bytes rest after Failed e below w read_before h =
+    failed-within p planned i data_len b bytes rest after e below w read_before h
 
 pub returns-in-Ok-clause-size : goal.returns-in-Ok-clause-size
 returns-in-Ok-clause-size g c = ap length c.hash.ensures ∙ length-hash c.args.plan.now.settings _
@@ -43,27 +43,27 @@ returns-in-Err-clause-opened g c = λ blocks stands.
     c.read_data_block.new.block a
     (omega (arith, a, c.requires.room)) stands
 
-pub returns-in-Ok-clause-taken : goal.returns-in-Ok-clause-taken
-returns-in-Ok-clause-taken g c = λ tells bytes read_before.
+pub returns-in-Ok-clause-read : goal.returns-in-Ok-clause-read
+returns-in-Ok-clause-read g c = λ tells bytes read_before.
     let p = c.args.plan.now in
     let b = c.data_block-size.result in
     let a : c.levels.result * c.hash_block.result ≡ levels_of p * p.settings.hash_block =
     ap (λ (n : ℕ). n * c.hash_block.result) c.levels.ensures ∙ ap (λ (n : ℕ). levels_of p * n) c.hash_block.ensures in
-    let w : c.min-want.result ≡ min b (p.wanted - c.args.i * b) =
-    c.min-want.ensures ∙ ap (λ (n : ℕ). min b (n - c.args.i * b)) c.wanted.ensures.value in
-    data-next p c.wanted.ensures.planned c.args.i c.min-want.result b (c.levels.result * c.hash_block.result) bytes
+    let w : c.min-data_len.result ≡ min b (p.wanted - c.args.i * b) =
+    c.min-data_len.ensures ∙ ap (λ (n : ℕ). min b (n - c.args.i * b)) c.wanted.ensures.value in
+    data-next p c.wanted.ensures.planned c.args.i c.min-data_len.result b (c.levels.result * c.hash_block.result) bytes
     (g.S.Source.remaining c.args.source.now) (g.S.Source.remaining c.read_data_block.new.source) c.args.work.now
     c.read_data_block.new.block c.hash.result
     c.data_block-size.ensures c.requires.below w (omega (arith, a, c.data_block-size.ensures, c.requires.room))
     c.read_data_block.auto.block read_before
     (c.in-Ok.ensures.bytes tells) c.hash.ensures
 
-pub returns-in-Err-clause-taken : goal.returns-in-Err-clause-taken
-returns-in-Err-clause-taken g c = λ tells bytes read_before.
+pub returns-in-Err-clause-read : goal.returns-in-Err-clause-read
+returns-in-Err-clause-read g c = λ tells bytes read_before.
     let p = c.args.plan.now in
     let b = c.data_block-size.result in
-    let w : c.min-want.result ≡ min b (p.wanted - c.args.i * b) =
-    c.min-want.ensures ∙ ap (λ (n : ℕ). min b (n - c.args.i * b)) c.wanted.ensures.value in
-    stops p c.wanted.ensures.planned c.args.i c.min-want.result b bytes (g.S.Source.remaining c.args.source.now)
+    let w : c.min-data_len.result ≡ min b (p.wanted - c.args.i * b) =
+    c.min-data_len.ensures ∙ ap (λ (n : ℕ). min b (n - c.args.i * b)) c.wanted.ensures.value in
+    stops p c.wanted.ensures.planned c.args.i c.min-data_len.result b bytes (g.S.Source.remaining c.args.source.now)
     (g.S.Source.remaining c.read_data_block.new.source)
     c.in-Err.fault c.data_block-size.ensures c.requires.below w read_before (c.in-Err.ensures.bytes tells)

@@ -1,7 +1,7 @@
 use Rattle.std.proofs.Common.{List, arith, length, refl, rules, subst, sym, ℕ, ◌+◌, ◌<◌, ◌∙◌, ◌≡◌}
 use Rattle.verity_tree.specs.ClosingOrder.{closing, order}
-use Rattle.verity_tree.specs.Steps.Cascade.{closed_to}
-use Rattle.verity_tree.specs.Image.{tree_block, written}
+use Rattle.verity_tree.specs.Steps.Cascade.{first_closing}
+use Rattle.verity_tree.specs.Image.{tree_block, device_with}
 use Rattle.verity_tree.specs.Levels.{data_blocks}
 use Rattle.verity_plan.specs.Plans.{levels_of}
 use Rattle.verity_tree.proofs.OnePassLemmas.{HasOpenBlocks-zeros, reads-up-to, image-next, image-stopped}
@@ -18,9 +18,9 @@ use Rattle.std.proofs.lemmas.List.{length-replicate}
 use Rattle.verity_tree.proofs.pass.one_pass.pass_over.Goals as goal
 
 pub loop-i-init : goal.loop-i-init
-unfolding written order
+unfolding device_with order
 loop-i-init g c =
-    let p = c.args.plan.now in
+    let p = c.args.job.now.plan in
     let planned = c.blocks-i-end.ensures.planned in
     record {
       size = c.fill.ensures.len;
@@ -42,7 +42,7 @@ loop-i-init g c =
 
 pub loop-i-preserved : goal.loop-i-preserved
 loop-i-preserved g c =
-    let p = c.args.plan.now in
+    let p = c.args.job.now.plan in
     let s = p.settings in
     let bytes = g.S.Source.remaining c.args.source.now in
     let blocks = data_blocks p bytes in
@@ -56,26 +56,26 @@ loop-i-preserved g c =
       source_failures = c.in-Ok.ensures.count _ inv.source_failures;
       quiet = c.in-Ok.ensures.quiet;
       device_failures = c.in-Ok-carry.ensures.count ∙ inv.device_failures;
-      read = λ tells. (c.in-Ok.ensures.taken (inv.source_told tells) bytes (inv.read tells)).0;
+      read = λ tells. (c.in-Ok.ensures.read (inv.source_told tells) bytes (inv.read tells)).0;
       opened = λ tells more.
           (c.in-Ok-carry.ensures.carries blocks many
-          (c.in-Ok.ensures.taken (inv.source_told tells) bytes (inv.read tells)).1
+          (c.in-Ok.ensures.read (inv.source_told tells) bytes (inv.read tells)).1
           (c.in-Ok.ensures.opened blocks (inv.opened tells below))).stands (omega (arith, more, many));
       answer = λ tells last.
           (c.in-Ok-carry.ensures.carries blocks many
-          (c.in-Ok.ensures.taken (inv.source_told tells) bytes (inv.read tells)).1
+          (c.in-Ok.ensures.read (inv.source_told tells) bytes (inv.read tells)).1
           (c.in-Ok.ensures.opened blocks (inv.opened tells below))).root_is (last ∙ many);
       stands = λ tells told.
           image-next s blocks p.base p.blocks c.loop-i.i _ _ _ (inv.stands tells told)
           (c.in-Ok-carry.ensures.device (inv.device_told told) blocks many
-          (c.in-Ok.ensures.taken (inv.source_told tells) bytes (inv.read tells)).1
+          (c.in-Ok.ensures.read (inv.source_told tells) bytes (inv.read tells)).1
           (c.in-Ok.ensures.opened blocks (inv.opened tells below)));
       root_size = c.in-Ok-carry.ensures.size;
       stays = λ compare told. c.in-Ok-carry.ensures.stays compare (inv.device_told told) ∙ inv.stays compare told;
       compared = λ compare tells told.
           let before = inv.compared compare tells told in
           let step = c.in-Ok-carry.ensures.compared compare (inv.device_told told) blocks many
-          (c.in-Ok.ensures.taken (inv.source_told tells) bytes (inv.read tells)).1
+          (c.in-Ok.ensures.read (inv.source_told tells) bytes (inv.read tells)).1
           (c.in-Ok.ensures.opened blocks (inv.opened tells below)) in (
             step.0 ∙ before.0,
             none-differs-order p blocks c.loop-i.i (g.D.Device.content c.args.device.now) before.1
@@ -86,57 +86,57 @@ loop-i-preserved g c =
 
 pub returns-in-Err-clause-read : goal.returns-in-Err-clause-read
 returns-in-Err-clause-read g c = λ tells.
-    let p = c.args.plan.now in
+    let p = c.args.job.now.plan in
     let bytes = g.S.Source.remaining c.args.source.now in
     let blocks = data_blocks p bytes in
     let inv = c.loop-i.invariant in
     let below : c.loop-i.i < p.blocks = omega (arith, c.loop-i-test.true, c.blocks-i-end.ensures.value) in
-    let taken = c.in-Ok.ensures.taken (inv.source_told tells) bytes (inv.read tells) in
+    let next = c.in-Ok.ensures.read (inv.source_told tells) bytes (inv.read tells) in
     let still = settled p c.loop-i.i c.take_next.new.ahead c.in-Ok.ensures.quiet c.in-Err.ensures.ends in
-    reads-up-to p c.loop-i.i c.in-Err.stop.level c.in-Err.stop.block bytes _
+    reads-up-to p c.loop-i.i c.in-Err.stop.level c.in-Err.stop.index bytes _
     (fan-pos p.settings c.blocks-i-end.ensures.planned.valid) below
-    (c.in-Err.ensures.carries blocks (sym (length-cut p.settings p.blocks p.wanted bytes)) taken.1
+    (c.in-Err.ensures.carries blocks (sym (length-cut p.settings p.blocks p.wanted bytes)) next.1
     (c.in-Ok.ensures.opened blocks (inv.opened tells below)))
-    (read-to p (c.loop-i.i + 1) (c.loop-i.i + 1) bytes c.take_next.new.ahead _ still.0 still.1 taken.0)
+    (read-to p (c.loop-i.i + 1) (c.loop-i.i + 1) bytes c.take_next.new.ahead _ still.0 still.1 next.0)
 
 pub returns-in-Err-clause-stands : goal.returns-in-Err-clause-stands
 returns-in-Err-clause-stands g c = λ tells told.
-    let p = c.args.plan.now in
+    let p = c.args.job.now.plan in
     let bytes = g.S.Source.remaining c.args.source.now in
     let blocks = data_blocks p bytes in
     let inv = c.loop-i.invariant in
     let many : p.blocks ≡ length blocks = sym (length-cut p.settings p.blocks p.wanted bytes) in
     let below : c.loop-i.i < p.blocks = omega (arith, c.loop-i-test.true, c.blocks-i-end.ensures.value) in
-    let taken = c.in-Ok.ensures.taken (inv.source_told tells) bytes (inv.read tells) in
+    let next = c.in-Ok.ensures.read (inv.source_told tells) bytes (inv.read tells) in
     let opened = c.in-Ok.ensures.opened blocks (inv.opened tells below) in
-    image-stopped p blocks c.loop-i.i c.in-Err.stop.level c.in-Err.stop.block _ _ _
+    image-stopped p blocks c.loop-i.i c.in-Err.stop.level c.in-Err.stop.index _ _ _
     (fan-pos p.settings c.blocks-i-end.ensures.planned.valid) below
-    (c.in-Err.ensures.carries blocks many taken.1 opened) (inv.stands tells told)
-    (c.in-Err.ensures.device (inv.device_told told) blocks many taken.1 opened)
+    (c.in-Err.ensures.carries blocks many next.1 opened) (inv.stands tells told)
+    (c.in-Err.ensures.device (inv.device_told told) blocks many next.1 opened)
 
 pub returns-in-Err-clause-compared : goal.returns-in-Err-clause-compared
 returns-in-Err-clause-compared g c = λ compare tells told.
-    let p = c.args.plan.now in
+    let p = c.args.job.now.plan in
     let bytes = g.S.Source.remaining c.args.source.now in
     let blocks = data_blocks p bytes in
     let inv = c.loop-i.invariant in
     let many : p.blocks ≡ length blocks = sym (length-cut p.settings p.blocks p.wanted bytes) in
     let below : c.loop-i.i < p.blocks = omega (arith, c.loop-i-test.true, c.blocks-i-end.ensures.value) in
-    let taken = c.in-Ok.ensures.taken (inv.source_told tells) bytes (inv.read tells) in
+    let next = c.in-Ok.ensures.read (inv.source_told tells) bytes (inv.read tells) in
     let opened = c.in-Ok.ensures.opened blocks (inv.opened tells below) in
     let before = inv.compared compare tells told in
     let still = settled p c.loop-i.i c.take_next.new.ahead c.in-Ok.ensures.quiet c.in-Err.ensures.ends in
-    let read = read-to p (c.loop-i.i + 1) (c.loop-i.i + 1) bytes c.take_next.new.ahead _ still.0 still.1 taken.0 in
-    let step = c.in-Err.ensures.compared compare (inv.device_told told) blocks many taken.1 opened in (
+    let read = read-to p (c.loop-i.i + 1) (c.loop-i.i + 1) bytes c.take_next.new.ahead _ still.0 still.1 next.0 in
+    let step = c.in-Err.ensures.compared compare (inv.device_told told) blocks many next.1 opened in (
       step.0 ∙ before.0,
       stops-for p bytes c.loop-i.i (g.D.Device.content c.args.device.now) c.in-Err.stop
           (fan-pos p.settings c.blocks-i-end.ensures.planned.valid) below
-          (c.in-Err.ensures.carries blocks many taken.1 opened) read.enough before.1
-          (subst (λ (xs : List ℕ). NoneDiffers p blocks xs (closed_to (fan p.settings) c.loop-i.i c.in-Err.stop.level))
+          (c.in-Err.ensures.carries blocks many next.1 opened) read.enough before.1
+          (subst (λ (xs : List ℕ). NoneDiffers p blocks xs (first_closing (fan p.settings) c.loop-i.i c.in-Err.stop.level))
           before.0 step.1)
           (subst (λ (xs : List ℕ). IsCause p
-          (closed_block c.in-Err.stop.level c.in-Err.stop.block
-          (tree_block p.settings blocks c.in-Err.stop.level c.in-Err.stop.block)) xs c.in-Err.stop.cause) before.0
+          (closed_block c.in-Err.stop.level c.in-Err.stop.index
+          (tree_block p.settings blocks c.in-Err.stop.level c.in-Err.stop.index)) xs c.in-Err.stop.cause) before.0
           step.2),
     )
 

@@ -18,23 +18,23 @@ invariant-loop-i g l = record {
   source_told : g.S.Source.tells l.fn.source → g.S.Source.tells l.source;
   device_told : g.D.Device.tells l.fn.device → g.D.Device.tells l.device;
   source_failures : Counts (ahead_failed l.ahead) (g.S.Source.failures l.fn.source) (g.S.Source.failures l.source);
-  quiet : IsQuiet l.plan l.i l.ahead;
+  quiet : IsQuiet l.job.plan l.i l.ahead;
   device_failures : g.D.Device.failures l.device ≡ g.D.Device.failures l.fn.device;
   read : g.S.Source.tells l.fn.source
-      → IsAhead l.plan l.i (g.S.Source.remaining l.fn.source) l.ahead (g.S.Source.remaining l.source);
-  opened : g.S.Source.tells l.fn.source → l.i < l.plan.blocks
-      → HasOpenBlocks l.plan.settings (data_blocks l.plan (g.S.Source.remaining l.fn.source)) 0
-      (levels_of l.plan) l.i l.work;
-  answer : g.S.Source.tells l.fn.source → l.i ≡ l.plan.blocks
-      → l.root ≡ root l.plan.settings (data_blocks l.plan (g.S.Source.remaining l.fn.source));
+      → IsAhead l.job.plan l.i (g.S.Source.remaining l.fn.source) l.ahead (g.S.Source.remaining l.source);
+  opened : g.S.Source.tells l.fn.source → l.i < l.job.plan.blocks
+      → HasOpenBlocks l.job.plan.settings (data_blocks l.job.plan (g.S.Source.remaining l.fn.source)) 0
+      (levels_of l.job.plan) l.i l.work;
+  answer : g.S.Source.tells l.fn.source → l.i ≡ l.job.plan.blocks
+      → l.root ≡ root l.job.plan.settings (data_blocks l.job.plan (g.S.Source.remaining l.fn.source));
   stands : g.S.Source.tells l.fn.source → g.D.Device.tells l.fn.device
-      → g.D.Device.content l.device ≡ begun_after l.plan (data_blocks l.plan (g.S.Source.remaining l.fn.source)) l.i
+      → g.D.Device.content l.device ≡ begun_after l.job.plan (data_blocks l.job.plan (g.S.Source.remaining l.fn.source)) l.i
       (g.D.Device.content l.fn.device);
-  root_size : length l.root ≡ digest_len l.plan.settings;
-  stays : l.task ≡ Compare → g.D.Device.tells l.fn.device
+  root_size : length l.root ≡ digest_len l.job.plan.settings;
+  stays : l.job.task ≡ Compare → g.D.Device.tells l.fn.device
       → g.D.Device.content l.device ≡ g.D.Device.content l.fn.device;
-  compared : l.task ≡ Compare → g.S.Source.tells l.fn.source → g.D.Device.tells l.fn.device
+  compared : l.job.task ≡ Compare → g.S.Source.tells l.fn.source → g.D.Device.tells l.fn.device
       → (g.D.Device.content l.device ≡ g.D.Device.content l.fn.device)
-      × NoneDiffers l.plan (data_blocks l.plan (g.S.Source.remaining l.fn.source)) (g.D.Device.content l.fn.device)
-      (order (fan l.plan.settings) l.plan.blocks l.i);
+      × NoneDiffers l.job.plan (data_blocks l.job.plan (g.S.Source.remaining l.fn.source)) (g.D.Device.content l.fn.device)
+      (order (fan l.job.plan.settings) l.job.plan.blocks l.i);
 }

@@ -9,7 +9,7 @@ invariant-loop-row g l = record {
   size : length l.rows ≡ length l.fn.rows;
   told : g.S.Source.tells l.fn.source → g.S.Source.tells l.source;
   failures : g.S.Source.failures l.source ≡ g.S.Source.failures l.fn.source;
-  held : g.S.Source.tells l.fn.source → (bytes : List ℕ)
+  rows : g.S.Source.tells l.fn.source → (bytes : List ℕ)
       → HasRead (bytes_of l.plan l.i) bytes (g.S.Source.remaining l.fn.source)
       → HoldsRows l.plan l.i bytes l.row l.rows;
   read : g.S.Source.tells l.fn.source → (bytes : List ℕ)

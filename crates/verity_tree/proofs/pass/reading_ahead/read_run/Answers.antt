@@ -4,7 +4,7 @@ use Rattle.std.specs.Fork.{slice_chunk}
 use Rattle.verity_plan.specs.Plans.{Planned}
 use Rattle.verity_plan.specs.Settings.{hash}
 use Rattle.verity_tree.specs.Levels.{data_blocks}
-use Rattle.verity_tree.specs.Steps.OpenBlocks.{carried}
+use Rattle.verity_tree.specs.Steps.OpenBlocks.{level_digest}
 use Rattle.verity_tree.specs.Steps.ReadingAhead.{HasSizes, IsFilled, IsReadOf, IsRun}
 use Rattle.verity_tree.specs.declared.pass.data_block.BlockFault.{BlockFault}
 use Rattle.verity_tree.specs.declared.pass.reading_ahead.Ahead.{Ahead}
@@ -36,7 +36,7 @@ filled-run p i count n ahead some most run read first end sizes =
           let all = h.0 in
           let is = h.1 in
           record {
-            begun = omega (arith, first);
+            start = omega (arith, first);
             room = omega (arith, first, end, within, most);
             some = inl (omega (arith, all, end, some));
             to = omega (arith, all, room, end);
@@ -50,7 +50,7 @@ filled-run p i count n ahead some most run read first end sizes =
       | inr h ↦
           let few = h.0 in
           record {
-            begun = omega (arith, first);
+            start = omega (arith, first);
             room = omega (arith, first, end, within, most);
             some = elim (count-some n) [
               | inl none ↦ inr (omega (arith, none, end), h.1)
@@ -70,28 +70,28 @@ filled-run p i count n ahead some most run read first end sizes =
 pub returns-clause-quiet : goal.returns-clause-quiet
 returns-clause-quiet g c =
     let p = c.args.plan.now in
-    filled-run p c.args.i c.args.count c.read_rows-held.result.0 _ c.requires.some c.requires.most c.requires.run
-    c.read_rows-held.ensures.many refl refl
+    filled-run p c.args.i c.args.count c.read_rows-read.result.0 _ c.requires.some c.requires.most c.requires.run
+    c.read_rows-read.ensures.many refl refl
     (λ r lt.
     ap length
     (c.hash_rows.ensures r
-    (omega (arith, lt, most-read c.args.count c.read_rows-held.result.0 c.read_rows-held.result.1 c.read_rows-held.ensures.many)))
+    (omega (arith, lt, most-read c.args.count c.read_rows-read.result.0 c.read_rows-read.result.1 c.read_rows-read.ensures.many)))
     ∙ length-hash p.settings _)
 
 pub returns-clause-ahead : goal.returns-clause-ahead
 returns-clause-ahead g c = λ tells bytes read_before.
     let p = c.args.plan.now in
-    let rows = c.read_rows-held.new.rows in
-    let n = c.read_rows-held.result.0 in
-    let most : n ≤ c.args.count = most-read c.args.count n c.read_rows-held.result.1 c.read_rows-held.ensures.many in
+    let rows = c.read_rows-read.new.rows in
+    let n = c.read_rows-read.result.0 in
+    let most : n ≤ c.args.count = most-read c.args.count n c.read_rows-read.result.1 c.read_rows-read.ensures.many in
     record {
-      held = λ k from lt.
+      digests_are = λ k from lt.
           let r = k - c.args.i in
           let low : r < n = omega (arith, from, lt) in
           let back : c.args.i + r ≡ k = omega (arith, from) in
           c.hash_rows.ensures r (omega (arith, low, most))
           ∙ ap (λ (b : ℕ). hash p.settings (slice_chunk rows b r)) c.data_block.ensures
-          ∙ c.read_rows-held.ensures.held tells bytes read_before r low
-          ∙ ap (λ (m : ℕ). carried p.settings (data_blocks p bytes) m 0) back;
-      stands = c.read_rows-held.ensures.taken tells bytes read_before;
+          ∙ c.read_rows-read.ensures.rows tells bytes read_before r low
+          ∙ ap (λ (m : ℕ). level_digest p.settings (data_blocks p bytes) m 0) back;
+      stands = c.read_rows-read.ensures.read tells bytes read_before;
     }

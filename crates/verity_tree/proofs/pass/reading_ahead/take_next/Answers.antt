@@ -5,8 +5,8 @@ use Rattle.verity_tree.proofs.ReadingAheadLemmas.{read-to}
 use Rattle.verity_tree.proofs.pass.reading_ahead.take_next.Goals as goal
 use Rattle.verity_tree.proofs.pass.reading_ahead.take_next.Goals.{then-i-ahead+then-is_none, else-i-ahead}
 
-pub returns-in_default-clause-taken : goal.returns-in_default-clause-taken
-returns-in_default-clause-taken g c = λ tells bytes before.
+pub returns-in_default-clause-read : goal.returns-in_default-clause-read
+returns-in_default-clause-read g c = λ tells bytes before.
     let p = c.args.plan.now in
     let i = c.args.i in
     let quiet : IsQuiet p (i + 1) c.if-i-ahead.ahead = search rules in
@@ -20,11 +20,11 @@ returns-in_default-clause-taken g c = λ tells bytes before.
       | else-i-ahead w ↦ rw (w.ahead-is, w.source-is) before
     ] in
     let long : length c.if-i-ahead.ahead.digests ≡ 8 = omega arith in
-    let held = filled.held i (omega arith) (omega (arith, quiet.from)) in (
+    let digest_is = filled.digests_are i (omega arith) (omega (arith, quiet.from)) in (
       record {
-        held = λ k from to. filled.held k (omega (arith, from)) to;
+        digests_are = λ k from to. filled.digests_are k (omega (arith, from)) to;
         stands = filled.stands;
       },
       get_or_default c.if-i-ahead.ahead.digests (i - c.if-i-ahead.ahead.first) c.index-ahead-i.result []
-          (omega (arith, long, quiet.room, quiet.from)) ∙ held,
+          (omega (arith, long, quiet.room, quiet.from)) ∙ digest_is,
     )

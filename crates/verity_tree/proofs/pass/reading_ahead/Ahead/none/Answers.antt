@@ -4,7 +4,7 @@ use Rattle.verity_tree.proofs.pass.reading_ahead.Ahead.none.Goals as goal
 
 pub returns-clause-quiet : goal.returns-clause-quiet
 returns-clause-quiet c = record {
-  begun = omega arith;
+  start = omega arith;
   room = omega arith;
   from = omega arith;
   to = omega arith;
@@ -18,6 +18,6 @@ returns-clause-quiet c = record {
 
 pub returns-clause-ahead : goal.returns-clause-ahead
 returns-clause-ahead c = λ bytes. record {
-  held = λ k from lt. absurd (omega (arith, lt));
+  digests_are = λ k from lt. absurd (omega (arith, lt));
   stands = HasRead-none c.args.plan.now bytes;
 }

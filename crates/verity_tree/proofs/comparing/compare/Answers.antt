@@ -1,7 +1,7 @@
 use Rattle.std.proofs.Common.{◌≡◌, sym, ◌∙◌, true, false, refl}
 use Rattle.std.proofs.lemmas.Slice.Eq.{bytes_eq-Decides}
 use Rattle.verity_tree.proofs.JudgeLemmas.{judges-right, judges-root, judges-short, judges-stop}
-use Rattle.verity_tree.proofs.comparing.judge.Goals as goal
+use Rattle.verity_tree.proofs.comparing.compare.Goals as goal
 
 pub returns-then-eq-clause-verdict : goal.returns-then-eq-clause-verdict
 returns-then-eq-clause-verdict g c = λ tells told.
