@@ -1,5 +1,5 @@
-//! What the two programs share of their command lines: option texts and defaults, the words that the system gave, the
-//! arguments that clap reads, the printing of texts and messages, and the opening of files.
+//! What the two programs share: the texts of options and their defaults, the words of the command line, the arguments
+//! that clap reads, the printing of texts and messages, the opening of files, and the progress of long work.
 #![tactic(auto)]
 
 mod files;
@@ -14,11 +14,11 @@ pub use files::opening::{is_folder, open_measured, open_readable, open_writable}
 pub use options::algorithms::algorithm_or_default;
 pub use options::numbers::{DEFAULT_BLOCK_SIZE, number_or, read_number};
 pub use options::salts::read_salt;
-pub use printing::messages::{tell, tell_pieces, tell_text};
+pub use printing::messages::{write_message, write_pieces, write_text};
 pub use printing::print_fault::{PrintFault, print_whole};
-pub use progress::onlooker::Onlooker;
-pub use progress::progress_line::{Cleared, ProgressLine};
-pub use progress::shown::Shown;
+pub use progress::progress_line::{ErasingWriter, ProgressLine};
+pub use progress::progress_reader::ProgressReader;
+pub use progress::progress_runtime::ProgressRuntime;
 pub use words::arguments::{flag, option, positional, positionals, program};
 pub use words::copies::{copied_value, copied_values, is_given};
 pub use words::line_fault::LineFault;

@@ -1,5 +1,5 @@
 //! File digests of fs-verity, made without the kernel: the command line, the options, the digest of a file, its line,
-//! a run over files, and the program.
+//! the runs over files, and the program.
 #![tactic(auto)]
 
 mod openers;
@@ -9,7 +9,7 @@ mod runs;
 mod texts;
 mod words;
 
-pub use command_line::{Cleared, LineFault, PrintFault, ProgressLine};
+pub use command_line::{ErasingWriter, LineFault, PrintFault, ProgressLine};
 pub use openers::file_opener::FileOpener;
 pub use openers::fused_opener::FusedOpener;
 pub use openers::memory_opener::MemoryOpener;

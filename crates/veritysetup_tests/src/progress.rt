@@ -1,6 +1,6 @@
 //! How far long work is: it is shown on a terminal alone, and erased before anything else is written there.
 use crate::program_runs::disk_of;
-use command_line::Shown;
+use command_line::ProgressReader;
 use fixtures::{Shape, shown_before};
 use memory_runtime::{Disk, MemoryRuntime, StandardError};
 use std::alloc::{AllocError, Global};
@@ -9,7 +9,7 @@ use std::io::{Read, Write};
 use std::process::Abort;
 use std::test::Fail;
 use verity_hash::Algorithm;
-use veritysetup::{Cleared, ProgressLine, run_program};
+use veritysetup::{ErasingWriter, ProgressLine, run_program};
 
 /// A quarter of a MiB.
 const QUARTER: usize = 1 << 18;
@@ -29,8 +29,8 @@ fn written(
     runtime.step = step;
     let before = disk.standard_error()?.len();
     let progress = ProgressLine::new(&runtime);
-    let mut out = Cleared::new(&progress, StandardError::new(disk));
-    let mut msgs = Cleared::new(&progress, StandardError::new(disk));
+    let mut out = ErasingWriter::new(&progress, StandardError::new(disk));
+    let mut msgs = ErasingWriter::new(&progress, StandardError::new(disk));
     let status = run_program(&runtime, &progress, &mut out, &mut msgs);
     let all = disk.standard_error()?;
     Ok((status, all.iter().copied().skip(before).collect(alloc)?))
@@ -191,7 +191,7 @@ fn more_than_four_gib_are_shown_in_mib(rt: HostRuntime) -> Result<(), Fail> {
     runtime.step = Some(64 << 20);
     let progress = ProgressLine::new(&runtime);
     let total = 5000u64 << 20;
-    let mut shown = Shown::new(Endless, total, &progress);
+    let mut shown = ProgressReader::new(Endless, total, &progress);
     let mut buffer = vec![in alloc; 0u8; 8 << 20]?;
     for _ in 0..625 {
         assert_eq!(rt; shown.read(buffer.as_mut_slice())?, 8 << 20);

@@ -1,5 +1,5 @@
-//! How far long work is, on a terminal.
+//! The progress of long work, on a terminal.
 
-pub(crate) mod onlooker;
 pub(crate) mod progress_line;
-pub(crate) mod shown;
+pub(crate) mod progress_reader;
+pub(crate) mod progress_runtime;

@@ -2,11 +2,11 @@
 ghost use Rattle.std.specs.Prelude.{◌≡◌, ◌≤◌, ◌+◌, ℕ, List, [], length};
 
 use crate::openers::opener::Opener;
-use command_line::{Onlooker, ProgressLine, Shown, open_measured};
+use command_line::{ProgressLine, ProgressReader, ProgressRuntime, open_measured};
 use std::rt::Files;
 use verity_tree::{Failed, FileSource};
 
-/// Opens files of the system by their names, and shows how far the reading of each is. It does not tell them.
+/// Opens files of the system by their names, and shows the progress of reading each. It doesn't tell them.
 #[derive(Drop)]
 pub struct FileOpener<'a, R> {
     rt: &'a R,
@@ -16,8 +16,8 @@ pub struct FileOpener<'a, R> {
     failures: u64,
 }
 
-impl<'a, R: Files + Onlooker> FileOpener<'a, R> {
-    /// An opener of the files of these names, none of which is opened yet.
+impl<'a, R: Files + ProgressRuntime> FileOpener<'a, R> {
+    /// An opener of the files of these names. None of them is opened yet.
     pub fn new(rt: &'a R, progress: &'a ProgressLine<'a, R>, names: &'a [&'a str]) -> Self
         ensures count { ⟦<FileOpener<'a, R> as Opener>⟧.count result ≡ length names.now }
         ensures next { ⟦<FileOpener<'a, R> as Opener>⟧.next result ≡ 0 }
@@ -33,8 +33,8 @@ impl<'a, R: Files + Onlooker> FileOpener<'a, R> {
     }
 }
 
-impl<'a, R: Files + Onlooker> Opener for FileOpener<'a, R> {
-    type Stream = FileSource<Shown<'a, R, R::File>>;
+impl<'a, R: Files + ProgressRuntime> Opener for FileOpener<'a, R> {
+    type Stream = FileSource<ProgressReader<'a, R, R::File>>;
 
     ghost count = { λ o. length o.names.now };
 
@@ -48,12 +48,12 @@ impl<'a, R: Files + Onlooker> Opener for FileOpener<'a, R> {
 
     ghost counted = { λ _ untold. absurd untold };
 
-    fn start(&mut self) -> Result<(u64, FileSource<Shown<'a, R, R::File>>), Failed> {
+    fn start(&mut self) -> Result<(u64, FileSource<ProgressReader<'a, R, R::File>>), Failed> {
         let name = self.names[self.next];
         self.next += 1;
         match open_measured(self.rt, name) {
             Ok((file, length)) => {
-                let shown = Shown::new(file, length, self.progress);
+                let shown = ProgressReader::new(file, length, self.progress);
                 Ok((length, FileSource::new(shown, length)))
             }
             Err(_) => {
@@ -63,7 +63,7 @@ impl<'a, R: Files + Onlooker> Opener for FileOpener<'a, R> {
         }
     }
 
-    fn end(&mut self, stream: FileSource<Shown<'a, R, R::File>>) {
+    fn end(&mut self, stream: FileSource<ProgressReader<'a, R, R::File>>) {
         self.failures = self.failures.saturating_add(stream.failures());
     }
 }

@@ -3,12 +3,13 @@ ghost use Rattle.std.specs.Prelude.{◌≡◌, ◌≤◌, ◌+◌, ◌<◌, min,
 ghost use Rattle.verity_io.specs.Counting.{last_count};
 ghost use Rattle.verity_io.specs.Fusing.{fused_failures, fused_inner};
 ghost use Rattle.fsverity.specs.Openers.FusedOpeners.{opener_call, opener_failures, opener_within, StartsFused};
-ghost use Rattle.fsverity.specs.Openers.Opening.{CountsOpening, FailsFor, IsSuch, SameFiles};
+ghost use Rattle.fsverity.specs.Openers.Opening.{CountsOpening, FailsFor, IsFileAt, SameFiles};
 
 use crate::openers::opener::Opener;
 use verity_tree::{Failed, Fused};
 
-/// Opens the files of another opener, and fails one call of each of their sources. It tries what a run does at a fault.
+/// Opens the files of another opener, and fails one call of each of their sources. Tests run over it to see what a run
+/// does at a fault.
 #[derive(Drop)]
 pub struct FusedOpener<O> {
     inner: O,
@@ -17,7 +18,7 @@ pub struct FusedOpener<O> {
 }
 
 impl<O: Opener> FusedOpener<O> {
-    /// Fails the call of this number of each source, counted from 1, and none for 0.
+    /// Fails this call of each source, counted from 1; with 0 no call fails.
     pub fn new(inner: O, call: u64) -> Self
         ensures within { opener_within result ≡ inner }
         ensures call { opener_call result ≡ call }
@@ -52,13 +53,13 @@ impl<O: Opener> Opener for FusedOpener<O> {
         ensures same { SameFiles O.tells O.files O.count (opener_within self.old) (opener_within self.new) }
         ensures fresh { IfOk result (λ opened. fused_failures opened.1 ≡ 0) }
         ensures ok { O.tells (opener_within self.old) → IfOk result (λ opened.
-            O.Stream.tells (fused_inner opened.1) × IsSuch (O.files (opener_within self.old))
+            O.Stream.tells (fused_inner opened.1) × IsFileAt (O.files (opener_within self.old))
             (O.next (opener_within self.old)) opened.0 (O.Stream.remaining (fused_inner opened.1))) }
         ensures failures { CountsOpening (opener_failures self.old) (opener_failures self.new) result }
         ensures failed { OnErr result (FailsFor (O.tells (opener_within self.old)) (O.files (opener_within self.old))
             (O.next (opener_within self.old)) (opener_failures self.old) (opener_failures self.new)) }
 
-        // Each source has its fuse, and was not called yet.
+        // Each source has its own fuse, and was not called yet.
         ensures fused { IfOk result (λ opened. StartsFused (opener_call self.old) opened.1) }
         ensures call { opener_call self.new ≡ opener_call self.old }
     {

@@ -8,15 +8,15 @@ ghost use Rattle.fsverity.specs.Runs.Digest.{run_fault_text};
 ghost use Rattle.fsverity.specs.declared.runs.run_fault.RunFault.TheVariants.{NotOpened};
 
 use crate::program::output_files::OutputNames;
-use crate::program::outputs::digest_to;
+use crate::program::outputs::{OutputRequest, digest_to};
 use crate::words::reading::USAGE;
 use crate::{
     FileOpener, Line, LineFault, OUT_OF_MEMORY, RunFault, digest_settings, option_message,
     read_words, run_digest,
 };
 use command_line::{
-    Identities, NULL_DEVICE, NullFiles, Onlooker, ProgressLine, WordsFault, given_words,
-    not_text_message, tell, tell_text, texts_of,
+    Identities, NULL_DEVICE, NullFiles, ProgressLine, ProgressRuntime, WordsFault, given_words,
+    not_text_message, texts_of, write_message, write_text,
 };
 use std::alloc::Global;
 use std::env::Env;
@@ -28,11 +28,11 @@ const FAILED: u8 = 1;
 /// The status of a refused command line or option.
 const REFUSED: u8 = 2;
 
-/// Carries out the command line of a runtime (fsverity(1)): what it prints goes to `out`, messages go to `msgs` as far
-/// as that takes them; how far long work is stands in `progress` meanwhile, which is erased in the end. The answer is
-/// the status: 0 done, 1 a file failed, the output could not be written or there was no memory, 2 the command line or an
-/// option is refused, and no file has been opened then.
-pub fn run_program<R: Identities + Onlooker + Env + AllocGlobal, O: Write, M: Write>(
+/// Carries out the command line of a runtime (fsverity(1)). Lines go to `out`, and messages go to `msgs` as far as that
+/// takes them; `progress` shows the progress of long work, and is erased in the end. The answer is the status: 0 done,
+/// 1 a file failed, the output could not be written or there was no memory, 2 the command line or an option is refused,
+/// and no file has been opened then.
+pub fn run_program<R: Identities + ProgressRuntime + Env + AllocGlobal, O: Write, M: Write>(
     rt: &R,
     progress: &ProgressLine<'_, R>,
     out: &mut O,
@@ -49,56 +49,58 @@ pub fn run_program<R: Identities + Onlooker + Env + AllocGlobal, O: Write, M: Wr
     status
 }
 
-/// The command line of a runtime. Where it can't be had, that is said, and the answer is the status. The words as they
-/// were given are let go here, so that of many names the line's own copies alone stay.
+/// The command line of a runtime. If it can't be read, the message is written, and the error is the status. The words
+/// that the system gave are dropped here, so that only the line's own copies of many names stay in memory.
 fn given_line<R: Env + AllocGlobal, M: Write>(rt: &R, msgs: &mut M) -> Result<Line, u8>
     ensures quiet { IfOk result (λ _. msgs.new ≡ msgs.old) }
     ensures refusal { IfErr result (λ status. (status ≡ 1) ⊎ (status ≡ 2)) }
 {
     let words = match given_words(rt) {
         Ok(words) => words,
-        Err(fault) => return Err(refused_words(rt.alloc(), &fault, msgs)),
+        Err(fault) => return Err(refuse_words(rt.alloc(), &fault, msgs)),
     };
     let Ok(texts) = texts_of(rt.alloc(), words.as_slice()) else {
-        return Err(end(FAILED, OUT_OF_MEMORY, msgs));
+        return Err(stop_with(FAILED, OUT_OF_MEMORY, msgs));
     };
     match read_words(rt.alloc(), texts.as_slice()) {
         Ok(line) => Ok(line),
-        Err(fault) => Err(refused_line(&fault, msgs)),
+        Err(fault) => Err(refuse_line(&fault, msgs)),
     }
 }
 
-/// The words of the command line can't be had: one is no text, or there is no memory for them.
-fn refused_words<M: Write>(alloc: Global, fault: &WordsFault, msgs: &mut M) -> u8
+/// Says why the words of the command line can't be read: one is not UTF-8, or there is no memory for them. The answer
+/// is the status.
+fn refuse_words<M: Write>(alloc: Global, fault: &WordsFault, msgs: &mut M) -> u8
     ensures status { result ≡ words_status fault.now }
     ensures refusal { (result ≡ 1) ⊎ (result ≡ 2) }
     ensures message { AppendsFront (words_text fault.now) (M.contents msgs.old) (M.contents msgs.new) }
 {
     match fault {
         WordsFault::NotText(number, word) => {
-            tell(not_text_message(alloc, *number, word.as_slice()), msgs);
+            write_message(not_text_message(alloc, *number, word.as_slice()), msgs);
             REFUSED
         }
-        WordsFault::Memory => end(FAILED, OUT_OF_MEMORY, msgs),
+        WordsFault::Memory => stop_with(FAILED, OUT_OF_MEMORY, msgs),
     }
 }
 
-/// The command line is refused, with `clap`'s text and the usage, or there is no memory for the copies of it.
-fn refused_line<M: Write>(fault: &LineFault, msgs: &mut M) -> u8
+/// Says why the command line is refused, with `clap`'s text and the usage, or that there is no memory for the copies of
+/// its words. The answer is the status.
+fn refuse_line<M: Write>(fault: &LineFault, msgs: &mut M) -> u8
     ensures status { (result ≡ 1) ⊎ (result ≡ 2) }
     ensures memory { IsMemory fault.now → (result ≡ 1)
         × AppendsFront (codes "fsverity: out of memory.\n") (M.contents msgs.old) (M.contents msgs.new) }
     ensures refused { (IsMemory fault.now → ⊥) → result ≡ 2 }
 {
     if fault.is_memory() {
-        return end(FAILED, OUT_OF_MEMORY, msgs);
+        return stop_with(FAILED, OUT_OF_MEMORY, msgs);
     }
-    fault.tell(USAGE, msgs);
+    fault.write_message(USAGE, msgs);
     REFUSED
 }
 
-/// `fsverity digest`. A refused option has its message and status 2.
-fn run_line<R: Identities + Onlooker + AllocGlobal, O: Write, M: Write>(
+/// Carries out `fsverity digest`. The answer is the status; a refused option has its message and status 2.
+fn run_line<R: Identities + ProgressRuntime + AllocGlobal, O: Write, M: Write>(
     rt: &R,
     progress: &ProgressLine<'_, R>,
     line: &Line,
@@ -113,10 +115,10 @@ fn run_line<R: Identities + Onlooker + AllocGlobal, O: Write, M: Write>(
 {
     let settings = match digest_settings(&line.options()) {
         Ok(settings) => settings,
-        Err(fault) => return end(REFUSED, option_message(&fault), msgs),
+        Err(fault) => return stop_with(REFUSED, option_message(&fault), msgs),
     };
     let Ok(names) = texts_of(rt.alloc(), line.files.as_slice()) else {
-        return end(FAILED, OUT_OF_MEMORY, msgs);
+        return stop_with(FAILED, OUT_OF_MEMORY, msgs);
     };
     let null_files = NullFiles::open(rt);
     if !null_files.are_open() {
@@ -125,16 +127,13 @@ fn run_line<R: Identities + Onlooker + AllocGlobal, O: Write, M: Write>(
     let outputs = OutputNames::of_line(line);
     match names.as_slice() {
         [name] if outputs.are_given() => {
-            digest_to(
-                rt,
-                progress,
-                &settings,
-                line.form(),
+            let request = OutputRequest {
+                settings: &settings,
+                form: line.form(),
                 name,
                 outputs,
-                out,
-                msgs,
-            )
+            };
+            digest_to(rt, progress, request, out, msgs)
         }
         names => {
             let mut opener = FileOpener::new(rt, progress, names);
@@ -151,20 +150,20 @@ fn run_line<R: Identities + Onlooker + AllocGlobal, O: Write, M: Write>(
     }
 }
 
-/// Writes that a file can't be opened. The answer is the status.
+/// Says that a file can't be opened. The answer is the status.
 pub(crate) fn cannot_open<M: Write>(alloc: Global, name: &str, msgs: &mut M) -> u8
     ensures status { result ≡ 1 }
     ensures message { AppendsFront (run_fault_text NotOpened name.now) (M.contents msgs.old) (M.contents msgs.new) }
 {
-    RunFault::NotOpened.tell(alloc, name, msgs);
+    RunFault::NotOpened.write_message(alloc, name, msgs);
     FAILED
 }
 
-/// Writes a message, as far as that can be written. The answer is the status.
-fn end<M: Write>(status: u8, message: &str, msgs: &mut M) -> u8
+/// Writes a message, as far as the writer takes it. The answer is the status.
+fn stop_with<M: Write>(status: u8, message: &str, msgs: &mut M) -> u8
     ensures status { result ≡ status }
     ensures message { AppendsFront message.now (M.contents msgs.old) (M.contents msgs.new) }
 {
-    tell_text(message, msgs);
+    write_text(message, msgs);
     status
 }

@@ -20,4 +20,4 @@ returns c =
     let five = arg_added _ _ _ _ _ four c.flag-2.ensures.rule c.flag-2.ensures.local c.in_ok-arg-5.ensures in
     let six = arg_added _ _ _ _ _ five c.option-4.ensures.rule c.option-4.ensures.local c.in_ok-arg-6.ensures in
     let seven = arg_added _ _ _ _ _ six c.option-5.ensures.rule c.option-5.ensures.local c.in_ok-arg-7.ensures in
-    IfOk-weaker c.arg-8.result _ _ (λ r h. arg_added _ r _ _ _ seven c.words.ensures.rule c.words.ensures.local h) c.arg-8.ensures
+    IfOk-weaker c.arg-8.result _ _ (λ r h. arg_added _ r _ _ _ seven c.positionals.ensures.rule c.positionals.ensures.local h) c.arg-8.ensures
