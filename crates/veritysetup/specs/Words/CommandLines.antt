@@ -6,14 +6,14 @@ use Rattle.veritysetup.specs.declared.words.command_name.CommandName.{CommandNam
 use Rattle.veritysetup.specs.declared.words.command_name.CommandName.TheVariants.{Format, Dump, Verify}
 use Rattle.veritysetup.specs.declared.words.line.Line.{Line}
 
--- the options of format and verify for what a tree is made by
+-- the options of format and verify that say what a tree is made by
 unfoldable pub with_tree_rules : App → App
 with_tree_rules app = with_rule (with_rule (with_rule (with_rule (with_rule (with_rule
     app (option_rule (codes "hash"))) (option_rule (codes "format")))
     (option_rule (codes "data-block-size"))) (option_rule (codes "hash-block-size")))
     (option_rule (codes "data-blocks"))) (option_rule (codes "salt"))
 
--- the option for where the hash area begins
+-- the option that says where the hash area begins
 unfoldable pub with_offset_rule : App → App
 with_offset_rule app = with_rule app (option_rule (codes "hash-offset"))
 
@@ -44,7 +44,7 @@ command_text Format = codes "format"
 command_text Dump = codes "dump"
 command_text Verify = codes "verify"
 
--- the word, where it is given
+-- the word, if it is given
 abbrev pub word_list : Option Text → List Text
 word_list None = []
 word_list (Some word) = word ∷ []

@@ -25,14 +25,14 @@ pub enum InputFault {
     BadRoot,
 }
 
-/// Why verify stops, in the order in which it goes on.
+/// Why verify stops, in the order of its steps.
 #[derive(Clone, Copy, Debug, PartialEq, Eq)]
 pub enum VerifyFault {
     /// Nothing is compared.
     Input(InputFault),
     /// There is no memory for the store.
     Store,
-    /// The tree is not compared, or another one.
+    /// The tree could not be compared, or it differs.
     Compare(CompareFault),
 }
 
@@ -50,7 +50,7 @@ impl InputFault {
     }
 
     /// Writes the message of the fault. The answer says whether the writer took all of it.
-    fn tell<M: Write>(&self, alloc: Global, msgs: &mut M) -> bool
+    fn write_message<M: Write>(&self, alloc: Global, msgs: &mut M) -> bool
         ensures whole { IsTrue result → Appends (M.contents msgs.old) (M.contents msgs.new) (input_text self.now) }
         ensures front { AppendsFront (input_text self.now) (M.contents msgs.old) (M.contents msgs.new) }
     {
@@ -92,12 +92,12 @@ impl VerifyFault {
     }
 
     /// Writes the message of the fault. The answer says whether the writer took all of it.
-    pub fn tell<M: Write>(&self, alloc: Global, msgs: &mut M) -> bool
+    pub fn write_message<M: Write>(&self, alloc: Global, msgs: &mut M) -> bool
         ensures whole { IsTrue result → Appends (M.contents msgs.old) (M.contents msgs.new) (fault_text self.now) }
         ensures front { AppendsFront (fault_text self.now) (M.contents msgs.old) (M.contents msgs.new) }
     {
         match self {
-            VerifyFault::Input(fault) => fault.tell(alloc, msgs),
+            VerifyFault::Input(fault) => fault.write_message(alloc, msgs),
             VerifyFault::Store => tell_text(OUT_OF_MEMORY, msgs),
             VerifyFault::Compare(fault) => tell(compare_message(alloc, fault), msgs),
         }

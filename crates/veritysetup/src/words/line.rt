@@ -5,7 +5,7 @@ ghost use Rattle.veritysetup.specs.Words.RawWords.{root_word};
 use crate::{CommandName, RawOptions};
 use command_line::text_of;
 
-/// What a command line of `veritysetup` holds, as copies of its own. Each option is `None` where it is not given.
+/// What a command line of `veritysetup` holds, as copies of its own. Each option is `None` if it is not given.
 #[derive(Debug, Drop)]
 pub struct Line {
     /// The command.

@@ -17,6 +17,6 @@ returns c =
     let offset = c.in_ok-with_offset_option.ensures _ tree in
     let one = arg_added _ _ _ _ _ offset c.option.ensures.rule c.option.ensures.local c.in_ok-arg.ensures in
     let two = arg_added _ _ _ _ _ one c.flag.ensures.rule c.flag.ensures.local c.in_ok-arg-2.ensures in
-    let three = arg_added _ _ _ _ _ two c.word.ensures.rule c.word.ensures.local c.in_ok-arg-3.ensures in
+    let three = arg_added _ _ _ _ _ two c.positional.ensures.rule c.positional.ensures.local c.in_ok-arg-3.ensures in
     IfOk-weaker c.arg-4.result _ _
-    (λ r h. arg_added _ r _ _ _ three c.word-2.ensures.rule c.word-2.ensures.local h) c.arg-4.ensures
+    (λ r h. arg_added _ r _ _ _ three c.positional-2.ensures.rule c.positional-2.ensures.local h) c.arg-4.ensures
