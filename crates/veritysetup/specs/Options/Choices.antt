@@ -78,8 +78,8 @@ settings_with texts p (Ok planned) = if overlaps texts.same_file p.offset planne
         root = root;
       })
 
--- what the options choose for data of so many bytes, or the first fault: there are as many data blocks as are wanted,
--- by default all whole ones
+-- what the options choose for data of this length in bytes, or the first fault: there are as many data blocks as are
+-- wanted, by default all whole ones
 abbrev pub settings : Texts → ℕ → Option (List ℕ) → Result VeritySettings OptionFault
 settings texts length random = do
   p ← parameters texts random

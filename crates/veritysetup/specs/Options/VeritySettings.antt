@@ -16,12 +16,12 @@ pub record VeritySettings : Type 0 where
   pub plan : Planned
   pub root : Option (List ℕ)
 
--- the plan for so many data blocks if the tree begins at this hash block; without one the hash area is too large
+-- the plan for this number of data blocks if the tree begins at this hash block; without one the hash area is too large
 abbrev pub plan_from : Settings → ℕ → Option ℕ → Result Planned PlanFault
 plan_from tree blocks (Some base) = plan_for_blocks tree blocks base
 plan_from tree blocks None = if blocks == 0 then Err NoData else Err TooLarge
 
--- the plan for so many data blocks with this hash offset, after a superblock if there is one
+-- the plan for this number of data blocks with this hash offset, after a superblock if there is one
 abbrev pub plan_at : Settings → ℕ → ℕ → Bool → Result Planned PlanFault
 plan_at tree blocks offset superblock = plan_from tree blocks (base_of offset superblock tree.hash_block)
 

@@ -41,12 +41,12 @@ abbrev pub root_above : VeritySettings → List ℕ → List ℕ
 root_above s bytes = root s.plan.settings (data_blocks s.plan bytes)
 
 -- the text in the report's line of the UUID
-abbrev pub shown_uuid : VeritySettings → List ℕ
-shown_uuid s = if s.superblock then uuid_text s.uuid else bare_text
+abbrev pub report_uuid : VeritySettings → List ℕ
+report_uuid s = if s.superblock then uuid_text s.uuid else bare_text
 
 -- the report of format, with this root hash
 abbrev pub format_report : VeritySettings → List ℕ → List ℕ → List ℕ
-format_report s path root = report_text path (shown_uuid s) (superblock_for s) (Some root)
+format_report s path root = report_text path (report_uuid s) (superblock_for s) (Some root)
 
 -- how much was read of the source: once the tree is built, the bytes of all data blocks
 abbrev pub Reads : VeritySettings → Result (Unit {0}) FormatFault → List ℕ → List ℕ → Type 0

@@ -21,6 +21,6 @@ abbrev pub is_unread : StoredFault → Bool
 is_unread Unread = true
 is_unread (Refused fault) = false
 
-abbrev pub unread : {X : Type 0} → Result X StoredFault → Bool
-unread (Ok superblock) = false
-unread (Err fault) = is_unread fault
+abbrev pub superblock_unread : {X : Type 0} → Result X StoredFault → Bool
+superblock_unread (Ok superblock) = false
+superblock_unread (Err fault) = is_unread fault
