@@ -1,6 +1,6 @@
 -- From the texts of a line's options to settings.
 pub mod Texts
-pub mod Chosen
-pub mod Choosing
+pub mod VeritySettings
+pub mod Choices
 pub mod RootHash
 pub mod Uuids

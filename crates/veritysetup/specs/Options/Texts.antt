@@ -11,7 +11,7 @@ use Rattle.veritysetup.specs.Options.RootHash.{root_of}
 use Rattle.veritysetup.specs.Options.Uuids.{random_uuid}
 use Rattle.veritysetup.specs.declared.options.raw_options.RawOptions.{RawOptions}
 
--- the texts of the options, each None where it is not given
+-- the texts of the options, each None if it is not given
 pub record Texts : Type 0 where
   pub hash : Option (List ℕ)
   pub format : Option (List ℕ)
@@ -40,7 +40,7 @@ texts_of raw = record {
   same_file = raw.same_file;
 }
 
--- a number that may be missing; none where the text is no number
+-- a number that may be missing; none if the text is no number
 abbrev pub number_if_given : Option (List ℕ) → Option (Option ℕ)
 number_if_given None = Some None
 number_if_given (Some text) = option_map (λ number. Some number) (number_of text)
@@ -54,32 +54,32 @@ abbrev pub offset_unit : Bool → ℕ → ℕ
 offset_unit true hash_block = superblock_size
 offset_unit false hash_block = hash_block
 
--- so many bytes, where they are a multiple of a unit
+-- this number of bytes, if it is a multiple of a unit
 abbrev pub multiple_of : ℕ → ℕ → Option ℕ
 multiple_of unit bytes = if bytes % unit == 0 then Some bytes else None
 
--- a salt, where `-` is the empty one; by default the first 32 random bytes
+-- a salt, in which `-` means the empty one; by default the first 32 random bytes
 abbrev pub salt_or_random : Option (List ℕ) → Option (List ℕ) → Option (List ℕ)
 salt_or_random (Some text) random = if bytes_eq text (codes "-") then Some [] else salt_of (most_salt Before) text
 salt_or_random None (Some random) = Some (take 32 random)
 salt_or_random None None = None
 
--- the UUID where there is none
+-- what stands for a UUID if there is none
 abbrev pub no_uuid : List ℕ
 no_uuid = replicate 16 0
 
--- a UUID; by default that of the 16 random bytes after those, and zeros where there are none
+-- a UUID; by default that of the 16 random bytes after those, and zeros if there are no random bytes
 abbrev pub uuid_or_random : Option (List ℕ) → Option (List ℕ) → Option (List ℕ)
 uuid_or_random (Some text) random = parsed text
 uuid_or_random None (Some random) = Some (random_uuid (take 16 (drop 32 random)))
 uuid_or_random None None = Some no_uuid
 
 -- the UUID of a hash area with a superblock; without one it has none, which is all zeros
-abbrev pub uuid_where : Bool → List ℕ → List ℕ
-uuid_where true uuid = uuid
-uuid_where false uuid = no_uuid
+abbrev pub area_uuid : Bool → List ℕ → List ℕ
+area_uuid true uuid = uuid
+area_uuid false uuid = no_uuid
 
--- a root hash that may be missing; none where the text is no digest of the algorithm
+-- a root hash that may be missing; none if the text is no digest of the algorithm
 abbrev pub root_if_given : Algorithm → Option (List ℕ) → Option (Option (List ℕ))
 root_if_given algorithm None = Some None
 root_if_given algorithm (Some text) = option_map (λ root. Some root) (root_of algorithm text)

@@ -7,7 +7,7 @@ use Rattle.command_line.specs.SystemWords.{not_text}
 use Rattle.command_line.specs.declared.words.system_words.WordsFault.{WordsFault}
 use Rattle.command_line.specs.declared.words.system_words.WordsFault.TheVariants.{NotText, Memory}
 use Rattle.veritysetup.specs.Texts.Messages.{memory_text}
-use Rattle.veritysetup.specs.Runs.Outcomes.{Printed}
+use Rattle.veritysetup.specs.Runs.Outcomes.{TextChange}
 
 -- a file that can't be opened, or whose length can't be found
 abbrev pub unopened_text : List ℕ → List ℕ
@@ -42,12 +42,12 @@ IsStatus status = status ≤ 4
 abbrev pub IsRefusal : ℕ → Type 0
 IsRefusal status = (status ≡ 1) ⊎ (status ≡ 3)
 
--- something is added to what a writer holds, perhaps nothing
+-- bytes are added to what a writer holds, perhaps none
 abbrev pub Grows : Option (List ℕ) → Option (List ℕ) → Type 0
 Grows before after = (added : List ℕ) × Appends before after added
 
 -- a command's run: what the writers held stays, and no message goes with status 0
-pub record CommandRun (status : ℕ) (texts : Printed) : Type 0 where
+pub record CommandRun (status : ℕ) (texts : TextChange) : Type 0 where
   pub status_is : IsStatus status
   pub out : Grows texts.out_before texts.out_after
   pub msgs : Grows texts.msgs_before texts.msgs_after

@@ -1,8 +1,8 @@
--- In which folder a path's last name stands. Only the contract of a private step speaks of it.
+-- The folder in which a path's last name stands. Only the contract of a private step speaks of it.
 use Rattle.std.specs.Prelude.{ℕ, ◌==◌, List, length, Option, None, Some, if◌then◌else◌}
 use Rattle.std.specs.Path.{cur_dir, path_parent}
 
--- the current folder, where none is named
+-- the current folder, if none is named
 abbrev pub or_current : Option (List ℕ) → List ℕ
 or_current None = cur_dir
 or_current (Some folder) = if length folder == 0 then cur_dir else folder

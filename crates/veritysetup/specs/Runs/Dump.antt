@@ -5,7 +5,7 @@ use Rattle.verity_format.specs.SuperblockFields.{SuperblockFields}
 use Rattle.verity_format.specs.Superblocks.{IsSuperblock}
 use Rattle.verity_io.specs.Counting.{Change, Counts}
 use Rattle.veritysetup.specs.Texts.Messages.{super_text, unread_superblock_text, memory_text, unwritten_output_text}
-use Rattle.veritysetup.specs.Runs.Outcomes.{Printed, status_of, message_of}
+use Rattle.veritysetup.specs.Runs.Outcomes.{TextChange, status_of, message_of}
 use Rattle.command_line.specs.Printing.{AppendsFront, Prints}
 use Rattle.veritysetup.specs.Texts.Reports.{report_text, uuid_text}
 use Rattle.veritysetup.specs.Runs.StoredSuperblock.{header, ReadsSuperblock, is_unread}
@@ -20,14 +20,14 @@ abbrev pub fault_status : DumpFault → ℕ
 fault_status (Superblock (Refused fault)) = 1
 fault_status (Superblock Unread) = 4
 fault_status (Report Memory) = 3
-fault_status (Report (Output taken)) = 4
+fault_status (Report (Output count)) = 4
 
 -- its message
 abbrev pub fault_text : DumpFault → List ℕ
 fault_text (Superblock (Refused fault)) = super_text fault
 fault_text (Superblock Unread) = unread_superblock_text
 fault_text (Report Memory) = memory_text
-fault_text (Report (Output taken)) = unwritten_output_text
+fault_text (Report (Output count)) = unwritten_output_text
 
 -- the report of the superblock at an offset of the device is printed, without a root hash
 abbrev pub ReportsSuperblock : ℕ → List ℕ → Change → Result (Unit {0}) PrintFault → Option (List ℕ)
@@ -46,12 +46,11 @@ DumpsTo offset path device (Err (Report fault)) before after =
 
 -- the device could not be read
 abbrev pub device_failed : Result (Unit {0}) DumpFault → Bool
-device_failed (Ok done) = false
 device_failed (Err (Superblock fault)) = is_unread fault
-device_failed (Err (Report fault)) = false
+device_failed outcome = false
 
 -- a run on a device with the superblock at an offset: one outcome says what became of each
-pub record DumpRun (offset : ℕ) (path : List ℕ) (status : ℕ) (device : Change) (texts : Printed) : Type 0 where
+pub record DumpRun (offset : ℕ) (path : List ℕ) (status : ℕ) (device : Change) (texts : TextChange) : Type 0 where
   pub outcome : Result (Unit {0}) DumpFault
   pub status_is : status ≡ status_of fault_status outcome
   pub printed : DumpsTo offset path device outcome texts.out_before texts.out_after

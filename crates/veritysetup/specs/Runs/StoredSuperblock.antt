@@ -6,11 +6,11 @@ use Rattle.verity_plan.specs.Plans.{superblock_size}
 use Rattle.veritysetup.specs.declared.runs.stored_superblock.StoredFault.{StoredFault}
 use Rattle.veritysetup.specs.declared.runs.stored_superblock.StoredFault.TheVariants.{Unread, Refused}
 
--- the bytes that a superblock is read from, all there are on a shorter device
+-- the bytes that a superblock is read from; on a shorter device all that there are
 abbrev pub header : ℕ → List ℕ → List ℕ
 header offset device = take superblock_size (drop offset device)
 
--- the bytes say the superblock, or there is this cause that they say none
+-- the superblock that the bytes hold, or the reason why they hold none
 abbrev pub ReadsSuperblock : Result Superblock StoredFault → ℕ → List ℕ → Type 0
 ReadsSuperblock (Ok superblock) offset device = IsSuperblock (header offset device) superblock
 ReadsSuperblock (Err (Refused fault)) offset device = cause (header offset device) ≡ Some fault
@@ -21,6 +21,6 @@ abbrev pub is_unread : StoredFault → Bool
 is_unread Unread = true
 is_unread (Refused fault) = false
 
-abbrev pub unread : {X : Type 0} → Result X StoredFault → Bool
-unread (Ok superblock) = false
-unread (Err fault) = is_unread fault
+abbrev pub superblock_unread : {X : Type 0} → Result X StoredFault → Bool
+superblock_unread (Ok superblock) = false
+superblock_unread (Err fault) = is_unread fault

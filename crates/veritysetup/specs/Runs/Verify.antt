@@ -11,7 +11,7 @@ use Rattle.verity_tree.specs.Comparing as comparing
 use Rattle.verity_tree.specs.Verdicts.{HoldsTree}
 use Rattle.verity_tree.specs.declared.comparing.CompareFault.{CompareFault}
 use Rattle.verity_tree.specs.declared.comparing.CompareFault.TheVariants as fault
-use Rattle.veritysetup.specs.Options.Chosen.{plan_at}
+use Rattle.veritysetup.specs.Options.VeritySettings.{plan_at}
 use Rattle.veritysetup.specs.Texts.Messages.{compare_text, memory_text, option_text, super_text, too_large_text, unread_superblock_text}
 use Rattle.veritysetup.specs.Runs.Outcomes.{status_of, message_of}
 use Rattle.command_line.specs.Printing.{AppendsFront}
@@ -34,7 +34,7 @@ compare_status (fault.SourceShort block) = 4
 compare_status (fault.SourceFailed block) = 4
 compare_status (fault.DeviceFailed level block) = 4
 
--- the status where nothing is compared
+-- the status if nothing is compared
 abbrev pub input_status : InputFault → ℕ
 input_status (Superblock (Refused cause)) = 1
 input_status (Superblock Unread) = 4
@@ -71,7 +71,7 @@ pub record Describes (offset : ℕ) (text device : List ℕ) (plan : Planned) (r
   pub plan_is : plan_of offset fields ≡ Ok plan
   pub root_is : root_of fields.tree.algorithm text ≡ Some root
 
--- the superblock at this offset describes some data, so where there is no plan the hash area is too large
+-- the superblock at this offset describes some data, so if there is no plan the hash area is too large
 pub record IsTooLarge (offset : ℕ) (device : List ℕ) : Type 0 where
   pub fields : SuperblockFields
   pub superblock : IsSuperblock (header offset device) fields
@@ -92,12 +92,13 @@ RefusesStored offset text device (Superblock cause) = ReadsSuperblock (Err cause
 RefusesStored offset text device TooLarge = IsTooLarge offset device
 RefusesStored offset text device BadRoot = IsBadRoot offset text device
 
--- what an input has the stored tree compared by: a superblock and the text of a root hash, or settings with a root hash
+-- what the stored tree is compared by for an input: a superblock and the text of a root hash, or settings with a root
+-- hash
 abbrev pub Trusts : VerifyInput → List ℕ → Planned → List ℕ → Type 0
 Trusts (Stored offset text) device plan root = Describes offset text.now device plan root
 Trusts (Given settings) device plan root = (plan ≡ settings.now.plan) × (settings.now.root ≡ Some root)
 
--- why an input has nothing compared
+-- why nothing is compared for an input
 abbrev pub Refuses : VerifyInput → List ℕ → InputFault → Type 0
 Refuses (Stored offset text) device fault = RefusesStored offset text.now device fault
 Refuses (Given settings) device fault = (fault ≡ BadRoot) × (settings.now.root ≡ None)
@@ -108,10 +109,10 @@ pub record Compares (input : VerifyInput) (device before after : List ℕ) (resu
   pub plan : Planned
   pub root : List ℕ
   pub trusted : Trusts input device plan root
-  pub judged : Judges plan device before root result
+  pub verdict : Judges plan device before root result
   pub read : CompareReads plan result before after
 
--- the verdict, and how much was read of the source: nothing before the store is there
+-- the verdict, and how much was read of the source: nothing before there is a store
 abbrev pub Verifies : VerifyInput → List ℕ → List ℕ → List ℕ → Result (Unit {0}) VerifyFault → Type 0
 Verifies input device before after (Ok done) = Compares input device before after (Ok tt)
 Verifies input device before after (Err (Input fault)) = Refuses input device fault × (after ≡ before)
@@ -131,22 +132,18 @@ pub record IsVerified (input : VerifyInput) (device before after : List ℕ) : T
 -- the device could not be read at the superblock
 abbrev pub input_unread : InputFault → Bool
 input_unread (Superblock cause) = is_unread cause
-input_unread TooLarge = false
-input_unread BadRoot = false
+input_unread fault = false
 
 -- the device failed
 abbrev pub device_failed : Result (Unit {0}) VerifyFault → Bool
-device_failed (Ok done) = false
 device_failed (Err (Input fault)) = input_unread fault
-device_failed (Err Store) = false
 device_failed (Err (Compare fault)) = comparing.device_failed (Err fault)
+device_failed outcome = false
 
 -- the source failed
 abbrev pub source_failed : Result (Unit {0}) VerifyFault → Bool
-source_failed (Ok done) = false
-source_failed (Err (Input fault)) = false
-source_failed (Err Store) = false
 source_failed (Err (Compare fault)) = comparing.source_failed (Err fault)
+source_failed outcome = false
 
 -- a run: one outcome says what became of the source, the device and the writer of the message
 pub record VerifyRun (input : VerifyInput) (status : ℕ) (source device : Change)

@@ -56,7 +56,7 @@ option_text TooLarge = too_large_text
 option_text Overlap = codes "Data area and hash area overlap.\n"
 option_text BadRoot = codes "Root hash is not valid.\n"
 
--- a number in a superblock that is not taken
+-- a number in a superblock that is refused
 abbrev pub refused_text : List ℕ → ℕ → List ℕ → List ℕ
 refused_text field number verdict =
     concat (codes "Superblock " ∷ field ∷ codes " " ∷ decimal number ∷ codes " is not " ∷ verdict ∷ codes ".\n" ∷ [])

@@ -12,7 +12,7 @@ use Rattle.verity_hash.specs.Algorithms.{name_of}
 abbrev pub report_line : List ℕ → List ℕ → List ℕ
 report_line label value = concat (label ∷ replicate (17 - length label) 32 ∷ codes "\t" ∷ value ∷ codes "\n" ∷ [])
 
--- the line above all
+-- the first line
 abbrev pub title : List ℕ → List ℕ
 title path = concat (codes "VERITY header information for " ∷ path ∷ codes "\n" ∷ [])
 
@@ -25,11 +25,11 @@ salt_text (b ∷ rest) = encode_lower (b ∷ rest)
 abbrev pub uuid_text : List ℕ → List ℕ
 uuid_text uuid = hyphenated_text lower uuid
 
--- what stands in the place of a UUID where there is no superblock
+-- what stands in place of a UUID if there is no superblock
 abbrev pub bare_text : List ℕ
 bare_text = codes "-"
 
--- the line of the root hash, where there is one
+-- the line of the root hash, if there is one
 abbrev pub root_line : Option (List ℕ) → List ℕ
 root_line None = []
 root_line (Some root) = report_line (codes "Root hash:") (encode_lower root)

@@ -1,27 +1,26 @@
 -- The command lines of `veritysetup` (veritysetup(8)), in the words of clap, and what a line of it holds.
-use Rattle.std.specs.Prelude.{◌≡◌, Option, Some, None, List, [], ◌∷◌, ◌++◌, codes, map, option_map, string_bytes}
+use Rattle.std.specs.Prelude.{◌≡◌, Option, Some, None, List, [], ◌∷◌, ◌++◌, codes, fold, map, option_map, string_bytes}
 use Rattle.clap.specs.Words.{App, Row, Text, first_of, new_app, with_rule, with_subcommand}
 use Rattle.command_line.specs.Arguments.{flag_of, flag_rule, option_rule, program_app, word_rule}
 use Rattle.veritysetup.specs.declared.words.command_name.CommandName.{CommandName}
 use Rattle.veritysetup.specs.declared.words.command_name.CommandName.TheVariants.{Format, Dump, Verify}
 use Rattle.veritysetup.specs.declared.words.line.Line.{Line}
 
--- the options of format and verify for what a tree is made by
+-- the options of format and verify that say what a tree is made by
 unfoldable pub with_tree_rules : App → App
-with_tree_rules app = with_rule (with_rule (with_rule (with_rule (with_rule (with_rule
-    app (option_rule (codes "hash"))) (option_rule (codes "format")))
-    (option_rule (codes "data-block-size"))) (option_rule (codes "hash-block-size")))
-    (option_rule (codes "data-blocks"))) (option_rule (codes "salt"))
+with_tree_rules app = fold with_rule app (option_rule (codes "hash") ∷ option_rule (codes "format")
+    ∷ option_rule (codes "data-block-size") ∷ option_rule (codes "hash-block-size")
+    ∷ option_rule (codes "data-blocks") ∷ option_rule (codes "salt") ∷ [])
 
--- the option for where the hash area begins
+-- the option that says where the hash area begins
 unfoldable pub with_offset_rule : App → App
 with_offset_rule app = with_rule app (option_rule (codes "hash-offset"))
 
 -- `format [options] DATA HASH`
 unfoldable pub format_app : App
-format_app = with_rule (with_rule (with_rule (with_rule
-    (with_offset_rule (with_tree_rules (new_app (codes "format")))) (option_rule (codes "uuid")))
-    (flag_rule (codes "no-superblock"))) (word_rule (codes "DATA"))) (word_rule (codes "HASH"))
+format_app = fold with_rule (with_offset_rule (with_tree_rules (new_app (codes "format"))))
+    (option_rule (codes "uuid") ∷ flag_rule (codes "no-superblock") ∷ word_rule (codes "DATA")
+    ∷ word_rule (codes "HASH") ∷ [])
 
 -- `dump [--hash-offset BYTES] HASH`
 unfoldable pub dump_app : App
@@ -29,14 +28,14 @@ dump_app = with_rule (with_offset_rule (new_app (codes "dump"))) (word_rule (cod
 
 -- `verify [options] DATA HASH ROOT`
 unfoldable pub verify_app : App
-verify_app = with_rule (with_rule (with_rule (with_rule
-    (with_offset_rule (with_tree_rules (new_app (codes "verify")))) (flag_rule (codes "no-superblock")))
-    (word_rule (codes "DATA"))) (word_rule (codes "HASH"))) (word_rule (codes "ROOT"))
+verify_app = fold with_rule (with_offset_rule (with_tree_rules (new_app (codes "verify"))))
+    (flag_rule (codes "no-superblock") ∷ word_rule (codes "DATA") ∷ word_rule (codes "HASH")
+    ∷ word_rule (codes "ROOT") ∷ [])
 
 -- the program
 unfoldable pub veritysetup_app : App
-veritysetup_app = with_subcommand (with_subcommand (with_subcommand (program_app (codes "veritysetup"))
-    format_app.top) dump_app.top) verify_app.top
+veritysetup_app = fold with_subcommand (program_app (codes "veritysetup"))
+    (format_app.top ∷ dump_app.top ∷ verify_app.top ∷ [])
 
 -- the name of a command
 abbrev pub command_text : CommandName → Text
@@ -44,7 +43,7 @@ command_text Format = codes "format"
 command_text Dump = codes "dump"
 command_text Verify = codes "verify"
 
--- the word, where it is given
+-- the word, if it is given
 abbrev pub word_list : Option Text → List Text
 word_list None = []
 word_list (Some word) = word ∷ []

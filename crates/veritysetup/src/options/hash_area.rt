@@ -1,14 +1,14 @@
 //! Where the tree stands on a hash device.
 ghost use Rattle.std.specs.Prelude.{◌≡◌};
-ghost use Rattle.veritysetup.specs.Options.Chosen.{plan_at};
+ghost use Rattle.veritysetup.specs.Options.VeritySettings.{plan_at};
 
 use verity_plan::base_of;
 use verity_tree::{Plan, PlanFault, TreeSettings};
 
-/// A plan for so many whole data blocks, with the tree at this offset in bytes, or after the superblock there
+/// A plan for this number of whole data blocks, with the tree at this offset in bytes, or after the superblock there
 /// (cryptsetup's on-disk format page; veritysetup(8), `--hash-offset`).
 ///
-/// `NoData` for no blocks; else `TooLarge` where the superblock's end, the data area or the hash area would go past
+/// `NoData` for no blocks; else `TooLarge` if the superblock's end, the data area or the hash area would go past
 /// 2^63 - 1 bytes.
 pub fn plan_at(
     tree: &TreeSettings,

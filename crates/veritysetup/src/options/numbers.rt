@@ -1,6 +1,6 @@
 //! The options that are numbers.
 ghost use Rattle.std.specs.Prelude.{◌≡◌, option_map};
-ghost use Rattle.veritysetup.specs.Options.Choosing.{numbers};
+ghost use Rattle.veritysetup.specs.Options.Choices.{numbers};
 ghost use Rattle.veritysetup.specs.Options.Texts.{number_if_given, texts_of};
 
 use crate::options::raw_options::{OptionFault, OptionName, RawOptions};
@@ -15,14 +15,14 @@ pub struct OptionNumbers {
     pub data_block: u64,
     /// The hash block size in bytes.
     pub hash_block: u64,
-    /// How many data blocks there are to be, where that is said.
+    /// How many data blocks are wanted, if the options say so.
     pub blocks: Option<u64>,
     /// The byte at which the hash area is to begin.
     pub offset: u64,
 }
 
 impl OptionNumbers {
-    /// The numbers, or the first text that is none.
+    /// The numbers, or which option is the first that is no number.
     pub fn read(raw: &RawOptions) -> Result<OptionNumbers, OptionFault>
         ensures { result ≡ numbers (texts_of raw.now) }
     {
@@ -49,7 +49,7 @@ impl OptionNumbers {
     }
 }
 
-/// The number of an option that may be missing, or `None` where the option is no number.
+/// The number of an option that may be missing, or `None` if the option is no number.
 fn number_if_given(text: Option<&str>) -> Option<Option<u64>>
     ensures { result ≡ number_if_given (option_map (λ t. t.now) text.entry) }
 {

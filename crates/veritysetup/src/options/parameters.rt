@@ -1,8 +1,8 @@
 //! What the texts of options choose, before the data is looked at.
 ghost use Rattle.std.specs.Prelude.{◌≡◌, IfOk, option_map};
-ghost use Rattle.veritysetup.specs.Options.Texts.{texts_of, block_size_of, salt_or_random, uuid_or_random, uuid_where};
+ghost use Rattle.veritysetup.specs.Options.Texts.{texts_of, block_size_of, salt_or_random, uuid_or_random, area_uuid};
 ghost use Rattle.verity_plan.specs.Settings.{rule_of};
-ghost use Rattle.veritysetup.specs.Options.Choosing.{parameters};
+ghost use Rattle.veritysetup.specs.Options.Choices.{parameters};
 
 use crate::options::hash_offset::{multiple_of, offset_unit};
 use crate::options::numbers::OptionNumbers;
@@ -25,17 +25,17 @@ pub struct Parameters {
     pub offset: u64,
     /// Whether the hash area begins with a superblock.
     pub superblock: bool,
-    /// How many data blocks there are to be, where that is said.
+    /// How many data blocks are wanted, if the options say so.
     pub blocks: Option<u64>,
     /// Algorithm, salt and block sizes.
     pub tree: TreeSettings,
 }
 
 impl Parameters {
-    /// What the texts choose, or the first that chooses nothing.
-    pub fn chosen(raw: &RawOptions, random: Option<&[u8; 48]>) -> Result<Parameters, OptionFault>
+    /// What the texts choose, or the first fault.
+    pub fn read(raw: &RawOptions, random: Option<&[u8; 48]>) -> Result<Parameters, OptionFault>
         ensures value { result ≡ parameters (texts_of raw.now) (option_map (λ b. b.now) random.entry) }
-        ensures of_type { IfOk result (λ chosen. chosen.tree.rule ≡ rule_of chosen.hash_type) }
+        ensures of_type { IfOk result (λ p. p.tree.rule ≡ rule_of p.hash_type) }
     {
         let numbers = OptionNumbers::read(raw)?;
         let algorithm = algorithm_or_default(raw.hash).ok_or(OptionFault::UnknownHash)?;
@@ -61,7 +61,7 @@ impl Parameters {
         let offset = multiple_of(unit, numbers.offset).ok_or(OptionFault::BadHashOffset)?;
         Ok(Parameters {
             hash_type,
-            uuid: uuid_where(superblock, uuid),
+            uuid: area_uuid(superblock, uuid),
             offset,
             superblock,
             blocks: numbers.blocks,
@@ -81,7 +81,7 @@ fn block_size_of(number: u64) -> Option<u32>
     }
 }
 
-/// The salt of a text, where `-` is no salt; without one the first 32 random bytes, where there are any.
+/// The salt of a text, in which `-` means no salt; without a text the first 32 random bytes, if there are any.
 fn salt_or_random(text: Option<&str>, random: Option<&[u8; 48]>) -> Option<ShortBytes<MOST_SALT>>
     ensures { result ≡ salt_or_random (option_map (λ t. t.now) text.entry) (option_map (λ b. b.now) random.entry) }
 {
@@ -92,7 +92,7 @@ fn salt_or_random(text: Option<&str>, random: Option<&[u8; 48]>) -> Option<Short
     }
 }
 
-/// The UUID of a text; without one that of the last 16 random bytes, or all zeros where there are none.
+/// The UUID of a text; without a text that of the last 16 random bytes, or all zeros if there are none.
 fn uuid_or_random(text: Option<&str>, random: Option<&[u8; 48]>) -> Option<Uuid>
     ensures { result ≡ uuid_or_random (option_map (λ t. t.now) text.entry) (option_map (λ b. b.now) random.entry) }
 {
@@ -104,8 +104,8 @@ fn uuid_or_random(text: Option<&str>, random: Option<&[u8; 48]>) -> Option<Uuid>
 }
 
 /// The UUID of a hash area with a superblock; all zeros without one.
-fn uuid_where(superblock: bool, uuid: Uuid) -> Uuid
-    ensures { result ≡ uuid_where superblock uuid }
+fn area_uuid(superblock: bool, uuid: Uuid) -> Uuid
+    ensures { result ≡ area_uuid superblock uuid }
 {
     if superblock { uuid } else { Uuid::nil() }
 }

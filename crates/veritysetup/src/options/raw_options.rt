@@ -2,7 +2,7 @@
 ghost use Rattle.std.specs.Prelude.{◌≡◌};
 ghost use Rattle.veritysetup.specs.Texts.Messages.{option_name};
 
-/// The texts of the options of format and verify, each `None` where it is not given (veritysetup(8)).
+/// The texts of the options of format and verify, each `None` if it is not given (veritysetup(8)).
 #[derive(Clone, Copy)]
 pub struct RawOptions<'a> {
     /// `--hash`: the name of the hash algorithm. By default sha256.
@@ -59,7 +59,7 @@ impl OptionName {
     }
 }
 
-/// The first thing for which options are refused.
+/// The first reason for which options are refused.
 #[derive(Clone, Copy, Debug, PartialEq, Eq)]
 pub enum OptionFault {
     /// The option is no number.
@@ -70,9 +70,9 @@ pub enum OptionFault {
     BadHashType,
     /// The block size is no power of two from 512 to 524288.
     BadBlockSize(OptionName),
-    /// The salt is no text of a salt, or it is missing and there are no random bytes.
+    /// The text is no salt, or there is none and there are no random bytes.
     BadSalt,
-    /// The UUID is no text of a UUID.
+    /// The text is no UUID.
     BadUuid,
     /// The hash offset is no multiple of 512, or without a superblock none of the hash block size.
     BadHashOffset,

@@ -17,7 +17,7 @@ pub fn read_root(algorithm: Algorithm, text: &str) -> Option<Digest>
     }
 }
 
-/// The root hash of a text that may be missing, or `None` where the text is no digest of the algorithm.
+/// The root hash of a text that may be missing, or `None` if the text is no digest of the algorithm.
 pub fn root_if_given(algorithm: Algorithm, text: Option<&str>) -> Option<Option<Digest>>
     ensures { result ≡ root_if_given algorithm (option_map (λ t. t.now) text.entry) }
 {

@@ -1,8 +1,8 @@
 //! What format makes, and verify compares by: hash type, UUID, where the hash area begins, the plan of the tree, and a
 //! root hash.
 ghost use Rattle.std.specs.Prelude.{◌≡◌, option_map};
-ghost use Rattle.veritysetup.specs.Options.Chosen.{IsChosen};
-ghost use Rattle.veritysetup.specs.Options.Choosing.{settings};
+ghost use Rattle.veritysetup.specs.Options.VeritySettings.{PartsAgree};
+ghost use Rattle.veritysetup.specs.Options.Choices.{settings};
 ghost use Rattle.veritysetup.specs.Runs.Images.{superblock_for};
 ghost use Rattle.veritysetup.specs.Options.Texts.{texts_of};
 
@@ -29,9 +29,9 @@ pub struct Settings {
 }
 
 impl Model for Settings {
-    ghost use Rattle.veritysetup.specs.Options.Chosen.{Chosen, IsChosen};
+    ghost use Rattle.veritysetup.specs.Options.VeritySettings.{VeritySettings, PartsAgree};
 
-    ghost Value = { Chosen };
+    ghost Value = { VeritySettings };
 
     ghost view = { λ s. record {
       hash_type = s.hash_type;
@@ -42,7 +42,7 @@ impl Model for Settings {
       root = s.root;
     } };
 
-    ghost invariant = { λ s. IsChosen (record {
+    ghost invariant = { λ s. PartsAgree (record {
       hash_type = s.hash_type;
       uuid = s.uuid;
       offset = s.offset;
@@ -51,13 +51,13 @@ impl Model for Settings {
       root = s.root;
     }) };
 
-    ghost inverse = { λ c. record {
-      hash_type = c.hash_type;
-      uuid = c.uuid;
-      offset = c.offset;
-      superblock = c.superblock;
-      plan = c.plan;
-      root = c.root;
+    ghost inverse = { λ s. record {
+      hash_type = s.hash_type;
+      uuid = s.uuid;
+      offset = s.offset;
+      superblock = s.superblock;
+      plan = s.plan;
+      root = s.root;
     } };
 }
 
@@ -93,19 +93,19 @@ impl Settings {
     /// What is read, and where each hash block goes.
     pub fn plan(&self) -> &Plan
         ensures value { result.now ≡ self.now.plan }
-        ensures chosen { IsChosen self.now }
+        ensures agree { PartsAgree self.now }
     {
         &self.plan
     }
 
-    /// The root hash, where one was given.
+    /// The root hash, if one was given.
     pub fn root(&self) -> Option<Digest>
         ensures { result ≡ self.now.root }
     {
         self.root
     }
 
-    /// The superblock that describes them.
+    /// The superblock that describes the settings.
     pub fn superblock(&self) -> Superblock
         ensures { result ≡ superblock_for self.now }
     {
@@ -115,8 +115,8 @@ impl Settings {
 }
 
 /// The settings that options choose for data of this length in bytes. Random bytes are for a salt or a UUID that is not
-/// given; without them a missing salt is refused and a missing UUID is zeros. The first fault, in the order of
-/// `OptionFault`, is answered.
+/// given; without them a missing salt is refused and a missing UUID is zeros. The error is the first fault, in the
+/// order of `OptionFault`.
 pub fn settings_of(
     raw: &RawOptions,
     length: u64,
@@ -124,17 +124,22 @@ pub fn settings_of(
 ) -> Result<Settings, OptionFault>
     ensures { result ≡ settings (texts_of raw.now) length (option_map (λ b. b.now) random.entry) }
 {
-    let chosen = Parameters::chosen(raw, random)?;
-    let whole = length / u64::from(chosen.tree.data_block());
-    let blocks = chosen.blocks.unwrap_or(whole);
-    match plan_at(&chosen.tree, blocks, chosen.offset, chosen.superblock) {
-        Ok(plan) if raw.same_file && chosen.offset < plan.wanted() => Err(OptionFault::Overlap),
-        Ok(plan) => match root_if_given(chosen.tree.algorithm(), raw.root) {
+    let parameters = Parameters::read(raw, random)?;
+    let whole = length / u64::from(parameters.tree.data_block());
+    let blocks = parameters.blocks.unwrap_or(whole);
+    match plan_at(
+        &parameters.tree,
+        blocks,
+        parameters.offset,
+        parameters.superblock,
+    ) {
+        Ok(plan) if raw.same_file && parameters.offset < plan.wanted() => Err(OptionFault::Overlap),
+        Ok(plan) => match root_if_given(parameters.tree.algorithm(), raw.root) {
             Some(root) => Ok(Settings {
-                hash_type: chosen.hash_type,
-                uuid: chosen.uuid,
-                offset: chosen.offset,
-                superblock: chosen.superblock,
+                hash_type: parameters.hash_type,
+                uuid: parameters.uuid,
+                offset: parameters.offset,
+                superblock: parameters.superblock,
                 plan,
                 root,
             }),

@@ -2,13 +2,14 @@
 ghost use Rattle.std.specs.Prelude.{◌≡◌};
 ghost use Rattle.std.specs.Io.KnownBytes.{Keeps};
 ghost use Rattle.veritysetup.specs.Program.Answers.{CommandRun, IsStatus};
-ghost use Rattle.veritysetup.specs.Runs.Outcomes.{printed};
+ghost use Rattle.veritysetup.specs.Runs.Outcomes.{text_change};
 
-use crate::program::dump::dump;
-use crate::program::format::format;
-use crate::program::verify::verify;
+use crate::program::dump::dump_file;
+use crate::program::file_paths::FilePaths;
+use crate::program::format::format_files;
+use crate::program::verify::verify_files;
 use crate::texts::program_messages::{
-    cannot_open, incomplete_line, out_of_memory, refused_line, refused_words,
+    cannot_open, lacks_memory, refuse_incomplete_line, refuse_line, refuse_words,
 };
 use crate::words::reading::{read_words, usage_of};
 use crate::{CommandName, Line};
@@ -21,10 +22,10 @@ use std::io::Write;
 use std::random::RandomSource;
 
 /// The program `veritysetup` (veritysetup(8)): reads the words of its command line, opens their files, and carries the
-/// command out. Reports go to `out` and messages to `msgs`; how far long work is stands in `progress` meanwhile, which is
-/// erased in the end. The answer is the status: 0 done, 1 the command line, an option, the superblock or the root hash
-/// is refused, 2 verification failed, 3 out of memory, 4 a file can't be opened, read or written, there are no random
-/// bytes, or the data is too short.
+/// command out. Reports go to `out` and messages to `msgs`; `progress` says how far long work is, and is erased at the
+/// end. The answer is the status: 0 done, 1 the command line, an option, the superblock or the root hash is refused, 2
+/// verification failed, 3 out of memory, 4 a file can't be opened, read or written, there are no random bytes, or the
+/// data is too short.
 pub fn run_program<R, O, M>(rt: &R, progress: &ProgressLine<'_, R>, out: &mut O, msgs: &mut M) -> u8
 where
     R: Env + Identities + ProgressRuntime + RandomSource + AllocGlobal,
@@ -35,18 +36,18 @@ where
 {
     let words = match given_words(rt) {
         Ok(words) => words,
-        Err(fault) => return refused_words(rt.alloc(), &fault, msgs),
+        Err(fault) => return refuse_words(rt.alloc(), &fault, msgs),
     };
     let status = match texts_of(rt.alloc(), words.as_slice()) {
         Ok(texts) => run_words(rt, progress, texts.as_slice(), out, msgs),
-        Err(_) => out_of_memory(msgs),
+        Err(_) => lacks_memory(msgs),
     };
     progress.erase();
     status
 }
 
-/// Reads the words of a command line, the program's name first, and carries it out. Standard streams may be closed, so
-/// a file is opened for each before the first of the command's.
+/// Reads the words of a command line, the program's name first, and carries it out. A standard stream may be closed. So
+/// that no file of the command gets its number, the null device is opened once for each stream first.
 fn run_words<R, O, M>(
     rt: &R,
     progress: &ProgressLine<'_, R>,
@@ -63,7 +64,7 @@ where
 {
     let line = match read_words(rt.alloc(), words) {
         Ok(line) => line,
-        Err(fault) => return refused_line(&fault, usage_of(words), msgs),
+        Err(fault) => return refuse_line(&fault, usage_of(words), msgs),
     };
     let null_files = NullFiles::open(rt);
     if !null_files.are_open() {
@@ -84,24 +85,24 @@ where
     R: Identities + ProgressRuntime + RandomSource + AllocGlobal,
     O: Write,
     M: Write,
-    ensures { CommandRun result (printed O.contents M.contents out.old out.new msgs.old msgs.new) }
+    ensures { CommandRun result (text_change O.contents M.contents out.old out.new msgs.old msgs.new) }
 {
     match (line.command, line.files.as_slice()) {
         (CommandName::Format, [data, hash]) => {
-            format(rt, progress, line, data.as_str(), hash.as_str(), out, msgs)
+            let paths = FilePaths {
+                data: data.as_str(),
+                hash: hash.as_str(),
+            };
+            format_files(rt, progress, line, paths, out, msgs)
         }
-        (CommandName::Dump, [hash]) => dump(rt, line, hash.as_str(), out, msgs),
+        (CommandName::Dump, [hash]) => dump_file(rt, line, hash.as_str(), out, msgs),
         (CommandName::Verify, [data, hash, root]) => {
-            verify(
-                rt,
-                progress,
-                line,
-                data.as_str(),
-                hash.as_str(),
-                root.as_str(),
-                msgs,
-            )
+            let paths = FilePaths {
+                data: data.as_str(),
+                hash: hash.as_str(),
+            };
+            verify_files(rt, progress, line, paths, root.as_str(), msgs)
         }
-        _ => incomplete_line(msgs),
+        _ => refuse_incomplete_line(msgs),
     }
 }

@@ -1,44 +1,50 @@
 //! `veritysetup format` over the files of a runtime.
-ghost use Rattle.std.specs.Prelude.{◌≡◌, ◌<◌, ◌≤◌, ℕ, List, length, IfErr, IfNone, IfSome, option_map};
+ghost use Rattle.std.specs.Prelude.{◌≡◌, ◌<◌, ◌≤◌, ℕ, List, length, IfErr, IfNone, IfSome};
 ghost use Rattle.command_line.specs.Printing.{AppendsFront};
 ghost use Rattle.verity_tree.specs.Levels.{whole};
-ghost use Rattle.veritysetup.specs.Options.Choosing.{settings};
+ghost use Rattle.veritysetup.specs.Options.Choices.{settings};
 ghost use Rattle.veritysetup.specs.Texts.Messages.{short_text};
 ghost use Rattle.veritysetup.specs.Options.Texts.{texts_of};
-ghost use Rattle.veritysetup.specs.Runs.Outcomes.{printed};
+ghost use Rattle.veritysetup.specs.Runs.Outcomes.{text_change};
 ghost use Rattle.veritysetup.specs.Program.Answers.{CommandRun};
 ghost use Rattle.veritysetup.specs.Program.Refusals.{EndsRefused};
 
 use crate::Line;
 use crate::options::raw_options::RawOptions;
 use crate::options::settings::{Settings, settings_of};
+use crate::program::data_file::{DataFile, open_data};
+use crate::program::file_paths::FilePaths;
 use crate::program::random_bytes::draw;
 use crate::program::syncing::{is_missing, keep};
 use crate::runs::format::run_format;
 use crate::texts::program_messages::{
-    cannot_open, cannot_write, no_random_bytes, refused_option, short_data,
+    cannot_open, cannot_write, lacks_data, lacks_random_bytes, refuse_option,
 };
-use command_line::{
-    Identities, ProgressLine, ProgressReader, ProgressRuntime, lead_to_one, open_measured,
-    open_writable,
-};
+use command_line::{Identities, ProgressLine, ProgressRuntime, lead_to_one, open_writable};
 use rand::rngs::StdRng;
 use std::alloc::AllocGlobal;
 use std::io;
 use std::io::Write;
 use std::random::RandomSource;
 use std::rt::Files;
-use verity_tree::{Failed, FileDevice, FileSource, Plan, Source};
+use verity_tree::{Failed, FileDevice, Plan, Source};
+
+/// The options of format as the command line gives them, and random bytes in place of a salt or a UUID that is not
+/// given.
+#[derive(Clone, Copy)]
+struct FormatOptions<'a> {
+    raw: RawOptions<'a>,
+    random: Option<[u8; 48]>,
+}
 
 /// Makes the hash device of a data file. HASH is opened only once the options are read and DATA is known to be
 /// long enough, so neither a refused option nor short data leaves a new file. Before it is opened the system is asked
 /// whether it is DATA by another name.
-pub fn format<R, O, M>(
+pub fn format_files<R, O, M>(
     rt: &R,
     progress: &ProgressLine<'_, R>,
     line: &Line,
-    data: &str,
-    hash: &str,
+    paths: FilePaths<'_>,
     out: &mut O,
     msgs: &mut M,
 ) -> u8
@@ -46,32 +52,23 @@ where
     R: Identities + ProgressRuntime + RandomSource + AllocGlobal,
     O: Write,
     M: Write,
-    ensures { CommandRun result (printed O.contents M.contents out.old out.new msgs.old msgs.new) }
+    ensures { CommandRun result (text_change O.contents M.contents out.old out.new msgs.old msgs.new) }
 {
-    let (file, length) = match open_measured(rt, data) {
-        Ok(opened) => opened,
-        Err(_) => return cannot_open(data, msgs),
+    let data_file = match open_data(rt, paths.data, progress) {
+        Ok(data_file) => data_file,
+        Err(_) => return cannot_open(paths.data, msgs),
     };
-    let opened = rt.file_identity(&file);
-    let raw = line.raw(lead_to_one(data, hash, opened, rt.path_identity(hash)));
+    let opened = rt.file_identity(&data_file.file);
+    let raw = line.raw(lead_to_one(paths.data, paths.hash, opened, rt.path_identity(paths.hash)));
     let random = match random_bytes(rt, &raw) {
         Ok(random) => random,
-        Err(_) => return no_random_bytes(msgs),
+        Err(_) => return lacks_random_bytes(msgs),
     };
-    format_by(
-        rt,
-        progress,
-        &raw,
-        random.as_ref(),
-        file,
-        length,
-        hash,
-        out,
-        msgs,
-    )
+    let options = FormatOptions { raw, random };
+    format_by(rt, &options, data_file, paths.hash, out, msgs)
 }
 
-/// Random bytes of a generator that the runtime seeds, where salt or UUID is missing.
+/// Random bytes of a generator that the runtime seeds, if salt or UUID is missing.
 fn random_bytes<R: RandomSource>(rt: &R, raw: &RawOptions) -> io::Result<Option<[u8; 48]>> {
     if raw.salt.is_some() && raw.uuid.is_some() {
         return Ok(None);
@@ -80,15 +77,11 @@ fn random_bytes<R: RandomSource>(rt: &R, raw: &RawOptions) -> io::Result<Option<
     Ok(Some(draw(&mut rng)))
 }
 
-/// Makes the hash device of an opened data file of this size, by options and random bytes. A refused option opens no
-/// HASH.
+/// Makes the hash device of an opened data file, by options. A refused option opens no HASH.
 fn format_by<R, O, M>(
     rt: &R,
-    progress: &ProgressLine<'_, R>,
-    raw: &RawOptions,
-    random: Option<&[u8; 48]>,
-    file: R::File,
-    size: u64,
+    options: &FormatOptions<'_>,
+    data_file: DataFile<'_, R, R::File>,
     hash: &str,
     out: &mut O,
     msgs: &mut M,
@@ -97,26 +90,24 @@ where
     R: Files + ProgressRuntime + AllocGlobal,
     O: Write,
     M: Write,
-    ensures run { CommandRun result (printed O.contents M.contents out.old out.new msgs.old msgs.new) }
-    ensures refused { IfErr (settings (texts_of raw.now) size (option_map (λ b. b.now) random.entry))
+    ensures run { CommandRun result (text_change O.contents M.contents out.old out.new msgs.old msgs.new) }
+    ensures refused { IfErr (settings (texts_of options.now.raw) data_file.entry.length options.now.random)
         (EndsRefused result (M.contents msgs.old) (M.contents msgs.new)) }
-    ensures unprinted { IfErr (settings (texts_of raw.now) size (option_map (λ b. b.now) random.entry))
+    ensures unprinted { IfErr (settings (texts_of options.now.raw) data_file.entry.length options.now.random)
         (λ _. out.new ≡ out.old) }
 {
-    match settings_of(raw, size, random) {
-        Ok(settings) => format_opened(rt, progress, &settings, file, size, hash, out, msgs),
-        Err(fault) => refused_option(rt.alloc(), &fault, msgs),
+    match settings_of(&options.raw, data_file.length, options.random.as_ref()) {
+        Ok(settings) => format_opened(rt, &settings, data_file, hash, out, msgs),
+        Err(fault) => refuse_option(rt.alloc(), &fault, msgs),
     }
 }
 
-/// Makes the hash device of an opened data file of this size. HASH is not opened where more data is wanted than there is:
-/// then the first data block that isn't whole is named.
+/// Makes the hash device of an opened data file. If more data is wanted than there is, HASH is not opened, and the
+/// first data block that isn't whole is named.
 fn format_opened<R, O, M>(
     rt: &R,
-    progress: &ProgressLine<'_, R>,
     settings: &Settings,
-    file: R::File,
-    size: u64,
+    data_file: DataFile<'_, R, R::File>,
     hash: &str,
     out: &mut O,
     msgs: &mut M,
@@ -125,20 +116,19 @@ where
     R: Files + ProgressRuntime + AllocGlobal,
     O: Write,
     M: Write,
-    ensures run { CommandRun result (printed O.contents M.contents out.old out.new msgs.old msgs.new) }
-    ensures short { size < settings.now.plan.wanted → (bytes : List ℕ) → length bytes ≡ size → (result ≡ 4)
-        × (out.new ≡ out.old)
+    ensures run { CommandRun result (text_change O.contents M.contents out.old out.new msgs.old msgs.new) }
+    ensures short { data_file.entry.length < settings.now.plan.wanted → (bytes : List ℕ)
+        → length bytes ≡ data_file.entry.length → (result ≡ 4) × (out.new ≡ out.old)
         × AppendsFront (short_text (whole settings.now.plan bytes)) (M.contents msgs.old) (M.contents msgs.new) }
 {
-    if let Some(block) = missing_block(settings.plan(), size) {
-        return short_data(rt.alloc(), block, msgs);
+    if let Some(block) = missing_block(settings.plan(), data_file.length) {
+        return lacks_data(rt.alloc(), block, msgs);
     }
-    let shown = ProgressReader::new(file, settings.plan().wanted(), progress);
-    let source = FileSource::new(shown, size);
+    let source = data_file.source(settings.plan().wanted());
     make(rt, settings, source, hash, out, msgs)
 }
 
-/// The first data block that is not whole in data of this size, where the plan wants more.
+/// The first data block that is not whole in data of this size, if the plan wants more.
 fn missing_block(plan: &Plan, size: u64) -> Option<u64>
     ensures enough { IfNone result (plan.now.wanted ≤ size) }
     ensures short { IfSome result (λ block. (size < plan.now.wanted)
@@ -165,7 +155,7 @@ where
     S: Source + Drop,
     O: Write,
     M: Write,
-    ensures { CommandRun result (printed O.contents M.contents out.old out.new msgs.old msgs.new) }
+    ensures { CommandRun result (text_change O.contents M.contents out.old out.new msgs.old msgs.new) }
 {
     let mut source = source;
     let is_new = is_missing(rt, hash);

@@ -1,13 +1,13 @@
 //! Random bytes for what is not given.
 ghost use Rattle.std.specs.Prelude.{◌≡◌};
-ghost use Rattle.veritysetup.specs.Program.RandomBytes.{drawn};
+ghost use Rattle.veritysetup.specs.Program.RandomBytes.{random_bytes};
 
 use rand::Rng;
 
 /// The first six `u64` numbers of the generator's stream, each little-endian: 32 bytes for a salt that is not given,
 /// and 16 for a UUID.
 pub fn draw<R: Rng>(rng: &mut R) -> [u8; 48]
-    ensures { (result, R.stream rng.new) ≡ drawn (R.stream rng.old) }
+    ensures { (result, R.stream rng.new) ≡ random_bytes (R.stream rng.old) }
 {
     let mut bytes = [0; 48];
     for k in 0..6 {

@@ -7,13 +7,13 @@ use std::path::Path;
 use std::rt::Files;
 use verity_tree::{Failed, FileDevice};
 
-/// Whether nothing that the system knows of stands at this path, so that a file made there is new.
+/// Whether the system knows of nothing at this path, so that a file made there is new.
 pub(crate) fn is_missing<R: Files>(rt: &R, path: &str) -> bool {
     rt.metadata(path).is_err()
 }
 
-/// Asks the system to keep what was written to the file at this path (fsync(2)) and, if the file is new, its name in its
-/// folder. It fails where the system refuses.
+/// Asks the system to keep what was written to the file at this path (fsync(2)) and, if the file is new, its name in
+/// its folder. It fails if the system refuses.
 pub(crate) fn keep<R: Files>(
     rt: &R,
     device: &FileDevice<R::File>,
@@ -27,7 +27,7 @@ pub(crate) fn keep<R: Files>(
     Ok(())
 }
 
-/// Asks the system to keep the names of a folder's files. A folder that may not be opened for reading is let pass.
+/// Asks the system to keep the names of a folder's files. It succeeds too if the folder may not be opened for reading.
 fn keep_names<R: Files>(rt: &R, folder: &str) -> Result<(), Failed> {
     match File::open(rt, folder) {
         Ok(opened) => FileDevice::new(opened).sync(),

@@ -3,7 +3,7 @@ ghost use Rattle.std.specs.Prelude.{◌≡◌, IsTrue};
 ghost use Rattle.std.specs.Io.KnownBytes.{Appends};
 ghost use Rattle.verity_io.specs.Counting.{Counts, change};
 ghost use Rattle.veritysetup.specs.Runs.Dump.{DumpRun, DumpsTo, device_failed, fault_status, fault_text};
-ghost use Rattle.veritysetup.specs.Runs.Outcomes.{printed};
+ghost use Rattle.veritysetup.specs.Runs.Outcomes.{text_change};
 ghost use Rattle.command_line.specs.Printing.{AppendsFront};
 
 use crate::runs::stored_superblock::{StoredFault, stored_superblock};
@@ -78,8 +78,8 @@ fn dump<D: Device, O: Write>(
 }
 
 /// Prints what the superblock at an offset, in bytes, of a hash device says, without a root hash (veritysetup(8),
-/// "dump"). The answer is the status: 0 done, 1 no superblock, 3 out of memory, 4 the device is not read or `out` not
-/// written. A fault's message goes to `msgs` as far as that takes it. The device stays.
+/// "dump"). The answer is the status: 0 done, 1 no superblock, 3 out of memory, 4 the device can't be read or `out`
+/// can't be written. A fault's message goes to `msgs` as far as that takes it. The device is not changed.
 pub fn run_dump<D: Device, O: Write, M: Write>(
     alloc: Global,
     offset: u64,
@@ -93,7 +93,7 @@ pub fn run_dump<D: Device, O: Write, M: Write>(
 
     // One outcome gives the status, what is printed, the message, and the count of failures.
     ensures run { DumpRun offset hash_path.now result (change D.tells D.content D.failures device.old device.new)
-        (printed O.contents M.contents out.old out.new msgs.old msgs.new) }
+        (text_change O.contents M.contents out.old out.new msgs.old msgs.new) }
 {
     match dump(alloc, offset, hash_path, device, out) {
         Ok(()) => 0,

@@ -9,7 +9,7 @@ ghost use Rattle.veritysetup.specs.Runs.Format.{FormatRun, IsFormatted, PrintsRe
 ghost use Rattle.veritysetup.specs.Runs.Format.{device_failed, fault_status, fault_text, format_report, root_above};
 ghost use Rattle.veritysetup.specs.Runs.Format.{source_failed};
 ghost use Rattle.veritysetup.specs.Runs.Images.{with_superblock};
-ghost use Rattle.veritysetup.specs.Runs.Outcomes.{printed};
+ghost use Rattle.veritysetup.specs.Runs.Outcomes.{text_change};
 ghost use Rattle.command_line.specs.Printing.{AppendsFront};
 
 use crate::options::settings::Settings;
@@ -24,7 +24,7 @@ use verity_format::write_superblock;
 use verity_hash::Digest;
 use verity_tree::{BuildFault, Device, Failed, Source, Store, build};
 
-/// Why format stops, in the order in which it goes on.
+/// Why format stops, in the order of its steps.
 #[derive(Clone, Copy, Debug, PartialEq, Eq)]
 pub enum FormatFault {
     /// There is no memory for the store.
@@ -66,7 +66,7 @@ impl FormatFault {
     }
 }
 
-/// Writes the superblock at the hash offset, where there is one.
+/// Writes the superblock at the hash offset, if the settings have one.
 fn put_superblock<D: Device>(settings: &Settings, device: &mut D) -> Result<(), Failed>
     ensures told { D.tells device.old → D.tells device.new }
     ensures ok { D.tells device.old →
@@ -75,6 +75,7 @@ fn put_superblock<D: Device>(settings: &Settings, device: &mut D) -> Result<(), 
         OnErr result (Spoiled (D.content device.old) settings.now.offset superblock_size (D.content device.new)) }
     ensures count { CountsFailure (D.failures device.old) (D.failures device.new) result }
 {
+    // For the proof alone: the contract of `plan` says that the parts of the settings agree.
     let _plan = settings.plan();
     if settings.has_superblock() {
         device.write_at(settings.offset(), &write_superblock(&settings.superblock()))
@@ -140,10 +141,10 @@ fn format<S: Source, D: Device, O: Write>(
     }
 }
 
-/// Makes a hash device for the data of a source: builds the tree and writes it, then the superblock where one is
+/// Makes a hash device for the data of a source: builds the tree and writes it, then the superblock if one is
 /// wanted, and prints a report with the root hash (veritysetup(8), "format"). The answer is the status: 0 done, 3 out
-/// of memory, 4 the source or the device failed, the data is too short, or `out` is not written. A fault's message
-/// goes to `msgs` as far as that takes it, and nothing that comes later is done.
+/// of memory, 4 the source or the device failed, the data is too short, or `out` can't be written. A fault's message
+/// goes to `msgs` as far as that takes it, and no later step is done.
 pub fn run_format<S: Source, D: Device, O: Write, M: Write>(
     alloc: Global,
     settings: &Settings,
@@ -156,17 +157,17 @@ pub fn run_format<S: Source, D: Device, O: Write, M: Write>(
     ensures source_told { S.tells source.old → S.tells source.new }
     ensures device_told { D.tells device.old → D.tells device.new }
 
-    // Status 0: the image stands, the data was read once, the report is printed.
+    // Status 0: the image is on the device, the data was read once, the report is printed.
     ensures formatted { result ≡ 0 → S.tells source.old → D.tells device.old → IsFormatted settings.now hash_path.now
         (change S.tells S.remaining S.failures source.old source.new)
         (change D.tells D.content D.failures device.old device.new)
-        (printed O.contents M.contents out.old out.new msgs.old msgs.new) }
+        (text_change O.contents M.contents out.old out.new msgs.old msgs.new) }
 
     // Each status: one outcome says what became of source, device, out and msgs, and which count of failures rose.
     ensures run { FormatRun settings.now hash_path.now result
         (change S.tells S.remaining S.failures source.old source.new)
         (change D.tells D.content D.failures device.old device.new)
-        (printed O.contents M.contents out.old out.new msgs.old msgs.new) }
+        (text_change O.contents M.contents out.old out.new msgs.old msgs.new) }
 {
     match format(alloc, settings, hash_path, source, device, out) {
         Ok(()) => 0,

@@ -1,7 +1,7 @@
 //! The superblock that a hash device holds.
 ghost use Rattle.std.specs.Prelude.{◌≡◌};
 ghost use Rattle.verity_io.specs.Counting.{Counts};
-ghost use Rattle.veritysetup.specs.Runs.StoredSuperblock.{ReadsSuperblock, unread};
+ghost use Rattle.veritysetup.specs.Runs.StoredSuperblock.{ReadsSuperblock, superblock_unread};
 
 use verity_format::{SuperFault, Superblock, read_superblock};
 use verity_plan::SUPERBLOCK_SIZE;
@@ -21,7 +21,7 @@ pub fn stored_superblock<D: Device>(device: &mut D, offset: u64) -> Result<Super
     ensures told { D.tells device.old → D.tells device.new }
     ensures stands { D.tells device.old → D.content device.new ≡ D.content device.old }
     ensures superblock { D.tells device.old → ReadsSuperblock result offset (D.content device.old) }
-    ensures count { Counts (unread result) (D.failures device.old) (D.failures device.new) }
+    ensures count { Counts (superblock_unread result) (D.failures device.old) (D.failures device.new) }
 {
     let mut bytes = [0; SUPERBLOCK_SIZE];
     match device.read_at(offset, &mut bytes) {

@@ -3,7 +3,7 @@ ghost use Rattle.std.specs.Prelude.{◌≡◌};
 ghost use Rattle.verity_io.specs.Counting.{Counts, change};
 ghost use Rattle.veritysetup.specs.Runs.Verify.{IsVerified, Verifies, VerifyRun, device_failed, source_failed};
 
-use crate::runs::trusted_tree::{Trusted, read_trusted};
+use crate::runs::trusted_tree::{TrustedTree, read_trusted_tree};
 use crate::runs::verify_fault::VerifyFault;
 use crate::runs::verify_input::VerifyInput;
 use std::alloc::Global;
@@ -25,8 +25,8 @@ fn verify<S: Source, D: Device>(
     ensures source_count { Counts (source_failed result) (S.failures source.old) (S.failures source.new) }
     ensures device_count { Counts (device_failed result) (D.failures device.old) (D.failures device.new) }
 {
-    let Trusted { plan, root } = match read_trusted(device, input) {
-        Ok(trusted) => trusted,
+    let TrustedTree { plan, root } = match read_trusted_tree(device, input) {
+        Ok(tree) => tree,
         Err(fault) => return Err(VerifyFault::Input(fault)),
     };
     let mut store = match Store::new(alloc, &plan) {
@@ -40,9 +40,9 @@ fn verify<S: Source, D: Device>(
 }
 
 /// Verifies a hash device against the data of a source and a root hash (veritysetup(8), "verify"). The answer is the
-/// status: 0 all is right, 1 the superblock or the root hash is refused, 2 the tree or the root is another one, 3 out
+/// status: 0 all is right, 1 the superblock or the root hash is refused, 2 the tree or the root hash differs, 3 out
 /// of memory, 4 the source or the device failed or the data is too short. A fault's message goes to `msgs` as far as
-/// that takes it. The device stays.
+/// that takes it. The device is not changed.
 pub fn run_verify<S: Source, D: Device, M: Write>(
     alloc: Global,
     input: &VerifyInput,

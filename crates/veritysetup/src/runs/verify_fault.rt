@@ -25,14 +25,14 @@ pub enum InputFault {
     BadRoot,
 }
 
-/// Why verify stops, in the order in which it goes on.
+/// Why verify stops, in the order of its steps.
 #[derive(Clone, Copy, Debug, PartialEq, Eq)]
 pub enum VerifyFault {
     /// Nothing is compared.
     Input(InputFault),
     /// There is no memory for the store.
     Store,
-    /// The tree is not compared, or another one.
+    /// The tree could not be compared, or it differs.
     Compare(CompareFault),
 }
 

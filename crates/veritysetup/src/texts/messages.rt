@@ -14,10 +14,10 @@ const NO_DATA: &str = "No data blocks.\n";
 /// The data area or the hash area is past its limit.
 pub const TOO_LARGE: &str = "Data or hash area is too large.\n";
 
-/// There is no memory. The text is fixed, so that it takes none.
+/// There is no memory. The text is fixed, so that it needs none.
 pub const OUT_OF_MEMORY: &str = "Out of memory.\n";
 
-/// The device could not be read at the superblock.
+/// The superblock could not be read from the device.
 pub const SUPERBLOCK_UNREAD: &str = "Cannot read superblock.\n";
 
 /// The superblock could not be written.
@@ -92,7 +92,7 @@ pub fn build_message(alloc: Global, fault: &BuildFault) -> Result<String, AllocE
     }
 }
 
-/// The message of a tree that could not be compared, or is another one.
+/// The message of a comparison that could not be made, or that found a difference.
 pub fn compare_message(alloc: Global, fault: &CompareFault) -> Result<String, AllocError>
     ensures { IfOk result (λ s. string_bytes s ≡ compare_text fault.now) }
 {

@@ -1,4 +1,4 @@
-//! Messages of the program's own, one line each. The answer is the status that goes with each.
+//! Messages of the program's own, one line each. Each function writes one, and answers the status that goes with it.
 ghost use Rattle.std.specs.Prelude.{◌≡◌};
 ghost use Rattle.command_line.specs.LineFaults.{IsMemory};
 ghost use Rattle.command_line.specs.Printing.{AppendsFront};
@@ -15,7 +15,7 @@ use std::alloc::Global;
 use std::io::Write;
 use verity_tree::BuildFault;
 
-/// The file could not be opened, or its length not be found.
+/// The file could not be opened, or its length could not be found.
 pub fn cannot_open<M: Write>(path: &str, msgs: &mut M) -> u8
     ensures status { result ≡ 4 }
     ensures message { AppendsFront (unopened_text path.now) (M.contents msgs.old) (M.contents msgs.new) }
@@ -34,7 +34,7 @@ pub fn cannot_write<M: Write>(path: &str, msgs: &mut M) -> u8
 }
 
 /// The data ends before the end of a block that is wanted.
-pub fn short_data<M: Write>(alloc: Global, block: u64, msgs: &mut M) -> u8
+pub fn lacks_data<M: Write>(alloc: Global, block: u64, msgs: &mut M) -> u8
     ensures status { result ≡ 4 }
     ensures message { AppendsFront (short_text block) (M.contents msgs.old) (M.contents msgs.new) }
 {
@@ -43,7 +43,7 @@ pub fn short_data<M: Write>(alloc: Global, block: u64, msgs: &mut M) -> u8
 }
 
 /// There are no random bytes.
-pub fn no_random_bytes<M: Write>(msgs: &mut M) -> u8
+pub fn lacks_random_bytes<M: Write>(msgs: &mut M) -> u8
     ensures status { result ≡ 4 }
     ensures message { AppendsFront no_random_text (M.contents msgs.old) (M.contents msgs.new) }
 {
@@ -52,7 +52,7 @@ pub fn no_random_bytes<M: Write>(msgs: &mut M) -> u8
 }
 
 /// There is no memory for the command line.
-pub fn out_of_memory<M: Write>(msgs: &mut M) -> u8
+pub fn lacks_memory<M: Write>(msgs: &mut M) -> u8
     ensures status { result ≡ 3 }
     ensures message { AppendsFront memory_text (M.contents msgs.old) (M.contents msgs.new) }
 {
@@ -61,7 +61,7 @@ pub fn out_of_memory<M: Write>(msgs: &mut M) -> u8
 }
 
 /// An option is refused.
-pub fn refused_option<M: Write>(alloc: Global, fault: &OptionFault, msgs: &mut M) -> u8
+pub fn refuse_option<M: Write>(alloc: Global, fault: &OptionFault, msgs: &mut M) -> u8
     ensures status { result ≡ 1 }
     ensures message { AppendsFront (option_text fault.now) (M.contents msgs.old) (M.contents msgs.new) }
 {
@@ -70,7 +70,7 @@ pub fn refused_option<M: Write>(alloc: Global, fault: &OptionFault, msgs: &mut M
 }
 
 /// The command line is accepted, but without a file that it must have. `clap` lets no such line pass.
-pub fn incomplete_line<M: Write>(msgs: &mut M) -> u8
+pub fn refuse_incomplete_line<M: Write>(msgs: &mut M) -> u8
     ensures status { result ≡ 1 }
     ensures message { AppendsFront incomplete_text (M.contents msgs.old) (M.contents msgs.new) }
 {
@@ -78,8 +78,8 @@ pub fn incomplete_line<M: Write>(msgs: &mut M) -> u8
     1
 }
 
-/// The words of the command line can't be had: one is no text, or there is no memory for them.
-pub fn refused_words<M: Write>(alloc: Global, fault: &WordsFault, msgs: &mut M) -> u8
+/// The words of the command line can't be read: one is no text, or there is no memory for them.
+pub fn refuse_words<M: Write>(alloc: Global, fault: &WordsFault, msgs: &mut M) -> u8
     ensures status { result ≡ words_status fault.now }
     ensures refusal { IsRefusal result }
     ensures message { AppendsFront (words_text fault.now) (M.contents msgs.old) (M.contents msgs.new) }
@@ -89,19 +89,19 @@ pub fn refused_words<M: Write>(alloc: Global, fault: &WordsFault, msgs: &mut M) 
             write_message(not_text_message(alloc, *number, word.as_slice()), msgs);
             1
         }
-        WordsFault::Memory => out_of_memory(msgs),
+        WordsFault::Memory => lacks_memory(msgs),
     }
 }
 
 /// The command line is refused, with `clap`'s text and the usage, or there is no memory for the copies of it.
-pub fn refused_line<M: Write>(fault: &LineFault, usage: &str, msgs: &mut M) -> u8
+pub fn refuse_line<M: Write>(fault: &LineFault, usage: &str, msgs: &mut M) -> u8
     ensures refusal { IsRefusal result }
     ensures memory { IsMemory fault.now → (result ≡ 3)
         × AppendsFront memory_text (M.contents msgs.old) (M.contents msgs.new) }
     ensures refused { (IsMemory fault.now → ⊥) → result ≡ 1 }
 {
     if fault.is_memory() {
-        return out_of_memory(msgs);
+        return lacks_memory(msgs);
     }
     fault.write_message(usage, msgs);
     1

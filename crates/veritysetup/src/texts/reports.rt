@@ -9,8 +9,8 @@ use verity_format::Superblock;
 use verity_hash::Digest;
 use verity_tree::TreeSettings;
 
-/// What a superblock says, one line each, and for format the root hash (modelled on veritysetup(8), "dump"). The error
-/// is that it is out of memory.
+/// What a superblock says, in one line for each field, and for format the root hash (modelled on veritysetup(8),
+/// "dump"). The error means that there is no memory.
 pub fn report(
     alloc: Global,
     superblock: &Superblock,
@@ -26,7 +26,7 @@ pub fn report(
     report_with(alloc, superblock, uuid, root, path)
 }
 
-/// The same with `-` in the place of the UUID, for a hash area without a superblock. The error is that it is out of
+/// The same with `-` in place of the UUID, for a hash area without a superblock. The error means that there is no
 /// memory.
 pub fn report_bare(
     alloc: Global,
@@ -61,7 +61,7 @@ fn report_with(
     Ok(text)
 }
 
-/// UUID, hash type and number of blocks.
+/// Adds the lines of UUID, hash type and number of blocks.
 fn push_header(text: &mut String, uuid: &str, superblock: &Superblock) -> Result<(), AllocError>
     ensures { OnOk result (string_bytes text.new ≡ with_header (string_bytes text.old) uuid.now superblock.now) }
 {
@@ -72,7 +72,7 @@ fn push_header(text: &mut String, uuid: &str, superblock: &Superblock) -> Result
     write!(text, "Data blocks:     \t{blocks}\n")
 }
 
-/// Block sizes.
+/// Adds the lines of the block sizes.
 fn push_sizes(text: &mut String, tree: &TreeSettings) -> Result<(), AllocError>
     ensures { OnOk result (string_bytes text.new ≡ with_sizes (string_bytes text.old) tree.now) }
 {
@@ -82,7 +82,7 @@ fn push_sizes(text: &mut String, tree: &TreeSettings) -> Result<(), AllocError>
     write!(text, "Hash block size: \t{hash_block}\n")
 }
 
-/// Algorithm and salt.
+/// Adds the lines of algorithm and salt.
 fn push_hash(text: &mut String, algorithm: &str, salt: &str) -> Result<(), AllocError>
     ensures { OnOk result (string_bytes text.new ≡ with_hash (string_bytes text.old) algorithm.now salt.now) }
 {
@@ -90,7 +90,7 @@ fn push_hash(text: &mut String, algorithm: &str, salt: &str) -> Result<(), Alloc
     write!(text, "Salt:            \t{salt}\n")
 }
 
-/// The root hash, where there is one.
+/// Adds the line of the root hash, if there is one.
 fn push_root(alloc: Global, text: &mut String, root: Option<&Digest>) -> Result<(), AllocError>
     ensures { OnOk result (string_bytes text.new
         ≡ string_bytes text.old ++ root_line (option_map (λ d. d.now) root.entry)) }

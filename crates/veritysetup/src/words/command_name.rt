@@ -16,7 +16,7 @@ pub enum CommandName {
 ghost use Rattle.veritysetup.specs.declared.words.command_name.CommandName.{CommandName};
 
 impl CommandName {
-    /// The command of this name, and `None` where no command has it.
+    /// The command of this name, and `None` if no command has it.
     pub fn from_name(name: &str) -> Option<CommandName>
         ensures named { IfSome result (λ c. command_text c ≡ name.now) }
         ensures unknown { result ≡ None → (c : CommandName) → command_text c ≢ name.now }

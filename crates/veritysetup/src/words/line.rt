@@ -5,7 +5,7 @@ ghost use Rattle.veritysetup.specs.Words.RawWords.{root_word};
 use crate::{CommandName, RawOptions};
 use command_line::text_of;
 
-/// What a command line of `veritysetup` holds, as copies of its own. Each option is `None` where it is not given.
+/// What a command line of `veritysetup` holds, as copies of its own. Each option is `None` if it is not given.
 #[derive(Debug, Drop)]
 pub struct Line {
     /// The command.
@@ -33,8 +33,8 @@ pub struct Line {
 }
 
 impl Line {
-    /// The texts of the options, as they are given, the ROOT of verify, and whether data and hash area are in one
-    /// file, as the caller says.
+    /// The texts of the options as they are given, the ROOT of verify, and whether data and hash area are in one file,
+    /// which the caller says.
     pub fn raw(&self, same_file: bool) -> RawOptions<'_>
         ensures hash { option_copied result.hash ≡ option_map string_bytes self.now.hash }
         ensures format { option_copied result.format ≡ option_map string_bytes self.now.format }
@@ -59,14 +59,14 @@ impl Line {
             salt: text_of(&self.salt),
             uuid: text_of(&self.uuid),
             hash_offset: text_of(&self.hash_offset),
-            root: self.root(),
+            root: self.root_text(),
             no_superblock: self.no_superblock,
             same_file,
         }
     }
 
     /// ROOT, the third word of verify.
-    fn root(&self) -> Option<&str>
+    fn root_text(&self) -> Option<&str>
         ensures { option_copied result ≡ root_word self.now.command (map string_bytes self.now.files.items) }
     {
         match (self.command, self.files.as_slice()) {

@@ -13,7 +13,7 @@ use clap::{ArgMatches, Command};
 use command_line::{LineFault, copied_value, flag, is_given, option, positional, program};
 use std::alloc::{AllocError, Global};
 
-/// The usage text where no command is known.
+/// The usage text if no command is known.
 const USAGE: &str = "veritysetup format [options] DATA HASH
        veritysetup dump [--hash-offset BYTES] HASH
        veritysetup verify [options] DATA HASH ROOT";
@@ -33,7 +33,7 @@ const VERIFY_USAGE: &str =
            [--hash-block-size BYTES] [--data-blocks NUMBER] [--salt HEX]
            [--hash-offset BYTES] [--no-superblock] DATA HASH ROOT";
 
-/// The usage text of the command that a command line names, or of all where it names none.
+/// The usage text of the command that a command line names, or of all commands if it names none.
 pub(crate) fn usage_of(words: &[&str]) -> &'static str {
     match words.get(1) {
         Some(name) => match CommandName::from_name(name) {
@@ -46,7 +46,7 @@ pub(crate) fn usage_of(words: &[&str]) -> &'static str {
     }
 }
 
-/// Adds the options for what a tree is made by.
+/// Adds the options that say what a tree is made by.
 fn with_tree_options<'a>(alloc: Global, command: Command<'a>) -> Result<Command<'a>, AllocError>
     ensures { (a : App) → Defines a command.entry → IfOk result (Defines (with_tree_rules a)) }
 {
@@ -59,7 +59,7 @@ fn with_tree_options<'a>(alloc: Global, command: Command<'a>) -> Result<Command<
         .arg(option(alloc, "salt"))
 }
 
-/// Adds the option for where the hash area begins.
+/// Adds the option that says where the hash area begins.
 fn with_offset_option<'a>(alloc: Global, command: Command<'a>) -> Result<Command<'a>, AllocError>
     ensures { (a : App) → Defines a command.entry → IfOk result (Defines (with_offset_rule a)) }
 {
@@ -106,7 +106,7 @@ fn command<'a>(alloc: Global) -> Result<Command<'a>, AllocError>
         .subcommand(verify_command(alloc)?)
 }
 
-/// Adds a copy of the word that an argument has, where it is given.
+/// Adds a copy of the word that an argument has, if it is given.
 fn push_word(
     alloc: Global,
     matches: &ArgMatches<'_>,
@@ -157,14 +157,14 @@ fn line_of(
 }
 
 /// Reads the words of a command line, the program's name first: `veritysetup format`, `dump` or `verify`, its options,
-/// each once, and its files (veritysetup(8)). What clap refuses, also if clap itself has no memory, is `Refused`, with
-/// clap's text and the usage of the command; the help flags and the help command are switched off. `Memory` means that
-/// clap takes the line, and that there is no memory for the copies of its words.
+/// each once, and its files (veritysetup(8)). A line that clap refuses is `Refused`, with clap's text and the usage of
+/// the command, also if clap itself has no memory; the help flags and the help command are switched off. `Memory` means
+/// that clap accepts the line, and that there is no memory for the copies of its words.
 pub fn read_words(alloc: Global, words: &[&str]) -> Result<Line, LineFault>
     ensures holds { IfOk result (HoldsCommand (subcommand_of veritysetup_app (map (λ w. w.now) words.now))) }
     ensures only { IfOk result (λ _. fault_of veritysetup_app (map (λ w. w.now) words.now) ≡ []) }
     ensures cause { IfErr result (HasCause (fault_of veritysetup_app (map (λ w. w.now) words.now))) }
-    ensures taken { takes veritysetup_app (map (λ w. w.now) words.now) ≡ true → IfErr result LacksMemory }
+    ensures memory { takes veritysetup_app (map (λ w. w.now) words.now) ≡ true → IfErr result LacksMemory }
 {
     let command = match command(alloc) {
         Ok(command) => command,

@@ -3,7 +3,7 @@ use Rattle.verity_plan.specs.Plans.{Planned}
 use Rattle.verity_plan.specs.Settings.{Settings}
 use Rattle.verity_plan.proofs.PlanLemmas.{planned_is}
 use Rattle.verity_plan.specs.declared.plan_fault.PlanFault.TheVariants.{NoData, TooLarge}
-use Rattle.veritysetup.specs.Options.Chosen.{plan_from}
+use Rattle.veritysetup.specs.Options.VeritySettings.{plan_from}
 use Rattle.veritysetup.proofs.options.settings.settings_of.Goals as goal
 
 -- the plan that whole data blocks have from this hash block on
@@ -23,10 +23,10 @@ plan_is s count None q e = by_test _ e
 
 pub invariant_of-result : goal.invariant_of-result
 invariant_of-result c =
-    let tree = c.in_ok-chosen.chosen.tree in
+    let tree = c.in_ok-parameters.parameters.tree in
     let made = plan_is tree _ _ c.in-Ok.plan (sym c.in-Ok.is ∙ c.plan_at.ensures) in
     record {
-      of_type = ap (λ (p : Planned). p.settings.rule) made.plan_is ∙ c.in_ok-chosen.ensures.of_type;
+      of_type = ap (λ (p : Planned). p.settings.rule) made.plan_is ∙ c.in_ok-parameters.ensures.of_type;
       whole = rw made.plan_is refl;
       based = rw made.plan_is made.from_is;
     }

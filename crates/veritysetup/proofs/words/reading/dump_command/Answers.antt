@@ -14,5 +14,5 @@ returns c =
     = record { app = c.new.ensures.app; local = c.new.ensures.local } in
     let none = usage_replaced _ _ _ _ new c.override_usage-command.ensures in
     let offset = c.in_ok-with_offset_option.ensures _ none in
-    IfOk-weaker c.arg.result _ _ (λ r h. arg_added _ r _ _ _ offset c.positional.ensures.rule c.positional.ensures.local h)
-    c.arg.ensures
+    IfOk-weaker c.arg.result _ _
+    (λ r h. arg_added _ r _ _ _ offset c.positional.ensures.rule c.positional.ensures.local h) c.arg.ensures

@@ -19,5 +19,5 @@ returns c =
     let two = arg_added _ _ _ _ _ one c.positional.ensures.rule c.positional.ensures.local c.in_ok-arg-2.ensures in
     let three = arg_added _ _ c.positional-2.result _ _ two c.positional-2.ensures.rule c.positional-2.ensures.local
     c.in_ok-arg-3.ensures in
-    IfOk-weaker c.arg-4.result _ _ (λ r h. arg_added _ r _ _ _ three c.positional-3.ensures.rule c.positional-3.ensures.local h)
-    c.arg-4.ensures
+    IfOk-weaker c.arg-4.result _ _
+    (λ r h. arg_added _ r _ _ _ three c.positional-3.ensures.rule c.positional-3.ensures.local h) c.arg-4.ensures

@@ -6,9 +6,9 @@ use Rattle.verity_plan.specs.declared.hash_type.HashType.{HashType}
 use Rattle.verity_plan.specs.declared.plan_fault.PlanFault.{PlanFault}
 use Rattle.verity_plan.specs.declared.plan_fault.PlanFault.TheVariants.{NoData, TooLarge}
 
--- the hash type, the UUID's bytes, the hash offset in bytes, whether a superblock stands there, the tree's plan, and the
--- root hash where one was given
-pub record Chosen : Type 0 where
+-- the settings of a hash device: the hash type, the UUID's bytes, the hash offset in bytes, whether a superblock stands
+-- there, the tree's plan, and the root hash if one was given
+pub record VeritySettings : Type 0 where
   pub hash_type : HashType
   pub uuid : List ℕ
   pub offset : ℕ
@@ -16,17 +16,17 @@ pub record Chosen : Type 0 where
   pub plan : Planned
   pub root : Option (List ℕ)
 
--- the plan for so many data blocks where the tree begins at this hash block; without one the hash area is too large
+-- the plan for this number of data blocks if the tree begins at this hash block; without one the hash area is too large
 abbrev pub plan_from : Settings → ℕ → Option ℕ → Result Planned PlanFault
 plan_from tree blocks (Some base) = plan_for_blocks tree blocks base
 plan_from tree blocks None = if blocks == 0 then Err NoData else Err TooLarge
 
--- the plan for so many data blocks with this hash offset, after a superblock where there is one
+-- the plan for this number of data blocks with this hash offset, after a superblock if there is one
 abbrev pub plan_at : Settings → ℕ → ℕ → Bool → Result Planned PlanFault
 plan_at tree blocks offset superblock = plan_from tree blocks (base_of offset superblock tree.hash_block)
 
 -- the tree is of the hash type, over whole data blocks, and begins at the offset, or after the superblock there
-pub record IsChosen (c : Chosen) : Type 0 where
-  pub of_type : c.plan.settings.rule ≡ rule_of c.hash_type
-  pub whole : c.plan.wanted ≡ c.plan.blocks * c.plan.settings.data_block
-  pub based : base_of c.offset c.superblock c.plan.settings.hash_block ≡ Some c.plan.base
+pub record PartsAgree (s : VeritySettings) : Type 0 where
+  pub of_type : s.plan.settings.rule ≡ rule_of s.hash_type
+  pub whole : s.plan.wanted ≡ s.plan.blocks * s.plan.settings.data_block
+  pub based : base_of s.offset s.superblock s.plan.settings.hash_block ≡ Some s.plan.base
