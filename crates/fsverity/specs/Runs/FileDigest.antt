@@ -5,7 +5,7 @@ use Rattle.std.specs.Int.{div_ceil}
 use Rattle.verity_format.specs.Descriptors.{DescriptorFields, descriptor_text, digest_of_file}
 use Rattle.verity_io.specs.Reading.{HasRead}
 use Rattle.verity_tree.specs.Levels.{cut, data_blocks, root}
-use Rattle.verity_tree.specs.Image.{begun, begun_after, StopsAt}
+use Rattle.verity_tree.specs.Image.{tree_image, tree_image_after, StopsAt}
 use Rattle.verity_tree.specs.Reading.{ReadsUpTo}
 use Rattle.verity_plan.specs.Plans.{Planned, block_count, plan_for_bytes}
 use Rattle.verity_plan.specs.Settings.{Settings, digest_len}
@@ -33,7 +33,7 @@ plan_of_file s size = record { settings = s; blocks = block_count s size; wanted
 -- a device with the tree of the first size bytes; an empty file has none
 abbrev pub with_tree : Settings → ℕ → List ℕ → List ℕ → List ℕ
 with_tree s size bytes device = if size == 0 then device
-    else begun (plan_of_file s size) (data_blocks (plan_of_file s size) bytes) device
+    else tree_image (plan_of_file s size) (data_blocks (plan_of_file s size) bytes) device
 
 -- the descriptor with this root hash, and its digest
 pub record IsDescribedBy (s : Settings) (size : ℕ) (root : List ℕ) (made : FileDigest) : Type 0 where
@@ -74,9 +74,9 @@ Digests s size result before after = MatchResult result
 abbrev pub StandsAfter : Settings → ℕ → List ℕ → List ℕ → List ℕ → DigestFault → Type 0
 StandsAfter s size bytes before after TooLarge = after ≡ before
 StandsAfter s size bytes before after (SourceShort i) =
-    after ≡ begun_after (plan_of_file s size) (data_blocks (plan_of_file s size) bytes) i before
+    after ≡ tree_image_after (plan_of_file s size) (data_blocks (plan_of_file s size) bytes) i before
 StandsAfter s size bytes before after (SourceFailed i) =
-    after ≡ begun_after (plan_of_file s size) (data_blocks (plan_of_file s size) bytes) i before
+    after ≡ tree_image_after (plan_of_file s size) (data_blocks (plan_of_file s size) bytes) i before
 StandsAfter s size bytes before after (DeviceFailed level block) =
     StopsAt (plan_of_file s size) (data_blocks (plan_of_file s size) bytes) (level, block) before after
 StandsAfter s size bytes before after Memory = after ≡ before

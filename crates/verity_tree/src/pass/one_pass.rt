@@ -68,7 +68,8 @@ fn pass_with_window<S: Source, D: Device>(
     source: &mut S,
     device: &mut D,
 ) -> Result<Digest, PassFault>
-    requires room { levels_of job.now.plan * job.now.plan.settings.hash_block + job.now.plan.settings.data_block ≤ length work.old }
+    requires room { levels_of job.now.plan * job.now.plan.settings.hash_block + job.now.plan.settings.data_block ≤
+        length work.old }
     requires stored { length stored.old ≡ job.now.plan.settings.hash_block }
     ensures planned { IsPlanned job.now.plan }
     ensures size { IfOk result (λ root. length root ≡ digest_len job.now.plan.settings) }
@@ -87,8 +88,8 @@ fn pass_with_window<S: Source, D: Device>(
     pass_over(job, work, stored, &mut [0; WINDOW], source, device)
 }
 
-/// The pass, with or without a window: the open blocks and the data block are in `work`, and a hash block to compare with in `stored`. Data
-/// blocks that are hashed side by side are read into the window, as far as it has room.
+/// The pass, with a window or an empty one: the open blocks and the data block are in `work`, and a hash block to
+/// compare with in `stored`. Data blocks that are hashed side by side are read into the window, as far as it has room.
 fn pass_over<S: Source, D: Device>(
     job: &Job,
     work: &mut [u8],
@@ -97,7 +98,8 @@ fn pass_over<S: Source, D: Device>(
     source: &mut S,
     device: &mut D,
 ) -> Result<Digest, PassFault>
-    requires room { levels_of job.now.plan * job.now.plan.settings.hash_block + job.now.plan.settings.data_block ≤ length work.old }
+    requires room { levels_of job.now.plan * job.now.plan.settings.hash_block + job.now.plan.settings.data_block ≤
+        length work.old }
     requires stored { length stored.old ≡ job.now.plan.settings.hash_block }
     ensures planned { IsPlanned job.now.plan }
     ensures size { IfOk result (λ root. length root ≡ digest_len job.now.plan.settings) }

@@ -7,7 +7,7 @@ use Rattle.verity_io.specs.Writing.{Spoiled}
 use Rattle.verity_plan.specs.Plans.{superblock_size}
 use Rattle.verity_tree.specs.Building.{Builds, BuildsImage}
 use Rattle.verity_io.specs.Reading.{HasRead}
-use Rattle.verity_tree.specs.Image.{begun}
+use Rattle.verity_tree.specs.Image.{tree_image}
 use Rattle.verity_tree.specs.Building as building
 use Rattle.verity_tree.specs.Levels.{root, data_blocks}
 use Rattle.veritysetup.specs.Options.Chosen.{Chosen}
@@ -61,7 +61,7 @@ abbrev pub Writes : Chosen → List (List ℕ) → Result (Unit {0}) FormatFault
 Writes c blocks (Ok done) before after = after ≡ image c blocks before
 Writes c blocks (Err Store) before after = after ≡ before
 Writes c blocks (Err (Build fault)) before after = BuildsImage c.plan blocks (Err fault) before after
-Writes c blocks (Err Superblock) before after = Spoiled (begun c.plan blocks before) c.offset superblock_size after
+Writes c blocks (Err Superblock) before after = Spoiled (tree_image c.plan blocks before) c.offset superblock_size after
 Writes c blocks (Err (Report fault)) before after = after ≡ image c blocks before
 
 -- what out has gained: the report, or its first bytes where a write fails

@@ -3,7 +3,7 @@
 use Rattle.std.specs.Prelude.{ℕ, List, if◌then◌else◌}
 use Rattle.verity_format.specs.SuperblockFields.{SuperblockFields}
 use Rattle.verity_format.specs.Superblocks.{superblock_text}
-use Rattle.verity_tree.specs.Image.{begun}
+use Rattle.verity_tree.specs.Image.{tree_image}
 use Rattle.verity_io.specs.Writing.{put}
 use Rattle.veritysetup.specs.Options.Chosen.{Chosen}
 
@@ -17,4 +17,4 @@ with_superblock c device = if c.superblock then put device c.offset (superblock_
 
 -- the device with the whole tree above these data blocks, and the superblock
 abbrev pub image : Chosen → List (List ℕ) → List ℕ → List ℕ
-image c blocks before = with_superblock c (begun c.plan blocks before)
+image c blocks before = with_superblock c (tree_image c.plan blocks before)
