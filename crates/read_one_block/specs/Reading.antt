@@ -7,13 +7,13 @@ use Rattle.verity_plan.specs.Settings.{fan}
 use Rattle.verity_hash.specs.Bytes.{filled}
 use Rattle.verity_tree.specs.Levels.{data_blocks}
 use Rattle.verity_tree.specs.Paths.{ChecksBlock, HasCollision, IsAccepted}
-use Rattle.verity_tree.specs.Verdicts.{stored}
+use Rattle.verity_tree.specs.Verdicts.{stored_block}
 use Rattle.read_one_block.specs.declared.image.ReadFault.{ReadFault}
 use Rattle.read_one_block.specs.declared.image.ReadFault.TheVariants.{DataFailed, TreeFailed, Refused}
 
 -- what a device holds at the place of the hash block of level l above data block i, zeros where it ends
 abbrev pub stored_above : Planned → ℕ → List ℕ → ℕ → List ℕ
-stored_above p i device l = filled p.settings.hash_block (stored p device l (i / fan p.settings ^ (l + 1)))
+stored_above p i device l = filled p.settings.hash_block (stored_block p device l (i / fan p.settings ^ (l + 1)))
 
 -- the blocks of a path are those that a device holds above data block i
 pub record IsPathOn (p : Planned) (i : ℕ) (device path : List ℕ) : Type 0 where

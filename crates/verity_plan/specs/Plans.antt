@@ -88,4 +88,5 @@ plan_for_blocks s blocks base =
 
 -- a plan for a size in bytes, the last block perhaps not whole
 abbrev pub plan_for_bytes : Settings → ℕ → ℕ → Result Planned PlanFault
-plan_for_bytes s size base = valid_plan (record { settings = s; blocks = block_count s size; wanted = size; base = base })
+plan_for_bytes s size base = valid_plan
+    (record { settings = s; blocks = block_count s size; wanted = size; base = base })

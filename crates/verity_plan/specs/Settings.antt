@@ -1,8 +1,8 @@
 -- What a tree is made by: the construction parameters of the Linux kernel's dm-verity page and the tree parameters of
 -- its fs-verity page; how wide a slot of a hash block is and how many slots a hash block has; and which parameters make
 -- settings.
-use Rattle.std.specs.Prelude.{◌≡◌, ℕ, zero, suc, ◌+◌, ◌*◌, ◌/◌, ◌^◌, ◌≤◌, ◌&&◌, ◌==◌, Bool, true, false, not, List, length}
-use Rattle.std.specs.Prelude.{Option, Some, None, Result, Ok, Err, if◌then◌else◌, nat_le, nat_lt}
+use Rattle.std.specs.Prelude.{◌≡◌, ℕ, zero, suc, ◌+◌, ◌*◌, ◌/◌, ◌^◌, ◌≤◌, ◌&&◌, ◌==◌, Bool, true, false, not, List}
+use Rattle.std.specs.Prelude.{length, Option, Some, None, Result, Ok, Err, if◌then◌else◌, nat_le, nat_lt}
 use Rattle.std.specs.Int.{is_power_of_two}
 use Rattle.verity_hash.specs.Algorithms.{digest_len_of}
 use Rattle.verity_hash.specs.Bytes.{filled}
@@ -134,7 +134,8 @@ type_of_number number = if number == 0 then Some Original else (if number == 1 t
 -- digests, fsverity(1), `--block-size`, and Linux kernel, fs-verity page, "FS_IOC_ENABLE_VERITY"; salts of up to 32
 -- bytes, the same page). That fs-verity's blocks have at most 524288 bytes is this project's own limit.
 abbrev pub valid_settings : Settings → Result Settings SettingFault
-valid_settings s = if not (is_block_size (least_block s.rule (digest_len_of s.algorithm)) s.data_block) then Err DataBlockSize
+valid_settings s = if not
+    (is_block_size (least_block s.rule (digest_len_of s.algorithm)) s.data_block) then Err DataBlockSize
     else (if not (is_block_size (least_block s.rule (digest_len_of s.algorithm)) s.hash_block) then Err HashBlockSize
     else (if nat_lt (most_salt s.rule) (length s.salt) then Err SaltSize else Ok s))
 

@@ -78,7 +78,8 @@ impl Plan {
         base: u64,
     ) -> Result<Plan, PlanFault>
         requires { blocks ≡ div_ceil wanted settings.now.data_block }
-        ensures { result ≡ valid_plan (record { settings = settings.now; blocks = blocks; wanted = wanted; base = base }) }
+        ensures { result ≡ valid_plan
+            (record { settings = settings.now; blocks = blocks; wanted = wanted; base = base }) }
     {
         if blocks == 0 {
             return Err(PlanFault::NoData);

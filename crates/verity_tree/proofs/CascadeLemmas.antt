@@ -11,11 +11,12 @@ use Rattle.verity_plan.specs.Counts.{level_count, level_size}
 use Rattle.verity_tree.specs.ClosingOrder.{closing, closes}
 use Rattle.verity_tree.specs.Steps.Cascade.{EndsBlock, first_closing}
 use Rattle.verity_plan.specs.Places.{place, byte_at}
-use Rattle.verity_tree.specs.Steps.OpenBlocks.{digests_under, open_block, open_block_with, IsReached, IsCarrying, IsNext}
+use Rattle.verity_tree.specs.Steps.OpenBlocks.{digests_under, open_block, open_block_with, IsReached, IsCarrying}
+use Rattle.verity_tree.specs.Steps.OpenBlocks.{IsNext}
 use Rattle.verity_tree.specs.Steps.OpenBlocks.{IsKept, climb, arrival}
 use Rattle.verity_io.specs.Writing.{put}
 use Rattle.verity_plan.specs.Plans.{Planned}
-use Rattle.verity_tree.specs.Verdicts.{NoneDiffers, StandsThere, stored}
+use Rattle.verity_tree.specs.Verdicts.{NoneDiffers, StandsThere, stored_block}
 use Rattle.verity_tree.specs.Image.{tree_block, device_with}
 use Rattle.verity_tree.proofs.QuotientLemmas.{quotient-below, quotient-next, IsReached-full}
 use Rattle.verity_tree.proofs.OpenBlockSteps.{level_digest-below, level_digest-next, level_digest-root, place-first}
@@ -65,7 +66,8 @@ pub level_digest-is_next : (s : Settings) (blocks : List (List ℕ)) (i m levels
     → i < count → m < levels → index ≡ i / fan s ^ m → a ≡ m * s.hash_block → k ≡ s.hash_block
     → block ≡ take k (drop a store) → count ≡ length blocks → IsCarrying s blocks (climb i m levels) store digest
     → IsNext s (blocks_up s blocks m) (arrival index block digest)
-level_digest-is_next s blocks i m levels count index a k store block digest two below inside place from wide was many h =
+level_digest-is_next s blocks i m levels count index a k store block digest two below inside place from wide was many h
+    =
     let some : 0 < fan s = omega arith in
     let less : i < length blocks = omega (arith, below, many) in
     record {
@@ -204,7 +206,8 @@ closes-stopped_all s blocks i m levels count index last store digest some below 
 -- one block more that stands there
 pub none-differs-more : (p : Planned) (blocks : List (List ℕ)) (i m : ℕ) (device : List ℕ)
     → NoneDiffers p blocks device (first_closing (fan p.settings) i m)
-    → stored p device m (i / fan p.settings ^ (m + 1)) ≡ tree_block p.settings blocks m (i / fan p.settings ^ (m + 1))
+    → stored_block p device m (i / fan p.settings ^ (m + 1)) ≡ tree_block p.settings blocks m
+    (i / fan p.settings ^ (m + 1))
     → NoneDiffers p blocks device (first_closing (fan p.settings) i (m + 1))
 none-differs-more p blocks i m device h here =
     let pair : ℕ × ℕ = (m, i / fan p.settings ^ (m + 1)) in

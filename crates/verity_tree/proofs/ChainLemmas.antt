@@ -67,7 +67,8 @@ digest_in-slots s xs t fits below =
 -- the digest of block q is in its slot of the block above
 pub digest-up : (s : Settings) (blocks : List (List ℕ)) (l q : ℕ) → digest_len s ≤ slot_width s → 0 < fan s
     → q < length (blocks_up s blocks l)
-    → digest_in s (get_or (blocks_up s blocks (l + 1)) (q / fan s) []) (q % fan s) ≡ hash s (get_or (blocks_up s blocks l) q [])
+    → digest_in s (get_or (blocks_up s blocks (l + 1)) (q / fan s) []) (q % fan s) ≡ hash s
+    (get_or (blocks_up s blocks l) q [])
 digest-up s blocks l q fits some below =
     let f = fan s in
     let xs = blocks_up s blocks l in
@@ -95,7 +96,8 @@ true_chain-up s blocks i l fits some below =
     level_digest-below s blocks i l some below in
     ap (hash s) (true_chain-blocks_up s blocks i l)
     ∙ sym (digest-up s blocks l q fits some here)
-    ∙ ap (λ (n : ℕ). digest_in s (get_or (blocks_up s blocks (l + 1)) n []) (q % fan s)) (sym (quotient-next (fan s) i l))
+    ∙ ap (λ (n : ℕ). digest_in s (get_or (blocks_up s blocks (l + 1)) n []) (q % fan s))
+    (sym (quotient-next (fan s) i l))
 
 -- and at the top
 pub true_chain-root : (s : Settings) (blocks : List (List ℕ)) (i : ℕ) → 2 ≤ fan s → i < length blocks
@@ -107,7 +109,8 @@ true_chain-root s blocks i two below =
     let less : i < fan s ^ levels = omega (arith, enough, below) in
     ap (hash s) (true_chain-blocks_up s blocks i levels)
     ∙ ap (λ (n : ℕ). hash s (get_or (blocks_up s blocks levels) n [])) (div-eq_of_lt less)
-    ∙ ap (λ (l : ℕ). hash s (get_or (blocks_up s blocks l) 0 [])) (sym (height-level_count s blocks (omega (arith, two))))
+    ∙ ap (λ (l : ℕ). hash s (get_or (blocks_up s blocks l) 0 []))
+    (sym (height-level_count s blocks (omega (arith, two))))
 
 -- bytes filled to a size have it
 pub length-filled : (n : ℕ) (bytes : List ℕ) → length bytes ≤ n → length (filled n bytes) ≡ n

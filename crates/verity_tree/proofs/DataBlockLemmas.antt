@@ -12,7 +12,7 @@ use Rattle.verity_hash.specs.Bytes.{filled}
 use Rattle.verity_io.specs.Reading.{HasRead}
 use Rattle.verity_tree.specs.Reading.{EndsWithin, FailsWithin, bytes_of}
 use Rattle.verity_tree.specs.Steps.DataBlocks.{HoldsBlock, StopsWithin}
-use Rattle.verity_tree.specs.Levels.{block_at, cut, blocks_up, data_blocks, whole}
+use Rattle.verity_tree.specs.Levels.{block_at, cut, blocks_up, data_blocks, whole_blocks}
 use Rattle.verity_tree.specs.Steps.PlainRoots.{digest_of_block}
 use Rattle.verity_tree.specs.Steps.OpenBlocks.{level_digest}
 use Rattle.verity_plan.specs.Plans.{IsPlanned, Planned}
@@ -99,7 +99,8 @@ data-next p planned i data_len b a bytes rest after store new digest e below w r
     let left : length (drop a store) ≡ length store - a = length-drop a store in
     let size : length (take (a + b - a) (drop a store)) ≡ b =
     length-take-le (a + b - a) (drop a store) (omega (arith, left, room)) ∙ wide in
-    let read : HoldsBlock data_len b rest after new = subst (λ (k : ℕ). HoldsBlock data_len k rest after new) size block in
+    let read : HoldsBlock data_len b rest after new = subst
+    (λ (k : ℕ). HoldsBlock data_len k rest after new) size block in
     let next = NextBlock-read s wanted i data_len b bytes rest after new e here w read_before.enough read_before.rest
     read in
     let stands : take (a + b - a) (drop a (put_mid a (a + b - a) store new)) ≡ new =
@@ -133,13 +134,13 @@ blocks-some p planned =
     )
 
 -- bytes that hold all that is wanted hold all blocks
-pub whole-all : (p : Planned) (bytes : List ℕ) → p.wanted ≤ length bytes → whole p bytes ≡ p.blocks
-whole-all p bytes enough =
+pub whole_blocks-all : (p : Planned) (bytes : List ℕ) → p.wanted ≤ length bytes → whole_blocks p bytes ≡ p.blocks
+whole_blocks-all p bytes enough =
     let tested : nat_le p.wanted (length bytes) ≡ true = grind (arith, nat_tests, enough) in rw tested refl
 
 -- bytes that end within block i hold i blocks
 pub whole-short : (p : Planned) (i : ℕ) (bytes : List ℕ) → bytes_of p i ≤ length bytes
-    → length bytes < bytes_of p (i + 1) → whole p bytes ≡ i
+    → length bytes < bytes_of p (i + 1) → whole_blocks p bytes ≡ i
 whole-short p i bytes enough short =
     let less : length bytes < p.wanted = omega (arith, short) in
     let tested : nat_le p.wanted (length bytes) ≡ false = grind (arith, nat_tests, less) in
@@ -148,18 +149,20 @@ whole-short p i bytes enough short =
     rw tested (div-eq_of_lt-le p.settings.data_block from to)
 
 -- bytes of which i blocks were read hold at least i blocks
-pub whole-above : (p : Planned) → IsPlanned p → (i : ℕ) (bytes : List ℕ) → i ≤ p.blocks → bytes_of p i ≤ length bytes
-    → i ≤ whole p bytes
-whole-above p planned i bytes within enough = elim (cases_lt (length bytes) p.wanted) [
+pub whole_blocks-above : (p : Planned) → IsPlanned p → (i : ℕ) (bytes : List ℕ) → i ≤ p.blocks
+    → bytes_of p i ≤ length bytes
+    → i ≤ whole_blocks p bytes
+whole_blocks-above p planned i bytes within enough = elim (cases_lt (length bytes) p.wanted) [
   | inl less ↦
       let tested : nat_le p.wanted (length bytes) ≡ false = grind (arith, nat_tests, less) in
       let from : i * p.settings.data_block ≤ length bytes = omega (arith, enough, less) in
       rw tested (le-div i (length bytes) p.settings.data_block (some_data p.settings planned.valid) from)
-  | inr all ↦ omega (arith, whole-all p bytes all, within)
+  | inr all ↦ omega (arith, whole_blocks-all p bytes all, within)
 ]
 
 -- the source ends within block i
-pub short-within : (p : Planned) → IsPlanned p → (i data_len b : ℕ) (bytes rest after : List ℕ) → b ≡ p.settings.data_block
+pub short-within : (p : Planned) → IsPlanned p → (i data_len b : ℕ) (bytes rest after : List ℕ)
+    → b ≡ p.settings.data_block
     → i < p.blocks
     → data_len ≡ min b (p.wanted - i * b) → HasRead (bytes_of p i) bytes rest → length rest < data_len → after ≡ []
     → EndsWithin p i bytes after
@@ -182,7 +185,8 @@ short-within p planned i data_len b bytes rest after e below w read_before short
     }
 
 -- the source failed within block i
-pub failed-within : (p : Planned) → IsPlanned p → (i data_len b : ℕ) (bytes rest after : List ℕ) → b ≡ p.settings.data_block
+pub failed-within : (p : Planned) → IsPlanned p → (i data_len b : ℕ) (bytes rest after : List ℕ)
+    → b ≡ p.settings.data_block
     → i < p.blocks
     → data_len ≡ min b (p.wanted - i * b) → HasRead (bytes_of p i) bytes rest → StopsWithin data_len rest after
     → FailsWithin p i bytes after

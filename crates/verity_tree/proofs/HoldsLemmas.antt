@@ -17,10 +17,10 @@ use Rattle.verity_plan.proofs.CountLemmas.{le-div_ceil}
 use Rattle.verity_plan.proofs.FanLemmas.{fan-some, some_data}
 use Rattle.verity_tree.specs.ClosingOrder.{order, times}
 use Rattle.verity_tree.specs.Image.{tree_block}
-use Rattle.verity_tree.specs.Levels.{root, data_blocks, whole}
-use Rattle.verity_tree.specs.Verdicts.{HoldsTree, NoneDiffers, StandsThere, differs, judged, stored, verdict}
+use Rattle.verity_tree.specs.Levels.{root, data_blocks, whole_blocks}
+use Rattle.verity_tree.specs.Verdicts.{HoldsTree, NoneDiffers, StandsThere, differs, verdict_by, stored_block, verdict}
 use Rattle.verity_tree.specs.declared.comparing.CompareFault.{CompareFault}
-use Rattle.verity_tree.proofs.DataBlockLemmas.{whole-all}
+use Rattle.verity_tree.proofs.DataBlockLemmas.{whole_blocks-all}
 use Rattle.verity_tree.proofs.JudgeLemmas.{judges-right}
 use Rattle.verity_tree.proofs.OrderLemmas.{ClosesOnce-all}
 
@@ -86,11 +86,11 @@ stands-counted p blocks device (pair ∷ pairs) each =
     (stands-counted p blocks device pairs (λ l j some. each l j (omega (arith, some, times-more l j pair pairs))))
 
 -- data of which no block is short holds all that is wanted
-whole-enough : (p : Planned) → IsPlanned p → (bytes : List ℕ) → p.blocks ≤ whole p bytes → p.wanted ≤ length bytes
+whole-enough : (p : Planned) → IsPlanned p → (bytes : List ℕ) → p.blocks ≤ whole_blocks p bytes → p.wanted ≤ length bytes
 whole-enough p planned bytes all = elim (cases_lt (length bytes) p.wanted) [
   | inl less ↦
       let tested : nat_le p.wanted (length bytes) ≡ false = grind (arith, nat_tests, less) in
-      let count : whole p bytes ≡ length bytes / p.settings.data_block = rw tested refl in
+      let count : whole_blocks p bytes ≡ length bytes / p.settings.data_block = rw tested refl in
       let wide = some_data p.settings planned.valid in
       omega (
         arith,
@@ -121,14 +121,14 @@ tests-right false true x y right = (refl, refl)
 tests-right false false x y right = cc
 
 -- a verdict that all is right: nothing differs, no block is missing, and the root hash is the tree's
-judged-right : (p : Planned) (device bytes digest : List ℕ) (met : Option (ℕ × ℕ))
-    → judged p device bytes met digest ≡ Ok tt
-    → (met ≡ None) × (p.blocks ≤ whole p bytes) × (root p.settings (data_blocks p bytes) ≡ digest)
-judged-right p device bytes digest (Some pair) right = cc
-judged-right p device bytes digest None right =
-    let tests = tests-right (nat_lt (whole p bytes) p.blocks) (bytes_eq (root p.settings (data_blocks p bytes)) digest)
+all-right : (p : Planned) (device bytes digest : List ℕ) (met : Option (ℕ × ℕ))
+    → verdict_by p device bytes met digest ≡ Ok tt
+    → (met ≡ None) × (p.blocks ≤ whole_blocks p bytes) × (root p.settings (data_blocks p bytes) ≡ digest)
+all-right p device bytes digest (Some pair) right = cc
+all-right p device bytes digest None right =
+    let tests = tests-right (nat_lt (whole_blocks p bytes) p.blocks) (bytes_eq (root p.settings (data_blocks p bytes)) digest)
     _ _ right in
-    let long : nat_lt (whole p bytes) p.blocks ≡ false = tests.0 in (
+    let long : nat_lt (whole_blocks p bytes) p.blocks ≡ false = tests.0 in (
       refl,
       grind (arith, nat_tests, long),
       (bytes_eq-Decides (root p.settings (data_blocks p bytes)) digest).0 tests.1,
@@ -143,7 +143,7 @@ same-stands : (p : Planned) (blocks : List (List ℕ)) (device : List ℕ) (pair
     → differs p blocks device pair ≡ false
     → StandsThere p blocks device pair
 same-stands p blocks device pair same =
-    (bytes_eq-Decides (stored p device pair.0 pair.1) (tree_block p.settings blocks pair.0 pair.1)).0
+    (bytes_eq-Decides (stored_block p device pair.0 pair.1) (tree_block p.settings blocks pair.0 pair.1)).0
     (not-false _ same)
 
 -- a device with this verdict holds the tree, if the data is long enough
@@ -154,9 +154,9 @@ right-holds_enough p device bytes digest enough right =
     let blocks = data_blocks p bytes in
     let f = fan p.settings in
     let tests =
-    judged-right p device bytes digest (find (differs p blocks device) (order f p.blocks (whole p bytes))) right in
+    all-right p device bytes digest (find (differs p blocks device) (order f p.blocks (whole_blocks p bytes))) right in
     let none : find (differs p blocks device) (order f p.blocks p.blocks) ≡ None =
-    ap (λ (m : ℕ). find (differs p blocks device) (order f p.blocks m)) (sym (whole-all p bytes enough)) ∙ tests.0 in
+    ap (λ (m : ℕ). find (differs p blocks device) (order f p.blocks m)) (sym (whole_blocks-all p bytes enough)) ∙ tests.0 in
     record {
       enough = enough;
       stands = λ l j here.
@@ -171,6 +171,6 @@ pub right-holds : (p : Planned) (device bytes digest : List ℕ) → IsPlanned p
     → HoldsTree p device bytes digest
 right-holds p device bytes digest planned right =
     let met =
-    find (differs p (data_blocks p bytes) device) (order (fan p.settings) p.blocks (whole p bytes)) in
+    find (differs p (data_blocks p bytes) device) (order (fan p.settings) p.blocks (whole_blocks p bytes)) in
     right-holds_enough p device bytes digest
-    (whole-enough p planned bytes (judged-right p device bytes digest met right).1) right
+    (whole-enough p planned bytes (all-right p device bytes digest met right).1) right

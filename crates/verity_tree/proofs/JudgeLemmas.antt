@@ -12,10 +12,10 @@ use Rattle.verity_tree.specs.ClosingOrder.{order}
 use Rattle.verity_tree.specs.Comparing.{ComesTo, Judges}
 use Rattle.verity_tree.specs.Steps.OnePass.{fault_by, fault_of, StopsFor}
 use Rattle.verity_tree.specs.Image.{tree_block}
-use Rattle.verity_tree.specs.Levels.{root, data_blocks, whole}
+use Rattle.verity_tree.specs.Levels.{root, data_blocks, whole_blocks}
 use Rattle.verity_plan.specs.Plans.{Planned, IsPlanned}
 use Rattle.verity_plan.specs.Settings.{fan}
-use Rattle.verity_tree.specs.Verdicts.{NoneDiffers, StandsThere, differs, verdict_by, part_of, stored, verdict}
+use Rattle.verity_tree.specs.Verdicts.{NoneDiffers, StandsThere, differs, verdict_by, part_of, stored_block, verdict}
 use Rattle.verity_tree.specs.declared.pass.cascade.Stop.{Stop}
 use Rattle.verity_tree.specs.declared.comparing.CompareFault.TheVariants.{SourceShort, RootDiffers}
 use Rattle.verity_tree.specs.declared.comparing.CompareFault.TheVariants as F
@@ -24,13 +24,14 @@ use Rattle.verity_tree.specs.declared.pass.closed_block.Cause.TheVariants.{Faile
 use Rattle.verity_tree.specs.Steps.ClosedBlocks.{IsCause, closed_block}
 use Rattle.verity_tree.specs.declared.part.Part.{Part}
 use Rattle.verity_tree.proofs.OrderSplit.{order-prefix}
-use Rattle.verity_tree.proofs.DataBlockLemmas.{whole-above, whole-all}
+use Rattle.verity_tree.proofs.DataBlockLemmas.{whole_blocks-above, whole_blocks-all}
 
 -- a block that stands there does not differ
 stands-same : (p : Planned) (blocks : List (List ℕ)) (device : List ℕ) (pair : ℕ × ℕ) → StandsThere p blocks device pair
     → differs p blocks device pair ≡ false
 stands-same p blocks device pair h =
-    let same = (bytes_eq-Decides (stored p device pair.0 pair.1) (tree_block p.settings blocks pair.0 pair.1)).1 h in
+    let same = (bytes_eq-Decides (stored_block p device pair.0 pair.1) (tree_block p.settings blocks pair.0 pair.1)).1 h
+    in
     ap not same
 
 -- no first one that differs among blocks that stand there
@@ -65,8 +66,9 @@ verdict_by-whole : (p : Planned) (device bytes digest : List ℕ) → p.wanted �
     → verdict p device bytes digest ≡ verdict_by p device bytes None digest
 verdict_by-whole p device bytes digest enough none =
     let blocks = data_blocks p bytes in
-    ap (λ (m : ℕ). verdict_by p device bytes (find (differs p blocks device) (order (fan p.settings) p.blocks m)) digest)
-    (whole-all p bytes enough)
+    ap (λ (m : ℕ). verdict_by p device bytes
+    (find (differs p blocks device) (order (fan p.settings) p.blocks m)) digest)
+    (whole_blocks-all p bytes enough)
     ∙ ap (λ (met : Option (ℕ × ℕ)). verdict_by p device bytes met digest)
     (find-none p blocks device (order (fan p.settings) p.blocks p.blocks) none)
 
@@ -75,8 +77,8 @@ pub judges-right : (p : Planned) (device bytes computed digest : List ℕ) → p
     → NoneDiffers p (data_blocks p bytes) device (order (fan p.settings) p.blocks p.blocks)
     → computed ≡ root p.settings (data_blocks p bytes) → computed ≡ digest → verdict p device bytes digest ≡ Ok tt
 judges-right p device bytes computed digest enough none is same =
-    let all : nat_lt (whole p bytes) p.blocks ≡ false =
-    let e = whole-all p bytes enough in grind (arith, nat_tests, e) in
+    let all : nat_lt (whole_blocks p bytes) p.blocks ≡ false =
+    let e = whole_blocks-all p bytes enough in grind (arith, nat_tests, e) in
     let equal = (bytes_eq-Decides (root p.settings (data_blocks p bytes)) digest).1 (sym is ∙ same) in
     verdict_by-whole p device bytes digest enough none ∙ rw (all, equal) refl
 
@@ -86,8 +88,8 @@ pub judges-root : (p : Planned) (device bytes computed digest : List ℕ) → p.
     → computed ≡ root p.settings (data_blocks p bytes) → computed ≢ digest
     → verdict p device bytes digest ≡ Err (RootDiffers computed)
 judges-root p device bytes computed digest enough none is other =
-    let all : nat_lt (whole p bytes) p.blocks ≡ false =
-    let e = whole-all p bytes enough in grind (arith, nat_tests, e) in
+    let all : nat_lt (whole_blocks p bytes) p.blocks ≡ false =
+    let e = whole_blocks-all p bytes enough in grind (arith, nat_tests, e) in
     let unequal : bytes_eq (root p.settings (data_blocks p bytes)) digest ≡ false =
     not-true (bytes_eq (root p.settings (data_blocks p bytes)) digest)
     (bytes-differ (root p.settings (data_blocks p bytes)) digest (λ e. other (is ∙ e))) in
@@ -100,10 +102,11 @@ pub judges-short : (p : Planned) (device bytes after digest : List ℕ) (i : ℕ
     → verdict p device bytes digest ≡ Err (SourceShort i)
 judges-short p device bytes after digest i ends none =
     let blocks = data_blocks p bytes in
-    let short : verdict_by p device bytes None digest ≡ Err (SourceShort (whole p bytes)) =
-    let less : nat_lt (whole p bytes) p.blocks ≡ true =
+    let short : verdict_by p device bytes None digest ≡ Err (SourceShort (whole_blocks p bytes)) =
+    let less : nat_lt (whole_blocks p bytes) p.blocks ≡ true =
     let below = ends.below in let e = ends.whole_is in grind (arith, nat_tests, below, e) in rw less refl in
-    ap (λ (m : ℕ). verdict_by p device bytes (find (differs p blocks device) (order (fan p.settings) p.blocks m)) digest)
+    ap (λ (m : ℕ). verdict_by p device bytes
+    (find (differs p blocks device) (order (fan p.settings) p.blocks m)) digest)
     (sym ends.whole_is)
     ∙ ap (λ (met : Option (ℕ × ℕ)). verdict_by p device bytes met digest)
     (find-none p blocks device (order (fan p.settings) p.blocks i) none)
@@ -113,16 +116,16 @@ judges-short p device bytes after digest i ends none =
 -- the first block that differs is named
 judges-differs : (p : Planned) → IsPlanned p → (device bytes digest : List ℕ) (stop : Stop) (part : Part)
     → StopsFor p bytes device stop
-    → stored p device stop.level stop.index ≢ tree_block p.settings (data_blocks p bytes) stop.level stop.index
-    → part ≡ part_of p stop.level stop.index (stored p device stop.level stop.index)
+    → stored_block p device stop.level stop.index ≢ tree_block p.settings (data_blocks p bytes) stop.level stop.index
+    → part ≡ part_of p stop.level stop.index (stored_block p device stop.level stop.index)
     (tree_block p.settings (data_blocks p bytes) stop.level stop.index)
     → verdict p device bytes digest ≡ Err (F.Differs stop.level stop.index part)
 judges-differs p planned device bytes digest stop part stops other is =
     let blocks = data_blocks p bytes in
     let f = fan p.settings in
-    let m = whole p bytes in
+    let m = whole_blocks p bytes in
     let within : stops.i + 1 ≤ m =
-    whole-above p planned (stops.i + 1) bytes (omega (arith, stops.below)) stops.enough in
+    whole_blocks-above p planned (stops.i + 1) bytes (omega (arith, stops.below)) stops.enough in
     let after = order-prefix f p.blocks (stops.i + 1) (m - (stops.i + 1)) in
     let e : m ≡ stops.i + 1 + (m - (stops.i + 1)) = omega arith in
     let pair : ℕ × ℕ = (stop.level, stop.index) in

@@ -13,7 +13,7 @@ use Rattle.verity_plan.specs.Settings.{Settings, fan}
 use Rattle.verity_tree.specs.Levels.{hash_block_of, data_blocks}
 use Rattle.verity_tree.specs.ClosingOrder.{closing, order}
 use Rattle.verity_io.specs.Writing.{Spoiled}
-use Rattle.verity_tree.specs.Image.{tree_block, device_with, begun_after, StopsAt}
+use Rattle.verity_tree.specs.Image.{tree_block, device_with, tree_image_after, StopsAt}
 use Rattle.verity_tree.proofs.OrderSplit.{closing-front, order-front, order-more, device_with-append, device_with-order}
 use Rattle.verity_tree.specs.Reading.{ReadsUpTo, bytes_of}
 use Rattle.verity_io.specs.Reading.{HasRead}
@@ -68,7 +68,7 @@ HasOpenBlocks-after s blocks levels i a k store new place within h = λ l from t
 -- a data block that stopped at a level
 pub image-stopped : (p : Planned) (blocks : List (List ℕ)) (i l j : ℕ) (start device new : List ℕ) → 0 < fan p.settings
     → i < p.blocks
-    → ClosesWith p i l j → device ≡ begun_after p blocks i start
+    → ClosesWith p i l j → device ≡ tree_image_after p blocks i start
     → Spoiled (device_with p.settings blocks p.base (first_closing (fan p.settings) i l) device)
     (byte_of p l j) p.settings.hash_block new
     → StopsAt p blocks (l, j) start new
@@ -116,7 +116,8 @@ pub image-next : (s : Settings) (blocks : List (List ℕ)) (base n i : ℕ) (sta
     → new ≡ device_with s blocks base (closing (fan s) n (i + 1)) device
     → new ≡ device_with s blocks base (order (fan s) n (i + 1)) start
 image-next s blocks base n i start device new so_far is =
-    is ∙ ap (device_with s blocks base (closing (fan s) n (i + 1))) so_far ∙ sym (device_with-order s blocks base n i start)
+    is ∙ ap (device_with s blocks base (closing (fan s) n (i + 1))) so_far
+    ∙ sym (device_with-order s blocks base n i start)
 
 -- one data block more is compared
 pub none-differs-order : (p : Planned) (blocks : List (List ℕ)) (i : ℕ) (device : List ℕ)
@@ -150,7 +151,8 @@ stops-for p bytes i device stop some below with_it enough before h cause =
       next = record {
         rest = front.0;
         in_order = order-more f p.blocks i ∙ ap (λ (ps : List (ℕ × ℕ)). order f p.blocks i ++ ps) front.1
-            ∙ ap (λ (k : ℕ). order f p.blocks i ++ (first_closing f i l ++ (l, k) ∷ [] ++ front.0)) (sym with_it.block_is)
+            ∙ ap (λ (k : ℕ). order f p.blocks i ++ (first_closing f i l ++ (l, k) ∷ [] ++ front.0))
+            (sym with_it.block_is)
             ∙ simp append_assoc;
       };
       same = All-append (StandsThere p blocks device) (order f p.blocks i) (first_closing f i l) before h;

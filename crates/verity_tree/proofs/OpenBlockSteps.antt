@@ -14,7 +14,8 @@ use Rattle.std.specs.Int.{div_ceil}
 use Rattle.verity_plan.specs.Settings.{Settings, hash, fan, slot_width, digest_len}
 use Rattle.verity_tree.specs.Levels.{hash_block_of, blocks_up, root}
 use Rattle.verity_plan.specs.Counts.{level_count}
-use Rattle.verity_tree.specs.Steps.OpenBlocks.{digests_under, open_block, open_block_with, HasOpenBlocks, level_digest, IsCarrying}
+use Rattle.verity_tree.specs.Steps.OpenBlocks.{digests_under, open_block, open_block_with, HasOpenBlocks, level_digest}
+use Rattle.verity_tree.specs.Steps.OpenBlocks.{IsCarrying}
 use Rattle.verity_tree.specs.Steps.OpenBlocks.{IsNext, IsClosed, IsKept, IsCarriedOn, climb, arrival}
 use Rattle.verity_plan.proofs.CountLemmas.{IsLevelCount-level_count, mul_le}
 use Rattle.verity_tree.proofs.TreeLemmas.{length-blocks_up, height-level_count}
@@ -78,7 +79,8 @@ level_digest-last s blocks i m some last =
 -- the block that closes gives the digest one level up
 pub level_digest-next : (s : Settings) (blocks : List (List ℕ)) (i m : ℕ) → 0 < fan s → i < length blocks
     → (i / fan s ^ m % fan s + 1 ≡ fan s) ⊎ (i + 1 ≡ length blocks)
-    → get_or (blocks_up s blocks (m + 1)) (i / fan s ^ (m + 1)) [] ≡ open_block_with s (digests_under s blocks m) (i / fan s ^ m)
+    → get_or (blocks_up s blocks (m + 1)) (i / fan s ^ (m + 1)) [] ≡ open_block_with s (digests_under s blocks m)
+    (i / fan s ^ m)
 level_digest-next s blocks i m some below ends =
     let f = fan s in
     let q = i / f ^ m in
@@ -202,7 +204,8 @@ level_digest-root s blocks i levels store digest two below count h =
       last,
       h.digest_is
           ∙ ap (λ (n : ℕ). hash s (get_or (blocks_up s blocks levels) n [])) zero_place
-          ∙ ap (λ (l : ℕ). hash s (get_or (blocks_up s blocks l) 0 [])) (count ∙ sym (height-level_count s blocks some)),
+          ∙ ap (λ (l : ℕ). hash s (get_or (blocks_up s blocks l) 0 []))
+          (count ∙ sym (height-level_count s blocks some)),
     )
 
 -- a slot is within its block
@@ -276,7 +279,8 @@ carry-closed s blocks i m levels count index a k last store block after digest a
     ] in
     IsCarrying-closed s blocks i m levels a k store after digest above some less inside ends room from wide closed.zeros
     (ap length closed.zeros ∙ length-replicate s.hash_block 0)
-    (closed.hashed (blocks_up s blocks m) next ∙ ap (λ (n : ℕ). hash s (open_block_with s (digests_under s blocks m) n)) place) h
+    (closed.hashed (blocks_up s blocks m) next
+    ∙ ap (λ (n : ℕ). hash s (open_block_with s (digests_under s blocks m) n)) place) h
 
 -- a level stays open and the cascade ends
 pub carry-kept : (s : Settings) (blocks : List (List ℕ)) (i m levels count index a k : ℕ) (last : Bool)

@@ -135,7 +135,8 @@ device_with-order s blocks base n i device =
     let e : i + 1 ≡ suc i = omega arith in
     ap (λ (k : ℕ). device_with s blocks base (order (fan s) n k) device) e
     ∙ device_with-append s blocks base (order (fan s) n i) (closing (fan s) n (suc i)) device
-    ∙ ap (λ (k : ℕ). device_with s blocks base (closing (fan s) n k) (device_with s blocks base (order (fan s) n i) device))
+    ∙ ap (λ (k : ℕ). device_with s blocks base (closing (fan s) n k)
+    (device_with s blocks base (order (fan s) n i) device))
     (sym e)
 
 -- what has closed stays at the front of the order

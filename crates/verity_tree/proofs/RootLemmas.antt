@@ -76,7 +76,8 @@ pub map-hash-blocks_up : (s : Settings) (blocks : List (List ℕ)) (l : ℕ)
     → map (hash s) (blocks_up s blocks l) ≡ digests_up s (map (hash s) blocks) l
 unfolding blocks_up digests_up
 map-hash-blocks_up s blocks zero = refl
-map-hash-blocks_up s blocks (suc l) = ap (λ (ds : List (List ℕ)). map (hash s) (pack s ds)) (map-hash-blocks_up s blocks l)
+map-hash-blocks_up s blocks (suc l) = ap (λ (ds : List (List ℕ)). map (hash s) (pack s ds))
+    (map-hash-blocks_up s blocks l)
 
 -- the root above some blocks is the root above their digests
 pub root-digests : (s : Settings) (blocks : List (List ℕ)) → 2 ≤ fan s → 0 < length blocks

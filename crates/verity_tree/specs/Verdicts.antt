@@ -6,7 +6,7 @@ use Rattle.std.specs.List.{range_with_len}
 use Rattle.std.specs.Str.{bytes_eq}
 use Rattle.verity_tree.specs.ClosingOrder.{order}
 use Rattle.verity_tree.specs.Image.{tree_block}
-use Rattle.verity_tree.specs.Levels.{root, data_blocks, whole}
+use Rattle.verity_tree.specs.Levels.{root, data_blocks, whole_blocks}
 use Rattle.verity_plan.specs.Plans.{Planned, HasBlock, byte_of, size_under}
 use Rattle.verity_plan.specs.Settings.{Settings, digest_len, fan, slot_width}
 use Rattle.verity_tree.specs.declared.comparing.CompareFault.{CompareFault}
@@ -16,13 +16,13 @@ use Rattle.verity_tree.specs.declared.part.Part.{Part}
 use Rattle.verity_tree.specs.declared.part.Part.TheVariants.{Missing, Child, Spare}
 
 -- the bytes that are stored for a block of a level: fewer than a hash block if the device ends before its end
-abbrev pub stored : Planned → List ℕ → ℕ → ℕ → List ℕ
-stored p device level block = take p.settings.hash_block (drop (byte_of p level block) device)
+abbrev pub stored_block : Planned → List ℕ → ℕ → ℕ → List ℕ
+stored_block p device level block = take p.settings.hash_block (drop (byte_of p level block) device)
 
 -- the device holds the whole tree above the data, each hash block at its place, and the root hash is the tree's
 pub record HoldsTree (p : Planned) (device bytes digest : List ℕ) : Type 0 where
   pub enough : p.wanted ≤ length bytes
-  pub stands : (l j : ℕ) → HasBlock p l j → stored p device l j ≡ tree_block p.settings (data_blocks p bytes) l j
+  pub stands : (l j : ℕ) → HasBlock p l j → stored_block p device l j ≡ tree_block p.settings (data_blocks p bytes) l j
   pub root_is : root p.settings (data_blocks p bytes) ≡ digest
 
 -- the digest in a slot of a hash block
@@ -48,18 +48,19 @@ part_of p level block on_device computed = if nat_lt (length on_device) p.settin
 -- the block that a device holds is not the tree's
 abbrev pub differs : Planned → List (List ℕ) → List ℕ → ℕ × ℕ → Bool
 differs p blocks device pair =
-    not (bytes_eq (stored p device pair.0 pair.1) (tree_block p.settings blocks pair.0 pair.1))
+    not (bytes_eq (stored_block p device pair.0 pair.1) (tree_block p.settings blocks pair.0 pair.1))
 
 -- the fault at the first block that differs
 abbrev pub difference : Planned → List (List ℕ) → List ℕ → ℕ × ℕ → CompareFault
 difference p blocks device pair =
     Differs pair.0 pair.1
-    (part_of p pair.0 pair.1 (stored p device pair.0 pair.1) (tree_block p.settings blocks pair.0 pair.1))
+    (part_of p pair.0 pair.1 (stored_block p device pair.0 pair.1) (tree_block p.settings blocks pair.0 pair.1))
 
 -- without a difference: short data, another root, or all is right
 abbrev pub verdict_by : Planned → List ℕ → List ℕ → Option (ℕ × ℕ) → List ℕ → Result Unit CompareFault
 verdict_by p device bytes (Some pair) digest = Err (difference p (data_blocks p bytes) device pair)
-verdict_by p device bytes None digest = if nat_lt (whole p bytes) p.blocks then Err (SourceShort (whole p bytes))
+verdict_by p device bytes None digest = if nat_lt (whole_blocks p bytes) p.blocks then Err
+    (SourceShort (whole_blocks p bytes))
     else (if bytes_eq (root p.settings (data_blocks p bytes)) digest then Ok tt
     else Err (RootDiffers (root p.settings (data_blocks p bytes))))
 
@@ -68,11 +69,11 @@ verdict_by p device bytes None digest = if nat_lt (whole p bytes) p.blocks then 
 abbrev pub verdict : Planned → List ℕ → List ℕ → List ℕ → Result Unit CompareFault
 verdict p device bytes digest =
     verdict_by p device bytes
-    (find (differs p (data_blocks p bytes) device) (order (fan p.settings) p.blocks (whole p bytes))) digest
+    (find (differs p (data_blocks p bytes) device) (order (fan p.settings) p.blocks (whole_blocks p bytes))) digest
 
 -- the device holds this block of the tree
 abbrev pub StandsThere : Planned → List (List ℕ) → List ℕ → ℕ × ℕ → Type 0
-StandsThere p blocks device pair = stored p device pair.0 pair.1 ≡ tree_block p.settings blocks pair.0 pair.1
+StandsThere p blocks device pair = stored_block p device pair.0 pair.1 ≡ tree_block p.settings blocks pair.0 pair.1
 
 -- the device holds these blocks of the tree
 abbrev pub NoneDiffers : Planned → List (List ℕ) → List ℕ → List (ℕ × ℕ) → Type 0

@@ -30,7 +30,8 @@ pub(crate) fn part_between(
     requires here { HasBlock plan.now level index }
     requires stored { length stored.now ≡ plan.now.settings.hash_block }
     requires computed { length computed.now ≡ plan.now.settings.hash_block }
-    ensures { result ≡ part_at (index * fan plan.now.settings) (first_slot plan.now level index stored.now computed.now) }
+    ensures { result ≡ part_at (index * fan plan.now.settings)
+        (first_slot plan.now level index stored.now computed.now) }
 {
     let fan = plan.fan();
     let below = plan.size_under(level);

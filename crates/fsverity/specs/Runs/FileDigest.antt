@@ -6,7 +6,7 @@ use Rattle.verity_format.specs.Descriptors.{DescriptorFields, descriptor_text, d
 use Rattle.verity_io.specs.Reading.{HasRead}
 use Rattle.verity_tree.specs.Levels.{cut, data_blocks, root}
 use Rattle.verity_tree.specs.Building.{BuildsImage}
-use Rattle.verity_tree.specs.Image.{begun}
+use Rattle.verity_tree.specs.Image.{tree_image}
 use Rattle.verity_tree.specs.Reading.{ReadsUpTo}
 use Rattle.verity_tree.specs.declared.building.BuildFault.{BuildFault}
 use Rattle.verity_tree.specs.declared.building.BuildFault.TheVariants as build
@@ -36,7 +36,7 @@ plan_of_file s size = record { settings = s; blocks = block_count s size; wanted
 -- a device with the tree of the first size bytes; an empty file has none
 abbrev pub with_tree : Settings → ℕ → List ℕ → List ℕ → List ℕ
 with_tree s size bytes device = if size == 0 then device
-    else begun (plan_of_file s size) (data_blocks (plan_of_file s size) bytes) device
+    else tree_image (plan_of_file s size) (data_blocks (plan_of_file s size) bytes) device
 
 -- the descriptor with this root hash, and its digest
 pub record IsDigestOfRoot (s : Settings) (size : ℕ) (root : List ℕ) (made : FileDigest) : Type 0 where

@@ -10,7 +10,7 @@ use Rattle.verity_plan.specs.Plans.{Planned, byte_of, levels_of}
 use Rattle.verity_tree.specs.declared.pass.cascade.Stop.{Stop}
 use Rattle.verity_tree.specs.declared.pass.closed_block.Task.{Task}
 use Rattle.verity_tree.specs.Steps.ClosedBlocks.{IsCause, call_failed, closed_block}
-use Rattle.verity_tree.specs.Verdicts.{NoneDiffers, stored}
+use Rattle.verity_tree.specs.Verdicts.{NoneDiffers, stored_block}
 use Rattle.verity_tree.specs.Steps.OpenBlocks.{Arrival, IsNext, open_block_with, IsCarriedOn, IsKept, IsClosed}
 use Rattle.verity_io.specs.Writing.{put, Spoiled}
 use Rattle.verity_tree.specs.declared.pass.cascade.LevelStep.{LevelStep}
@@ -44,7 +44,8 @@ abbrev pub StepsCompared : Planned → ℕ → Arrival → LevelStep → List �
 StepsCompared p level a Open before after = after ≡ before
 StepsCompared p level a (Closed above) before after = (after ≡ before)
     × ((below : List (List ℕ)) → IsNext p.settings below a
-    → stored p before level (a.index / fan p.settings) ≡ open_block_with p.settings (map (hash p.settings) below) a.index)
+    → stored_block p before level (a.index / fan p.settings) ≡ open_block_with p.settings
+    (map (hash p.settings) below) a.index)
 StepsCompared p level a (Stopped cause) before after = (after ≡ before)
     × ((below : List (List ℕ)) → IsNext p.settings below a
     → IsCause p (closed_block level (a.index / fan p.settings)

@@ -3,7 +3,7 @@
 use Rattle.std.specs.Prelude.{◌≡◌, ◌≢◌, ℕ, Bool, true, false, List, Result, Ok, Err}
 use Rattle.verity_io.specs.Writing.{put, Spoiled}
 use Rattle.verity_plan.specs.Plans.{Planned, byte_of}
-use Rattle.verity_tree.specs.Verdicts.{part_of, stored}
+use Rattle.verity_tree.specs.Verdicts.{part_of, stored_block}
 use Rattle.verity_tree.specs.declared.pass.closed_block.Cause.{Cause}
 use Rattle.verity_tree.specs.declared.pass.closed_block.Cause.TheVariants.{Failed, Differs}
 use Rattle.verity_tree.specs.declared.pass.closed_block.Task.{Task}
@@ -28,8 +28,9 @@ ComparesBlock p computed on_device (Err (Differs part)) =
 -- why the computed block stops the pass: what the device holds at its place differs, and where, or the device failed
 abbrev pub IsCause : Planned → ClosedBlock → List ℕ → Cause → Type 0
 IsCause p computed device Failed = Unit {0}
-IsCause p computed device (Differs part) = (stored p device computed.level computed.index ≢ computed.bytes)
-    × (part ≡ part_of p computed.level computed.index (stored p device computed.level computed.index) computed.bytes)
+IsCause p computed device (Differs part) = (stored_block p device computed.level computed.index ≢ computed.bytes)
+    × (part ≡ part_of p computed.level computed.index
+    (stored_block p device computed.level computed.index) computed.bytes)
 
 -- the device before and after
 abbrev pub Closes : Planned → Task → ClosedBlock → Result Unit Cause → List ℕ → List ℕ → Type 0
@@ -38,9 +39,9 @@ Closes p Write closed (Err cause) before after =
     Spoiled before (byte_of p closed.level closed.index) p.settings.hash_block after
 Closes p Compare closed (Err Failed) before after = after ≡ before
 Closes p Compare closed (Ok done) before after =
-    (after ≡ before) × ComparesBlock p closed (stored p before closed.level closed.index) (Ok done)
+    (after ≡ before) × ComparesBlock p closed (stored_block p before closed.level closed.index) (Ok done)
 Closes p Compare closed (Err (Differs part)) before after =
-    (after ≡ before) × ComparesBlock p closed (stored p before closed.level closed.index) (Err (Differs part))
+    (after ≡ before) × ComparesBlock p closed (stored_block p before closed.level closed.index) (Err (Differs part))
 
 -- whether a call of the device failed
 abbrev pub call_failed : Task → Cause → Bool

@@ -74,7 +74,8 @@ pub record IsClosed (s : Settings) (a : Arrival) (last : Bool) (after above : Li
   pub ends : (a.index % fan s + 1 ≡ fan s) ⊎ (last ≡ true)
   pub zeros : after ≡ replicate s.hash_block 0
   pub len : length above ≡ digest_len s
-  pub hashed : (below : List (List ℕ)) → IsNext s below a → above ≡ hash s (open_block_with s (map (hash s) below) a.index)
+  pub hashed : (below : List (List ℕ)) → IsNext s below a
+      → above ≡ hash s (open_block_with s (map (hash s) below) a.index)
 
 -- data block i has come to all levels; the last one gives the root
 pub record IsCarriedOn (s : Settings) (blocks : List (List ℕ)) (i levels : ℕ) (store digest : List ℕ) : Type 0 where

@@ -25,7 +25,8 @@ ReadsRow p i bytes (Err fault) row after = StopsInBlock p i bytes fault after
 -- `count` data blocks from i on stand in the rows
 abbrev pub HoldsRows : Planned → ℕ → List ℕ → ℕ → List ℕ → Type 0
 HoldsRows p i bytes count rows = (r : ℕ) → r < count
-    → hash p.settings (slice_chunk rows p.settings.data_block r) ≡ level_digest p.settings (data_blocks p bytes) (i + r) 0
+    → hash p.settings (slice_chunk rows p.settings.data_block r) ≡ level_digest p.settings (data_blocks p bytes)
+    (i + r) 0
 
 -- where the source stands before data block i, or why that block can't be read
 abbrev pub StandsBy : Planned → ℕ → List ℕ → Option BlockFault → List ℕ → Type 0
@@ -56,7 +57,8 @@ next_failed (Err fault) ahead = stop_failed (Some fault)
 
 -- the digests of the blocks ahead have their length
 abbrev pub HasSizes : Planned → Ahead → Type 0
-HasSizes p ahead = (r : ℕ) → ahead.first + r < ahead.end → length (slice_index_or ahead.digests r []) ≡ digest_len p.settings
+HasSizes p ahead = (r : ℕ) → ahead.first + r < ahead.end
+    → length (slice_index_or ahead.digests r []) ≡ digest_len p.settings
 
 -- the source was read further than data block k: there are more blocks, or a reason why there are none
 abbrev pub IsPending : Ahead → ℕ → Type 0

@@ -119,7 +119,8 @@ pub(crate) fn carry<D: Device>(
         → HasOpenBlocks job.now.plan.settings blocks 0 (levels_of job.now.plan) i opened.old
         → CarriesDevice job.now.plan blocks i result (D.content device.old) (D.content device.new) }
     ensures stays { job.now.task ≡ Compare → D.tells device.old → D.content device.new ≡ D.content device.old }
-    ensures compared { job.now.task ≡ Compare → D.tells device.old → (blocks : List (List ℕ)) → job.now.plan.blocks ≡ length blocks
+    ensures compared { job.now.task ≡ Compare → D.tells device.old
+        → (blocks : List (List ℕ)) → job.now.plan.blocks ≡ length blocks
         → digest ≡ level_digest job.now.plan.settings blocks i 0
         → HasOpenBlocks job.now.plan.settings blocks 0 (levels_of job.now.plan) i opened.old
         → CarriesCompared job.now.plan blocks i result (D.content device.old) (D.content device.new) }

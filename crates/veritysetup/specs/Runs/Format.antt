@@ -7,7 +7,7 @@ use Rattle.verity_io.specs.Writing.{Spoiled}
 use Rattle.verity_plan.specs.Plans.{superblock_size}
 use Rattle.verity_tree.specs.Building.{Builds, BuildsImage}
 use Rattle.verity_io.specs.Reading.{HasRead}
-use Rattle.verity_tree.specs.Image.{begun}
+use Rattle.verity_tree.specs.Image.{tree_image}
 use Rattle.verity_tree.specs.Building as building
 use Rattle.verity_tree.specs.Levels.{root, data_blocks}
 use Rattle.veritysetup.specs.Options.VeritySettings.{VeritySettings}
@@ -58,7 +58,7 @@ Reads s outcome before after = HasRead s.plan.wanted before after
 abbrev pub Writes : VeritySettings → List (List ℕ) → Result (Unit {0}) FormatFault → List ℕ → List ℕ → Type 0
 Writes s blocks (Err Store) before after = after ≡ before
 Writes s blocks (Err (Build fault)) before after = BuildsImage s.plan blocks (Err fault) before after
-Writes s blocks (Err Superblock) before after = Spoiled (begun s.plan blocks before) s.offset superblock_size after
+Writes s blocks (Err Superblock) before after = Spoiled (tree_image s.plan blocks before) s.offset superblock_size after
 Writes s blocks outcome before after = after ≡ image s blocks before
 
 -- what is added to out: the report, or its first bytes if a write fails

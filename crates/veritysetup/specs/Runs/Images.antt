@@ -3,7 +3,7 @@
 use Rattle.std.specs.Prelude.{ℕ, List, if◌then◌else◌}
 use Rattle.verity_format.specs.SuperblockFields.{SuperblockFields}
 use Rattle.verity_format.specs.Superblocks.{superblock_text}
-use Rattle.verity_tree.specs.Image.{begun}
+use Rattle.verity_tree.specs.Image.{tree_image}
 use Rattle.verity_io.specs.Writing.{put}
 use Rattle.veritysetup.specs.Options.VeritySettings.{VeritySettings}
 
@@ -17,4 +17,4 @@ with_superblock s device = if s.superblock then put device s.offset (superblock_
 
 -- the device with the whole tree above these data blocks, and the superblock
 abbrev pub image : VeritySettings → List (List ℕ) → List ℕ → List ℕ
-image s blocks before = with_superblock s (begun s.plan blocks before)
+image s blocks before = with_superblock s (tree_image s.plan blocks before)

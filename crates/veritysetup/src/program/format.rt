@@ -1,7 +1,7 @@
 //! `veritysetup format` over the files of a runtime.
 ghost use Rattle.std.specs.Prelude.{◌≡◌, ◌<◌, ◌≤◌, ℕ, List, length, IfErr, IfNone, IfSome};
 ghost use Rattle.command_line.specs.Printing.{AppendsFront};
-ghost use Rattle.verity_tree.specs.Levels.{whole};
+ghost use Rattle.verity_tree.specs.Levels.{whole_blocks};
 ghost use Rattle.veritysetup.specs.Options.Choices.{settings};
 ghost use Rattle.veritysetup.specs.Texts.Messages.{short_text};
 ghost use Rattle.veritysetup.specs.Options.Texts.{texts_of};
@@ -119,7 +119,7 @@ where
     ensures run { CommandRun result (text_change O.contents M.contents out.old out.new msgs.old msgs.new) }
     ensures short { data_file.entry.length < settings.now.plan.wanted → (bytes : List ℕ)
         → length bytes ≡ data_file.entry.length → (result ≡ 4) × (out.new ≡ out.old)
-        × AppendsFront (short_text (whole settings.now.plan bytes)) (M.contents msgs.old) (M.contents msgs.new) }
+        × AppendsFront (short_text (whole_blocks settings.now.plan bytes)) (M.contents msgs.old) (M.contents msgs.new) }
 {
     if let Some(block) = missing_block(settings.plan(), data_file.length) {
         return lacks_data(rt.alloc(), block, msgs);
@@ -132,7 +132,7 @@ where
 fn missing_block(plan: &Plan, size: u64) -> Option<u64>
     ensures enough { IfNone result (plan.now.wanted ≤ size) }
     ensures short { IfSome result (λ block. (size < plan.now.wanted)
-        × ((bytes : List ℕ) → length bytes ≡ size → block ≡ whole plan.now bytes)) }
+        × ((bytes : List ℕ) → length bytes ≡ size → block ≡ whole_blocks plan.now bytes)) }
 {
     if size < plan.wanted() {
         Some(size / u64::from(plan.settings().data_block()))

@@ -12,7 +12,7 @@ use Rattle.verity_plan.specs.Settings.{fan}
 use Rattle.verity_io.specs.Writing.{Spoiled}
 use Rattle.std.proofs.lemmas.List.Elements.{All-nil}
 use Rattle.verity_tree.specs.Steps.ClosedBlocks.{IsCause, closed_block}
-use Rattle.verity_tree.specs.Verdicts.{NoneDiffers, stored}
+use Rattle.verity_tree.specs.Verdicts.{NoneDiffers, stored_block}
 use Rattle.verity_tree.proofs.OpenBlockSteps.{carry-closed, carry-kept, carry-all, IsCarrying-first, place-first}
 use Rattle.verity_tree.proofs.CascadeLemmas.{level_digest-is_next, closed-block, closes-stopped_all, closing-below}
 use Rattle.verity_tree.proofs.CascadeLemmas.{closing-done, closing-kept, closing-place, device-closed}
@@ -102,8 +102,8 @@ loop-level-preserved g c =
           let here = closing-place (fan s) c.args.i m c.loop-level.index (fan s) inv.place refl in (
             step.0 ∙ before.0,
             none-differs-more p blocks c.args.i m (g.D.Device.content c.args.device.now) before.1
-                (ap (λ (xs : List ℕ). stored p xs m (c.args.i / fan s ^ (m + 1))) (sym before.0)
-                ∙ ap (stored p (g.D.Device.content c.loop-level.device) m) (sym here)
+                (ap (λ (xs : List ℕ). stored_block p xs m (c.args.i / fan s ^ (m + 1))) (sym before.0)
+                ∙ ap (stored_block p (g.D.Device.content c.loop-level.device) m) (sym here)
                 ∙ step.1 _ next
                 ∙ closed-block s blocks c.args.i m c.blocks-blocks.result c.loop-level.index _ (omega (arith, two))
                 (omega (arith, last, c.requires.below)) refl inv.place (last ∙ many)
@@ -223,7 +223,8 @@ returns-in-Stopped-clause-device g c = λ tells blocks many first stands.
     let same : byte_of p m (c.loop-level.index / fan s) ≡ byte_of p m (c.loop-level.index / c.fan-fan.result) =
     ap (λ (f : ℕ). byte_of p m (c.loop-level.index / f)) (sym c.fan-fan.ensures.value) in
     subst (λ (n : ℕ). Spoiled
-    (device_with s blocks p.base (first_closing (fan s) c.args.i m) (g.D.Device.content c.args.device.now)) n s.hash_block
+    (device_with s blocks p.base (first_closing (fan s) c.args.i m) (g.D.Device.content c.args.device.now)) n
+    s.hash_block
     (g.D.Device.content c.step_level.new.device)) same
     (subst (λ (xs : List ℕ). Spoiled xs (byte_of p m (c.loop-level.index / fan s)) s.hash_block
     (g.D.Device.content c.step_level.new.device)) (inv.image tells blocks many first stands)

@@ -27,9 +27,11 @@ invariant-loop-level g l = record {
       (first_closing (fan l.job.plan.settings) l.i l.level) (g.D.Device.content l.fn.device);
   stays : l.job.task ≡ Compare → g.D.Device.tells l.fn.device
       → g.D.Device.content l.device ≡ g.D.Device.content l.fn.device;
-  compared : l.job.task ≡ Compare → g.D.Device.tells l.fn.device → (blocks : List (List ℕ)) → l.job.plan.blocks ≡ length blocks
+  compared : l.job.task ≡ Compare → g.D.Device.tells l.fn.device → (blocks : List (List ℕ))
+      → l.job.plan.blocks ≡ length blocks
       → l.fn.digest ≡ level_digest l.job.plan.settings blocks l.i 0
       → HasOpenBlocks l.job.plan.settings blocks 0 (levels_of l.job.plan) l.i l.fn.opened
       → (g.D.Device.content l.device ≡ g.D.Device.content l.fn.device)
-      × NoneDiffers l.job.plan blocks (g.D.Device.content l.fn.device) (first_closing (fan l.job.plan.settings) l.i l.level);
+      × NoneDiffers l.job.plan blocks (g.D.Device.content l.fn.device)
+      (first_closing (fan l.job.plan.settings) l.i l.level);
 }

@@ -132,7 +132,8 @@ returns-in-Err-clause-compared g c = λ compare tells told.
       stops-for p bytes c.loop-i.i (g.D.Device.content c.args.device.now) c.in-Err.stop
           (fan-pos p.settings c.blocks-i-end.ensures.planned.valid) below
           (c.in-Err.ensures.carries blocks many next.1 opened) read.enough before.1
-          (subst (λ (xs : List ℕ). NoneDiffers p blocks xs (first_closing (fan p.settings) c.loop-i.i c.in-Err.stop.level))
+          (subst (λ (xs : List ℕ). NoneDiffers p blocks xs
+          (first_closing (fan p.settings) c.loop-i.i c.in-Err.stop.level))
           before.0 step.1)
           (subst (λ (xs : List ℕ). IsCause p
           (closed_block c.in-Err.stop.level c.in-Err.stop.index

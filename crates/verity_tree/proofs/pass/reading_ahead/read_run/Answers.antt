@@ -1,4 +1,5 @@
-use Rattle.std.proofs.Common.{◌≡◌, ◌≢◌, ◌⊎◌, ℕ, zero, suc, ◌+◌, ◌-◌, ◌<◌, ◌≤◌, Option, Some, None, length, arith, refl, ap}
+use Rattle.std.proofs.Common.{◌≡◌, ◌≢◌, ◌⊎◌, ℕ, zero, suc, ◌+◌, ◌-◌, ◌<◌, ◌≤◌, Option, Some, None, length, arith, refl}
+use Rattle.std.proofs.Common.{ap}
 use Rattle.std.proofs.Common.{◌∙◌, inl, inr}
 use Rattle.std.specs.Fork.{slice_chunk}
 use Rattle.verity_plan.specs.Plans.{Planned}
@@ -75,7 +76,12 @@ returns-clause-quiet g c =
     (λ r lt.
     ap length
     (c.hash_rows.ensures r
-    (omega (arith, lt, most-read c.args.count c.read_rows-read.result.0 c.read_rows-read.result.1 c.read_rows-read.ensures.many)))
+    (omega (
+      arith,
+      lt,
+      most-read c.args.count c.read_rows-read.result.0 c.read_rows-read.result.1
+          c.read_rows-read.ensures.many,
+    )))
     ∙ length-hash p.settings _)
 
 pub returns-clause-ahead : goal.returns-clause-ahead
