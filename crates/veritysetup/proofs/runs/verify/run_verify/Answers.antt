@@ -8,6 +8,6 @@ returns-in-Ok-clause-verified g c = λ zero source_told device_told.
       plan = compared.plan;
       root = compared.root;
       trusted = compared.trusted;
-      holds = right-holds_enough compared.plan _ _ compared.root compared.read.enough compared.judged;
+      holds = right-holds_enough compared.plan _ _ compared.root compared.read.enough compared.verdict;
       read = compared.read;
     }
