@@ -4,9 +4,14 @@ use Rattle.std.specs.Prelude.{ℕ, ◌<◌, Bool, List, length, take, Option, Re
 use Rattle.std.specs.Io.KnownBytes.{Appends, Keeps}
 use Rattle.verity_format.specs.Putting.{taken}
 use Rattle.verity_format.specs.declared.putting.PutFault.{PutFault}
-use Rattle.fsverity.specs.Runs.Outputs.{Wanted}
+use Rattle.fsverity.specs.Runs.Outputs.{OutputTask, Wanted, output_task}
+use Rattle.fsverity.specs.declared.runs.outputs.Task.{Task}
 
--- a text is added where it is wanted, or its first bytes where a write fails
+-- a task, without the references that it holds
+abbrev pub task_of : Task → OutputTask
+task_of task = output_task task.settings.now task.form task.name.now task.size task.wants_tree task.wants_descriptor
+
+-- a text is added if it is wanted, or only its first bytes if a write fails
 abbrev pub PutsDescriptor : List ℕ → Bool → Result (Unit {0}) PutFault → Option (List ℕ) → Option (List ℕ) → Type 0
 PutsDescriptor text wanted (Ok done) before after = Wanted wanted (Appends before after text) (Keeps before after)
 PutsDescriptor text wanted (Err fault) before after =

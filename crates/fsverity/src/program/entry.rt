@@ -8,7 +8,7 @@ ghost use Rattle.fsverity.specs.Runs.Digest.{run_fault_text};
 ghost use Rattle.fsverity.specs.declared.runs.run_fault.RunFault.TheVariants.{NotOpened};
 
 use crate::program::output_files::OutputNames;
-use crate::program::outputs::digest_to;
+use crate::program::outputs::{OutputRequest, digest_to};
 use crate::words::reading::USAGE;
 use crate::{
     FileOpener, Line, LineFault, OUT_OF_MEMORY, RunFault, digest_settings, option_message,
@@ -28,10 +28,10 @@ const FAILED: u8 = 1;
 /// The status of a refused command line or option.
 const REFUSED: u8 = 2;
 
-/// Carries out the command line of a runtime (fsverity(1)): what it prints goes to `out`, messages go to `msgs` as far
-/// as that takes them; how far long work is stands in `progress` meanwhile, which is erased in the end. The answer is
-/// the status: 0 done, 1 a file failed, the output could not be written or there was no memory, 2 the command line or an
-/// option is refused, and no file has been opened then.
+/// Carries out the command line of a runtime (fsverity(1)). Lines go to `out`, and messages go to `msgs` as far as that
+/// takes them; `progress` shows the progress of long work, and is erased in the end. The answer is the status: 0 done,
+/// 1 a file failed, the output could not be written or there was no memory, 2 the command line or an option is refused,
+/// and no file has been opened then.
 pub fn run_program<R: Identities + Onlooker + Env + AllocGlobal, O: Write, M: Write>(
     rt: &R,
     progress: &ProgressLine<'_, R>,
@@ -49,8 +49,8 @@ pub fn run_program<R: Identities + Onlooker + Env + AllocGlobal, O: Write, M: Wr
     status
 }
 
-/// The command line of a runtime. Where it can't be had, that is said, and the answer is the status. The words as they
-/// were given are let go here, so that of many names the line's own copies alone stay.
+/// The command line of a runtime. If it can't be read, the message is written, and the error is the status. The words
+/// that the system gave are dropped here, so that only the line's own copies of many names stay in memory.
 fn given_line<R: Env + AllocGlobal, M: Write>(rt: &R, msgs: &mut M) -> Result<Line, u8>
     ensures quiet { IfOk result (λ _. msgs.new ≡ msgs.old) }
     ensures refusal { IfErr result (λ status. (status ≡ 1) ⊎ (status ≡ 2)) }
@@ -68,7 +68,8 @@ fn given_line<R: Env + AllocGlobal, M: Write>(rt: &R, msgs: &mut M) -> Result<Li
     }
 }
 
-/// The words of the command line can't be had: one is no text, or there is no memory for them.
+/// Says why the words of the command line can't be read: one is not UTF-8, or there is no memory for them. The answer is
+/// the status.
 fn refused_words<M: Write>(alloc: Global, fault: &WordsFault, msgs: &mut M) -> u8
     ensures status { result ≡ words_status fault.now }
     ensures refusal { (result ≡ 1) ⊎ (result ≡ 2) }
@@ -83,7 +84,8 @@ fn refused_words<M: Write>(alloc: Global, fault: &WordsFault, msgs: &mut M) -> u
     }
 }
 
-/// The command line is refused, with `clap`'s text and the usage, or there is no memory for the copies of it.
+/// Says why the command line is refused, with `clap`'s text and the usage, or that there is no memory for the copies of
+/// its words. The answer is the status.
 fn refused_line<M: Write>(fault: &LineFault, msgs: &mut M) -> u8
     ensures status { (result ≡ 1) ⊎ (result ≡ 2) }
     ensures memory { IsMemory fault.now → (result ≡ 1)
@@ -97,7 +99,7 @@ fn refused_line<M: Write>(fault: &LineFault, msgs: &mut M) -> u8
     REFUSED
 }
 
-/// `fsverity digest`. A refused option has its message and status 2.
+/// Carries out `fsverity digest`. The answer is the status; a refused option has its message and status 2.
 fn run_line<R: Identities + Onlooker + AllocGlobal, O: Write, M: Write>(
     rt: &R,
     progress: &ProgressLine<'_, R>,
@@ -125,16 +127,13 @@ fn run_line<R: Identities + Onlooker + AllocGlobal, O: Write, M: Write>(
     let outputs = OutputNames::of_line(line);
     match names.as_slice() {
         [name] if outputs.are_given() => {
-            digest_to(
-                rt,
-                progress,
-                &settings,
-                line.form(),
+            let request = OutputRequest {
+                settings: &settings,
+                form: line.form(),
                 name,
                 outputs,
-                out,
-                msgs,
-            )
+            };
+            digest_to(rt, progress, request, out, msgs)
         }
         names => {
             let mut opener = FileOpener::new(rt, progress, names);
@@ -151,7 +150,7 @@ fn run_line<R: Identities + Onlooker + AllocGlobal, O: Write, M: Write>(
     }
 }
 
-/// Writes that a file can't be opened. The answer is the status.
+/// Says that a file can't be opened. The answer is the status.
 pub(crate) fn cannot_open<M: Write>(alloc: Global, name: &str, msgs: &mut M) -> u8
     ensures status { result ≡ 1 }
     ensures message { AppendsFront (run_fault_text NotOpened name.now) (M.contents msgs.old) (M.contents msgs.new) }
@@ -160,7 +159,7 @@ pub(crate) fn cannot_open<M: Write>(alloc: Global, name: &str, msgs: &mut M) -> 
     FAILED
 }
 
-/// Writes a message, as far as that can be written. The answer is the status.
+/// Writes a message, as far as the writer takes it. The answer is the status.
 fn end<M: Write>(status: u8, message: &str, msgs: &mut M) -> u8
     ensures status { result ≡ status }
     ensures message { AppendsFront message.now (M.contents msgs.old) (M.contents msgs.new) }

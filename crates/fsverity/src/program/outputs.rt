@@ -1,4 +1,4 @@
-//! The program's part for output files, over any runtime.
+//! The program with output files, over any runtime.
 ghost use Rattle.std.specs.Prelude.{◌≡◌, ◌≤◌};
 ghost use Rattle.verity_hash.specs.declared.salting.SaltRule.TheVariants.{PaddedBefore};
 
@@ -7,15 +7,23 @@ use crate::program::output_files::{OutputFiles, OutputNames};
 use crate::{Form, run_digest_to};
 use command_line::{Identities, Onlooker, ProgressLine, Shown, open_measured};
 use std::alloc::Global;
-use std::io::Write;
-use verity_tree::{Device, FileDevice, FileSource, Nowhere, Source, TreeSettings};
+use std::io;
+use std::io::{Read, Seek, Write};
+use verity_tree::{FileDevice, FileSource, Nowhere, Source, TreeSettings};
 
-/// An opened input file, and how it is digested.
+/// What a command line with output files asks for.
+#[derive(Clone, Copy)]
+pub(crate) struct OutputRequest<'a> {
+    pub settings: &'a TreeSettings,
+    pub form: Form,
+    /// The name of the input file.
+    pub name: &'a str,
+    pub outputs: OutputNames<'a>,
+}
+
+/// An opened input file.
 #[derive(Drop)]
-struct Input<'a, S> {
-    settings: &'a TreeSettings,
-    form: Form,
-    name: &'a str,
+struct Input<S> {
     size: u64,
     source: S,
 }
@@ -25,93 +33,111 @@ struct Input<'a, S> {
 pub(crate) fn digest_to<R: Identities + Onlooker + AllocGlobal, O: Write, M: Write>(
     rt: &R,
     progress: &ProgressLine<'_, R>,
-    settings: &TreeSettings,
-    form: Form,
-    name: &str,
-    outputs: OutputNames<'_>,
+    request: OutputRequest<'_>,
     out: &mut O,
     msgs: &mut M,
 ) -> u8
-    requires { settings.now.rule ≡ PaddedBefore }
+    requires { request.settings.now.rule ≡ PaddedBefore }
     ensures status { result ≤ 1 }
     ensures quiet { result ≡ 0 → msgs.new ≡ msgs.old }
 {
     let alloc = rt.alloc();
-    let (file, size) = match open_measured(rt, name) {
+    let (file, size) = match open_measured(rt, request.name) {
         Ok(opened) => opened,
-        Err(_) => return cannot_open(alloc, name, msgs),
+        Err(_) => return cannot_open(alloc, request.name, msgs),
     };
-    let OutputFiles { tree, descriptor } = match OutputFiles::open(rt, &file, outputs) {
+    let files = match OutputFiles::open(rt, &file, request.outputs) {
         Ok(files) => files,
         Err(refused) => return cannot_open(alloc, refused, msgs),
     };
     let source = FileSource::new(Shown::new(file, size, progress), size);
-    let mut input = Input {
-        settings,
-        form,
-        name,
-        size,
-        source,
-    };
-    match tree {
-        Some(file) => {
-            let mut device = FileDevice::new(file);
-            write_to(alloc, &mut input, true, &mut device, descriptor, out, msgs)
-        }
-        None => write_to(
-            alloc,
-            &mut input,
-            false,
-            &mut Nowhere,
-            descriptor,
-            out,
-            msgs,
-        ),
-    }
+    write_to(alloc, request, Input { size, source }, files, out, msgs)
 }
 
-/// Digests the input file and writes what is wanted: a descriptor where there is a file for it.
-fn write_to<S: Source, D: Device, F: Write + Drop, O: Write, M: Write>(
+/// Digests the input file, and writes its tree and its descriptor to those output files that there are.
+fn write_to<S: Source + Drop, F: Read + Write + Seek + Drop, O: Write, M: Write>(
     alloc: Global,
-    input: &mut Input<'_, S>,
-    want_tree: bool,
-    tree: &mut D,
-    descriptor: Option<F>,
+    request: OutputRequest<'_>,
+    input: Input<S>,
+    files: OutputFiles<F>,
     out: &mut O,
     msgs: &mut M,
 ) -> u8
-    requires { input.old.settings.now.rule ≡ PaddedBefore }
+    requires { request.settings.now.rule ≡ PaddedBefore }
     ensures status { result ≤ 1 }
     ensures quiet { result ≡ 0 → msgs.new ≡ msgs.old }
 {
-    match descriptor {
-        Some(mut file) => run_digest_to(
-            alloc,
-            input.settings,
-            input.form,
-            input.name,
-            input.size,
-            &mut input.source,
-            want_tree,
-            tree,
-            true,
-            &mut file,
-            out,
-            msgs,
-        ),
-        None => run_digest_to(
-            alloc,
-            input.settings,
-            input.form,
-            input.name,
-            input.size,
-            &mut input.source,
-            want_tree,
-            tree,
-            false,
-            &mut Vec::new(alloc),
-            out,
-            msgs,
-        ),
+    let OutputRequest {
+        settings,
+        form,
+        name,
+        ..
+    } = request;
+    let Input { size, mut source } = input;
+    let OutputFiles { tree, descriptor } = files;
+    match tree {
+        Some(tree) => {
+            let mut tree = FileDevice::new(tree);
+            match descriptor {
+                Some(mut descriptor) => run_digest_to(
+                    alloc,
+                    settings,
+                    form,
+                    name,
+                    size,
+                    &mut source,
+                    true,
+                    &mut tree,
+                    true,
+                    &mut descriptor,
+                    out,
+                    msgs,
+                ),
+                None => run_digest_to(
+                    alloc,
+                    settings,
+                    form,
+                    name,
+                    size,
+                    &mut source,
+                    true,
+                    &mut tree,
+                    false,
+                    &mut io::sink(),
+                    out,
+                    msgs,
+                ),
+            }
+        }
+        None => match descriptor {
+            Some(mut descriptor) => run_digest_to(
+                alloc,
+                settings,
+                form,
+                name,
+                size,
+                &mut source,
+                false,
+                &mut Nowhere,
+                true,
+                &mut descriptor,
+                out,
+                msgs,
+            ),
+            None => run_digest_to(
+                alloc,
+                settings,
+                form,
+                name,
+                size,
+                &mut source,
+                false,
+                &mut Nowhere,
+                false,
+                &mut io::sink(),
+                out,
+                msgs,
+            ),
+        },
     }
 }

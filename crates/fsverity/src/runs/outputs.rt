@@ -6,7 +6,6 @@ ghost use Rattle.verity_io.specs.Counting.{Counts, change};
 ghost use Rattle.fsverity.specs.Runs.FileDigest.{Digests, IsDescribed, Stands, device_failed, is_too_large, source_failed};
 ghost use Rattle.fsverity.specs.Runs.Outputs.{IsWritten, OutputRun, Reads, Wanted, WritesTexts, WritesTree};
 ghost use Rattle.fsverity.specs.Runs.Outputs.{digested, output_task, written};
-ghost use Rattle.fsverity.specs.Runs.OutputSteps.{PutsDescriptor};
 ghost use Rattle.fsverity.specs.declared.runs.digest_fault.DigestFault.TheVariants.{TooLarge};
 
 use crate::texts::line_printing::print_line;
@@ -16,39 +15,51 @@ use std::io::Write;
 use verity_format::{PutFault, put_all};
 use verity_tree::{Device, Source, TreeSettings};
 
-/// The digest of a file, whose tree is written where it is wanted.
+/// What a run is asked for: the digest and the line of a file, and its tree and its descriptor if they are wanted.
+#[derive(Drop)]
+struct Task<'a> {
+    settings: &'a TreeSettings,
+    form: Form,
+    name: &'a str,
+    size: u64,
+    wants_tree: bool,
+    wants_descriptor: bool,
+}
+
+ghost use Rattle.fsverity.specs.Runs.OutputSteps.{PutsDescriptor, task_of};
+
+/// The digest of a file. Its tree is written if it is wanted.
 fn digest_wanted<S: Source, D: Device>(
     alloc: Global,
-    settings: &TreeSettings,
-    size: u64,
+    task: &Task<'_>,
     source: &mut S,
-    want_tree: bool,
     tree: &mut D,
 ) -> Result<FileDigest, DigestFault>
-    requires { settings.now.rule ≡ PaddedBefore }
+    requires { task.now.settings.now.rule ≡ PaddedBefore }
     ensures source_told { S.tells source.old → S.tells source.new }
     ensures tree_told { D.tells tree.old → D.tells tree.new }
-    ensures kept { want_tree ≡ false → tree.new ≡ tree.old }
-    ensures too_large { (result ≡ Err TooLarge) ↔ IsTrue (is_too_large settings.now size) }
+    ensures kept { task.now.wants_tree ≡ false → tree.new ≡ tree.old }
+    ensures too_large { (result ≡ Err TooLarge) ↔ IsTrue (is_too_large task.now.settings.now task.now.size) }
     ensures described { IfOk result
-        (IsDescribed settings.now size (S.tells source.old) (S.remaining source.old)) }
-    ensures length { IfOk result (λ made. length made.digest ≡ digest_len settings.now) }
+        (IsDescribed task.now.settings.now task.now.size (S.tells source.old) (S.remaining source.old)) }
+    ensures length { IfOk result (λ made. length made.digest ≡ digest_len task.now.settings.now) }
     ensures source_count { Counts (source_failed result) (S.failures source.old) (S.failures source.new) }
     ensures tree_count { Counts (device_failed result) (D.failures tree.old) (D.failures tree.new) }
     ensures bytes { S.tells source.old
-        → Digests settings.now size result (S.remaining source.old) (S.remaining source.new) }
-    ensures stands { S.tells source.old → D.tells tree.old → Wanted want_tree
-        (Stands settings.now size (S.remaining source.old) result (D.content tree.old) (D.content tree.new))
+        → Digests task.now.settings.now task.now.size result (S.remaining source.old) (S.remaining source.new) }
+    ensures stands { S.tells source.old → D.tells tree.old → Wanted task.now.wants_tree
+        (Stands task.now.settings.now task.now.size (S.remaining source.old) result
+        (D.content tree.old) (D.content tree.new))
         (D.content tree.new ≡ D.content tree.old) }
 {
-    if want_tree {
-        digest_file_with_tree(alloc, settings, size, source, tree)
+    if task.wants_tree {
+        digest_file_with_tree(alloc, task.settings, task.size, source, tree)
     } else {
-        digest_file(alloc, settings, size, source)
+        digest_file(alloc, task.settings, task.size, source)
     }
 }
 
-/// Writes the descriptor where it is wanted. The fault says how many of its bytes were taken.
+/// Writes the descriptor if it is wanted. The fault says how many of its bytes were taken.
 fn put_descriptor<W: Write>(
     made: &FileDigest,
     wanted: bool,
@@ -65,47 +76,39 @@ fn put_descriptor<W: Write>(
     }
 }
 
-/// Writes the tree, the descriptor and the line of a file.
+/// Writes the tree, the descriptor and the line of a file, in this order, up to the first fault.
 fn write_outputs<S: Source, D: Device, W: Write, O: Write>(
     alloc: Global,
-    settings: &TreeSettings,
-    form: Form,
-    name: &str,
-    size: u64,
+    task: &Task<'_>,
     source: &mut S,
-    want_tree: bool,
     tree: &mut D,
-    want_descriptor: bool,
     descriptor: &mut W,
     out: &mut O,
 ) -> Result<(), OutputFault>
-    requires { settings.now.rule ≡ PaddedBefore }
+    requires { task.now.settings.now.rule ≡ PaddedBefore }
     ensures source_told { S.tells source.old → S.tells source.new }
     ensures tree_told { D.tells tree.old → D.tells tree.new }
-    ensures tree_kept { want_tree ≡ false → tree.new ≡ tree.old }
-    ensures descriptor_kept { want_descriptor ≡ false → descriptor.new ≡ descriptor.old }
-    ensures too_large { (digested result ≡ Err TooLarge) ↔ IsTrue (is_too_large settings.now size) }
+    ensures tree_kept { task.now.wants_tree ≡ false → tree.new ≡ tree.old }
+    ensures descriptor_kept { task.now.wants_descriptor ≡ false → descriptor.new ≡ descriptor.old }
+    ensures too_large { (digested result ≡ Err TooLarge) ↔ IsTrue (is_too_large task.now.settings.now task.now.size) }
     ensures read { S.tells source.old
-        → Reads (output_task settings.now form name.now size want_tree want_descriptor)
-        (digested result) (S.remaining source.old) (S.remaining source.new) }
+        → Reads (task_of task.now) (digested result) (S.remaining source.old) (S.remaining source.new) }
     ensures stands { S.tells source.old → D.tells tree.old
-        → WritesTree (output_task settings.now form name.now size want_tree want_descriptor)
-        (S.remaining source.old) (digested result) (D.content tree.old) (D.content tree.new) }
-    ensures written { WritesTexts (output_task settings.now form name.now size want_tree want_descriptor)
-        result (S.tells source.old) (S.remaining source.old)
+        → WritesTree (task_of task.now) (S.remaining source.old) (digested result) (D.content tree.old) (D.content tree.new) }
+    ensures written { WritesTexts (task_of task.now) result (S.tells source.old) (S.remaining source.old)
         (written W.contents O.contents descriptor.old descriptor.new out.old out.new) }
     ensures source_count { Counts (source_failed (digested result)) (S.failures source.old) (S.failures source.new) }
     ensures tree_count { Counts (device_failed (digested result)) (D.failures tree.old) (D.failures tree.new) }
 {
-    let made = match digest_wanted(alloc, settings, size, source, want_tree, tree) {
+    let made = match digest_wanted(alloc, task, source, tree) {
         Ok(made) => made,
         Err(fault) => return Err(OutputFault::Digest(fault)),
     };
-    match put_descriptor(&made, want_descriptor, descriptor) {
+    match put_descriptor(&made, task.wants_descriptor, descriptor) {
         Ok(()) => {}
         Err(PutFault(taken)) => return Err(OutputFault::Descriptor(taken)),
     }
-    match print_line(alloc, settings, form, name, &made, out) {
+    match print_line(alloc, task.settings, task.form, task.name, &made, out) {
         Ok(()) => Ok(()),
         Err(fault) => Err(OutputFault::Line(fault)),
     }
@@ -115,8 +118,8 @@ fn write_outputs<S: Source, D: Device, W: Write, O: Write>(
 /// level first at its start, then the 256 bytes of the descriptor to `descriptor`, then the line to `out` (fsverity(1),
 /// "--out-merkle-tree", "--out-descriptor"). What is not wanted stays.
 ///
-/// The status is 0 where all is written. The first fault ends the run with status 1: its message goes to `msgs` as
-/// far as that takes it, and nothing that comes later is written. The caller sees to settings of fs-verity.
+/// The status is 0 if all is written. The first fault ends the run with status 1: its message goes to `msgs` as far as
+/// that takes it, and nothing that comes later is written. The settings must be of fs-verity.
 pub fn run_digest_to<S: Source, D: Device, W: Write, O: Write, M: Write>(
     alloc: Global,
     settings: &TreeSettings,
@@ -136,7 +139,7 @@ pub fn run_digest_to<S: Source, D: Device, W: Write, O: Write, M: Write>(
     ensures source_told { S.tells source.old → S.tells source.new }
     ensures tree_told { D.tells tree.old → D.tells tree.new }
 
-    // What is not wanted stays, and so do the messages where all is written.
+    // What is not wanted stays, and so do the messages if all is written.
     ensures tree_kept { want_tree ≡ false → tree.new ≡ tree.old }
     ensures descriptor_kept { want_descriptor ≡ false → descriptor.new ≡ descriptor.old }
     ensures quiet { result ≡ 0 → msgs.new ≡ msgs.old }
@@ -148,7 +151,7 @@ pub fn run_digest_to<S: Source, D: Device, W: Write, O: Write, M: Write>(
         (change D.tells D.content D.failures tree.old tree.new)
         (written W.contents O.contents descriptor.old descriptor.new out.old out.new) }
 
-    // Each status: one outcome says what became of source, tree, descriptor, out and msgs, and which count rose.
+    // Each status: one outcome says what became of source, tree, descriptor, out and msgs, and which count rises.
     ensures run { OutputRun (output_task settings.now form name.now size want_tree want_descriptor) result
         (change S.tells S.remaining S.failures source.old source.new)
         (change D.tells D.content D.failures tree.old tree.new)
@@ -158,19 +161,15 @@ pub fn run_digest_to<S: Source, D: Device, W: Write, O: Write, M: Write>(
           msgs_after = M.contents msgs.new;
         }) }
 {
-    match write_outputs(
-        alloc,
+    let task = Task {
         settings,
         form,
         name,
         size,
-        source,
-        want_tree,
-        tree,
-        want_descriptor,
-        descriptor,
-        out,
-    ) {
+        wants_tree: want_tree,
+        wants_descriptor: want_descriptor,
+    };
+    match write_outputs(alloc, &task, source, tree, descriptor, out) {
         Ok(()) => 0,
         Err(fault) => {
             fault.tell(alloc, name, msgs);

@@ -5,7 +5,7 @@ use Rattle.fsverity.proofs.runs.outputs.write_outputs.Goals as goal
 
 pub returns-in-Err-clause-written : goal.returns-in-Err-clause-written
 returns-in-Err-clause-written g c = record {
-  root = root_of_file c.args.settings.now c.args.size (g.S.Source.remaining c.args.source.now);
+  root = root_of_file c.args.task.now.settings.now c.args.task.now.size (g.S.Source.remaining c.args.source.now);
   root_is = λ told. refl;
   descriptor = kept _;
   printed = kept _;
