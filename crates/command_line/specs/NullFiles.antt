@@ -1,4 +1,4 @@
--- The null device, opened for standard streams that may be closed; this project's own.
+-- The null device, held open in place of standard streams that may be closed; this project's own.
 use Rattle.std.specs.Prelude.{IsSome}
 use Rattle.command_line.specs.declared.files.null_files.NullFiles.{NullFiles}
 

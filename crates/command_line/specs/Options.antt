@@ -1,5 +1,5 @@
--- What the texts of options stand for, with the defaults of both programs (veritysetup(8); fsverity(1)). How a text
--- writes a number is this project's own, since both pages leave it open.
+-- What the texts of options mean, with the defaults of both programs (veritysetup(8); fsverity(1)). How a number is
+-- written is this project's own, since both pages leave it open.
 use Rattle.std.specs.Prelude.{ℕ, ◌+◌, ◌-◌, ◌*◌, ◌/◌, ◌^◌, ◌&&◌, List, [], ◌∷◌, length, Option, Some, None, Result, Err, if◌then◌else◌, nat_le, nat_lt}
 use Rattle.std.specs.Result.{result_ok}
 use Rattle.std.specs.Str.{all_ascii_digits}
@@ -24,20 +24,20 @@ abbrev pub number_or : ℕ → Option (List ℕ) → Option ℕ
 number_or default None = Some default
 number_or default (Some text) = number_of text
 
--- the size of a block in bytes where none is given
+-- the size of a block in bytes if none is given
 abbrev pub default_block_size : ℕ
 default_block_size = 4096
 
--- the bytes of a salt in hexadecimal digits of either case, two digits a byte, at most so many
+-- the bytes of a salt in hexadecimal digits of either case, two digits a byte, no more bytes than the most
 abbrev pub salt_of : ℕ → List ℕ → Option (List ℕ)
 salt_of most text = if nat_le (length text / 2) most then result_ok (decode_of text) else None
 
--- the algorithm of a name; by default SHA-256
+-- the algorithm of this name, by default SHA-256
 abbrev pub algorithm_or_default : Option (List ℕ) → Option Algorithm
 algorithm_or_default None = Some Sha256
 algorithm_or_default (Some name) = named name
 
--- what follows from a value that an option has to give, or the fault that it gives none
+-- the next step with the value of an option, or this fault if there is none
 abbrev pub or_fault : {X Y E : Type 0} → Option X → E → (X → Result Y E) → Result Y E
 or_fault None fault next = Err fault
 or_fault (Some x) fault next = next x

@@ -1,5 +1,5 @@
-//! What the two programs share of their command lines: option texts and defaults, the words that the system gave, the
-//! arguments that clap reads, the printing of texts and messages, and the opening of files.
+//! What the two programs share: the texts of options and their defaults, the words of the command line, the arguments
+//! that clap reads, the printing of texts and messages, the opening of files, and the progress of long work.
 #![tactic(auto)]
 
 mod files;

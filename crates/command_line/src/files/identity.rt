@@ -1,4 +1,4 @@
-//! Which file a path or an opened file is, so that two names of one file are found.
+//! Which file a path or an opened file is, so that two names of one file are recognized.
 ghost use Rattle.std.specs.Prelude.{◌≡◌, ◌↔◌, None, false, IsSome, IsTrue};
 ghost use Rattle.command_line.specs.FileIdentities.{LeadToOne, identity_of};
 
@@ -6,16 +6,16 @@ use std::fs::{Metadata, OpenFile};
 use std::os::unix::fs::{FileTypeExt, MetadataExt};
 use std::rt::Files;
 
-/// Which file it is: two names of one file have equal values (stat(2), "st_dev", "st_ino", "st_rdev").
+/// What identifies a file: two names of one file have equal values (stat(2), "st_dev", "st_ino", "st_rdev").
 #[derive(Clone, Copy, Debug, PartialEq, Eq)]
 pub enum FileIdentity {
     /// A regular file: the device that it lies on, and its number there.
     Regular { device: u64, inode: u64 },
-    /// A block device, of this number, whichever node names it.
+    /// A block device: its number, the same for each node that names it.
     BlockDevice { number: u64 },
 }
 
-/// What the system tells of a file (stat(2), "st_mode", "st_dev", "st_ino", "st_rdev").
+/// What the system says of a file (stat(2), "st_mode", "st_dev", "st_ino", "st_rdev").
 #[derive(Clone, Copy, Debug, PartialEq, Eq)]
 pub struct FileStatus {
     /// Whether it is a regular file.
@@ -26,12 +26,12 @@ pub struct FileStatus {
     pub device: u64,
     /// Its number there.
     pub inode: u64,
-    /// The number of the device that it is, where it is one.
+    /// The number of the device, if the file is one.
     pub number: u64,
 }
 
 impl FileStatus {
-    /// What metadata say.
+    /// The status in a file's metadata.
     pub fn of_metadata(metadata: &Metadata) -> FileStatus {
         let kind = metadata.file_type();
         FileStatus {
@@ -45,7 +45,7 @@ impl FileStatus {
 }
 
 impl FileIdentity {
-    /// Which file it is, by what the system says of it; nothing if it is neither a regular file nor a block device.
+    /// The identity of a file with this status; `None` if it is neither a regular file nor a block device.
     pub fn of_status(status: &FileStatus) -> Option<FileIdentity>
         ensures { result ≡ identity_of status.now }
     {
@@ -63,19 +63,19 @@ impl FileIdentity {
         }
     }
 
-    /// Which file it is, by what the system says of it; nothing if it is neither a regular file nor a block device.
+    /// The identity of a file with these metadata; `None` if it is neither a regular file nor a block device.
     pub fn of_metadata(metadata: &Metadata) -> Option<FileIdentity> {
         FileIdentity::of_status(&FileStatus::of_metadata(metadata))
     }
 }
 
-/// A runtime whose system tells which file a path or an opened file is. Asking opens no file and makes none.
+/// A runtime whose system says which file a path or an opened file is. Asking neither opens nor creates a file.
 pub trait Identities: Files {
-    /// The file that a path leads to, symbolic links followed. `None` if there is none yet, if it is neither a regular
+    /// The file that a path leads to, through symbolic links. `None` if there is none yet, if it is neither a regular
     /// file nor a block device, or if the system doesn't say.
     fn path_identity(&self, path: &str) -> Option<FileIdentity>;
 
-    /// The file that was opened. `None` as with a path.
+    /// The file that was opened. `None` as for a path.
     fn file_identity(&self, file: &Self::File) -> Option<FileIdentity>;
 }
 
@@ -89,7 +89,7 @@ impl Identities for HostRuntime {
     }
 }
 
-/// Whether the system tells that two files are one.
+/// Whether the system says that two files are one.
 pub fn are_one(one: Option<FileIdentity>, other: Option<FileIdentity>) -> bool
     ensures known { one ≡ None → result ≡ false }
     ensures same { IsTrue result → one ≡ other }
@@ -98,8 +98,8 @@ pub fn are_one(one: Option<FileIdentity>, other: Option<FileIdentity>) -> bool
     one.is_some() && one == other
 }
 
-/// Whether two paths lead to one file: they are one text, or the system tells so, by what it says of the file that was
-/// opened at the first and of the second.
+/// Whether two paths lead to one file: the paths are equal, or the system says that the file that was opened at the
+/// first path is the one that the second path leads to.
 pub fn lead_to_one(
     path: &str,
     other_path: &str,

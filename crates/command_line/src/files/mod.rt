@@ -1,4 +1,4 @@
-//! Opening of files, and which file a path leads to.
+//! Opening files, and finding out which file a path leads to.
 
 pub(crate) mod identity;
 pub(crate) mod null_files;

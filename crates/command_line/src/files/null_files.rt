@@ -1,17 +1,17 @@
-//! Files that are held open in the place of standard streams that may be closed.
+//! Files that are held open in place of standard streams that may be closed.
 ghost use Rattle.std.specs.Prelude.{◌↔◌, IsTrue};
 ghost use Rattle.command_line.specs.NullFiles.{AreOpen};
 
 use std::fs::File;
 use std::rt::Files;
 
-/// The null device, which takes and gives nothing (null(4)).
+/// The null device, which discards what is written to it and holds nothing to read (null(4)).
 pub const NULL_DEVICE: &str = "/dev/null";
 
-/// The null device, opened once for each standard stream, or the root folder where there is no such device, as in a
-/// container without device files. A standard stream that is closed would else lend its number to a file that is
-/// opened later, and a message would be written into that file. Both are opened for reading alone, so what is written
-/// to such a number is refused.
+/// The null device, opened once for each standard stream, or the root folder if there is no such device, as in a
+/// container without device files. Otherwise a file that is opened later could get the number of a standard stream that
+/// is closed, and a message would be written into that file. They are opened for reading only, so a write to such a
+/// number is refused.
 #[derive(Drop)]
 pub struct NullFiles<F> {
     first: Option<F>,

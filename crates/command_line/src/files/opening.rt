@@ -7,7 +7,7 @@ use std::io;
 use std::io::{ErrorKind, Seek, SeekFrom};
 use std::rt::Files;
 
-/// A file opened for reading. A folder is refused, which some systems open and then let nobody read.
+/// A file opened for reading. A folder is refused: some systems open one, and then let nobody read it.
 pub fn open_readable<R: Files>(rt: &R, path: &str) -> io::Result<R::File> {
     let file = File::open(rt, path)?;
     refuse_folder(&file.metadata()?)?;
@@ -15,7 +15,7 @@ pub fn open_readable<R: Files>(rt: &R, path: &str) -> io::Result<R::File> {
 }
 
 /// A file opened for reading, with its length in bytes, which is found by seeking to its end. A folder is refused, and
-/// a file whose end can't be sought, as a pipe.
+/// so is a file that can't be sought in, as a pipe.
 pub fn open_measured<R: Files>(rt: &R, path: &str) -> io::Result<(R::File, u64)> {
     let mut file = open_readable(rt, path)?;
     let length = file.seek(SeekFrom::End(0))?;
@@ -23,7 +23,7 @@ pub fn open_measured<R: Files>(rt: &R, path: &str) -> io::Result<(R::File, u64)>
     Ok((file, length))
 }
 
-/// A file opened for reading and writing, made where it is missing and never cut.
+/// A file opened for reading and writing. It is created if it is missing, and never truncated.
 pub fn open_writable<R: Files>(rt: &R, path: &str) -> io::Result<R::File> {
     OpenOptions::new()
         .read(true)
@@ -32,7 +32,7 @@ pub fn open_writable<R: Files>(rt: &R, path: &str) -> io::Result<R::File> {
         .open(rt, path)
 }
 
-/// Whether the system tells that a path leads to a folder.
+/// Whether the system says that a path leads to a folder.
 pub fn is_folder<R: Files>(rt: &R, path: &str) -> bool {
     match rt.metadata(path) {
         Ok(metadata) => metadata.is_dir(),
@@ -40,7 +40,7 @@ pub fn is_folder<R: Files>(rt: &R, path: &str) -> bool {
     }
 }
 
-/// Refuses what the system tells to be a folder.
+/// Refuses a file if the system says that it is a folder.
 fn refuse_folder(metadata: &Metadata) -> io::Result<()>
     ensures folder { OnErr result (IsDir (file_type metadata.now)) }
     ensures other { OnOk result (IsDir (file_type metadata.now) → ⊥) }

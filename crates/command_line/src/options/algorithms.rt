@@ -4,8 +4,8 @@ ghost use Rattle.command_line.specs.Options.{algorithm_or_default};
 
 use verity_hash::Algorithm;
 
-/// The algorithm of a name, SHA-256 where the option is not given (veritysetup(8), `--hash`; fsverity(1),
-/// `--hash-alg`). `None` where no algorithm has this name.
+/// The algorithm of this name, or SHA-256 if the option is not given (veritysetup(8), `--hash`; fsverity(1),
+/// `--hash-alg`). `None` if no algorithm has this name.
 pub fn algorithm_or_default(name: Option<&str>) -> Option<Algorithm>
     ensures { result ≡ algorithm_or_default (option_copied name.entry) }
 {

@@ -1,4 +1,4 @@
-//! What the texts of options stand for.
+//! What the texts of options mean.
 
 pub(crate) mod algorithms;
 pub(crate) mod numbers;

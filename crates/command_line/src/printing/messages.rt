@@ -1,4 +1,4 @@
-//! Writing messages, as far as the writer takes them.
+//! Printing messages, as far as the writer takes them.
 ghost use Rattle.std.specs.Prelude.{◌≡◌, ℕ, List, IfOk, IsTrue, flat_map, string_bytes};
 ghost use Rattle.std.specs.Io.KnownBytes.{Appends};
 ghost use Rattle.command_line.specs.Printing.{AppendsFront};
@@ -18,8 +18,8 @@ pub fn tell_text<W: Write>(text: &str, msgs: &mut W) -> bool
     }
 }
 
-/// Writes a message as far as the writer takes it, and nothing where there was no memory for it. The answer says
-/// whether the writer took all of it.
+/// Writes a message as far as the writer takes it, and nothing if there was no memory for it. The answer says whether
+/// the writer took all of it.
 pub fn tell<W: Write>(message: Result<String, AllocError>, msgs: &mut W) -> bool
     ensures whole { (text : List ℕ) → IfOk message (λ s. string_bytes s ≡ text)
         → IsTrue result → Appends (W.contents msgs.old) (W.contents msgs.new) text }
@@ -32,8 +32,8 @@ pub fn tell<W: Write>(message: Result<String, AllocError>, msgs: &mut W) -> bool
     }
 }
 
-/// Writes the pieces of a text one after another, as far as the writer takes them. It takes no memory. The answer says
-/// whether the writer took all of them.
+/// Writes the pieces of a text one after another, as far as the writer takes them. This needs no memory. The answer
+/// says whether the writer took all of them.
 pub fn tell_pieces<W: Write>(pieces: &[&str], msgs: &mut W) -> bool
     ensures whole { IsTrue result
         → Appends (W.contents msgs.old) (W.contents msgs.new) (flat_map (λ p. p.now) pieces.now) }

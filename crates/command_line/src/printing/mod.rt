@@ -1,4 +1,4 @@
-//! Printing of texts and messages.
+//! Printing texts and messages.
 
 pub(crate) mod messages;
 pub(crate) mod print_fault;

@@ -1,4 +1,4 @@
-//! Printing a text whole, and what comes of it where there is no memory or the writer takes no more.
+//! Printing a text whole, and why that fails: there is no memory, or the writer takes no more.
 ghost use Rattle.std.specs.Prelude.{◌≡◌, ℕ, List, Err, IfOk, IsErr, string_bytes};
 ghost use Rattle.command_line.specs.Printing.{Prints};
 
@@ -11,18 +11,18 @@ use verity_format::{PutFault, put_all};
 pub enum PrintFault {
     /// There is no memory for it.
     Memory,
-    /// Only so many of its bytes, fewer than all, were taken.
+    /// The writer took only so many of its bytes, fewer than all.
     Output(usize),
 }
 
 ghost use Rattle.command_line.specs.declared.printing.print_fault.PrintFault.TheVariants.{Memory};
 
-/// Writes a text whole, where there was memory for it.
+/// Writes a text whole, if there was memory for it.
 ///
 /// # Errors
 ///
-/// [`PrintFault::Memory`] where there was none: nothing is written. [`PrintFault::Output`] where the writer takes no
-/// more: the text's first bytes stand, so many as it says.
+/// [`PrintFault::Memory`] if there was none: nothing is written. [`PrintFault::Output`] if the writer takes no more: it
+/// says how many of the text's first bytes are written.
 pub fn print_whole<W: Write>(
     text: Result<String, AllocError>,
     out: &mut W,

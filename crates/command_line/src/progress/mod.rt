@@ -1,4 +1,4 @@
-//! How far long work is, on a terminal.
+//! The progress of long work, on a terminal.
 
 pub(crate) mod onlooker;
 pub(crate) mod progress_line;

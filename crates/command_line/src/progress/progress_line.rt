@@ -1,4 +1,4 @@
-//! The line that says how far long work is.
+//! The line that shows the progress of long work.
 ghost use Rattle.std.specs.Prelude.{◌≡◌};
 ghost use Rattle.command_line.specs.Showing.{cleared_inner};
 
@@ -8,46 +8,47 @@ use std::io;
 use std::io::Write;
 use std::time::Instant;
 
-/// A line on standard error that says how far long work is. It is rewritten in place, and whatever else is written goes
-/// through a `Cleared`, which erases it first. What the terminal shows no contract can say.
+/// A line on standard error that shows the progress of long work. It is rewritten in place, and whatever else is
+/// written goes through a `Cleared`, which erases it first. No contract can say what the terminal shows.
 #[derive(Drop)]
 pub struct ProgressLine<'a, R> {
     rt: &'a R,
-    /// After how many bytes the line is written again, and `None` where nobody looks on.
+    /// After how many bytes the line is written again, and `None` if there is no terminal.
     step: Option<u64>,
-    stands: Cell<bool>,
+    /// Whether the terminal shows the line now.
+    is_shown: Cell<bool>,
 }
 
 impl<'a, R: Onlooker> ProgressLine<'a, R> {
-    /// No line stands yet. The runtime is asked here, and only here, whether somebody looks on.
+    /// No line is shown yet. The runtime is asked here, and only here, whether there is a terminal.
     pub fn new(rt: &'a R) -> Self {
         ProgressLine {
             rt,
             step: rt.step(),
-            stands: Cell::new(false),
+            is_shown: Cell::new(false),
         }
     }
 
-    /// Erases the line where it stands (ECMA-48, "EL").
+    /// Erases the line if it is shown (ECMA-48, "EL").
     pub fn erase(&self) {
-        if self.stands.replace(false) {
+        if self.is_shown.replace(false) {
             let _ = eprint!(self.rt; "\r\x1b[K");
         }
     }
 
-    /// After how many bytes the line is written again, where somebody looks on.
+    /// After how many bytes the line is written again, if there is a terminal.
     pub(crate) fn step(&self) -> Option<u64> {
         self.step
     }
 
-    /// What the clock reads, where it can be read.
+    /// The time now, if the clock can be read.
     pub(crate) fn now(&self) -> Option<Instant> {
         Instant::now(self.rt).ok()
     }
 
-    /// Writes the line, in place of the one that stands. Without a clock it has no rate.
+    /// Writes the line over the one that is shown. Without a clock it has no rate.
     pub(crate) fn draw(&self, done: u64, total: u64, start: Option<Instant>) {
-        self.stands.set(true);
+        self.is_shown.set(true);
         let (done, total) = (done >> 20, total >> 20);
         let _ = match self.rate(done, start) {
             Some(rate) => eprint!(self.rt; "\r{done} of {total} MiB, {rate} MiB/s\x1b[K"),
@@ -62,7 +63,7 @@ impl<'a, R: Onlooker> ProgressLine<'a, R> {
     }
 }
 
-/// A writer to which nothing is written before the line is erased.
+/// A writer that erases the progress line before each write.
 #[derive(Drop)]
 pub struct Cleared<'a, R, W> {
     line: &'a ProgressLine<'a, R>,
@@ -70,7 +71,7 @@ pub struct Cleared<'a, R, W> {
 }
 
 impl<'a, R: Onlooker, W: Write> Cleared<'a, R, W> {
-    /// A writer that passes everything on.
+    /// Passes everything that is written on to this writer.
     pub fn new(line: &'a ProgressLine<'a, R>, inner: W) -> Self
         ensures { cleared_inner result ≡ inner }
     {

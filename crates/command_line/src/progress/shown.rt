@@ -1,4 +1,4 @@
-//! A reader that shows how far its reading is.
+//! A reader that shows its progress.
 ghost use Rattle.std.specs.Prelude.{◌≡◌};
 ghost use Rattle.command_line.specs.Showing.{shown_inner};
 
@@ -8,22 +8,22 @@ use std::io;
 use std::io::Read;
 use std::time::Instant;
 
-/// How far a reading is.
+/// How much of a reader's bytes was read.
 #[derive(Drop)]
 struct Progress<'a, R> {
     line: &'a ProgressLine<'a, R>,
     /// How many bytes were read, and how many there are.
     done: u64,
     total: u64,
-    /// After how many bytes the line is written again, and `None` where it isn't written at all.
+    /// After how many bytes the line is written again, and `None` if it is never written.
     step: Option<u64>,
-    /// At how many bytes it is written next.
+    /// After how many bytes in all it is written next.
     next: u64,
     start: Option<Instant>,
 }
 
 impl<'a, R: Onlooker> Progress<'a, R> {
-    /// Nothing is read yet. The line is written where somebody looks on and there are more bytes than four steps.
+    /// Nothing is read yet. The line is written if there is a terminal and there are more bytes than four steps.
     fn new(line: &'a ProgressLine<'a, R>, total: u64) -> Self {
         let (step, start) = match line.step() {
             Some(step) if step.saturating_mul(4) < total => (Some(step), line.now()),
@@ -39,7 +39,7 @@ impl<'a, R: Onlooker> Progress<'a, R> {
         }
     }
 
-    /// So many bytes more were read.
+    /// Counts bytes that were read.
     fn advance(&mut self, count: usize) {
         let Some(step) = self.step else {
             return;
@@ -52,8 +52,8 @@ impl<'a, R: Onlooker> Progress<'a, R> {
     }
 }
 
-/// A reader that shows how far its reading is, where somebody looks on and it has more bytes than four of the runtime's
-/// steps. Its reads are those of the reader within.
+/// A reader that shows its progress, if there is a terminal and it has more bytes than four of the runtime's steps. Its
+/// reads are those of the inner reader.
 #[derive(Drop)]
 pub struct Shown<'a, R, F> {
     inner: F,
@@ -61,7 +61,7 @@ pub struct Shown<'a, R, F> {
 }
 
 impl<'a, R: Onlooker, F: Read> Shown<'a, R, F> {
-    /// Shows the reading of so many bytes.
+    /// A reader of `total` bytes, whose progress is shown on this line.
     pub fn new(inner: F, total: u64, line: &'a ProgressLine<'a, R>) -> Self
         ensures { shown_inner result ≡ inner }
     {

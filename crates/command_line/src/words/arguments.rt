@@ -1,4 +1,4 @@
-//! The arguments and the programs of clap that both command lines are made of.
+//! The arguments that clap reads for both programs, and the programs as clap sees them.
 ghost use Rattle.std.specs.Prelude.{◌≡◌, false};
 ghost use Rattle.clap.specs.Words.{rule_of};
 ghost use Rattle.command_line.specs.Arguments.{Defines, flag_rule, option_rule, program_app, word_rule, words_rule};
@@ -30,7 +30,7 @@ pub fn positional<'a>(alloc: Global, name: &'a str) -> Arg<'a>
     Arg::new(alloc, name).action(ArgAction::Set).required(true)
 }
 
-/// The positional arguments, one or more.
+/// One or more positional arguments.
 pub fn positionals<'a>(alloc: Global, name: &'a str) -> Arg<'a>
     ensures rule { rule_of result ≡ words_rule name.entry.now }
     ensures local { result.global ≡ false }
@@ -40,7 +40,7 @@ pub fn positionals<'a>(alloc: Global, name: &'a str) -> Arg<'a>
         .required(true)
 }
 
-/// A program of this name, of which a command has to be given. Its help flags and its command `help` are switched off.
+/// A program of this name. A command has to be given; the help flags and the command `help` are switched off.
 pub fn program<'a>(alloc: Global, name: &'a str) -> Command<'a>
     ensures { Defines (program_app name.entry.now) result }
 {

@@ -1,4 +1,4 @@
-//! Copies of the texts that clap met, and the flags.
+//! Copies of the values that clap found, and whether a flag is given.
 ghost use Rattle.std.specs.Prelude.{◌≡◌, IfOk, [], map, option_map, unwrap_or, string_bytes};
 ghost use Rattle.clap.specs.Words.{all_of, first_of, found_of, rows_of};
 ghost use Rattle.command_line.specs.Arguments.{flag_of};
@@ -6,7 +6,7 @@ ghost use Rattle.command_line.specs.Arguments.{flag_of};
 use clap::ArgMatches;
 use std::alloc::{AllocError, Global};
 
-/// A copy of the value that an argument has, or of its first one. The error is out of memory.
+/// A copy of the value of an argument, or of its first value. The error is out of memory.
 pub fn copied_value(
     alloc: Global,
     matches: &ArgMatches<'_>,
@@ -20,7 +20,7 @@ pub fn copied_value(
     }
 }
 
-/// Copies of all values that an argument has, in order. The error is out of memory.
+/// Copies of all values of an argument, in order. The error is out of memory.
 pub fn copied_values(
     alloc: Global,
     matches: &ArgMatches<'_>,

@@ -10,7 +10,7 @@ use thiserror::Error;
 /// Why a command line is refused.
 #[derive(Debug, Drop, Error)]
 pub enum LineFault {
-    /// clap refuses it and says why, also if clap itself has no memory.
+    /// clap refuses it and says why. This also stands for clap itself having no memory.
     #[error(transparent)]
     Refused(clap::Error),
     /// There was not enough memory for the copies of the words.
@@ -31,8 +31,8 @@ impl LineFault {
         }
     }
 
-    /// Writes why the line is refused, as far as the writer takes it: clap's text, and then the usage where that text
-    /// ends without it, as for an option without a value at the end of the line.
+    /// Writes why the line is refused, as far as the writer takes it: clap's text, and then the usage if that text ends
+    /// without it, as for an option without a value at the end of the line.
     pub fn tell<W: Write>(&self, usage: &str, msgs: &mut W) {
         let _ = write!(msgs, "{self}");
         if let LineFault::Refused(error) = self

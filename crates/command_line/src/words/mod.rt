@@ -1,4 +1,4 @@
-//! The words that the system gave, and the arguments that clap reads.
+//! The words of the command line, and the arguments that clap reads.
 
 pub(crate) mod arguments;
 pub(crate) mod copies;

@@ -1,16 +1,16 @@
-//! The words that the system gave.
+//! The words of the command line, as the system gives them.
 ghost use Rattle.std.specs.Prelude.{◌≡◌, ◌++◌, [], IfErr, IfOk, OnOk, string_bytes};
 ghost use Rattle.std.specs.List.{flat_map};
-ghost use Rattle.command_line.specs.SystemWords.{IsNoText, not_text, shown_byte};
+ghost use Rattle.command_line.specs.SystemWords.{IsNoText, not_text, escaped_byte};
 
 use crate::words::word_list::{WordList, all_words};
 use std::alloc::{AllocError, AllocGlobal, Global};
 use std::env::{Env, FillError};
 
-/// Why the words of the command line can't be had.
+/// Why the words of the command line can't be read.
 #[derive(Debug, Drop)]
 pub enum WordsFault {
-    /// A word is no text: its number, where the program's name has number 0, and its bytes.
+    /// A word is not UTF-8: its number, counted from the program's name with number 0, and its bytes.
     NotText(usize, Vec<u8>),
     /// There was not enough memory.
     Memory,
@@ -26,7 +26,7 @@ impl From<AllocError> for WordsFault {
     }
 }
 
-/// The words of the command line as a runtime gives them. It does not tell them.
+/// The words of the command line as a runtime gives them. No contract knows them.
 #[derive(Drop)]
 struct SystemWords<'a, R> {
     rt: &'a R,
@@ -37,7 +37,7 @@ impl<'a, R: Env> WordList for SystemWords<'a, R> {
 
     ghost words = { λ _. [] };
 
-    /// The buffer grows until the word fits, and keeps no more room than the word takes.
+    /// The buffer grows until the word fits, and is then cut to the word's length.
     fn word(&self, alloc: Global, number: usize) -> Result<Option<Vec<u8>>, AllocError> {
         let mut bytes = Vec::new(alloc);
         let mut length = 256usize;
@@ -57,45 +57,46 @@ impl<'a, R: Env> WordList for SystemWords<'a, R> {
     }
 }
 
-/// The words of the command line, the program's name first, or why they can't be had: the first one that is no text, or
-/// out of memory.
+/// The words of the command line, the program's name first, or why they can't be read: the first one that is not
+/// UTF-8, or out of memory.
 pub fn given_words<R: Env + AllocGlobal>(rt: &R) -> Result<Vec<String>, WordsFault>
     ensures { IfErr result IsNoText }
 {
     all_words(rt.alloc(), &SystemWords { rt })
 }
 
-/// The message for a word that is no text: which it is, the program's name counted as 0, and its bytes. A byte that is
-/// no printable ASCII is shown by two hexadecimal digits, as `\xff`, and a backslash as two. The error is out of memory.
+/// The message for a word that is not UTF-8: its number, counted from the program's name with number 0, and its bytes,
+/// escaped: a byte that is not printable ASCII as two hexadecimal digits, as in `\xff`, and a backslash as two. The
+/// error is out of memory.
 pub fn not_text_message(alloc: Global, number: usize, word: &[u8]) -> Result<String, AllocError>
     ensures { IfOk result (λ s. string_bytes s ≡ not_text number word.now) }
 {
-    let shown = shown_word(alloc, word)?;
-    format!(in alloc; "error: argument {number} is not UTF-8: {shown}\n")
+    let escaped = escaped_word(alloc, word)?;
+    format!(in alloc; "error: argument {number} is not UTF-8: {escaped}\n")
 }
 
-/// The bytes of a word as they are shown.
-fn shown_word(alloc: Global, word: &[u8]) -> Result<String, AllocError>
-    ensures { IfOk result (λ s. string_bytes s ≡ flat_map shown_byte word.now) }
+/// The bytes of a word, escaped.
+fn escaped_word(alloc: Global, word: &[u8]) -> Result<String, AllocError>
+    ensures { IfOk result (λ s. string_bytes s ≡ flat_map escaped_byte word.now) }
 {
-    let mut shown = String::new(alloc);
+    let mut escaped = String::new(alloc);
     for byte in word {
-        push_shown(alloc, *byte, &mut shown)?;
+        push_escaped(alloc, *byte, &mut escaped)?;
     }
-    Ok(shown)
+    Ok(escaped)
 }
 
-/// Adds a byte as it is shown.
-fn push_shown(alloc: Global, byte: u8, shown: &mut String) -> Result<(), AllocError>
-    ensures { OnOk result (string_bytes shown.new ≡ string_bytes shown.old ++ shown_byte byte) }
+/// Adds a byte, escaped.
+fn push_escaped(alloc: Global, byte: u8, escaped: &mut String) -> Result<(), AllocError>
+    ensures { OnOk result (string_bytes escaped.new ≡ string_bytes escaped.old ++ escaped_byte byte) }
 {
     match byte {
-        b'\\' => shown.push_str("\\\\"),
-        b' '..=b'~' => shown.push(char::from(byte)),
+        b'\\' => escaped.push_str("\\\\"),
+        b' '..=b'~' => escaped.push(char::from(byte)),
         _ => {
             let digits = hex::encode(alloc, [byte])?;
-            shown.push_str("\\x")?;
-            shown.push_str(digits.as_str())
+            escaped.push_str("\\x")?;
+            escaped.push_str(digits.as_str())
         }
     }
 }

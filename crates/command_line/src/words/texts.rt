@@ -1,9 +1,9 @@
-//! Texts of owned strings.
+//! Borrowed texts of owned strings.
 ghost use Rattle.std.specs.Prelude.{◌≡◌, IfOk, map, option_map, option_copied, string_bytes};
 
 use std::alloc::{AllocError, Global};
 
-/// The text of a string that may be there.
+/// The text of a string, if there is one.
 pub fn text_of(text: &Option<String>) -> Option<&str>
     ensures { option_copied result ≡ option_map string_bytes text.now }
 {

@@ -1,17 +1,17 @@
-//! Words that are given one after another, put together into a list.
+//! Lists of words that are read one after another.
 ghost use Rattle.std.specs.Prelude.{◌≡◌, List, IfErr, IfOk, map, option_map, slice_get, string_bytes, ℕ};
 ghost use Rattle.command_line.specs.SystemWords.{IsNoText, IsRefusedIn};
 
 use crate::WordsFault;
 use std::alloc::{AllocError, Global};
 
-/// Words that can be asked for by their numbers. Contracts see them where the list tells them, as that of the system
+/// Words that can be asked for by their numbers. A contract knows them if the list tells them; that of the system
 /// doesn't.
 pub(crate) trait WordList {
     /// Whether the words are told.
     ghost tells: { Self → Type 0 };
 
-    /// The words, each its bytes, where they are told.
+    /// The bytes of each word, if they are told.
     ghost words: { Self → List (List ℕ) };
 
     /// The bytes of the word of this number, and `None` after the last word. The error is out of memory.
@@ -20,11 +20,11 @@ pub(crate) trait WordList {
             option_map (λ bytes. bytes.items) word ≡ slice_get (words self.now) number) };
 }
 
-/// All words of a list, in order, or why they can't be had: the first one that is no text, or out of memory.
+/// All words of a list, in order, or why they can't be read: the first one that is not UTF-8, or out of memory.
 pub(crate) fn all_words<L: WordList>(alloc: Global, list: &L) -> Result<Vec<String>, WordsFault>
     ensures refused { IfErr result IsNoText }
 
-    // The words end where the list's do, and a word that is refused is the list's of its number.
+    // The words are all of the list's, and a word that is refused is the one of its number in the list.
     ensures whole { L.tells list.now → IfOk result (λ words. map string_bytes words.items ≡ L.words list.now) }
     ensures refused_at { L.tells list.now → IfErr result (IsRefusedIn (L.words list.now)) }
 {

@@ -5,10 +5,10 @@ use Rattle.std.proofs.lemmas.Str.Parse.{IsNumeralModel, numerals_by_weight, pars
 use Rattle.command_line.specs.Options.{number}
 use Rattle.command_line.proofs.options.numbers.read_number.Goals as goal
 
-own : IsNumeralModel (λ ds. all_ascii_digits ds ≡ true) number
-own = numerals_by_weight _ tells_all_ascii_digits number (search rules)
+digits_by_weight : IsNumeralModel (λ ds. all_ascii_digits ds ≡ true) number
+digits_by_weight = numerals_by_weight _ tells_all_ascii_digits number (search rules)
 
--- a value where three tests hold, and none where they don't
+-- a value if three tests hold, and otherwise none
 by_tests : {E : Type 0} (a : Bool) (n m k : ℕ) (r : Result ℕ E) → OkIff r ((a ≡ true) × (0 < n) × (m < k)) m
     → result_ok r ≡ cond (a && (nat_lt 0 n && nat_lt m k)) (Some m) None
 by_tests a n m k (Ok x) h = rw (h.0.0, lt-ltb 0 n h.0.1, lt-ltb m k h.0.2, h.1) refl
@@ -22,5 +22,5 @@ by_tests true n m k (Err e) h = go (nat_lt 0 n) (nat_lt m k) refl refl
 
 pub returns : goal.returns
 returns c =
-    let plain = parse_plain own 64 c.args.text.now _ c.parse.ensures.value.0 (λ e. let b = c.if-starts_with.ensures.byte (omega arith) (omega arith) (λ w o h. h) in cc (rw e at b)) in
+    let plain = parse_plain digits_by_weight 64 c.args.text.now _ c.parse.ensures.value.0 (λ e. let b = c.if-starts_with.ensures.byte (omega arith) (omega arith) (λ w o h. h) in cc (rw e at b)) in
     c.ok.ensures.value ∙ by_tests _ _ _ _ _ plain
