@@ -63,7 +63,7 @@ element_at [] i below = absurd (omega arith)
 element_at (x ∷ xs) zero below = (x, refl)
 element_at (x ∷ xs) (suc i) below = element_at xs i (omega arith)
 
--- nothing stands of a line, whatever ended the run
+-- nothing of a line may be written, whatever ended the run
 stands_nothing : (whole : List ℕ) (fault : RunFault) → StandsOf whole [] fault
 stands_nothing whole NotOpened = refl
 stands_nothing whole (Digest fault) = refl
@@ -98,7 +98,7 @@ line_more run files i name old mid new named so_far line =
     (appends_twice old mid new (lines run.settings run.form (take i pairs)) (file_line run.settings run.form name line.file)
     so_far line.written)
 
--- the lines before a file that ends the run, and what stands of its own
+-- the lines before a file that ends the run, and what is written of its own
 pub part_more : (run : Run) (files : List (Option (List ℕ))) (i : ℕ) (fault : RunFault) (name : List ℕ)
     (old mid new : Option (List ℕ)) → slice_get run.names i ≡ Some name →
     Appends old mid (lines run.settings run.form (take i (zip run.names files))) →
@@ -113,14 +113,14 @@ part_more run files i fault name old mid new named so_far part = record {
       so_far part.written;
 }
 
--- a file that has a digest is before the stop, where none before it is absent or too large
+-- a file that has a digest is before the stop, if none before it is absent or too large
 before_stop : (s : Settings) (files : List (Option (List ℕ))) (f : ℕ) → HasOneAt s files f → f ≤ stop s files →
     f < stop s files
 before_stop s files f one within =
     let more : f + 1 ≤ stop s files = passes_more (has_digest s) files f (Some one.0) one.1 one.2 within in
     omega (arith, more)
 
--- a step that stops ends the run, where no file before its own is absent or too large
+-- a step that stops ends the run, if no file before its own is absent or too large
 pub stops_run : (s : Settings) (run step : OpenerChange) (f : ℕ) (fault : RunFault) →
     (run.told ↔ step.told) → step.files ≡ run.files → step.next_before ≡ f → (run.told → f ≤ stop s run.files) →
     run.failures_before ≤ step.failures_before → run.failures_after ≡ step.failures_after →

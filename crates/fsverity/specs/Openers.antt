@@ -1,3 +1,3 @@
--- Where a run takes its files from.
+-- The files of a run, and how they are opened.
 pub mod Opening
 pub mod FusedOpeners

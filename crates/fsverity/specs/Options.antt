@@ -1,2 +1,2 @@
--- From the texts of a line's options to settings.
+-- The settings that a command line's options give.
 pub mod Settings

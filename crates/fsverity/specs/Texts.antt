@@ -1,3 +1,3 @@
--- What is printed: the lines of digests.
+-- What is printed: lines and messages.
 pub mod Lines
 pub mod Messages

@@ -1,2 +1,2 @@
--- From the words of a command line to a line.
+-- The command line, and how its words are read.
 pub mod CommandLines

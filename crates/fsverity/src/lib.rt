@@ -1,5 +1,5 @@
 //! File digests of fs-verity, made without the kernel: the command line, the options, the digest of a file, its line,
-//! a run over files, and the program.
+//! the runs over files, and the program.
 #![tactic(auto)]
 
 mod openers;

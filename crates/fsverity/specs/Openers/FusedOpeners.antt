@@ -1,10 +1,10 @@
--- What contracts see of an opener each of whose sources fails one call, this project's own.
+-- The parts of an opener each of whose sources fails one call; this project's own.
 use Rattle.std.specs.Prelude.{◌≡◌, ℕ}
 use Rattle.verity_io.specs.Fusing.{fused_call, fused_calls}
 use Rattle.verity_io.specs.declared.fused.Fused.{Fused}
 use Rattle.fsverity.specs.declared.openers.fused_opener.FusedOpener.{FusedOpener}
 
--- the opener within
+-- the inner opener
 abbrev pub opener_within : {O : Type 0} → FusedOpener O → O
 opener_within o = o.inner
 
@@ -16,6 +16,6 @@ opener_call o = o.call
 abbrev pub opener_failures : {O : Type 0} → FusedOpener O → ℕ
 opener_failures o = o.failures
 
--- a source that was not called yet, with this call to fail
+-- a source that was not called yet, and that fails this call
 abbrev pub StartsFused : {T : Type 0} → ℕ → Fused T → Type 0
 StartsFused call source = (fused_call source ≡ call) × (fused_calls source ≡ 0)

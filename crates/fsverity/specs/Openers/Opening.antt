@@ -1,4 +1,4 @@
--- What an opener does with the files that it tells, this project's own: open(2) of POSIX over a list of files.
+-- Opening the files of a list one after another, as open(2) of POSIX opens one; this project's own.
 use Rattle.std.specs.Prelude.{◌≡◌, ◌↔◌, ◌⊎◌, ℕ, ◌+◌, ◌≤◌, List, Option, Some, None, length, slice_get, Result, MatchResult}
 use Rattle.verity_io.specs.declared.failed.Failed.{Failed}
 use Rattle.verity_io.specs.Counting.{Rose}
@@ -36,7 +36,7 @@ pub record SameFiles {O : Type 0} (tells : O → Type 0) (files_of : O → List 
 abbrev pub IsSuch : List (Option (List ℕ)) → ℕ → ℕ → List ℕ → Type 0
 IsSuch files i len bytes = (slice_get files i ≡ Some (Some bytes)) × (len ≡ length bytes)
 
--- the count stays where a file is opened, and else rises by one at most
+-- the count stays if a file is opened, and otherwise rises by one at most
 abbrev pub CountsOpening : {X : Type 0} → ℕ → ℕ → Result X Failed → Type 0
 CountsOpening before after result =
     (before ≤ after) × (after ≤ before + 1) × MatchResult result (λ _. after ≡ before) (λ _. Unit {0})

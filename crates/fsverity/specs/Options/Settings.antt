@@ -1,5 +1,5 @@
--- What the options of `fsverity digest` stand for (fsverity(1), "fsverity digest"; Linux kernel, fs-verity page,
--- "FS_IOC_ENABLE_VERITY"): SHA-256, blocks of 4096 bytes and no salt where nothing is said.
+-- The settings that the options of `fsverity digest` give (fsverity(1), "fsverity digest"; Linux kernel, fs-verity page,
+-- "FS_IOC_ENABLE_VERITY"). Without options they are SHA-256, blocks of 4096 bytes and no salt.
 use Rattle.std.specs.Prelude.{ℕ, ◌&&◌, Bool, nat_lt, List, [], Option, Some, None, Result, Ok, Err, unwrap_or, option_and_then, if◌then◌else◌}
 use Rattle.verity_hash.specs.Algorithms.{digest_len_of}
 use Rattle.verity_hash.specs.declared.algorithm.Algorithm.{Algorithm}
@@ -13,7 +13,7 @@ use Rattle.fsverity.specs.declared.options.option_fault.FsOptionFault.TheVariant
 abbrev pub known : Algorithm → Option Algorithm
 known algorithm = if is_of_fsverity algorithm then Some algorithm else None
 
--- the algorithm of a name; by default SHA-256
+-- the algorithm of this name, by default SHA-256; none if fs-verity doesn't have it
 abbrev pub algorithm_of : Option (List ℕ) → Option Algorithm
 algorithm_of name = option_and_then known (algorithm_or_default name)
 
@@ -22,12 +22,12 @@ abbrev pub within_limits : Algorithm → ℕ → Option ℕ
 within_limits algorithm size =
     if is_block_size (least_block PaddedBefore (digest_len_of algorithm)) size then Some size else None
 
--- the block size of a number
+-- the block size of these digits, by default 4096; none outside the limits
 abbrev pub block_size_of : Algorithm → Option (List ℕ) → Option ℕ
 block_size_of algorithm None = within_limits algorithm default_block_size
 block_size_of algorithm (Some digits) = option_and_then (within_limits algorithm) (number_of digits)
 
--- the salt of its digits
+-- the salt of these digits, by default empty; none if they are no salt of fs-verity
 abbrev pub salt_bytes_of : Option (List ℕ) → Option (List ℕ)
 salt_bytes_of text = salt_of (most_salt PaddedBefore) (unwrap_or text [])
 

@@ -59,19 +59,19 @@ HasReason s opener f (Digest (DeviceFailed level block)) = ⊥
 HasReason s opener f (Digest Memory) = opener.told → f < stop s opener.files
 HasReason s opener f NotWritten = opener.told → f < stop s opener.files
 
--- what stands of the file's line: its first bytes where it could not be written, and else nothing
+-- what is written of the file's line: its first bytes if it could not be written whole, and otherwise nothing
 abbrev pub StandsOf : List ℕ → List ℕ → RunFault → Type 0
 StandsOf whole part NotOpened = part ≡ []
 StandsOf whole part (Digest fault) = part ≡ []
 StandsOf whole part NotWritten = (k : ℕ) × (part ≡ take k whole)
 
--- what a run is given beside its files: the settings, the form of the lines, and the files' names
+-- what a run gets beside its files: the settings, the form of the lines, and the files' names
 pub record Run : Type 0 where
   pub settings : Settings
   pub form : Form
   pub names : List (List ℕ)
 
--- the lines of all files before f, and what stands of f's own
+-- the lines of all files before f, and what is written of f's own
 pub record WritesUpTo (run : Run) (files : List (Option (List ℕ))) (f : ℕ) (fault : RunFault)
     (old new : Option (List ℕ)) : Type 0 where
   pub file : Option (List ℕ)

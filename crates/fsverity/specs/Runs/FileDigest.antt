@@ -1,5 +1,5 @@
--- The file digest of fs-verity (Linux kernel, fs-verity page, "fs-verity descriptor" and "Merkle tree"), and what
--- making one of a source's bytes answers.
+-- The file digest of fs-verity (Linux kernel, fs-verity page, "fs-verity descriptor" and "Merkle tree"), and the answer
+-- of making one of a source's bytes.
 use Rattle.std.specs.Prelude.{◌≡◌, ℕ, ◌+◌, ◌*◌, ◌/◌, ◌<◌, ◌≤◌, ◌==◌, ◌&&◌, min, Bool, true, false, not, List, [], length, replicate, Result, Ok, Err, MatchResult, is_ok, nat_lt, if◌then◌else◌}
 use Rattle.std.specs.Int.{div_ceil}
 use Rattle.verity_format.specs.Descriptors.{DescriptorFields, descriptor_text, digest_of_file}
@@ -40,7 +40,7 @@ pub record IsDescribedBy (s : Settings) (size : ℕ) (root : List ℕ) (made : F
   pub digest : made.digest ≡ digest_of_file (described s size root)
   pub descriptor : made.descriptor ≡ descriptor_text (described s size root)
 
--- the descriptor with a root hash, and its digest: the file's root hash, where its source tells these bytes
+-- the descriptor with a root hash, and its digest; it is the file's root hash if the source tells these bytes
 pub record IsDescribed (s : Settings) (size : ℕ) (told : Type 0) (bytes : List ℕ) (made : FileDigest) : Type 0 where
   pub root : List ℕ
   pub root_is : told → root ≡ root_of_file s size bytes
@@ -54,7 +54,7 @@ IsFileDigest s size bytes made = IsDescribedBy s size (root_of_file s size bytes
 abbrev pub is_too_large : Settings → ℕ → Bool
 is_too_large s size = nat_lt 0 size && not (is_ok (plan_for_bytes s size 0))
 
--- what a fault says of a source of which the first size bytes are wanted, and how much was read
+-- what a fault says of a source whose first size bytes are wanted, and how much was read
 abbrev pub FaultsIn : Settings → ℕ → List ℕ → List ℕ → DigestFault → Type 0
 FaultsIn s size before after TooLarge = after ≡ before
 FaultsIn s size before after (SourceShort i) =

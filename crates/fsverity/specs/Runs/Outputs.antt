@@ -17,7 +17,7 @@ use Rattle.command_line.specs.declared.printing.print_fault.PrintFault.TheVarian
 use Rattle.fsverity.specs.declared.runs.output_fault.OutputFault.{OutputFault}
 use Rattle.fsverity.specs.declared.runs.output_fault.OutputFault.TheVariants.{Digest, Descriptor, Line}
 
--- what a run is given beside the file's bytes: the settings, the form of the line, the file's name and its size, and
+-- what a run gets beside the file's bytes: the settings, the form of the line, the file's name and its size, and
 -- whether the tree and the descriptor are wanted
 pub record OutputTask : Type 0 where
   pub settings : Settings
@@ -38,7 +38,7 @@ output_task settings form name size wants_tree wants_descriptor = record {
   wants_descriptor = wants_descriptor;
 }
 
--- what the writers of the descriptor and the line hold before and after, where that is known
+-- what the writers of the descriptor and the line hold before and after, if that is known
 pub record Written : Type 0 where
   pub descriptor_before : Option (List ℕ)
   pub descriptor_after : Option (List ℕ)
@@ -54,7 +54,7 @@ written descriptor_contents out_contents descriptor_old descriptor_new out_old o
   out_after = out_contents out_new;
 }
 
--- the same, and that of the message
+-- the same, and what the writer of the messages holds
 pub record Texts : Type 0 where
   pub written : Written
   pub msgs_before : Option (List ℕ)
@@ -98,23 +98,23 @@ abbrev pub Reads : OutputTask → Result (Unit {0}) DigestFault → List ℕ →
 Reads task (Ok done) before after = HasRead task.size before after
 Reads task (Err fault) before after = FaultsIn task.settings task.size before after fault
 
--- what stands on the tree's device, above a source's bytes; it stays where no tree is wanted
+-- what the tree's device holds for these bytes of the source; it stays if no tree is wanted
 abbrev pub WritesTree : OutputTask → List ℕ → Result (Unit {0}) DigestFault → List ℕ → List ℕ → Type 0
 WritesTree task bytes result before after =
     Wanted task.wants_tree (Stands task.settings task.size bytes result before after) (after ≡ before)
 
--- the descriptor with this root hash is added where it is wanted
+-- the descriptor with this root hash is added if it is wanted
 abbrev pub AddsDescriptor : OutputTask → List ℕ → Option (List ℕ) → Option (List ℕ) → Type 0
 AddsDescriptor task root before after = Wanted task.wants_descriptor
     (Appends before after (descriptor_text (described task.settings task.size root))) (Keeps before after)
 
--- its first bytes are added, this many
+-- only this many of its first bytes are added
 abbrev pub AddsPart : OutputTask → List ℕ → ℕ → Option (List ℕ) → Option (List ℕ) → Type 0
 AddsPart task root taken before after = Wanted task.wants_descriptor
     ((taken < length (descriptor_text (described task.settings task.size root)))
     × Appends before after (take taken (descriptor_text (described task.settings task.size root)))) ⊥
 
--- what the descriptor's writer has gained
+-- what is added to the descriptor's writer
 abbrev pub WritesDescriptor : OutputTask → List ℕ → Outcome → Option (List ℕ) → Option (List ℕ) → Type 0
 WritesDescriptor task root (Ok done) before after = AddsDescriptor task root before after
 WritesDescriptor task root (Err (Digest fault)) before after = Keeps before after
@@ -126,14 +126,14 @@ abbrev pub line_of : OutputTask → List ℕ → List ℕ
 line_of task root =
     line task.form task.settings.algorithm (digest_of_file (described task.settings task.size root)) task.name
 
--- what out has gained: the line, or its first bytes where a write fails
+-- what is added to out: the line, or only its first bytes if a write fails
 abbrev pub PrintsLine : OutputTask → List ℕ → Outcome → Option (List ℕ) → Option (List ℕ) → Type 0
 PrintsLine task root (Ok done) before after = Prints (Ok tt) (line_of task root) before after
 PrintsLine task root (Err (Digest fault)) before after = Keeps before after
 PrintsLine task root (Err (Descriptor taken)) before after = Keeps before after
 PrintsLine task root (Err (Line fault)) before after = Prints (Err fault) (line_of task root) before after
 
--- the descriptor and the line have one root hash, that of the file where the source tells its bytes
+-- the descriptor and the line have one root hash, which is the file's if the source tells its bytes
 pub record WritesTexts (task : OutputTask) (outcome : Outcome) (told : Type 0) (bytes : List ℕ) (texts : Written)
     : Type 0 where
   pub root : List ℕ
@@ -153,7 +153,7 @@ pub record OutputRun (task : OutputTask) (status : ℕ) (source tree : Change) (
   pub source_counted : Counts (source_failed (digested outcome)) source.failures_before source.failures_after
   pub tree_counted : Counts (device_failed (digested outcome)) tree.failures_before tree.failures_after
 
--- what status 0 stands for: the file was read once, and what is wanted is written
+-- what status 0 means: the file was read once, and what is wanted is written
 pub record IsWritten (task : OutputTask) (source tree : Change) (texts : Written) : Type 0 where
   pub read : HasRead task.size source.before source.after
   pub stands : tree.told → Wanted task.wants_tree

@@ -30,7 +30,7 @@ line CompactBuiltin algorithm digest name = concat (encode_lower (formatted algo
 abbrev pub IsFormattable : Algorithm → List ℕ → Type 0
 IsFormattable algorithm digest = (0 < algorithm_number algorithm) × (length digest ≡ digest_len_of algorithm)
 
--- what a form asks of a digest: the builtin ones that it has a formatted digest
+-- what a form asks of a digest: for the builtin forms it must have a formatted digest
 abbrev pub FitsForm : Form → Algorithm → List ℕ → Type 0
 FitsForm Full algorithm digest = Unit {0}
 FitsForm Compact algorithm digest = Unit {0}

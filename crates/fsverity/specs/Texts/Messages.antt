@@ -1,5 +1,5 @@
--- The messages of `fsverity digest`, one line each. This project's own; numbers are decimal, and names stand as they
--- are given.
+-- The messages of `fsverity digest`, one line each; this project's own. Numbers are decimal, and names are left as they
+-- are.
 use Rattle.std.specs.Prelude.{ℕ, List, [], ◌∷◌, codes}
 use Rattle.std.specs.List.{concat}
 use Rattle.std.specs.Fmt.{decimal}
@@ -29,7 +29,7 @@ option_text BadBlockSize = codes "fsverity: block size is not valid.\n"
 option_text BadSalt = codes "fsverity: salt is not valid.\n"
 option_text OneFileOnly = codes "fsverity: output files need exactly one input file.\n"
 
--- why the words of the command line can't be had, and the status that goes with it
+-- why the words of the command line can't be read, and the status that goes with it
 abbrev pub words_text : WordsFault → List ℕ
 words_text (NotText number word) = not_text number word.items
 words_text NoMemory = codes "fsverity: out of memory.\n"

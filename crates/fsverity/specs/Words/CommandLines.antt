@@ -1,4 +1,4 @@
--- The command line of `fsverity` (fsverity(1)), in the words of clap, and what a line of it holds.
+-- The command line of `fsverity` (fsverity(1)), in the words of clap, and what a line holds.
 use Rattle.std.specs.Prelude.{◌≡◌, ◌||◌, Option, Some, Result, List, [], length, is_some, codes, map, option_map, unwrap_or, string_bytes}
 use Rattle.clap.specs.Words.{App, Row, Text, all_of, first_of, new_app, with_rule, with_subcommand}
 use Rattle.command_line.specs.Arguments.{flag_of, flag_rule, option_rule, program_app, words_rule}
@@ -35,7 +35,7 @@ pub record HoldsRows (rows : List Row) (line : Line) : Type 0 where
 abbrev pub HoldsCommand : Option (Text × List Row) → Line → Type 0
 HoldsCommand met line = (p : Text × List Row) × (met ≡ Some p) × HoldsRows p.1 line
 
--- the settings that a line's options choose, or the first option that is refused
+-- the settings that a line's options give, or the first option that is refused
 abbrev pub settings_of : Line → Result Settings FsOptionFault
 settings_of line = fs_settings (option_map string_bytes line.hash_alg) (option_map string_bytes line.block_size)
     (option_map string_bytes line.salt) (length line.files.items)

@@ -6,7 +6,7 @@ use command_line::{Onlooker, ProgressLine, Shown, open_measured};
 use std::rt::Files;
 use verity_tree::{Failed, FileSource};
 
-/// Opens files of the system by their names, and shows how far the reading of each is. It does not tell them.
+/// Opens files of the system by their names, and shows the progress of reading each. It doesn't tell them.
 #[derive(Drop)]
 pub struct FileOpener<'a, R> {
     rt: &'a R,
@@ -17,7 +17,7 @@ pub struct FileOpener<'a, R> {
 }
 
 impl<'a, R: Files + Onlooker> FileOpener<'a, R> {
-    /// An opener of the files of these names, none of which is opened yet.
+    /// An opener of the files of these names. None of them is opened yet.
     pub fn new(rt: &'a R, progress: &'a ProgressLine<'a, R>, names: &'a [&'a str]) -> Self
         ensures count { ⟦<FileOpener<'a, R> as Opener>⟧.count result ≡ length names.now }
         ensures next { ⟦<FileOpener<'a, R> as Opener>⟧.next result ≡ 0 }

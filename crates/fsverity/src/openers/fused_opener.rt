@@ -8,7 +8,8 @@ ghost use Rattle.fsverity.specs.Openers.Opening.{CountsOpening, FailsFor, IsSuch
 use crate::openers::opener::Opener;
 use verity_tree::{Failed, Fused};
 
-/// Opens the files of another opener, and fails one call of each of their sources. It tries what a run does at a fault.
+/// Opens the files of another opener, and fails one call of each of their sources. Tests run over it to see what a run
+/// does at a fault.
 #[derive(Drop)]
 pub struct FusedOpener<O> {
     inner: O,
@@ -17,7 +18,7 @@ pub struct FusedOpener<O> {
 }
 
 impl<O: Opener> FusedOpener<O> {
-    /// Fails the call of this number of each source, counted from 1, and none for 0.
+    /// Fails this call of each source, counted from 1; with 0 no call fails.
     pub fn new(inner: O, call: u64) -> Self
         ensures within { opener_within result ≡ inner }
         ensures call { opener_call result ≡ call }
@@ -58,7 +59,7 @@ impl<O: Opener> Opener for FusedOpener<O> {
         ensures failed { OnErr result (FailsFor (O.tells (opener_within self.old)) (O.files (opener_within self.old))
             (O.next (opener_within self.old)) (opener_failures self.old) (opener_failures self.new)) }
 
-        // Each source has its fuse, and was not called yet.
+        // Each source has its own fuse, and was not called yet.
         ensures fused { IfOk result (λ opened. StartsFused (opener_call self.old) opened.1) }
         ensures call { opener_call self.new ≡ opener_call self.old }
     {

@@ -5,8 +5,8 @@ ghost use Rattle.std.proofs.lemmas.List.{length-map};
 use crate::openers::opener::Opener;
 use verity_tree::{Failed, MemorySource};
 
-/// Files in memory, each its bytes or absent. Their sources borrow them and take no memory. It never fails but at an
-/// absent file.
+/// Opens files in memory, each of them its bytes or absent. The sources borrow the bytes, so they need no memory. Only
+/// an absent file fails.
 #[derive(Drop)]
 pub struct MemoryOpener<'a> {
     files: &'a [Option<&'a [u8]>],
@@ -14,7 +14,7 @@ pub struct MemoryOpener<'a> {
 }
 
 impl<'a> MemoryOpener<'a> {
-    /// An opener of these files, `None` for an absent one.
+    /// An opener of these files; `None` is an absent one.
     pub fn new(files: &'a [Option<&'a [u8]>]) -> Self
         ensures told { ⟦<MemoryOpener<'a> as Opener>⟧.tells result }
         ensures files { ⟦<MemoryOpener<'a> as Opener>⟧.files result ≡ map (option_map (λ b. b.now)) files.now }

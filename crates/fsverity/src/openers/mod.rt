@@ -1,4 +1,4 @@
-//! Where a run takes its files from.
+//! The files of a run, and how they are opened.
 
 pub(crate) mod file_opener;
 pub(crate) mod fused_opener;

@@ -1,4 +1,4 @@
-//! From the texts of a line's options to settings.
+//! The settings that a command line's options give.
 
 pub(crate) mod option_fault;
 pub(crate) mod settings;

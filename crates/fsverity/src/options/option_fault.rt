@@ -5,11 +5,11 @@ ghost use Rattle.fsverity.specs.Texts.Messages.{option_text};
 /// The first option that is refused, in this order.
 #[derive(Clone, Copy, Debug, PartialEq, Eq)]
 pub enum FsOptionFault {
-    /// The hash algorithm is none of fs-verity's.
+    /// fs-verity has no hash algorithm of this name.
     UnknownHash,
-    /// The block size is no number, or no power of two from twice the digest's length to 524288.
+    /// The block size is not a number, or not a power of two from twice the digest's length to 524288.
     BadBlockSize,
-    /// The salt is no even number of hexadecimal digits, or longer than 32 bytes.
+    /// The salt is not an even number of hexadecimal digits, or is longer than 32 bytes.
     BadSalt,
     /// An output file is named, and more than one input file.
     OneFileOnly,

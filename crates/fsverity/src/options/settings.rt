@@ -10,14 +10,14 @@ use verity_hash::{Algorithm, ShortBytes};
 use verity_plan::is_of_fsverity;
 use verity_tree::TreeSettings;
 
-/// The texts of the options, as they are given (fsverity(1), "fsverity digest").
+/// The texts of the options (fsverity(1), "fsverity digest").
 #[derive(Clone, Copy, Debug)]
 pub struct DigestOptions<'a> {
-    /// The hash algorithm's name, sha256 where there is none.
+    /// The hash algorithm's name; `None` means sha256.
     pub hash_alg: Option<&'a str>,
-    /// The block size in bytes, in decimal, 4096 where there is none.
+    /// The block size in bytes, in decimal; `None` means 4096.
     pub block_size: Option<&'a str>,
-    /// The salt in hexadecimal, empty where there is none.
+    /// The salt in hexadecimal; `None` means an empty salt.
     pub salt: Option<&'a str>,
     /// How many input files there are.
     pub files: usize,
@@ -25,7 +25,7 @@ pub struct DigestOptions<'a> {
     pub out_files: bool,
 }
 
-/// The settings that the options stand for, or the first option that is refused: the algorithm, then the block size,
+/// The settings that the options give, or the first option that is refused: the algorithm, then the block size,
 /// then the salt (Linux kernel, fs-verity page, "FS_IOC_ENABLE_VERITY"), then an output file with more than one input.
 pub fn digest_settings(options: &DigestOptions<'_>) -> Result<TreeSettings, FsOptionFault>
     ensures value { result ≡ fs_settings (option_copied options.now.hash_alg)
@@ -45,7 +45,7 @@ pub fn digest_settings(options: &DigestOptions<'_>) -> Result<TreeSettings, FsOp
     }
 }
 
-/// The algorithm of a name, by default SHA-256; `None` where fs-verity knows none of this name.
+/// The algorithm of this name, by default SHA-256; `None` if fs-verity has none of this name.
 fn algorithm(name: Option<&str>) -> Option<Algorithm>
     ensures value { result ≡ algorithm_of (option_copied name.entry) }
     ensures known { IfSome result (λ algorithm. is_of_fsverity algorithm ≡ true) }
@@ -58,7 +58,7 @@ fn algorithm(name: Option<&str>) -> Option<Algorithm>
     }
 }
 
-/// A block size that a tree can be made with.
+/// The block size of its digits, by default 4096; `None` if no tree can be made with it.
 fn block_size(algorithm: Algorithm, text: Option<&str>) -> Option<u32>
     requires { is_of_fsverity algorithm ≡ true }
     ensures { result ≡ block_size_of algorithm (option_copied text.entry) }
@@ -73,6 +73,7 @@ fn block_size(algorithm: Algorithm, text: Option<&str>) -> Option<u32>
     }
 }
 
+/// The salt of its digits, by default empty; `None` if the text is not a salt of fs-verity.
 fn salt(text: Option<&str>) -> Option<ShortBytes<32>>
     ensures { result ≡ salt_bytes_of (option_copied text.entry) }
 {

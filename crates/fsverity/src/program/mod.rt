@@ -1,4 +1,4 @@
-//! The program over any runtime: files and streams.
+//! The program, over the files and streams of any runtime.
 
 pub(crate) mod entry;
 pub(crate) mod output_files;

@@ -7,7 +7,7 @@ use command_line::{FileIdentity, Identities, are_one, is_folder, text_of};
 use std::fs::File;
 use std::rt::Files;
 
-/// The names of the output files, where they are given.
+/// The names of the output files; `None` if one is not given.
 #[derive(Clone, Copy)]
 pub(crate) struct OutputNames<'a> {
     pub tree: Option<&'a str>,
@@ -26,7 +26,7 @@ impl<'a> OutputNames<'a> {
         }
     }
 
-    /// Whether one is given.
+    /// Whether at least one is given.
     pub(crate) fn are_given(&self) -> bool
         ensures { result ≡ (is_some self.now.tree || is_some self.now.descriptor) }
     {
@@ -34,7 +34,7 @@ impl<'a> OutputNames<'a> {
     }
 }
 
-/// The opened output files, those that are named.
+/// The opened output files; `None` for one that is not named.
 #[derive(Drop)]
 pub(crate) struct OutputFiles<F> {
     pub tree: Option<F>,
@@ -42,9 +42,9 @@ pub(crate) struct OutputFiles<F> {
 }
 
 impl<F> OutputFiles<F> {
-    /// Opens the output files, the tree's and then the descriptor's: each is made, or cut to nothing. The error is the
-    /// name of the first that is refused. Nobody loses a file that is named twice: an output file that the system tells
-    /// to be the input file, or to be the other output file, is refused before anything is cut. So is a folder.
+    /// Opens the output files, the tree's and then the descriptor's: each is created or truncated. The error is the name
+    /// of the first that is refused. Nobody loses a file that is named twice: if the system says that an output file is
+    /// the input file or the other output file, it is refused before anything is truncated. So is a folder.
     pub(crate) fn open<'a, R: Identities<File = F>>(
         rt: &R,
         input: &F,
@@ -61,7 +61,7 @@ impl<F> OutputFiles<F> {
             return Err(name);
         }
         let tree = open_output(rt, names.tree)?;
-        // The file is there now, so that a second name of it can be told.
+        // The file exists now, so the system can say whether the other name leads to it too.
         if let (Some(file), Some(name)) = (&tree, names.descriptor)
             && are_one(rt.file_identity(file), rt.path_identity(name))
         {
@@ -72,7 +72,7 @@ impl<F> OutputFiles<F> {
     }
 }
 
-/// The name of the first output file that the system tells to be a folder.
+/// The name of the first output file that is a folder, as the system says.
 fn folder_among<'a, R: Files>(rt: &R, names: OutputNames<'a>) -> Option<&'a str>
     ensures { IfSome result (λ name. (names.entry.tree ≡ Some name) ⊎ (names.entry.descriptor ≡ Some name)) }
 {
@@ -85,7 +85,7 @@ fn folder_among<'a, R: Files>(rt: &R, names: OutputNames<'a>) -> Option<&'a str>
     }
 }
 
-/// Whether a name is given that leads to a folder.
+/// Whether a name is given and leads to a folder.
 fn leads_to_folder<R: Files>(rt: &R, name: Option<&str>) -> bool {
     match name {
         Some(name) => is_folder(rt, name),
@@ -93,7 +93,7 @@ fn leads_to_folder<R: Files>(rt: &R, name: Option<&str>) -> bool {
     }
 }
 
-/// The name of the first output file that the system tells to be the input file or the other output file.
+/// The name of the first output file that is the input file or the other output file, as the system says.
 fn named_twice<'a, R: Identities>(
     rt: &R,
     input: &R::File,
@@ -113,14 +113,14 @@ fn named_twice<'a, R: Identities>(
     }
 }
 
-/// The file that a name leads to, where one is given and the system tells.
+/// The file that a name leads to; `None` if no name is given or the system doesn't say.
 fn identity_of<R: Identities>(rt: &R, name: Option<&str>) -> Option<FileIdentity>
     ensures { name.entry ≡ None → result ≡ None }
 {
     rt.path_identity(name?)
 }
 
-/// The output file of a name, made or cut to nothing. The error is the name.
+/// The output file of a name, created or truncated. The error is the name.
 fn open_output<'a, R: Files>(rt: &R, name: Option<&'a str>) -> Result<Option<R::File>, &'a str>
     ensures named { IfOk result (λ file. is_some file ≡ is_some name.entry) }
     ensures error { IfErr result (λ refused. name.entry ≡ Some refused) }

@@ -80,13 +80,13 @@ fn digest_next<O: Opener, W: Write>(
     }
 }
 
-/// Writes the line of each file to `out`, in the order of their names. The status is 0 where all are written. The first
-/// file that fails ends the run with status 1: its message goes to `msgs`, the lines before it stand, and later files
-/// are not started. A line is made whole and then written. A fault of `msgs` changes nothing (fsverity(1), "fsverity
-/// digest").
+/// Writes the line of each file to `out`, in the order of their names (fsverity(1), "fsverity digest"). The status is 0
+/// if all are written. The first file that fails ends the run with status 1: its message goes to `msgs`, the lines
+/// before it stay, and later files are not opened. A line is made whole before any of it is written. A fault of `msgs`
+/// changes nothing.
 ///
-/// The caller sees to settings of fs-verity, and to an opener of as many files as there are names, none of them
-/// started.
+/// The settings must be of fs-verity, and the opener must have as many files as there are names, none of them opened
+/// yet.
 pub fn run_digest<O: Opener, W: Write, M: Write>(
     alloc: Global,
     settings: &TreeSettings,
@@ -101,7 +101,7 @@ pub fn run_digest<O: Opener, W: Write, M: Write>(
     requires first { O.next opener.old ≡ 0 }
     ensures status { (result ≡ 0) ⊎ (result ≡ 1) }
 
-    // All files have lines.
+    // Status 0: all files have lines.
     ensures done { result ≡ 0 → O.next opener.new ≡ length names.now }
     ensures quiet { result ≡ 0 → msgs.new ≡ msgs.old }
     ensures calm { result ≡ 0 → O.failures opener.new ≡ O.failures opener.old }
@@ -110,7 +110,7 @@ pub fn run_digest<O: Opener, W: Write, M: Write>(
         → Appends (W.contents out.old) (W.contents out.new)
         (lines settings.now form (zip (map (λ n. n.now) names.now) (O.files opener.old))) }
 
-    // The run ended at one file, with its message.
+    // Status 1: the run ended at one file, with its message.
     ensures ended { result ≡ 1 → EndsAt
         (record { settings = settings.now; form = form; names = map (λ n. n.now) names.now })
         (opener_change O.tells O.files O.next O.failures opener.old opener.new)

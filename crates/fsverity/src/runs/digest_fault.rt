@@ -4,7 +4,7 @@ ghost use Rattle.fsverity.specs.Texts.Messages.{fault_text};
 
 use std::alloc::{AllocError, Global};
 
-/// The message of out of memory. The text is fixed, so that it takes none.
+/// The message of out of memory. It is a constant, since there is no memory to make it.
 pub const OUT_OF_MEMORY: &str = "fsverity: out of memory.\n";
 
 /// Why a file has no digest.
@@ -12,9 +12,9 @@ pub const OUT_OF_MEMORY: &str = "fsverity: out of memory.\n";
 pub enum DigestFault {
     /// The file's blocks, or its tree, would have more than 2 to the 63 less one bytes.
     TooLarge,
-    /// The file ended before the end of this block, counted from 0; the last block ends with the stated size.
+    /// The file ended before the end of this block, counted from 0. The last block ends at the size that was stated.
     SourceShort(u64),
-    /// The file could not be read within this block, counted from 0.
+    /// A read failed within this block of the file, counted from 0.
     SourceFailed(u64),
     /// This hash block could not be written to the tree's device; both are counted from 0, level 0 next to the data.
     DeviceFailed {
@@ -27,7 +27,7 @@ pub enum DigestFault {
     Memory,
 }
 
-/// The message of a fault of the file of this name: one line, with its newline. The error is out of memory.
+/// The message of a fault at the file of this name: one line, with its newline. The error is out of memory.
 pub fn digest_message(alloc: Global, fault: &DigestFault, name: &str) -> Result<String, AllocError>
     ensures { IfOk result (λ text. string_bytes text ≡ fault_text fault.now name.now) }
 {

@@ -27,9 +27,9 @@ ghost use Rattle.fsverity.specs.Runs.DigestSteps.{Roots};
 /// The digest of the first `size` bytes of a source, which are read once: the hash of the file's descriptor (Linux
 /// kernel, fs-verity page, "File digest computation").
 ///
-/// `TooLarge` where there is data and no plan for it; this and out of memory come before any read. `SourceShort` where
-/// the source holds fewer bytes, `SourceFailed` where a read fails. It is never `DeviceFailed`. An empty file takes no
-/// memory and isn't read.
+/// The error is `TooLarge` if there is data and no plan for it; this and out of memory come before any read. It is
+/// `SourceShort` if the source holds fewer bytes, `SourceFailed` if a read fails, and never `DeviceFailed`. An empty file
+/// needs no memory and isn't read.
 pub fn digest_file<S: Source>(
     alloc: Global,
     settings: &TreeSettings,
@@ -56,9 +56,8 @@ pub fn digest_file<S: Source>(
 /// written to a device in closing order, each at its place, the top level first at the device's start; an empty file
 /// has none (Linux kernel, fs-verity page, "Merkle tree").
 ///
-/// Beside the faults of `digest_file`, `DeviceFailed` where a hash block can't be written: then those that closed
-/// before it stand, and its own range is unknown. After a fault of the source the hash blocks that closed before it
-/// stand.
+/// The error is one of those of `digest_file`, or `DeviceFailed` if a hash block can't be written: what its own range
+/// then holds is unknown. After a fault the hash blocks that closed before it are on the device.
 pub fn digest_file_with_tree<S: Source, D: Device>(
     alloc: Global,
     settings: &TreeSettings,

@@ -1,4 +1,4 @@
-//! The digest of a file, and the runs over files and with output files.
+//! The digest of a file, and the runs: over files, and over one file with output files.
 
 pub(crate) mod digest;
 pub(crate) mod digest_fault;

@@ -10,20 +10,20 @@ use command_line::{tell, tell_text};
 use std::alloc::Global;
 use std::io::Write;
 
-/// Why a run over one file with output files stops, in the order in which it goes on.
+/// Why a run over one file with output files stops, in the order of its steps.
 #[derive(Clone, Copy, Debug, PartialEq, Eq)]
 pub enum OutputFault {
-    /// The file has no digest, or its tree could not be written.
+    /// The file has no digest, or its tree can't be written.
     Digest(DigestFault),
-    /// Only so many bytes of the descriptor, fewer than all, were taken.
+    /// The writer took only so many bytes of the descriptor, fewer than all.
     Descriptor(usize),
     /// The line is not printed whole.
     Line(PrintFault),
 }
 
 impl OutputFault {
-    /// Writes the message of the fault at the file of this name, as far as memory and the writer take it. The answer
-    /// says whether the writer took all of it.
+    /// Writes the message of the fault at the file of this name, as far as memory and the writer allow. The answer says
+    /// whether the writer took all of it.
     pub(crate) fn tell<W: Write>(&self, alloc: Global, name: &str, msgs: &mut W) -> bool
         ensures whole { IsTrue result
             → Appends (W.contents msgs.old) (W.contents msgs.new) (output_fault_text self.now name.now) }

@@ -9,13 +9,13 @@ use command_line::{tell, tell_pieces, tell_text};
 use std::alloc::Global;
 use std::io::Write;
 
-/// The message of a line that is not printed whole.
+/// The message for a line that is not printed whole.
 pub(crate) const OUTPUT_UNWRITTEN: &str = "fsverity: cannot write output.\n";
 
 /// Why a run over files ended at one of them.
 #[derive(Clone, Copy, Debug, PartialEq, Eq)]
 pub enum RunFault {
-    /// The file could not be opened, or its length not be found.
+    /// The file could not be opened, or its length could not be found.
     NotOpened,
     /// The file has no digest, or there was not enough memory for its line.
     Digest(DigestFault),
@@ -24,8 +24,8 @@ pub enum RunFault {
 }
 
 impl RunFault {
-    /// Writes the message of the fault at the file of this name, as far as memory and the writer take it. That a file
-    /// can't be opened is written without memory. The answer says whether the writer took all of it.
+    /// Writes the message of the fault at the file of this name, as far as memory and the writer allow. The message that
+    /// a file can't be opened needs no memory. The answer says whether the writer took all of it.
     pub(crate) fn tell<W: Write>(&self, alloc: Global, name: &str, msgs: &mut W) -> bool
         ensures whole { IsTrue result
             → Appends (W.contents msgs.old) (W.contents msgs.new) (run_fault_text self.now name.now) }

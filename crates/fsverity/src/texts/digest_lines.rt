@@ -1,4 +1,4 @@
-//! The line that is printed for a file.
+//! The line of a file.
 ghost use Rattle.std.specs.Prelude.{◌≡◌, IfOk, string_bytes};
 ghost use Rattle.hex.specs.Hex.{encode_lower};
 ghost use Rattle.verity_format.specs.FormattedDigests.{formatted};
@@ -21,9 +21,9 @@ pub enum Form {
     CompactBuiltin,
 }
 
-/// The line of a file digest, with its newline: hexadecimal digits are in lower case, and the name stands as it is
-/// given. The error is out of memory. For the forms with a formatted digest, the caller sees to an algorithm of
-/// fs-verity and a digest of its length.
+/// The line of a file digest, with its newline: hexadecimal digits are in lower case, and the name is left as it is. The
+/// error is out of memory. For the forms with a formatted digest, the algorithm must be one of fs-verity's and the
+/// digest must have its length.
 pub fn digest_line(
     alloc: Global,
     form: Form,

@@ -1,4 +1,4 @@
-//! Writing the line of a file.
+//! Printing the line of a file.
 ghost use Rattle.std.specs.Prelude.{◌≡◌, length};
 ghost use Rattle.verity_hash.specs.declared.salting.SaltRule.TheVariants.{PaddedBefore};
 ghost use Rattle.verity_plan.specs.Settings.{digest_len};
@@ -11,7 +11,7 @@ use std::alloc::Global;
 use std::io::Write;
 use verity_tree::TreeSettings;
 
-/// Makes the line of a file whole, and then writes it.
+/// Writes the line of a file, which is made whole first.
 pub(crate) fn print_line<W: Write>(
     alloc: Global,
     settings: &TreeSettings,
@@ -25,7 +25,7 @@ pub(crate) fn print_line<W: Write>(
     ensures { Prints result (line form settings.now.algorithm made.now.digest name.now)
         (W.contents out.old) (W.contents out.new) }
 {
-    // Its contract says that the settings are valid, so that the algorithm is one of fs-verity's.
+    // For the proof: its contract says that the settings are valid, so the algorithm is one of fs-verity's.
     let _valid = settings.data_block();
     print_whole(
         digest_line(alloc, form, settings.algorithm(), &made.digest, name),

@@ -1,4 +1,4 @@
-//! What is printed: the lines of digests.
+//! The lines of digests, and how they are printed.
 
 pub(crate) mod digest_lines;
 pub(crate) mod line_printing;

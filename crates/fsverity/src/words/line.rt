@@ -1,11 +1,11 @@
-//! What a command line holds.
+//! Command lines.
 ghost use Rattle.std.specs.Prelude.{◌≡◌, ◌||◌, is_some, length, option_map, option_copied, string_bytes};
 ghost use Rattle.fsverity.specs.Texts.Lines.{form_of};
 
 use crate::{DigestOptions, Form};
 use command_line::text_of;
 
-/// What a command line of `fsverity digest` holds, as copies of its own.
+/// A command line of `fsverity digest`: copies of what its words say.
 #[derive(Debug, Drop)]
 pub struct Line {
     /// The value of `--hash-alg`.
@@ -27,7 +27,7 @@ pub struct Line {
 }
 
 impl Line {
-    /// The texts of the options, as they are given, the number of files, and whether an output file is named.
+    /// The texts of the options, the number of files, and whether an output file is named.
     pub fn options(&self) -> DigestOptions<'_>
         ensures hash_alg { option_copied result.hash_alg ≡ option_map string_bytes self.now.hash_alg }
         ensures block_size { option_copied result.block_size ≡ option_map string_bytes self.now.block_size }
@@ -45,7 +45,7 @@ impl Line {
         }
     }
 
-    /// How a line looks.
+    /// The form of the lines that are printed.
     pub fn form(&self) -> Form
         ensures { result ≡ form_of self.now.compact self.now.for_builtin_sig }
     {

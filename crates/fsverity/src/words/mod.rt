@@ -1,4 +1,4 @@
-//! From the words of a command line to a line.
+//! The command line, and how its words are read.
 
 pub(crate) mod line;
 pub(crate) mod reading;

@@ -1,4 +1,4 @@
-//! The words of a command line, read by clap.
+//! Reading the words of a command line by clap.
 ghost use Rattle.std.specs.Prelude.{◌≡◌, [], IfOk, IfErr, map, true};
 ghost use Rattle.clap.specs.Words.{fault_of, found_of, rows_of, subcommand_of, takes};
 ghost use Rattle.clap.specs.declared.Command.TheViews.{out-Command as fields_of};
@@ -16,6 +16,7 @@ pub(crate) const USAGE: &str = "fsverity digest [--hash-alg NAME] [--block-size 
            [--compact] [--for-builtin-sig] [--out-merkle-tree FILE]
            [--out-descriptor FILE] FILE...";
 
+/// The command `digest`, as clap defines it.
 fn digest_command<'a>(alloc: Global) -> Result<Command<'a>, AllocError>
     ensures { IfOk result (Defines digest_app) }
 {
@@ -31,6 +32,7 @@ fn digest_command<'a>(alloc: Global) -> Result<Command<'a>, AllocError>
         .arg(positionals(alloc, "files"))
 }
 
+/// The program, as clap defines it.
 fn command<'a>(alloc: Global) -> Result<Command<'a>, AllocError>
     ensures defined { IfOk result (Defines fsverity_app) }
     ensures required { IfOk result (λ c. (fields_of c).subcommand_required ≡ true) }
@@ -40,6 +42,7 @@ fn command<'a>(alloc: Global) -> Result<Command<'a>, AllocError>
         .subcommand(digest_command(alloc)?)
 }
 
+/// Copies what clap found in a line. The error is out of memory.
 fn line_of(alloc: Global, matches: &ArgMatches<'_>) -> Result<Line, AllocError>
     ensures { IfOk result (HoldsRows (rows_of (found_of matches.now))) }
 {
@@ -55,10 +58,10 @@ fn line_of(alloc: Global, matches: &ArgMatches<'_>) -> Result<Line, AllocError>
     })
 }
 
-/// Reads the words of a command line, the program's name first: `fsverity digest`, its options, each once, and the
-/// names of the files (fsverity(1)). What clap refuses, also if clap itself has no memory, is `Refused`, with clap's
-/// text; the help flag and the help command are switched off. `Memory` means that clap takes the line, and that there
-/// is no memory for the copies of its words.
+/// Reads the words of a command line, the program's name first: `fsverity digest`, its options, each at most once, and
+/// the names of the files (fsverity(1)). The error is `Refused`, with clap's text, if clap refuses the line or itself
+/// has no memory, and `Memory` if clap accepts the line and there is no memory for the copies of its words. The help
+/// flag and the help command are switched off.
 pub fn read_words(alloc: Global, words: &[&str]) -> Result<Line, LineFault>
     ensures holds { IfOk result (HoldsCommand (subcommand_of fsverity_app (map (λ w. w.now) words.now))) }
     ensures only { IfOk result (λ _. fault_of fsverity_app (map (λ w. w.now) words.now) ≡ []) }
