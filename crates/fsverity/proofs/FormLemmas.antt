@@ -26,7 +26,7 @@ fits_form Compact a digest known whole = tt
 fits_form Builtin a digest known whole = (has_number a known, whole)
 fits_form CompactBuiltin a digest known whole = (has_number a known, whole)
 
--- nothing was written
-pub kept : (held : Option (List ℕ)) → Keeps held held
-kept None = tt
-kept (Some bytes) = refl
+-- a writer keeps what it holds if nothing was written
+pub Keeps-same : (held : Option (List ℕ)) → Keeps held held
+Keeps-same None = tt
+Keeps-same (Some bytes) = refl

@@ -33,8 +33,8 @@ pub record SameFiles {O : Type 0} (tells : O → Type 0) (files_of : O → List 
   pub count : count_of new ≡ count_of old
 
 -- the file of this index is there, with this length and these bytes
-abbrev pub IsSuch : List (Option (List ℕ)) → ℕ → ℕ → List ℕ → Type 0
-IsSuch files i len bytes = (slice_get files i ≡ Some (Some bytes)) × (len ≡ length bytes)
+abbrev pub IsFileAt : List (Option (List ℕ)) → ℕ → ℕ → List ℕ → Type 0
+IsFileAt files i len bytes = (slice_get files i ≡ Some (Some bytes)) × (len ≡ length bytes)
 
 -- the count stays if a file is opened, and otherwise rises by one at most
 abbrev pub CountsOpening : {X : Type 0} → ℕ → ℕ → Result X Failed → Type 0

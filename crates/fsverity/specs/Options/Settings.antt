@@ -1,5 +1,5 @@
--- The settings that the options of `fsverity digest` give (fsverity(1), "fsverity digest"; Linux kernel, fs-verity page,
--- "FS_IOC_ENABLE_VERITY"). Without options they are SHA-256, blocks of 4096 bytes and no salt.
+-- The settings that the options of `fsverity digest` give (fsverity(1), "fsverity digest"; Linux kernel, fs-verity
+-- page, "FS_IOC_ENABLE_VERITY"). Without options they are SHA-256, blocks of 4096 bytes and no salt.
 use Rattle.std.specs.Prelude.{ℕ, ◌&&◌, Bool, nat_lt, List, [], Option, Some, None, Result, Ok, Err, unwrap_or, option_and_then, if◌then◌else◌}
 use Rattle.verity_hash.specs.Algorithms.{digest_len_of}
 use Rattle.verity_hash.specs.declared.algorithm.Algorithm.{Algorithm}
@@ -9,31 +9,31 @@ use Rattle.command_line.specs.Options.{algorithm_or_default, default_block_size,
 use Rattle.fsverity.specs.declared.options.option_fault.FsOptionFault.{FsOptionFault}
 use Rattle.fsverity.specs.declared.options.option_fault.FsOptionFault.TheVariants.{UnknownHash, BadBlockSize, BadSalt, OneFileOnly}
 
--- an algorithm that fs-verity knows
-abbrev pub known : Algorithm → Option Algorithm
-known algorithm = if is_of_fsverity algorithm then Some algorithm else None
+-- the algorithm itself, if fs-verity has it
+abbrev pub algorithm_of_fsverity : Algorithm → Option Algorithm
+algorithm_of_fsverity algorithm = if is_of_fsverity algorithm then Some algorithm else None
 
 -- the algorithm of this name, by default SHA-256; none if fs-verity doesn't have it
 abbrev pub algorithm_of : Option (List ℕ) → Option Algorithm
-algorithm_of name = option_and_then known (algorithm_or_default name)
+algorithm_of name = option_and_then algorithm_of_fsverity (algorithm_or_default name)
 
--- a block size within the limits
-abbrev pub within_limits : Algorithm → ℕ → Option ℕ
-within_limits algorithm size =
+-- the block size itself, if it is within the limits
+abbrev pub size_within_limits : Algorithm → ℕ → Option ℕ
+size_within_limits algorithm size =
     if is_block_size (least_block PaddedBefore (digest_len_of algorithm)) size then Some size else None
 
 -- the block size of these digits, by default 4096; none outside the limits
 abbrev pub block_size_of : Algorithm → Option (List ℕ) → Option ℕ
-block_size_of algorithm None = within_limits algorithm default_block_size
-block_size_of algorithm (Some digits) = option_and_then (within_limits algorithm) (number_of digits)
+block_size_of algorithm None = size_within_limits algorithm default_block_size
+block_size_of algorithm (Some digits) = option_and_then (size_within_limits algorithm) (number_of digits)
 
 -- the salt of these digits, by default empty; none if they are no salt of fs-verity
 abbrev pub salt_bytes_of : Option (List ℕ) → Option (List ℕ)
 salt_bytes_of text = salt_of (most_salt PaddedBefore) (unwrap_or text [])
 
--- the settings, where no output file is named, or no more than one input file
-abbrev pub for_files : ℕ → Bool → Settings → Result Settings FsOptionFault
-for_files files out_files s = if out_files && nat_lt 1 files then Err OneFileOnly else Ok s
+-- the settings, if no output file is named or there is only one input file
+abbrev pub settings_for_files : ℕ → Bool → Settings → Result Settings FsOptionFault
+settings_for_files files out_files s = if out_files && nat_lt 1 files then Err OneFileOnly else Ok s
 
 -- the settings, or the first option that is refused, for so many input files and for an output file or none
 abbrev pub fs_settings : Option (List ℕ) → Option (List ℕ) → Option (List ℕ) → ℕ → Bool → Result Settings FsOptionFault
@@ -41,5 +41,5 @@ fs_settings hash_alg block_size salt files out_files =
     or_fault (algorithm_of hash_alg) UnknownHash (λ algorithm.
     or_fault (block_size_of algorithm block_size) BadBlockSize (λ block.
     or_fault (salt_bytes_of salt) BadSalt (λ bytes.
-    for_files files out_files
+    settings_for_files files out_files
     (record { algorithm = algorithm; rule = PaddedBefore; salt = bytes; data_block = block; hash_block = block }))))

@@ -6,7 +6,7 @@ use Rattle.std.specs.Io.KnownBytes.{Appends}
 use Rattle.command_line.specs.Printing.{AppendsFront}
 use Rattle.verity_io.specs.Counting.{Counts, Rose}
 use Rattle.verity_plan.specs.Settings.{Settings}
-use Rattle.fsverity.specs.Runs.FileDigest.{file_digest_of, is_too_large}
+use Rattle.fsverity.specs.Runs.FileDigest.{fault_of_source, file_digest_of, is_too_large}
 use Rattle.fsverity.specs.Texts.Lines.{line}
 use Rattle.fsverity.specs.Texts.Messages.{fault_text}
 use Rattle.fsverity.specs.Openers.Opening.{OpenerChange}
@@ -20,9 +20,9 @@ abbrev pub has_digest : Settings → Option (List ℕ) → Bool
 has_digest s None = false
 has_digest s (Some bytes) = not (is_too_large s (length bytes))
 
--- the first file that is absent or too large, or the number of files
-abbrev pub stop : Settings → List (Option (List ℕ)) → ℕ
-stop s files = prefix_len (has_digest s) files
+-- the index of the first file that is absent or too large, or the number of files if there is none
+abbrev pub first_refused : Settings → List (Option (List ℕ)) → ℕ
+first_refused s files = prefix_len (has_digest s) files
 
 -- a file's line, and nothing for one that is absent or too large
 abbrev pub file_line : Settings → Form → List ℕ → Option (List ℕ) → List ℕ
@@ -42,28 +42,28 @@ run_fault_text NotWritten name = codes "fsverity: cannot write output.\n"
 
 -- the file of this index is there, and too large
 abbrev pub IsLargeAt : Settings → List (Option (List ℕ)) → ℕ → Type 0
-IsLargeAt s files f = (bytes : List ℕ) × (slice_get files f ≡ Some (Some bytes)) × (is_too_large s (length bytes) ≡ true)
+IsLargeAt s files f =
+    (bytes : List ℕ) × (slice_get files f ≡ Some (Some bytes)) × (is_too_large s (length bytes) ≡ true)
 
 -- why a run ends at file f: it is absent and nothing before it was, or a count rose; it is there and too large; it was
--- short, which a told file isn't; or memory, a read or the writer failed, which is said only of a file that is there and
--- not too large. There is no device
+-- short, which a told file isn't; or memory, a read or the writer failed, which happens only at a file that is there
+-- and not too large. There is no device
 abbrev pub HasReason : Settings → OpenerChange → ℕ → RunFault → Type 0
 HasReason s opener f NotOpened =
-    (opener.told × (slice_get opener.files f ≡ Some None) × (stop s opener.files ≡ f))
+    (opener.told × (slice_get opener.files f ≡ Some None) × (first_refused s opener.files ≡ f))
     ⊎ Rose opener.failures_before opener.failures_after
-HasReason s opener f (Digest TooLarge) = opener.told → IsLargeAt s opener.files f × (stop s opener.files ≡ f)
+HasReason s opener f (Digest TooLarge) = opener.told → IsLargeAt s opener.files f × (first_refused s opener.files ≡ f)
 HasReason s opener f (Digest (SourceShort i)) = opener.told → ⊥
 HasReason s opener f (Digest (SourceFailed i)) =
-    (opener.told → f < stop s opener.files) × Rose opener.failures_before opener.failures_after
+    (opener.told → f < first_refused s opener.files) × Rose opener.failures_before opener.failures_after
 HasReason s opener f (Digest (DeviceFailed level block)) = ⊥
-HasReason s opener f (Digest Memory) = opener.told → f < stop s opener.files
-HasReason s opener f NotWritten = opener.told → f < stop s opener.files
+HasReason s opener f (Digest Memory) = opener.told → f < first_refused s opener.files
+HasReason s opener f NotWritten = opener.told → f < first_refused s opener.files
 
 -- what is written of the file's line: its first bytes if it could not be written whole, and otherwise nothing
 abbrev pub StandsOf : List ℕ → List ℕ → RunFault → Type 0
-StandsOf whole part NotOpened = part ≡ []
-StandsOf whole part (Digest fault) = part ≡ []
 StandsOf whole part NotWritten = (k : ℕ) × (part ≡ take k whole)
+StandsOf whole part fault = part ≡ []
 
 -- what a run gets beside its files: the settings, the form of the lines, and the files' names
 pub record Run : Type 0 where
@@ -80,15 +80,11 @@ pub record WritesUpTo (run : Run) (files : List (Option (List ℕ))) (f : ℕ) (
   pub stands : StandsOf (file_line run.settings run.form (slice_index_or run.names f []) file) part fault
   pub written : Appends old new (lines run.settings run.form (take f (zip run.names files)) ++ part)
 
--- how the opener's count goes with a fault: a failed read raises it by one, and only a file that is not opened may raise
--- it too
+-- how the opener's count changes with a fault: a failed read raises it by one, and otherwise only a file that is not
+-- opened may raise it
 abbrev pub CountsFault : RunFault → ℕ → ℕ → Type 0
 CountsFault NotOpened before after = before ≤ after
-CountsFault (Digest TooLarge) before after = Counts false before after
-CountsFault (Digest (SourceShort i)) before after = Counts false before after
-CountsFault (Digest (SourceFailed i)) before after = Counts true before after
-CountsFault (Digest (DeviceFailed level block)) before after = Counts false before after
-CountsFault (Digest Memory) before after = Counts false before after
+CountsFault (Digest fault) before after = Counts (fault_of_source fault) before after
 CountsFault NotWritten before after = Counts false before after
 
 -- a run ended at file f, the next one is after it, and no file before it is absent or too large
@@ -97,7 +93,7 @@ pub record EndsAt (run : Run) (opener : OpenerChange) (out out' msgs msgs' : Opt
   pub fault : RunFault
   pub has_name : f < length run.names
   pub is_next : opener.next_after ≡ f + 1
-  pub within : opener.told → f ≤ stop run.settings opener.files
+  pub within : opener.told → f ≤ first_refused run.settings opener.files
   pub reason : HasReason run.settings opener f fault
   pub counted : CountsFault fault opener.failures_before opener.failures_after
   pub message : AppendsFront (run_fault_text fault (slice_index_or run.names f [])) msgs msgs'

@@ -17,13 +17,13 @@ use Rattle.fsverity.specs.declared.runs.run_fault.RunFault.{RunFault}
 use Rattle.fsverity.specs.declared.runs.run_fault.RunFault.TheVariants as fault
 
 -- the root hash for the first size bytes of a source, and how much was read
-abbrev pub Roots : Settings → ℕ → Result Digest DigestFault → List ℕ → List ℕ → Type 0
-Roots s size result before after = MatchResult result
+abbrev pub GivesRoot : Settings → ℕ → Result Digest DigestFault → List ℕ → List ℕ → Type 0
+GivesRoot s size result before after = MatchResult result
     (λ root. (root ≡ root_of_file s size before) × HasRead size before after) (FaultsIn s size before after)
 
 -- the file of this index is there, and not too large
-abbrev pub HasOneAt : Settings → List (Option (List ℕ)) → ℕ → Type 0
-HasOneAt s files f = (bytes : List ℕ) × (slice_get files f ≡ Some (Some bytes)) × (has_digest s (Some bytes) ≡ true)
+abbrev pub HasDigestAt : Settings → List (Option (List ℕ)) → ℕ → Type 0
+HasDigestAt s files f = (bytes : List ℕ) × (slice_get files f ≡ Some (Some bytes)) × (has_digest s (Some bytes) ≡ true)
 
 -- why a step ends the run at the file that was next
 abbrev pub StopsStep : Settings → OpenerChange → RunFault → Type 0
@@ -33,10 +33,10 @@ StopsStep s opener fault.NotOpened =
 StopsStep s opener (fault.Digest TooLarge) = opener.told → IsLargeAt s opener.files opener.next_before
 StopsStep s opener (fault.Digest (SourceShort i)) = opener.told → ⊥
 StopsStep s opener (fault.Digest (SourceFailed i)) =
-    (opener.told → HasOneAt s opener.files opener.next_before) × Rose opener.failures_before opener.failures_after
+    (opener.told → HasDigestAt s opener.files opener.next_before) × Rose opener.failures_before opener.failures_after
 StopsStep s opener (fault.Digest (DeviceFailed level block)) = ⊥
-StopsStep s opener (fault.Digest Memory) = opener.told → HasOneAt s opener.files opener.next_before
-StopsStep s opener fault.NotWritten = opener.told → HasOneAt s opener.files opener.next_before
+StopsStep s opener (fault.Digest Memory) = opener.told → HasDigestAt s opener.files opener.next_before
+StopsStep s opener fault.NotWritten = opener.told → HasDigestAt s opener.files opener.next_before
 
 -- the digest of the file of this index, which has one
 pub record IsDigestAt (s : Settings) (files : List (Option (List ℕ))) (i : ℕ) (made : FileDigest) : Type 0 where

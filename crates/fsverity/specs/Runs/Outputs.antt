@@ -1,13 +1,13 @@
 -- A run of `fsverity digest` over one file with output files (fsverity(1), "--out-merkle-tree", "--out-descriptor"):
 -- the tree, then the descriptor, then the line. Nothing that comes after the first fault is written.
-use Rattle.std.specs.Prelude.{◌≡◌, ◌↔◌, ℕ, ◌<◌, Bool, true, false, List, [], length, take, codes, Option, Result, Ok, Err, IsTrue}
+use Rattle.std.specs.Prelude.{◌≡◌, ◌↔◌, ℕ, ◌<◌, Bool, MatchBool, List, [], length, take, codes, Option, Result, Ok, Err, IsTrue}
 use Rattle.std.specs.Io.KnownBytes.{Appends, Keeps}
 use Rattle.command_line.specs.Printing.{AppendsFront, Prints}
 use Rattle.verity_format.specs.Descriptors.{descriptor_text, digest_of_file}
 use Rattle.verity_io.specs.Counting.{Change, Counts}
 use Rattle.verity_io.specs.Reading.{HasRead}
 use Rattle.verity_plan.specs.Settings.{Settings}
-use Rattle.fsverity.specs.Runs.FileDigest.{FaultsIn, Stands, described, device_failed, is_too_large, root_of_file, source_failed, with_tree}
+use Rattle.fsverity.specs.Runs.FileDigest.{FaultsIn, Stands, descriptor_of, device_failed, is_too_large, root_of_file, source_failed, with_tree}
 use Rattle.fsverity.specs.Texts.Lines.{line}
 use Rattle.fsverity.specs.Texts.Messages.{fault_text}
 use Rattle.fsverity.specs.declared.runs.digest_fault.DigestFault.{DigestFault}
@@ -39,15 +39,15 @@ output_task settings form name size wants_tree wants_descriptor = record {
 }
 
 -- what the writers of the descriptor and the line hold before and after, if that is known
-pub record Written : Type 0 where
+pub record OutputChange : Type 0 where
   pub descriptor_before : Option (List ℕ)
   pub descriptor_after : Option (List ℕ)
   pub out_before : Option (List ℕ)
   pub out_after : Option (List ℕ)
 
--- what these readers of their contents say of them before and after
-abbrev pub written : {W O : Type 0} → (W → Option (List ℕ)) → (O → Option (List ℕ)) → W → W → O → O → Written
-written descriptor_contents out_contents descriptor_old descriptor_new out_old out_new = record {
+-- what these functions, which read the contents of a writer, say of them before and after
+abbrev pub output_change : {W O : Type 0} → (W → Option (List ℕ)) → (O → Option (List ℕ)) → W → W → O → O → OutputChange
+output_change descriptor_contents out_contents descriptor_old descriptor_new out_old out_new = record {
   descriptor_before = descriptor_contents descriptor_old;
   descriptor_after = descriptor_contents descriptor_new;
   out_before = out_contents out_old;
@@ -55,8 +55,8 @@ written descriptor_contents out_contents descriptor_old descriptor_new out_old o
 }
 
 -- the same, and what the writer of the messages holds
-pub record Texts : Type 0 where
-  pub written : Written
+pub record WriterChange : Type 0 where
+  pub outputs : OutputChange
   pub msgs_before : Option (List ℕ)
   pub msgs_after : Option (List ℕ)
 
@@ -82,16 +82,9 @@ message_of (Ok done) name = []
 message_of (Err fault) name = output_fault_text fault name
 
 -- the digest's part of an outcome
-abbrev pub digested : Outcome → Result (Unit {0}) DigestFault
-digested (Ok done) = Ok tt
-digested (Err (Digest fault)) = Err fault
-digested (Err (Descriptor taken)) = Ok tt
-digested (Err (Line fault)) = Ok tt
-
--- what was made, where it is wanted, and else what was kept
-abbrev pub Wanted : Bool → Type 0 → Type 0 → Type 0
-Wanted true made kept = made
-Wanted false made kept = kept
+abbrev pub digest_result : Outcome → Result (Unit {0}) DigestFault
+digest_result (Err (Digest fault)) = Err fault
+digest_result outcome = Ok tt
 
 -- how much was read of the source: once there is a digest, all of the file
 abbrev pub Reads : OutputTask → Result (Unit {0}) DigestFault → List ℕ → List ℕ → Type 0
@@ -101,18 +94,18 @@ Reads task (Err fault) before after = FaultsIn task.settings task.size before af
 -- what the tree's device holds for these bytes of the source; it stays if no tree is wanted
 abbrev pub WritesTree : OutputTask → List ℕ → Result (Unit {0}) DigestFault → List ℕ → List ℕ → Type 0
 WritesTree task bytes result before after =
-    Wanted task.wants_tree (Stands task.settings task.size bytes result before after) (after ≡ before)
+    MatchBool task.wants_tree (Stands task.settings task.size bytes result before after) (after ≡ before)
 
 -- the descriptor with this root hash is added if it is wanted
 abbrev pub AddsDescriptor : OutputTask → List ℕ → Option (List ℕ) → Option (List ℕ) → Type 0
-AddsDescriptor task root before after = Wanted task.wants_descriptor
-    (Appends before after (descriptor_text (described task.settings task.size root))) (Keeps before after)
+AddsDescriptor task root before after = MatchBool task.wants_descriptor
+    (Appends before after (descriptor_text (descriptor_of task.settings task.size root))) (Keeps before after)
 
 -- only this many of its first bytes are added
 abbrev pub AddsPart : OutputTask → List ℕ → ℕ → Option (List ℕ) → Option (List ℕ) → Type 0
-AddsPart task root taken before after = Wanted task.wants_descriptor
-    ((taken < length (descriptor_text (described task.settings task.size root)))
-    × Appends before after (take taken (descriptor_text (described task.settings task.size root)))) ⊥
+AddsPart task root taken before after = MatchBool task.wants_descriptor
+    ((taken < length (descriptor_text (descriptor_of task.settings task.size root)))
+    × Appends before after (take taken (descriptor_text (descriptor_of task.settings task.size root)))) ⊥
 
 -- what is added to the descriptor's writer
 abbrev pub WritesDescriptor : OutputTask → List ℕ → Outcome → Option (List ℕ) → Option (List ℕ) → Type 0
@@ -122,19 +115,19 @@ WritesDescriptor task root (Err (Descriptor taken)) before after = AddsPart task
 WritesDescriptor task root (Err (Line fault)) before after = AddsDescriptor task root before after
 
 -- the line for this root hash
-abbrev pub line_of : OutputTask → List ℕ → List ℕ
-line_of task root =
-    line task.form task.settings.algorithm (digest_of_file (described task.settings task.size root)) task.name
+abbrev pub line_of_root : OutputTask → List ℕ → List ℕ
+line_of_root task root =
+    line task.form task.settings.algorithm (digest_of_file (descriptor_of task.settings task.size root)) task.name
 
 -- what is added to out: the line, or only its first bytes if a write fails
 abbrev pub PrintsLine : OutputTask → List ℕ → Outcome → Option (List ℕ) → Option (List ℕ) → Type 0
-PrintsLine task root (Ok done) before after = Prints (Ok tt) (line_of task root) before after
+PrintsLine task root (Ok done) before after = Prints (Ok tt) (line_of_root task root) before after
 PrintsLine task root (Err (Digest fault)) before after = Keeps before after
 PrintsLine task root (Err (Descriptor taken)) before after = Keeps before after
-PrintsLine task root (Err (Line fault)) before after = Prints (Err fault) (line_of task root) before after
+PrintsLine task root (Err (Line fault)) before after = Prints (Err fault) (line_of_root task root) before after
 
 -- the descriptor and the line have one root hash, which is the file's if the source tells its bytes
-pub record WritesTexts (task : OutputTask) (outcome : Outcome) (told : Type 0) (bytes : List ℕ) (texts : Written)
+pub record WritesTexts (task : OutputTask) (outcome : Outcome) (told : Type 0) (bytes : List ℕ) (texts : OutputChange)
     : Type 0 where
   pub root : List ℕ
   pub root_is : told → root ≡ root_of_file task.settings task.size bytes
@@ -142,23 +135,23 @@ pub record WritesTexts (task : OutputTask) (outcome : Outcome) (told : Type 0) (
   pub printed : PrintsLine task root outcome texts.out_before texts.out_after
 
 -- a run: one outcome says what became of the source, the tree's device and the writers
-pub record OutputRun (task : OutputTask) (status : ℕ) (source tree : Change) (texts : Texts) : Type 0 where
+pub record OutputRun (task : OutputTask) (status : ℕ) (source tree : Change) (texts : WriterChange) : Type 0 where
   pub outcome : Outcome
   pub status_is : status ≡ status_of outcome
-  pub too_large : (digested outcome ≡ Err TooLarge) ↔ IsTrue (is_too_large task.settings task.size)
-  pub read : source.told → Reads task (digested outcome) source.before source.after
-  pub stands : source.told → tree.told → WritesTree task source.before (digested outcome) tree.before tree.after
-  pub texts_written : WritesTexts task outcome source.told source.before texts.written
+  pub too_large : (digest_result outcome ≡ Err TooLarge) ↔ IsTrue (is_too_large task.settings task.size)
+  pub read : source.told → Reads task (digest_result outcome) source.before source.after
+  pub stands : source.told → tree.told → WritesTree task source.before (digest_result outcome) tree.before tree.after
+  pub texts_written : WritesTexts task outcome source.told source.before texts.outputs
   pub message : AppendsFront (message_of outcome task.name) texts.msgs_before texts.msgs_after
-  pub source_counted : Counts (source_failed (digested outcome)) source.failures_before source.failures_after
-  pub tree_counted : Counts (device_failed (digested outcome)) tree.failures_before tree.failures_after
+  pub source_counted : Counts (source_failed (digest_result outcome)) source.failures_before source.failures_after
+  pub tree_counted : Counts (device_failed (digest_result outcome)) tree.failures_before tree.failures_after
 
 -- what status 0 means: the file was read once, and what is wanted is written
-pub record IsWritten (task : OutputTask) (source tree : Change) (texts : Written) : Type 0 where
+pub record IsWritten (task : OutputTask) (source tree : Change) (texts : OutputChange) : Type 0 where
   pub read : HasRead task.size source.before source.after
-  pub stands : tree.told → Wanted task.wants_tree
+  pub stands : tree.told → MatchBool task.wants_tree
       (tree.after ≡ with_tree task.settings task.size source.before tree.before) (tree.after ≡ tree.before)
   pub descriptor : AddsDescriptor task (root_of_file task.settings task.size source.before)
       texts.descriptor_before texts.descriptor_after
   pub printed : Appends texts.out_before texts.out_after
-      (line_of task (root_of_file task.settings task.size source.before))
+      (line_of_root task (root_of_file task.settings task.size source.before))

@@ -3,7 +3,7 @@ ghost use Rattle.std.specs.Prelude.{◌≡◌, ◌≤◌, ◌+◌, ◌<◌, min,
 ghost use Rattle.verity_io.specs.Counting.{last_count};
 ghost use Rattle.verity_io.specs.Fusing.{fused_failures, fused_inner};
 ghost use Rattle.fsverity.specs.Openers.FusedOpeners.{opener_call, opener_failures, opener_within, StartsFused};
-ghost use Rattle.fsverity.specs.Openers.Opening.{CountsOpening, FailsFor, IsSuch, SameFiles};
+ghost use Rattle.fsverity.specs.Openers.Opening.{CountsOpening, FailsFor, IsFileAt, SameFiles};
 
 use crate::openers::opener::Opener;
 use verity_tree::{Failed, Fused};
@@ -53,7 +53,7 @@ impl<O: Opener> Opener for FusedOpener<O> {
         ensures same { SameFiles O.tells O.files O.count (opener_within self.old) (opener_within self.new) }
         ensures fresh { IfOk result (λ opened. fused_failures opened.1 ≡ 0) }
         ensures ok { O.tells (opener_within self.old) → IfOk result (λ opened.
-            O.Stream.tells (fused_inner opened.1) × IsSuch (O.files (opener_within self.old))
+            O.Stream.tells (fused_inner opened.1) × IsFileAt (O.files (opener_within self.old))
             (O.next (opener_within self.old)) opened.0 (O.Stream.remaining (fused_inner opened.1))) }
         ensures failures { CountsOpening (opener_failures self.old) (opener_failures self.new) result }
         ensures failed { OnErr result (FailsFor (O.tells (opener_within self.old)) (O.files (opener_within self.old))

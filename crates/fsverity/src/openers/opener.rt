@@ -1,7 +1,7 @@
 //! Openers, which open files one after another.
 ghost use Rattle.std.specs.Prelude.{◌≡◌, ◌≤◌, ◌+◌, ◌<◌, ℕ, List, Option, length, min, IfOk, OnErr};
 ghost use Rattle.verity_io.specs.Counting.{last_count};
-ghost use Rattle.fsverity.specs.Openers.Opening.{CountsOpening, FailsFor, IsSuch, SameFiles};
+ghost use Rattle.fsverity.specs.Openers.Opening.{CountsOpening, FailsFor, IsFileAt, SameFiles};
 
 use verity_tree::{Failed, Source};
 
@@ -35,7 +35,7 @@ pub trait Opener {
         ensures fresh { IfOk result (λ opened. Self.Stream.failures opened.1 ≡ 0) }
         ensures ok { tells self.old → IfOk result (λ opened.
             Self.Stream.tells opened.1
-            × IsSuch (files self.old) (next self.old) opened.0 (Self.Stream.remaining opened.1)) }
+            × IsFileAt (files self.old) (next self.old) opened.0 (Self.Stream.remaining opened.1)) }
         ensures failures { CountsOpening (failures self.old) (failures self.new) result }
         ensures failed { OnErr result (FailsFor (tells self.old) (files self.old) (next self.old)
             (failures self.old) (failures self.new)) };

@@ -57,20 +57,20 @@ fn given_line<R: Env + AllocGlobal, M: Write>(rt: &R, msgs: &mut M) -> Result<Li
 {
     let words = match given_words(rt) {
         Ok(words) => words,
-        Err(fault) => return Err(refused_words(rt.alloc(), &fault, msgs)),
+        Err(fault) => return Err(refuse_words(rt.alloc(), &fault, msgs)),
     };
     let Ok(texts) = texts_of(rt.alloc(), words.as_slice()) else {
-        return Err(end(FAILED, OUT_OF_MEMORY, msgs));
+        return Err(stop_with(FAILED, OUT_OF_MEMORY, msgs));
     };
     match read_words(rt.alloc(), texts.as_slice()) {
         Ok(line) => Ok(line),
-        Err(fault) => Err(refused_line(&fault, msgs)),
+        Err(fault) => Err(refuse_line(&fault, msgs)),
     }
 }
 
-/// Says why the words of the command line can't be read: one is not UTF-8, or there is no memory for them. The answer is
-/// the status.
-fn refused_words<M: Write>(alloc: Global, fault: &WordsFault, msgs: &mut M) -> u8
+/// Says why the words of the command line can't be read: one is not UTF-8, or there is no memory for them. The answer
+/// is the status.
+fn refuse_words<M: Write>(alloc: Global, fault: &WordsFault, msgs: &mut M) -> u8
     ensures status { result ≡ words_status fault.now }
     ensures refusal { (result ≡ 1) ⊎ (result ≡ 2) }
     ensures message { AppendsFront (words_text fault.now) (M.contents msgs.old) (M.contents msgs.new) }
@@ -80,20 +80,20 @@ fn refused_words<M: Write>(alloc: Global, fault: &WordsFault, msgs: &mut M) -> u
             tell(not_text_message(alloc, *number, word.as_slice()), msgs);
             REFUSED
         }
-        WordsFault::Memory => end(FAILED, OUT_OF_MEMORY, msgs),
+        WordsFault::Memory => stop_with(FAILED, OUT_OF_MEMORY, msgs),
     }
 }
 
 /// Says why the command line is refused, with `clap`'s text and the usage, or that there is no memory for the copies of
 /// its words. The answer is the status.
-fn refused_line<M: Write>(fault: &LineFault, msgs: &mut M) -> u8
+fn refuse_line<M: Write>(fault: &LineFault, msgs: &mut M) -> u8
     ensures status { (result ≡ 1) ⊎ (result ≡ 2) }
     ensures memory { IsMemory fault.now → (result ≡ 1)
         × AppendsFront (codes "fsverity: out of memory.\n") (M.contents msgs.old) (M.contents msgs.new) }
     ensures refused { (IsMemory fault.now → ⊥) → result ≡ 2 }
 {
     if fault.is_memory() {
-        return end(FAILED, OUT_OF_MEMORY, msgs);
+        return stop_with(FAILED, OUT_OF_MEMORY, msgs);
     }
     fault.tell(USAGE, msgs);
     REFUSED
@@ -115,10 +115,10 @@ fn run_line<R: Identities + Onlooker + AllocGlobal, O: Write, M: Write>(
 {
     let settings = match digest_settings(&line.options()) {
         Ok(settings) => settings,
-        Err(fault) => return end(REFUSED, option_message(&fault), msgs),
+        Err(fault) => return stop_with(REFUSED, option_message(&fault), msgs),
     };
     let Ok(names) = texts_of(rt.alloc(), line.files.as_slice()) else {
-        return end(FAILED, OUT_OF_MEMORY, msgs);
+        return stop_with(FAILED, OUT_OF_MEMORY, msgs);
     };
     let null_files = NullFiles::open(rt);
     if !null_files.are_open() {
@@ -160,7 +160,7 @@ pub(crate) fn cannot_open<M: Write>(alloc: Global, name: &str, msgs: &mut M) -> 
 }
 
 /// Writes a message, as far as the writer takes it. The answer is the status.
-fn end<M: Write>(status: u8, message: &str, msgs: &mut M) -> u8
+fn stop_with<M: Write>(status: u8, message: &str, msgs: &mut M) -> u8
     ensures status { result ≡ status }
     ensures message { AppendsFront message.now (M.contents msgs.old) (M.contents msgs.new) }
 {

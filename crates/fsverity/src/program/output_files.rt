@@ -42,9 +42,9 @@ pub(crate) struct OutputFiles<F> {
 }
 
 impl<F> OutputFiles<F> {
-    /// Opens the output files, the tree's and then the descriptor's: each is created or truncated. The error is the name
-    /// of the first that is refused. Nobody loses a file that is named twice: if the system says that an output file is
-    /// the input file or the other output file, it is refused before anything is truncated. So is a folder.
+    /// Opens the output files, the tree's and then the descriptor's: each is created or truncated. The error is the
+    /// name of the first that is refused. Nobody loses a file that is named twice: if the system says that an output
+    /// file is the input file or the other output file, it is refused before anything is truncated. So is a folder.
     pub(crate) fn open<'a, R: Identities<File = F>>(
         rt: &R,
         input: &F,
@@ -57,7 +57,7 @@ impl<F> OutputFiles<F> {
         if let Some(name) = folder_among(rt, names) {
             return Err(name);
         }
-        if let Some(name) = named_twice(rt, input, names) {
+        if let Some(name) = file_named_twice(rt, input, names) {
             return Err(name);
         }
         let tree = open_output(rt, names.tree)?;
@@ -94,7 +94,7 @@ fn leads_to_folder<R: Files>(rt: &R, name: Option<&str>) -> bool {
 }
 
 /// The name of the first output file that is the input file or the other output file, as the system says.
-fn named_twice<'a, R: Identities>(
+fn file_named_twice<'a, R: Identities>(
     rt: &R,
     input: &R::File,
     names: OutputNames<'a>,

@@ -20,16 +20,16 @@ pub struct FileDigest {
 
 ghost use Rattle.verity_plan.specs.Settings.{digest_len};
 ghost use Rattle.verity_io.specs.Counting.{Counts};
-ghost use Rattle.fsverity.specs.Runs.FileDigest.{Digests, ComesFirst, IsDescribed, IsDescribedBy, Stands};
+ghost use Rattle.fsverity.specs.Runs.FileDigest.{GivesDigest, ComesFirst, IsDigestOfSource, IsDigestOfRoot, Stands};
 ghost use Rattle.fsverity.specs.Runs.FileDigest.{device_failed, is_too_large, source_failed};
-ghost use Rattle.fsverity.specs.Runs.DigestSteps.{Roots};
+ghost use Rattle.fsverity.specs.Runs.DigestSteps.{GivesRoot};
 
 /// The digest of the first `size` bytes of a source, which are read once: the hash of the file's descriptor (Linux
 /// kernel, fs-verity page, "File digest computation").
 ///
 /// The error is `TooLarge` if there is data and no plan for it; this and out of memory come before any read. It is
-/// `SourceShort` if the source holds fewer bytes, `SourceFailed` if a read fails, and never `DeviceFailed`. An empty file
-/// needs no memory and isn't read.
+/// `SourceShort` if the source holds fewer bytes, `SourceFailed` if a read fails, and never `DeviceFailed`. An empty
+/// file needs no memory and isn't read.
 pub fn digest_file<S: Source>(
     alloc: Global,
     settings: &TreeSettings,
@@ -42,12 +42,12 @@ pub fn digest_file<S: Source>(
     ensures first { IfErr result (λ fault. ComesFirst fault → source.new ≡ source.old) }
     ensures empty { size ≡ 0 → IsOk result × (source.new ≡ source.old) }
     ensures described { IfOk result
-        (IsDescribed settings.now size (S.tells source.old) (S.remaining source.old)) }
+        (IsDigestOfSource settings.now size (S.tells source.old) (S.remaining source.old)) }
     ensures length { IfOk result (λ made. length made.digest ≡ digest_len settings.now) }
     ensures count { Counts (source_failed result) (S.failures source.old) (S.failures source.new) }
     ensures no_device { device_failed result ≡ false }
     ensures bytes { S.tells source.old
-        → Digests settings.now size result (S.remaining source.old) (S.remaining source.new) }
+        → GivesDigest settings.now size result (S.remaining source.old) (S.remaining source.new) }
 {
     digest_file_with_tree(alloc, settings, size, source, &mut Nowhere)
 }
@@ -73,12 +73,12 @@ pub fn digest_file_with_tree<S: Source, D: Device>(
         ComesFirst fault → (source.new ≡ source.old) × (tree.new ≡ tree.old)) }
     ensures empty { size ≡ 0 → IsOk result × (source.new ≡ source.old) × (tree.new ≡ tree.old) }
     ensures described { IfOk result
-        (IsDescribed settings.now size (S.tells source.old) (S.remaining source.old)) }
+        (IsDigestOfSource settings.now size (S.tells source.old) (S.remaining source.old)) }
     ensures length { IfOk result (λ made. length made.digest ≡ digest_len settings.now) }
     ensures source_count { Counts (source_failed result) (S.failures source.old) (S.failures source.new) }
     ensures tree_count { Counts (device_failed result) (D.failures tree.old) (D.failures tree.new) }
     ensures bytes { S.tells source.old
-        → Digests settings.now size result (S.remaining source.old) (S.remaining source.new) }
+        → GivesDigest settings.now size result (S.remaining source.old) (S.remaining source.new) }
     ensures stands { S.tells source.old → D.tells tree.old → Stands settings.now size (S.remaining source.old) result
         (D.content tree.old) (D.content tree.new) }
 {
@@ -87,7 +87,7 @@ pub fn digest_file_with_tree<S: Source, D: Device>(
     } else {
         root_of(alloc, settings, size, source, tree)?
     };
-    Ok(described(settings, size, &root))
+    Ok(digest_of_root(settings, size, &root))
 }
 
 /// The root hash of the first `size` bytes of a source, whose tree is written to a device.
@@ -108,7 +108,7 @@ fn root_of<S: Source, D: Device>(
     ensures source_count { Counts (source_failed result) (S.failures source.old) (S.failures source.new) }
     ensures tree_count { Counts (device_failed result) (D.failures tree.old) (D.failures tree.new) }
     ensures bytes { S.tells source.old
-        → Roots settings.now size result (S.remaining source.old) (S.remaining source.new) }
+        → GivesRoot settings.now size result (S.remaining source.old) (S.remaining source.new) }
     ensures stands { S.tells source.old → D.tells tree.old → Stands settings.now size (S.remaining source.old) result
         (D.content tree.old) (D.content tree.new) }
 {
@@ -130,11 +130,11 @@ fn root_of<S: Source, D: Device>(
     }
 }
 
-/// The descriptor with this root hash, and its digest.
-fn described(settings: &TreeSettings, size: u64, root: &Digest) -> FileDigest
+/// The file digest of a root hash, with its descriptor.
+fn digest_of_root(settings: &TreeSettings, size: u64, root: &Digest) -> FileDigest
     requires settings { settings.now.rule ≡ PaddedBefore }
     requires length { length root.now ≡ digest_len settings.now }
-    ensures described { IsDescribedBy settings.now size root.now result }
+    ensures value { IsDigestOfRoot settings.now size root.now result }
     ensures length { length result.digest ≡ digest_len settings.now }
 {
     let descriptor = Descriptor::of(settings, size, root).unwrap();

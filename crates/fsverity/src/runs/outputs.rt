@@ -1,11 +1,11 @@
 //! A run over one file with output files.
-ghost use Rattle.std.specs.Prelude.{◌≡◌, ◌↔◌, ◌⊎◌, length, false, IfOk, IsTrue};
+ghost use Rattle.std.specs.Prelude.{◌≡◌, ◌↔◌, ◌⊎◌, length, false, IfOk, IsTrue, MatchBool};
 ghost use Rattle.verity_hash.specs.declared.salting.SaltRule.TheVariants.{PaddedBefore};
 ghost use Rattle.verity_plan.specs.Settings.{digest_len};
 ghost use Rattle.verity_io.specs.Counting.{Counts, change};
-ghost use Rattle.fsverity.specs.Runs.FileDigest.{Digests, IsDescribed, Stands, device_failed, is_too_large, source_failed};
-ghost use Rattle.fsverity.specs.Runs.Outputs.{IsWritten, OutputRun, Reads, Wanted, WritesTexts, WritesTree};
-ghost use Rattle.fsverity.specs.Runs.Outputs.{digested, output_task, written};
+ghost use Rattle.fsverity.specs.Runs.FileDigest.{GivesDigest, IsDigestOfSource, Stands, device_failed, is_too_large, source_failed};
+ghost use Rattle.fsverity.specs.Runs.Outputs.{IsWritten, OutputRun, Reads, WritesTexts, WritesTree};
+ghost use Rattle.fsverity.specs.Runs.Outputs.{digest_result, output_change, output_task};
 ghost use Rattle.fsverity.specs.declared.runs.digest_fault.DigestFault.TheVariants.{TooLarge};
 
 use crate::texts::line_printing::print_line;
@@ -29,7 +29,7 @@ struct Task<'a> {
 ghost use Rattle.fsverity.specs.Runs.OutputSteps.{PutsDescriptor, task_of};
 
 /// The digest of a file. Its tree is written if it is wanted.
-fn digest_wanted<S: Source, D: Device>(
+fn digest_for_task<S: Source, D: Device>(
     alloc: Global,
     task: &Task<'_>,
     source: &mut S,
@@ -41,13 +41,13 @@ fn digest_wanted<S: Source, D: Device>(
     ensures kept { task.now.wants_tree ≡ false → tree.new ≡ tree.old }
     ensures too_large { (result ≡ Err TooLarge) ↔ IsTrue (is_too_large task.now.settings.now task.now.size) }
     ensures described { IfOk result
-        (IsDescribed task.now.settings.now task.now.size (S.tells source.old) (S.remaining source.old)) }
+        (IsDigestOfSource task.now.settings.now task.now.size (S.tells source.old) (S.remaining source.old)) }
     ensures length { IfOk result (λ made. length made.digest ≡ digest_len task.now.settings.now) }
     ensures source_count { Counts (source_failed result) (S.failures source.old) (S.failures source.new) }
     ensures tree_count { Counts (device_failed result) (D.failures tree.old) (D.failures tree.new) }
     ensures bytes { S.tells source.old
-        → Digests task.now.settings.now task.now.size result (S.remaining source.old) (S.remaining source.new) }
-    ensures stands { S.tells source.old → D.tells tree.old → Wanted task.now.wants_tree
+        → GivesDigest task.now.settings.now task.now.size result (S.remaining source.old) (S.remaining source.new) }
+    ensures stands { S.tells source.old → D.tells tree.old → MatchBool task.now.wants_tree
         (Stands task.now.settings.now task.now.size (S.remaining source.old) result
         (D.content tree.old) (D.content tree.new))
         (D.content tree.new ≡ D.content tree.old) }
@@ -90,17 +90,20 @@ fn write_outputs<S: Source, D: Device, W: Write, O: Write>(
     ensures tree_told { D.tells tree.old → D.tells tree.new }
     ensures tree_kept { task.now.wants_tree ≡ false → tree.new ≡ tree.old }
     ensures descriptor_kept { task.now.wants_descriptor ≡ false → descriptor.new ≡ descriptor.old }
-    ensures too_large { (digested result ≡ Err TooLarge) ↔ IsTrue (is_too_large task.now.settings.now task.now.size) }
+    ensures too_large { (digest_result result ≡ Err TooLarge)
+        ↔ IsTrue (is_too_large task.now.settings.now task.now.size) }
     ensures read { S.tells source.old
-        → Reads (task_of task.now) (digested result) (S.remaining source.old) (S.remaining source.new) }
+        → Reads (task_of task.now) (digest_result result) (S.remaining source.old) (S.remaining source.new) }
     ensures stands { S.tells source.old → D.tells tree.old
-        → WritesTree (task_of task.now) (S.remaining source.old) (digested result) (D.content tree.old) (D.content tree.new) }
+        → WritesTree (task_of task.now) (S.remaining source.old) (digest_result result)
+        (D.content tree.old) (D.content tree.new) }
     ensures written { WritesTexts (task_of task.now) result (S.tells source.old) (S.remaining source.old)
-        (written W.contents O.contents descriptor.old descriptor.new out.old out.new) }
-    ensures source_count { Counts (source_failed (digested result)) (S.failures source.old) (S.failures source.new) }
-    ensures tree_count { Counts (device_failed (digested result)) (D.failures tree.old) (D.failures tree.new) }
+        (output_change W.contents O.contents descriptor.old descriptor.new out.old out.new) }
+    ensures source_count { Counts (source_failed (digest_result result))
+        (S.failures source.old) (S.failures source.new) }
+    ensures tree_count { Counts (device_failed (digest_result result)) (D.failures tree.old) (D.failures tree.new) }
 {
-    let made = match digest_wanted(alloc, task, source, tree) {
+    let made = match digest_for_task(alloc, task, source, tree) {
         Ok(made) => made,
         Err(fault) => return Err(OutputFault::Digest(fault)),
     };
@@ -149,14 +152,14 @@ pub fn run_digest_to<S: Source, D: Device, W: Write, O: Write, M: Write>(
         → IsWritten (output_task settings.now form name.now size want_tree want_descriptor)
         (change S.tells S.remaining S.failures source.old source.new)
         (change D.tells D.content D.failures tree.old tree.new)
-        (written W.contents O.contents descriptor.old descriptor.new out.old out.new) }
+        (output_change W.contents O.contents descriptor.old descriptor.new out.old out.new) }
 
     // Each status: one outcome says what became of source, tree, descriptor, out and msgs, and which count rises.
     ensures run { OutputRun (output_task settings.now form name.now size want_tree want_descriptor) result
         (change S.tells S.remaining S.failures source.old source.new)
         (change D.tells D.content D.failures tree.old tree.new)
         (record {
-          written = written W.contents O.contents descriptor.old descriptor.new out.old out.new;
+          outputs = output_change W.contents O.contents descriptor.old descriptor.new out.old out.new;
           msgs_before = M.contents msgs.old;
           msgs_after = M.contents msgs.new;
         }) }

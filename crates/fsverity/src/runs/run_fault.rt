@@ -24,8 +24,8 @@ pub enum RunFault {
 }
 
 impl RunFault {
-    /// Writes the message of the fault at the file of this name, as far as memory and the writer allow. The message that
-    /// a file can't be opened needs no memory. The answer says whether the writer took all of it.
+    /// Writes the message of the fault at the file of this name, as far as memory and the writer allow. The message
+    /// that a file can't be opened needs no memory. The answer says whether the writer took all of it.
     pub(crate) fn tell<W: Write>(&self, alloc: Global, name: &str, msgs: &mut W) -> bool
         ensures whole { IsTrue result
             → Appends (W.contents msgs.old) (W.contents msgs.new) (run_fault_text self.now name.now) }

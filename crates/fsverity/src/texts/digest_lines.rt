@@ -21,8 +21,8 @@ pub enum Form {
     CompactBuiltin,
 }
 
-/// The line of a file digest, with its newline: hexadecimal digits are in lower case, and the name is left as it is. The
-/// error is out of memory. For the forms with a formatted digest, the algorithm must be one of fs-verity's and the
+/// The line of a file digest, with its newline: hexadecimal digits are in lower case, and the name is left as it is.
+/// The error is out of memory. For the forms with a formatted digest, the algorithm must be one of fs-verity's and the
 /// digest must have its length.
 pub fn digest_line(
     alloc: Global,

@@ -43,7 +43,7 @@ fn command<'a>(alloc: Global) -> Result<Command<'a>, AllocError>
 }
 
 /// Copies what clap found in a line. The error is out of memory.
-fn line_of(alloc: Global, matches: &ArgMatches<'_>) -> Result<Line, AllocError>
+fn line_of_matches(alloc: Global, matches: &ArgMatches<'_>) -> Result<Line, AllocError>
     ensures { IfOk result (HoldsRows (rows_of (found_of matches.now))) }
 {
     Ok(Line {
@@ -74,7 +74,7 @@ pub fn read_words(alloc: Global, words: &[&str]) -> Result<Line, LineFault>
     };
     let matches = command.try_get_matches_from(words)?;
     match matches.subcommand() {
-        Some((_, inner)) => Ok(line_of(alloc, inner)?),
+        Some((_, inner)) => Ok(line_of_matches(alloc, inner)?),
         None => unreachable!(),
     }
 }

@@ -24,8 +24,8 @@ returns-clause-holds c =
     let met = met_rows _ _ (c.in-Some.ensures.rows) in (
       met.0,
       sym (ap (λ (a : App). subcommand_of a (map (λ w. w.now) c.args.words.now)) app) ∙ sym matches ∙ met.1,
-      subst (λ (given : List Row). HoldsRows given c.in_ok-line_of-in-Some.field-0) (sym met.2)
-          c.in_ok-line_of-in-Some.ensures,
+      subst (λ (given : List Row). HoldsRows given c.in_ok-line_of_matches-in-Some.field-0) (sym met.2)
+          c.in_ok-line_of_matches-in-Some.ensures,
     )
 
 pub returns-clause-only : goal.returns-clause-only
@@ -40,8 +40,8 @@ returns-in_err-matches-clause-cause c =
     c.in_err-matches.ensures.kinds in
     caused _ (Refused error) c.from_residual.result kinds c.from_residual.ensures
 
-pub returns-in_err-line_of-in-Some-clause-cause : goal.returns-in_err-line_of-in-Some-clause-cause
-returns-in_err-line_of-in-Some-clause-cause c =
+pub returns-in_err-line_of_matches-in-Some-clause-cause : goal.returns-in_err-line_of_matches-in-Some-clause-cause
+returns-in_err-line_of_matches-in-Some-clause-cause c =
     let none = fails_by fsverity_app _ _ (Ok c.in_ok-matches.matches) free c.in-Ok.ensures.defined.app
     c.in_ok-matches.ensures.kinds in
-    caused _ Memory c.from_residual-in_err-line_of-in-Some.result none c.from_residual-in_err-line_of-in-Some.ensures
+    caused _ Memory c.from_residual-in_err-line_of_matches-in-Some.result none c.from_residual-in_err-line_of_matches-in-Some.ensures
