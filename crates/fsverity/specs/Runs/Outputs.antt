@@ -92,7 +92,7 @@ Reads task (Ok done) before after = HasRead task.size before after
 Reads task (Err fault) before after = FaultsIn task.settings task.size before after fault
 
 -- what the tree's device holds for these bytes of the source; it stays if no tree is wanted
-abbrev pub WritesTree : OutputTask → List ℕ → Result (Unit {0}) DigestFault → List ℕ → List ℕ → Type 0
+abbrev pub WritesTree : {X : Type 0} → OutputTask → List ℕ → Result X DigestFault → List ℕ → List ℕ → Type 0
 WritesTree task bytes result before after =
     MatchBool task.wants_tree (Stands task.settings task.size bytes result before after) (after ≡ before)
 
