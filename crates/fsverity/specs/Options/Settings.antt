@@ -38,4 +38,4 @@ fs_settings hash_alg block_size salt files out_files = do
   block ← ok_or (block_size_of algorithm block_size) BadBlockSize
   bytes ← ok_or (salt_bytes_of salt) BadSalt
   if out_files && nat_lt 1 files then Err OneFileOnly
-    else Ok (record { algorithm = algorithm; rule = PaddedBefore; salt = bytes; data_block = block; hash_block = block })
+      else Ok (record { algorithm = algorithm; rule = PaddedBefore; salt = bytes; data_block = block; hash_block = block })

@@ -107,7 +107,7 @@ fn write_outputs<S: Source, D: Device, W: Write, O: Write>(
     };
     match put_descriptor(&made, task.wants_descriptor, descriptor) {
         Ok(()) => {}
-        Err(PutFault(taken)) => return Err(OutputFault::Descriptor(taken)),
+        Err(PutFault(count)) => return Err(OutputFault::Descriptor(count)),
     }
     match print_line(alloc, task.settings, task.form, task.name, &made, out) {
         Ok(()) => Ok(()),
