@@ -4,7 +4,7 @@ ghost use Rattle.std.specs.Io.{WritesAtMost};
 use crate::disk::{Disk, refused};
 use crate::file::MemoryFile;
 use crate::standard_error::StandardError;
-use command_line::{FileIdentity, Identities, Onlooker};
+use command_line::{FileIdentity, Identities, ProgressRuntime};
 use std::alloc::{Allocator, Global};
 use std::env::{Env, FillError};
 use std::fmt::Display;
@@ -181,7 +181,7 @@ impl Eprint for MemoryRuntime<'_> {
     }
 }
 
-impl Onlooker for MemoryRuntime<'_> {
+impl ProgressRuntime for MemoryRuntime<'_> {
     fn step(&self) -> Option<u64> {
         self.disk.count_look();
         self.step

@@ -2,7 +2,7 @@
 ghost use Rattle.std.specs.Prelude.{◌≡◌};
 ghost use Rattle.command_line.specs.Showing.{cleared_inner};
 
-use crate::progress::onlooker::Onlooker;
+use crate::progress::progress_runtime::ProgressRuntime;
 use std::cell::Cell;
 use std::io;
 use std::io::Write;
@@ -19,7 +19,7 @@ pub struct ProgressLine<'a, R> {
     is_shown: Cell<bool>,
 }
 
-impl<'a, R: Onlooker> ProgressLine<'a, R> {
+impl<'a, R: ProgressRuntime> ProgressLine<'a, R> {
     /// No line is shown yet. The runtime is asked here, and only here, whether there is a terminal.
     pub fn new(rt: &'a R) -> Self {
         ProgressLine {
@@ -70,7 +70,7 @@ pub struct Cleared<'a, R, W> {
     inner: W,
 }
 
-impl<'a, R: Onlooker, W: Write> Cleared<'a, R, W> {
+impl<'a, R: ProgressRuntime, W: Write> Cleared<'a, R, W> {
     /// Passes everything that is written on to this writer.
     pub fn new(line: &'a ProgressLine<'a, R>, inner: W) -> Self
         ensures { cleared_inner result ≡ inner }
@@ -79,7 +79,7 @@ impl<'a, R: Onlooker, W: Write> Cleared<'a, R, W> {
     }
 }
 
-impl<R: Onlooker, W: Write> Write for Cleared<'_, R, W> {
+impl<R: ProgressRuntime, W: Write> Write for Cleared<'_, R, W> {
     ghost contents = { λ w. W.contents w.inner };
 
     fn write(&mut self, buf: &[u8]) -> io::Result<usize> {

@@ -2,8 +2,8 @@
 ghost use Rattle.std.specs.Prelude.{◌≡◌};
 ghost use Rattle.command_line.specs.Showing.{shown_inner};
 
-use crate::progress::onlooker::Onlooker;
 use crate::progress::progress_line::ProgressLine;
+use crate::progress::progress_runtime::ProgressRuntime;
 use std::io;
 use std::io::Read;
 use std::time::Instant;
@@ -22,7 +22,7 @@ struct Progress<'a, R> {
     start: Option<Instant>,
 }
 
-impl<'a, R: Onlooker> Progress<'a, R> {
+impl<'a, R: ProgressRuntime> Progress<'a, R> {
     /// Nothing is read yet. The line is written if there is a terminal and there are more bytes than four steps.
     fn new(line: &'a ProgressLine<'a, R>, total: u64) -> Self {
         let (step, start) = match line.step() {
@@ -60,7 +60,7 @@ pub struct Shown<'a, R, F> {
     progress: Progress<'a, R>,
 }
 
-impl<'a, R: Onlooker, F: Read> Shown<'a, R, F> {
+impl<'a, R: ProgressRuntime, F: Read> Shown<'a, R, F> {
     /// A reader of `total` bytes, whose progress is shown on this line.
     pub fn new(inner: F, total: u64, line: &'a ProgressLine<'a, R>) -> Self
         ensures { shown_inner result ≡ inner }
@@ -72,7 +72,7 @@ impl<'a, R: Onlooker, F: Read> Shown<'a, R, F> {
     }
 }
 
-impl<R: Onlooker, F: Read> Read for Shown<'_, R, F> {
+impl<R: ProgressRuntime, F: Read> Read for Shown<'_, R, F> {
     ghost remaining = { λ s. F.remaining s.inner };
 
     fn read(&mut self, buf: &mut [u8]) -> io::Result<usize> {

@@ -2,7 +2,7 @@
 ghost use Rattle.std.specs.Prelude.{◌≡◌, ◌≤◌, ◌+◌, ℕ, List, [], length};
 
 use crate::openers::opener::Opener;
-use command_line::{Onlooker, ProgressLine, Shown, open_measured};
+use command_line::{ProgressLine, ProgressRuntime, Shown, open_measured};
 use std::rt::Files;
 use verity_tree::{Failed, FileSource};
 
@@ -16,7 +16,7 @@ pub struct FileOpener<'a, R> {
     failures: u64,
 }
 
-impl<'a, R: Files + Onlooker> FileOpener<'a, R> {
+impl<'a, R: Files + ProgressRuntime> FileOpener<'a, R> {
     /// An opener of the files of these names. None of them is opened yet.
     pub fn new(rt: &'a R, progress: &'a ProgressLine<'a, R>, names: &'a [&'a str]) -> Self
         ensures count { ⟦<FileOpener<'a, R> as Opener>⟧.count result ≡ length names.now }
@@ -33,7 +33,7 @@ impl<'a, R: Files + Onlooker> FileOpener<'a, R> {
     }
 }
 
-impl<'a, R: Files + Onlooker> Opener for FileOpener<'a, R> {
+impl<'a, R: Files + ProgressRuntime> Opener for FileOpener<'a, R> {
     type Stream = FileSource<Shown<'a, R, R::File>>;
 
     ghost count = { λ o. length o.names.now };

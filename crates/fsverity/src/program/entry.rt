@@ -15,7 +15,7 @@ use crate::{
     read_words, run_digest,
 };
 use command_line::{
-    Identities, NULL_DEVICE, NullFiles, Onlooker, ProgressLine, WordsFault, given_words,
+    Identities, NULL_DEVICE, NullFiles, ProgressLine, ProgressRuntime, WordsFault, given_words,
     not_text_message, tell, tell_text, texts_of,
 };
 use std::alloc::Global;
@@ -32,7 +32,7 @@ const REFUSED: u8 = 2;
 /// takes them; `progress` shows the progress of long work, and is erased in the end. The answer is the status: 0 done,
 /// 1 a file failed, the output could not be written or there was no memory, 2 the command line or an option is refused,
 /// and no file has been opened then.
-pub fn run_program<R: Identities + Onlooker + Env + AllocGlobal, O: Write, M: Write>(
+pub fn run_program<R: Identities + ProgressRuntime + Env + AllocGlobal, O: Write, M: Write>(
     rt: &R,
     progress: &ProgressLine<'_, R>,
     out: &mut O,
@@ -100,7 +100,7 @@ fn refuse_line<M: Write>(fault: &LineFault, msgs: &mut M) -> u8
 }
 
 /// Carries out `fsverity digest`. The answer is the status; a refused option has its message and status 2.
-fn run_line<R: Identities + Onlooker + AllocGlobal, O: Write, M: Write>(
+fn run_line<R: Identities + ProgressRuntime + AllocGlobal, O: Write, M: Write>(
     rt: &R,
     progress: &ProgressLine<'_, R>,
     line: &Line,

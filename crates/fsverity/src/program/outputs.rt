@@ -5,7 +5,7 @@ ghost use Rattle.verity_hash.specs.declared.salting.SaltRule.TheVariants.{Padded
 use crate::program::entry::cannot_open;
 use crate::program::output_files::{OutputFiles, OutputNames};
 use crate::{Form, run_digest_to};
-use command_line::{Identities, Onlooker, ProgressLine, Shown, open_measured};
+use command_line::{Identities, ProgressLine, ProgressRuntime, Shown, open_measured};
 use std::alloc::Global;
 use std::io;
 use std::io::{Read, Seek, Write};
@@ -30,7 +30,7 @@ struct Input<S> {
 
 /// `fsverity digest` of one file, with output files: the input file is opened and its length is found, and then the
 /// output files are opened.
-pub(crate) fn digest_to<R: Identities + Onlooker + AllocGlobal, O: Write, M: Write>(
+pub(crate) fn digest_to<R: Identities + ProgressRuntime + AllocGlobal, O: Write, M: Write>(
     rt: &R,
     progress: &ProgressLine<'_, R>,
     request: OutputRequest<'_>,

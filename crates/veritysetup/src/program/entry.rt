@@ -13,7 +13,7 @@ use crate::texts::program_messages::{
 use crate::words::reading::{read_words, usage_of};
 use crate::{CommandName, Line};
 use command_line::{
-    Identities, NULL_DEVICE, NullFiles, Onlooker, ProgressLine, given_words, texts_of,
+    Identities, NULL_DEVICE, NullFiles, ProgressLine, ProgressRuntime, given_words, texts_of,
 };
 use std::alloc::AllocGlobal;
 use std::env::Env;
@@ -27,7 +27,7 @@ use std::random::RandomSource;
 /// bytes, or the data is too short.
 pub fn run_program<R, O, M>(rt: &R, progress: &ProgressLine<'_, R>, out: &mut O, msgs: &mut M) -> u8
 where
-    R: Env + Identities + Onlooker + RandomSource + AllocGlobal,
+    R: Env + Identities + ProgressRuntime + RandomSource + AllocGlobal,
     O: Write,
     M: Write,
     ensures status { IsStatus result }
@@ -55,7 +55,7 @@ fn run_words<R, O, M>(
     msgs: &mut M,
 ) -> u8
 where
-    R: Identities + Onlooker + RandomSource + AllocGlobal,
+    R: Identities + ProgressRuntime + RandomSource + AllocGlobal,
     O: Write,
     M: Write,
     ensures status { IsStatus result }
@@ -81,7 +81,7 @@ fn run_line<R, O, M>(
     msgs: &mut M,
 ) -> u8
 where
-    R: Identities + Onlooker + RandomSource + AllocGlobal,
+    R: Identities + ProgressRuntime + RandomSource + AllocGlobal,
     O: Write,
     M: Write,
     ensures { CommandRun result (printed O.contents M.contents out.old out.new msgs.old msgs.new) }

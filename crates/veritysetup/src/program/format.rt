@@ -19,7 +19,7 @@ use crate::texts::program_messages::{
     cannot_open, cannot_write, no_random_bytes, refused_option, short_data,
 };
 use command_line::{
-    Identities, Onlooker, ProgressLine, Shown, lead_to_one, open_measured, open_writable,
+    Identities, ProgressLine, ProgressRuntime, Shown, lead_to_one, open_measured, open_writable,
 };
 use rand::rngs::StdRng;
 use std::alloc::AllocGlobal;
@@ -42,7 +42,7 @@ pub fn format<R, O, M>(
     msgs: &mut M,
 ) -> u8
 where
-    R: Identities + Onlooker + RandomSource + AllocGlobal,
+    R: Identities + ProgressRuntime + RandomSource + AllocGlobal,
     O: Write,
     M: Write,
     ensures { CommandRun result (printed O.contents M.contents out.old out.new msgs.old msgs.new) }
@@ -93,7 +93,7 @@ fn format_by<R, O, M>(
     msgs: &mut M,
 ) -> u8
 where
-    R: Files + Onlooker + AllocGlobal,
+    R: Files + ProgressRuntime + AllocGlobal,
     O: Write,
     M: Write,
     ensures run { CommandRun result (printed O.contents M.contents out.old out.new msgs.old msgs.new) }
@@ -121,7 +121,7 @@ fn format_opened<R, O, M>(
     msgs: &mut M,
 ) -> u8
 where
-    R: Files + Onlooker + AllocGlobal,
+    R: Files + ProgressRuntime + AllocGlobal,
     O: Write,
     M: Write,
     ensures run { CommandRun result (printed O.contents M.contents out.old out.new msgs.old msgs.new) }

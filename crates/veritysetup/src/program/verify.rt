@@ -13,7 +13,7 @@ use crate::options::settings::settings_of;
 use crate::runs::verify::run_verify;
 use crate::runs::verify_input::VerifyInput;
 use crate::texts::program_messages::{cannot_open, refused_option};
-use command_line::{Onlooker, ProgressLine, Shown, open_measured, open_readable};
+use command_line::{ProgressLine, ProgressRuntime, Shown, open_measured, open_readable};
 use std::alloc::AllocGlobal;
 use std::io::Write;
 use std::rt::Files;
@@ -31,7 +31,7 @@ pub fn verify<R, M>(
     msgs: &mut M,
 ) -> u8
 where
-    R: Files + Onlooker + AllocGlobal,
+    R: Files + ProgressRuntime + AllocGlobal,
     M: Write,
     ensures status { IsStatus result }
     ensures grows { Grows (M.contents msgs.old) (M.contents msgs.new) }
@@ -71,7 +71,7 @@ fn verify_bare<R, M>(
     msgs: &mut M,
 ) -> u8
 where
-    R: Files + Onlooker + AllocGlobal,
+    R: Files + ProgressRuntime + AllocGlobal,
     M: Write,
     ensures status { IsStatus result }
     ensures grows { Grows (M.contents msgs.old) (M.contents msgs.new) }
@@ -96,7 +96,7 @@ fn verify_by<R, M>(
     msgs: &mut M,
 ) -> u8
 where
-    R: Files + Onlooker + AllocGlobal,
+    R: Files + ProgressRuntime + AllocGlobal,
     M: Write,
     ensures status { IsStatus result }
     ensures grows { Grows (M.contents msgs.old) (M.contents msgs.new) }

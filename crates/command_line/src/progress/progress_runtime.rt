@@ -7,13 +7,13 @@ use std::time::Clock;
 const STEP: u64 = 64 << 20;
 
 /// A runtime whose standard error may be a terminal.
-pub trait Onlooker: Clock + Eprint {
+pub trait ProgressRuntime: Clock + Eprint {
     /// After how many bytes of long work the progress line is written again. `None` if standard error is no terminal:
     /// then no line is written.
     fn step(&self) -> Option<u64>;
 }
 
-impl Onlooker for HostRuntime {
+impl ProgressRuntime for HostRuntime {
     fn step(&self) -> Option<u64> {
         if self.stderr().is_terminal() {
             Some(STEP)
