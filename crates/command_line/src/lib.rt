@@ -16,7 +16,7 @@ pub use options::numbers::{DEFAULT_BLOCK_SIZE, number_or, read_number};
 pub use options::salts::read_salt;
 pub use printing::messages::{tell, tell_pieces, tell_text};
 pub use printing::print_fault::{PrintFault, print_whole};
-pub use progress::progress_line::{Cleared, ProgressLine};
+pub use progress::progress_line::{ErasingWriter, ProgressLine};
 pub use progress::progress_runtime::ProgressRuntime;
 pub use progress::shown::Shown;
 pub use words::arguments::{flag, option, positional, positionals, program};

@@ -9,7 +9,7 @@ mod runs;
 mod texts;
 mod words;
 
-pub use command_line::{Cleared, LineFault, PrintFault, ProgressLine};
+pub use command_line::{ErasingWriter, LineFault, PrintFault, ProgressLine};
 pub use openers::file_opener::FileOpener;
 pub use openers::fused_opener::FusedOpener;
 pub use openers::memory_opener::MemoryOpener;

@@ -1,7 +1,7 @@
 //! How far long work is: it is shown on a terminal alone, and erased before anything else is written there.
 use crate::digest_program::disk;
 use fixtures::shown_before;
-use fsverity::{Cleared, ProgressLine, run_program};
+use fsverity::{ErasingWriter, ProgressLine, run_program};
 use memory_runtime::{Call, Disk, MemoryRuntime, StandardError};
 use std::alloc::Global;
 use std::io;
@@ -30,8 +30,8 @@ fn written(alloc: Global, disk: &Disk, words: &str, step: Option<u64>) -> io::Re
     let mut runtime = MemoryRuntime::new(alloc, disk, words.as_str());
     runtime.step = step;
     let progress = ProgressLine::new(&runtime);
-    let mut out = Cleared::new(&progress, StandardError::new(disk));
-    let mut msgs = Cleared::new(&progress, StandardError::new(disk));
+    let mut out = ErasingWriter::new(&progress, StandardError::new(disk));
+    let mut msgs = ErasingWriter::new(&progress, StandardError::new(disk));
     run_program(&runtime, &progress, &mut out, &mut msgs);
     disk.standard_error()
 }

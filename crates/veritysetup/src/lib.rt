@@ -8,7 +8,7 @@ mod runs;
 mod texts;
 mod words;
 
-pub use command_line::{Cleared, LineFault, ProgressLine};
+pub use command_line::{ErasingWriter, LineFault, ProgressLine};
 pub use options::hash_offset::offset_of;
 pub use options::raw_options::{OptionFault, OptionName, RawOptions};
 pub use options::settings::{Settings, settings_of};

@@ -9,7 +9,7 @@ use std::io::{Read, Write};
 use std::process::Abort;
 use std::test::Fail;
 use verity_hash::Algorithm;
-use veritysetup::{Cleared, ProgressLine, run_program};
+use veritysetup::{ErasingWriter, ProgressLine, run_program};
 
 /// A quarter of a MiB.
 const QUARTER: usize = 1 << 18;
@@ -29,8 +29,8 @@ fn written(
     runtime.step = step;
     let before = disk.standard_error()?.len();
     let progress = ProgressLine::new(&runtime);
-    let mut out = Cleared::new(&progress, StandardError::new(disk));
-    let mut msgs = Cleared::new(&progress, StandardError::new(disk));
+    let mut out = ErasingWriter::new(&progress, StandardError::new(disk));
+    let mut msgs = ErasingWriter::new(&progress, StandardError::new(disk));
     let status = run_program(&runtime, &progress, &mut out, &mut msgs);
     let all = disk.standard_error()?;
     Ok((status, all.iter().copied().skip(before).collect(alloc)?))

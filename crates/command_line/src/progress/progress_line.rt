@@ -1,6 +1,6 @@
 //! The line that shows the progress of long work.
 ghost use Rattle.std.specs.Prelude.{◌≡◌};
-ghost use Rattle.command_line.specs.Showing.{cleared_inner};
+ghost use Rattle.command_line.specs.Showing.{inner_writer};
 
 use crate::progress::progress_runtime::ProgressRuntime;
 use std::cell::Cell;
@@ -9,7 +9,7 @@ use std::io::Write;
 use std::time::Instant;
 
 /// A line on standard error that shows the progress of long work. It is rewritten in place, and whatever else is
-/// written goes through a `Cleared`, which erases it first. No contract can say what the terminal shows.
+/// written goes through an `ErasingWriter`, which erases it first. No contract can say what the terminal shows.
 #[derive(Drop)]
 pub struct ProgressLine<'a, R> {
     rt: &'a R,
@@ -65,21 +65,21 @@ impl<'a, R: ProgressRuntime> ProgressLine<'a, R> {
 
 /// A writer that erases the progress line before each write.
 #[derive(Drop)]
-pub struct Cleared<'a, R, W> {
+pub struct ErasingWriter<'a, R, W> {
     line: &'a ProgressLine<'a, R>,
     inner: W,
 }
 
-impl<'a, R: ProgressRuntime, W: Write> Cleared<'a, R, W> {
+impl<'a, R: ProgressRuntime, W: Write> ErasingWriter<'a, R, W> {
     /// Passes everything that is written on to this writer.
     pub fn new(line: &'a ProgressLine<'a, R>, inner: W) -> Self
-        ensures { cleared_inner result ≡ inner }
+        ensures { inner_writer result ≡ inner }
     {
-        Cleared { line, inner }
+        ErasingWriter { line, inner }
     }
 }
 
-impl<R: ProgressRuntime, W: Write> Write for Cleared<'_, R, W> {
+impl<R: ProgressRuntime, W: Write> Write for ErasingWriter<'_, R, W> {
     ghost contents = { λ w. W.contents w.inner };
 
     fn write(&mut self, buf: &[u8]) -> io::Result<usize> {
