@@ -1,6 +1,6 @@
 //! How far long work is: it is shown on a terminal alone, and erased before anything else is written there.
 use crate::program_runs::disk_of;
-use command_line::Shown;
+use command_line::ProgressReader;
 use fixtures::{Shape, shown_before};
 use memory_runtime::{Disk, MemoryRuntime, StandardError};
 use std::alloc::{AllocError, Global};
@@ -191,7 +191,7 @@ fn more_than_four_gib_are_shown_in_mib(rt: HostRuntime) -> Result<(), Fail> {
     runtime.step = Some(64 << 20);
     let progress = ProgressLine::new(&runtime);
     let total = 5000u64 << 20;
-    let mut shown = Shown::new(Endless, total, &progress);
+    let mut shown = ProgressReader::new(Endless, total, &progress);
     let mut buffer = vec![in alloc; 0u8; 8 << 20]?;
     for _ in 0..625 {
         assert_eq!(rt; shown.read(buffer.as_mut_slice())?, 8 << 20);

@@ -2,7 +2,7 @@
 ghost use Rattle.std.specs.Prelude.{◌≡◌, ◌≤◌, ◌+◌, ℕ, List, [], length};
 
 use crate::openers::opener::Opener;
-use command_line::{ProgressLine, ProgressRuntime, Shown, open_measured};
+use command_line::{ProgressLine, ProgressReader, ProgressRuntime, open_measured};
 use std::rt::Files;
 use verity_tree::{Failed, FileSource};
 
@@ -34,7 +34,7 @@ impl<'a, R: Files + ProgressRuntime> FileOpener<'a, R> {
 }
 
 impl<'a, R: Files + ProgressRuntime> Opener for FileOpener<'a, R> {
-    type Stream = FileSource<Shown<'a, R, R::File>>;
+    type Stream = FileSource<ProgressReader<'a, R, R::File>>;
 
     ghost count = { λ o. length o.names.now };
 
@@ -48,12 +48,12 @@ impl<'a, R: Files + ProgressRuntime> Opener for FileOpener<'a, R> {
 
     ghost counted = { λ _ untold. absurd untold };
 
-    fn start(&mut self) -> Result<(u64, FileSource<Shown<'a, R, R::File>>), Failed> {
+    fn start(&mut self) -> Result<(u64, FileSource<ProgressReader<'a, R, R::File>>), Failed> {
         let name = self.names[self.next];
         self.next += 1;
         match open_measured(self.rt, name) {
             Ok((file, length)) => {
-                let shown = Shown::new(file, length, self.progress);
+                let shown = ProgressReader::new(file, length, self.progress);
                 Ok((length, FileSource::new(shown, length)))
             }
             Err(_) => {
@@ -63,7 +63,7 @@ impl<'a, R: Files + ProgressRuntime> Opener for FileOpener<'a, R> {
         }
     }
 
-    fn end(&mut self, stream: FileSource<Shown<'a, R, R::File>>) {
+    fn end(&mut self, stream: FileSource<ProgressReader<'a, R, R::File>>) {
         self.failures = self.failures.saturating_add(stream.failures());
     }
 }

@@ -5,7 +5,7 @@ ghost use Rattle.verity_hash.specs.declared.salting.SaltRule.TheVariants.{Padded
 use crate::program::entry::cannot_open;
 use crate::program::output_files::{OutputFiles, OutputNames};
 use crate::{Form, run_digest_to};
-use command_line::{Identities, ProgressLine, ProgressRuntime, Shown, open_measured};
+use command_line::{Identities, ProgressLine, ProgressReader, ProgressRuntime, open_measured};
 use std::alloc::Global;
 use std::io;
 use std::io::{Read, Seek, Write};
@@ -50,7 +50,7 @@ pub(crate) fn digest_to<R: Identities + ProgressRuntime + AllocGlobal, O: Write,
         Ok(files) => files,
         Err(refused) => return cannot_open(alloc, refused, msgs),
     };
-    let source = FileSource::new(Shown::new(file, size, progress), size);
+    let source = FileSource::new(ProgressReader::new(file, size, progress), size);
     write_to(alloc, request, Input { size, source }, files, out, msgs)
 }
 

@@ -19,7 +19,8 @@ use crate::texts::program_messages::{
     cannot_open, cannot_write, no_random_bytes, refused_option, short_data,
 };
 use command_line::{
-    Identities, ProgressLine, ProgressRuntime, Shown, lead_to_one, open_measured, open_writable,
+    Identities, ProgressLine, ProgressReader, ProgressRuntime, lead_to_one, open_measured,
+    open_writable,
 };
 use rand::rngs::StdRng;
 use std::alloc::AllocGlobal;
@@ -132,7 +133,7 @@ where
     if let Some(block) = missing_block(settings.plan(), size) {
         return short_data(rt.alloc(), block, msgs);
     }
-    let shown = Shown::new(file, settings.plan().wanted(), progress);
+    let shown = ProgressReader::new(file, settings.plan().wanted(), progress);
     let source = FileSource::new(shown, size);
     make(rt, settings, source, hash, out, msgs)
 }

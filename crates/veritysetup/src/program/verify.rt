@@ -13,7 +13,7 @@ use crate::options::settings::settings_of;
 use crate::runs::verify::run_verify;
 use crate::runs::verify_input::VerifyInput;
 use crate::texts::program_messages::{cannot_open, refused_option};
-use command_line::{ProgressLine, ProgressRuntime, Shown, open_measured, open_readable};
+use command_line::{ProgressLine, ProgressReader, ProgressRuntime, open_measured, open_readable};
 use std::alloc::AllocGlobal;
 use std::io::Write;
 use std::rt::Files;
@@ -48,7 +48,7 @@ where
     };
     match open_measured(rt, data) {
         Ok((file, length)) => {
-            let source = FileSource::new(Shown::new(file, length, progress), length);
+            let source = FileSource::new(ProgressReader::new(file, length, progress), length);
             compare(
                 rt,
                 &VerifyInput::Stored { offset, root },
@@ -106,7 +106,7 @@ where
 {
     match settings_of(raw, length, None) {
         Ok(settings) => {
-            let shown = Shown::new(file, settings.plan().wanted(), progress);
+            let shown = ProgressReader::new(file, settings.plan().wanted(), progress);
             let source = FileSource::new(shown, length);
             compare(rt, &VerifyInput::Given(&settings), source, hash, msgs)
         }

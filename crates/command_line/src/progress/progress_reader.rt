@@ -1,6 +1,6 @@
 //! A reader that shows its progress.
 ghost use Rattle.std.specs.Prelude.{◌≡◌};
-ghost use Rattle.command_line.specs.Showing.{shown_inner};
+ghost use Rattle.command_line.specs.Progress.{inner_reader};
 
 use crate::progress::progress_line::ProgressLine;
 use crate::progress::progress_runtime::ProgressRuntime;
@@ -55,24 +55,24 @@ impl<'a, R: ProgressRuntime> Progress<'a, R> {
 /// A reader that shows its progress, if there is a terminal and it has more bytes than four of the runtime's steps. Its
 /// reads are those of the inner reader.
 #[derive(Drop)]
-pub struct Shown<'a, R, F> {
+pub struct ProgressReader<'a, R, F> {
     inner: F,
     progress: Progress<'a, R>,
 }
 
-impl<'a, R: ProgressRuntime, F: Read> Shown<'a, R, F> {
+impl<'a, R: ProgressRuntime, F: Read> ProgressReader<'a, R, F> {
     /// A reader of `total` bytes, whose progress is shown on this line.
     pub fn new(inner: F, total: u64, line: &'a ProgressLine<'a, R>) -> Self
-        ensures { shown_inner result ≡ inner }
+        ensures { inner_reader result ≡ inner }
     {
-        Shown {
+        ProgressReader {
             inner,
             progress: Progress::new(line, total),
         }
     }
 }
 
-impl<R: ProgressRuntime, F: Read> Read for Shown<'_, R, F> {
+impl<R: ProgressRuntime, F: Read> Read for ProgressReader<'_, R, F> {
     ghost remaining = { λ s. F.remaining s.inner };
 
     fn read(&mut self, buf: &mut [u8]) -> io::Result<usize> {
