@@ -14,7 +14,7 @@ pub use files::opening::{is_folder, open_measured, open_readable, open_writable}
 pub use options::algorithms::algorithm_or_default;
 pub use options::numbers::{DEFAULT_BLOCK_SIZE, number_or, read_number};
 pub use options::salts::read_salt;
-pub use printing::messages::{tell, tell_pieces, tell_text};
+pub use printing::messages::{write_message, write_pieces, write_text};
 pub use printing::print_fault::{PrintFault, print_whole};
 pub use progress::progress_line::{ErasingWriter, ProgressLine};
 pub use progress::progress_reader::ProgressReader;

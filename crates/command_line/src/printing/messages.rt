@@ -8,7 +8,7 @@ use std::io::Write;
 use verity_format::put_all;
 
 /// Writes a text as far as the writer takes it. The answer says whether it took all of it.
-pub fn tell_text<W: Write>(text: &str, msgs: &mut W) -> bool
+pub fn write_text<W: Write>(text: &str, msgs: &mut W) -> bool
     ensures whole { IsTrue result → Appends (W.contents msgs.old) (W.contents msgs.new) text.now }
     ensures front { AppendsFront text.now (W.contents msgs.old) (W.contents msgs.new) }
 {
@@ -20,21 +20,21 @@ pub fn tell_text<W: Write>(text: &str, msgs: &mut W) -> bool
 
 /// Writes a message as far as the writer takes it, and nothing if there was no memory for it. The answer says whether
 /// the writer took all of it.
-pub fn tell<W: Write>(message: Result<String, AllocError>, msgs: &mut W) -> bool
+pub fn write_message<W: Write>(message: Result<String, AllocError>, msgs: &mut W) -> bool
     ensures whole { (text : List ℕ) → IfOk message (λ s. string_bytes s ≡ text)
         → IsTrue result → Appends (W.contents msgs.old) (W.contents msgs.new) text }
     ensures front { (text : List ℕ) → IfOk message (λ s. string_bytes s ≡ text)
         → AppendsFront text (W.contents msgs.old) (W.contents msgs.new) }
 {
     match message {
-        Ok(text) => tell_text(text.as_str(), msgs),
+        Ok(text) => write_text(text.as_str(), msgs),
         Err(_) => false,
     }
 }
 
 /// Writes the pieces of a text one after another, as far as the writer takes them. This needs no memory. The answer
 /// says whether the writer took all of them.
-pub fn tell_pieces<W: Write>(pieces: &[&str], msgs: &mut W) -> bool
+pub fn write_pieces<W: Write>(pieces: &[&str], msgs: &mut W) -> bool
     ensures whole { IsTrue result
         → Appends (W.contents msgs.old) (W.contents msgs.new) (flat_map (λ p. p.now) pieces.now) }
     ensures front { AppendsFront (flat_map (λ p. p.now) pieces.now) (W.contents msgs.old) (W.contents msgs.new) }

@@ -33,7 +33,7 @@ impl LineFault {
 
     /// Writes why the line is refused, as far as the writer takes it: clap's text, and then the usage if that text ends
     /// without it, as for an option without a value at the end of the line.
-    pub fn tell<W: Write>(&self, usage: &str, msgs: &mut W) {
+    pub fn write_message<W: Write>(&self, usage: &str, msgs: &mut W) {
         let _ = write!(msgs, "{self}");
         if let LineFault::Refused(error) = self
             && error.kind() == ErrorKind::InvalidValue

@@ -16,7 +16,7 @@ use crate::{
 };
 use command_line::{
     Identities, NULL_DEVICE, NullFiles, ProgressLine, ProgressRuntime, WordsFault, given_words,
-    not_text_message, tell, tell_text, texts_of,
+    not_text_message, texts_of, write_message, write_text,
 };
 use std::alloc::Global;
 use std::env::Env;
@@ -77,7 +77,7 @@ fn refuse_words<M: Write>(alloc: Global, fault: &WordsFault, msgs: &mut M) -> u8
 {
     match fault {
         WordsFault::NotText(number, word) => {
-            tell(not_text_message(alloc, *number, word.as_slice()), msgs);
+            write_message(not_text_message(alloc, *number, word.as_slice()), msgs);
             REFUSED
         }
         WordsFault::Memory => stop_with(FAILED, OUT_OF_MEMORY, msgs),
@@ -95,7 +95,7 @@ fn refuse_line<M: Write>(fault: &LineFault, msgs: &mut M) -> u8
     if fault.is_memory() {
         return stop_with(FAILED, OUT_OF_MEMORY, msgs);
     }
-    fault.tell(USAGE, msgs);
+    fault.write_message(USAGE, msgs);
     REFUSED
 }
 
@@ -155,7 +155,7 @@ pub(crate) fn cannot_open<M: Write>(alloc: Global, name: &str, msgs: &mut M) -> 
     ensures status { result ≡ 1 }
     ensures message { AppendsFront (run_fault_text NotOpened name.now) (M.contents msgs.old) (M.contents msgs.new) }
 {
-    RunFault::NotOpened.tell(alloc, name, msgs);
+    RunFault::NotOpened.write_message(alloc, name, msgs);
     FAILED
 }
 
@@ -164,6 +164,6 @@ fn stop_with<M: Write>(status: u8, message: &str, msgs: &mut M) -> u8
     ensures status { result ≡ status }
     ensures message { AppendsFront message.now (M.contents msgs.old) (M.contents msgs.new) }
 {
-    tell_text(message, msgs);
+    write_text(message, msgs);
     status
 }

@@ -120,7 +120,7 @@ pub fn run_digest<O: Opener, W: Write, M: Write>(
         match digest_next(alloc, settings, form, name, opener, out) {
             Ok(()) => {}
             Err(fault) => {
-                fault.tell(alloc, name, msgs);
+                fault.write_message(alloc, name, msgs);
                 return 1;
             }
         }

@@ -173,7 +173,7 @@ pub fn run_digest_to<S: Source, D: Device, W: Write, O: Write, M: Write>(
     match write_outputs(alloc, &task, source, tree, descriptor, out) {
         Ok(()) => 0,
         Err(fault) => {
-            fault.tell(alloc, name, msgs);
+            fault.write_message(alloc, name, msgs);
             1
         }
     }

@@ -5,7 +5,7 @@ ghost use Rattle.command_line.specs.Printing.{AppendsFront};
 ghost use Rattle.fsverity.specs.Runs.Digest.{run_fault_text};
 
 use crate::{DigestFault, OUT_OF_MEMORY, digest_message};
-use command_line::{tell, tell_pieces, tell_text};
+use command_line::{write_message, write_pieces, write_text};
 use std::alloc::Global;
 use std::io::Write;
 
@@ -26,16 +26,16 @@ pub enum RunFault {
 impl RunFault {
     /// Writes the message of the fault at the file of this name, as far as memory and the writer allow. The message
     /// that a file can't be opened needs no memory. The answer says whether the writer took all of it.
-    pub(crate) fn tell<W: Write>(&self, alloc: Global, name: &str, msgs: &mut W) -> bool
+    pub(crate) fn write_message<W: Write>(&self, alloc: Global, name: &str, msgs: &mut W) -> bool
         ensures whole { IsTrue result
             → Appends (W.contents msgs.old) (W.contents msgs.new) (run_fault_text self.now name.now) }
         ensures front { AppendsFront (run_fault_text self.now name.now) (W.contents msgs.old) (W.contents msgs.new) }
     {
         match self {
-            RunFault::NotOpened => tell_pieces(&["fsverity: cannot open ", name, ".\n"], msgs),
-            RunFault::NotWritten => tell_text(OUTPUT_UNWRITTEN, msgs),
-            RunFault::Digest(DigestFault::Memory) => tell_text(OUT_OF_MEMORY, msgs),
-            RunFault::Digest(fault) => tell(digest_message(alloc, fault, name), msgs),
+            RunFault::NotOpened => write_pieces(&["fsverity: cannot open ", name, ".\n"], msgs),
+            RunFault::NotWritten => write_text(OUTPUT_UNWRITTEN, msgs),
+            RunFault::Digest(DigestFault::Memory) => write_text(OUT_OF_MEMORY, msgs),
+            RunFault::Digest(fault) => write_message(digest_message(alloc, fault, name), msgs),
         }
     }
 }

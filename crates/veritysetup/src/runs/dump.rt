@@ -9,7 +9,7 @@ ghost use Rattle.command_line.specs.Printing.{AppendsFront};
 use crate::runs::stored_superblock::{StoredFault, stored_superblock};
 use crate::texts::messages::{OUT_OF_MEMORY, OUTPUT_UNWRITTEN, SUPERBLOCK_UNREAD, super_message};
 use crate::texts::reports::report;
-use command_line::{PrintFault, print_whole, tell, tell_text};
+use command_line::{PrintFault, print_whole, write_message, write_text};
 use std::alloc::Global;
 use std::io::Write;
 use verity_tree::Device;
@@ -37,18 +37,18 @@ impl DumpFault {
     }
 
     /// Writes the message of the fault. The answer says whether the writer took all of it.
-    fn tell<M: Write>(&self, alloc: Global, msgs: &mut M) -> bool
+    fn write_message<M: Write>(&self, alloc: Global, msgs: &mut M) -> bool
         ensures whole { IsTrue result → Appends (M.contents msgs.old) (M.contents msgs.new) (fault_text self.now) }
         ensures front { AppendsFront (fault_text self.now) (M.contents msgs.old) (M.contents msgs.new) }
     {
         match self {
-            DumpFault::Superblock(StoredFault::Refused(fault)) => tell(
+            DumpFault::Superblock(StoredFault::Refused(fault)) => write_message(
                 super_message(alloc, fault),
                 msgs,
             ),
-            DumpFault::Superblock(StoredFault::Unread) => tell_text(SUPERBLOCK_UNREAD, msgs),
-            DumpFault::Report(PrintFault::Memory) => tell_text(OUT_OF_MEMORY, msgs),
-            DumpFault::Report(PrintFault::Output(_)) => tell_text(OUTPUT_UNWRITTEN, msgs),
+            DumpFault::Superblock(StoredFault::Unread) => write_text(SUPERBLOCK_UNREAD, msgs),
+            DumpFault::Report(PrintFault::Memory) => write_text(OUT_OF_MEMORY, msgs),
+            DumpFault::Report(PrintFault::Output(_)) => write_text(OUTPUT_UNWRITTEN, msgs),
         }
     }
 }
@@ -98,7 +98,7 @@ pub fn run_dump<D: Device, O: Write, M: Write>(
     match dump(alloc, offset, hash_path, device, out) {
         Ok(()) => 0,
         Err(fault) => {
-            fault.tell(alloc, msgs);
+            fault.write_message(alloc, msgs);
             fault.status()
         }
     }

@@ -17,7 +17,7 @@ use crate::texts::messages::{
     OUT_OF_MEMORY, OUTPUT_UNWRITTEN, SUPERBLOCK_UNWRITTEN, build_message,
 };
 use crate::texts::reports::{report, report_bare};
-use command_line::{PrintFault, print_whole, tell, tell_text};
+use command_line::{PrintFault, print_whole, write_message, write_text};
 use std::alloc::{AllocError, Global};
 use std::io::Write;
 use verity_format::write_superblock;
@@ -52,16 +52,16 @@ impl FormatFault {
     }
 
     /// Writes the message of the fault. The answer says whether the writer took all of it.
-    fn tell<M: Write>(&self, alloc: Global, msgs: &mut M) -> bool
+    fn write_message<M: Write>(&self, alloc: Global, msgs: &mut M) -> bool
         ensures whole { IsTrue result → Appends (M.contents msgs.old) (M.contents msgs.new) (fault_text self.now) }
         ensures front { AppendsFront (fault_text self.now) (M.contents msgs.old) (M.contents msgs.new) }
     {
         match self {
-            FormatFault::Build(fault) => tell(build_message(alloc, fault), msgs),
-            FormatFault::Superblock => tell_text(SUPERBLOCK_UNWRITTEN, msgs),
-            FormatFault::Store => tell_text(OUT_OF_MEMORY, msgs),
-            FormatFault::Report(PrintFault::Memory) => tell_text(OUT_OF_MEMORY, msgs),
-            FormatFault::Report(PrintFault::Output(_)) => tell_text(OUTPUT_UNWRITTEN, msgs),
+            FormatFault::Build(fault) => write_message(build_message(alloc, fault), msgs),
+            FormatFault::Superblock => write_text(SUPERBLOCK_UNWRITTEN, msgs),
+            FormatFault::Store => write_text(OUT_OF_MEMORY, msgs),
+            FormatFault::Report(PrintFault::Memory) => write_text(OUT_OF_MEMORY, msgs),
+            FormatFault::Report(PrintFault::Output(_)) => write_text(OUTPUT_UNWRITTEN, msgs),
         }
     }
 }
@@ -171,7 +171,7 @@ pub fn run_format<S: Source, D: Device, O: Write, M: Write>(
     match format(alloc, settings, hash_path, source, device, out) {
         Ok(()) => 0,
         Err(fault) => {
-            fault.tell(alloc, msgs);
+            fault.write_message(alloc, msgs);
             fault.status()
         }
     }

@@ -67,7 +67,7 @@ pub fn run_verify<S: Source, D: Device, M: Write>(
     match verify(alloc, input, source, device) {
         Ok(()) => 0,
         Err(fault) => {
-            fault.tell(alloc, msgs);
+            fault.write_message(alloc, msgs);
             fault.status()
         }
     }

@@ -9,7 +9,7 @@ use crate::runs::stored_superblock::StoredFault;
 use crate::texts::messages::{
     OUT_OF_MEMORY, SUPERBLOCK_UNREAD, TOO_LARGE, compare_message, option_message, super_message,
 };
-use command_line::{tell, tell_text};
+use command_line::{write_message, write_text};
 use std::alloc::Global;
 use std::io::Write;
 use verity_tree::CompareFault;
@@ -50,18 +50,21 @@ impl InputFault {
     }
 
     /// Writes the message of the fault. The answer says whether the writer took all of it.
-    fn tell<M: Write>(&self, alloc: Global, msgs: &mut M) -> bool
+    fn write_message<M: Write>(&self, alloc: Global, msgs: &mut M) -> bool
         ensures whole { IsTrue result → Appends (M.contents msgs.old) (M.contents msgs.new) (input_text self.now) }
         ensures front { AppendsFront (input_text self.now) (M.contents msgs.old) (M.contents msgs.new) }
     {
         match self {
-            InputFault::Superblock(StoredFault::Refused(fault)) => tell(
+            InputFault::Superblock(StoredFault::Refused(fault)) => write_message(
                 super_message(alloc, fault),
                 msgs,
             ),
-            InputFault::Superblock(StoredFault::Unread) => tell_text(SUPERBLOCK_UNREAD, msgs),
-            InputFault::TooLarge => tell_text(TOO_LARGE, msgs),
-            InputFault::BadRoot => tell(option_message(alloc, &OptionFault::BadRoot), msgs),
+            InputFault::Superblock(StoredFault::Unread) => write_text(SUPERBLOCK_UNREAD, msgs),
+            InputFault::TooLarge => write_text(TOO_LARGE, msgs),
+            InputFault::BadRoot => write_message(
+                option_message(alloc, &OptionFault::BadRoot),
+                msgs,
+            ),
         }
     }
 }
@@ -92,14 +95,14 @@ impl VerifyFault {
     }
 
     /// Writes the message of the fault. The answer says whether the writer took all of it.
-    pub fn tell<M: Write>(&self, alloc: Global, msgs: &mut M) -> bool
+    pub fn write_message<M: Write>(&self, alloc: Global, msgs: &mut M) -> bool
         ensures whole { IsTrue result → Appends (M.contents msgs.old) (M.contents msgs.new) (fault_text self.now) }
         ensures front { AppendsFront (fault_text self.now) (M.contents msgs.old) (M.contents msgs.new) }
     {
         match self {
-            VerifyFault::Input(fault) => fault.tell(alloc, msgs),
-            VerifyFault::Store => tell_text(OUT_OF_MEMORY, msgs),
-            VerifyFault::Compare(fault) => tell(compare_message(alloc, fault), msgs),
+            VerifyFault::Input(fault) => fault.write_message(alloc, msgs),
+            VerifyFault::Store => write_text(OUT_OF_MEMORY, msgs),
+            VerifyFault::Compare(fault) => write_message(compare_message(alloc, fault), msgs),
         }
     }
 }

@@ -8,7 +8,9 @@ ghost use Rattle.veritysetup.specs.Program.Answers.{incomplete_text, no_random_t
 
 use crate::options::raw_options::OptionFault;
 use crate::texts::messages::{OUT_OF_MEMORY, build_message, option_message};
-use command_line::{LineFault, WordsFault, not_text_message, tell, tell_pieces, tell_text};
+use command_line::{
+    LineFault, WordsFault, not_text_message, write_message, write_pieces, write_text,
+};
 use std::alloc::Global;
 use std::io::Write;
 use verity_tree::BuildFault;
@@ -18,7 +20,7 @@ pub fn cannot_open<M: Write>(path: &str, msgs: &mut M) -> u8
     ensures status { result ≡ 4 }
     ensures message { AppendsFront (unopened_text path.now) (M.contents msgs.old) (M.contents msgs.new) }
 {
-    tell_pieces(&["Cannot open ", path, ".\n"], msgs);
+    write_pieces(&["Cannot open ", path, ".\n"], msgs);
     4
 }
 
@@ -27,7 +29,7 @@ pub fn cannot_write<M: Write>(path: &str, msgs: &mut M) -> u8
     ensures status { result ≡ 4 }
     ensures message { AppendsFront (unwritten_text path.now) (M.contents msgs.old) (M.contents msgs.new) }
 {
-    tell_pieces(&["Cannot write ", path, ".\n"], msgs);
+    write_pieces(&["Cannot write ", path, ".\n"], msgs);
     4
 }
 
@@ -36,7 +38,7 @@ pub fn short_data<M: Write>(alloc: Global, block: u64, msgs: &mut M) -> u8
     ensures status { result ≡ 4 }
     ensures message { AppendsFront (short_text block) (M.contents msgs.old) (M.contents msgs.new) }
 {
-    tell(build_message(alloc, &BuildFault::SourceShort(block)), msgs);
+    write_message(build_message(alloc, &BuildFault::SourceShort(block)), msgs);
     4
 }
 
@@ -45,7 +47,7 @@ pub fn no_random_bytes<M: Write>(msgs: &mut M) -> u8
     ensures status { result ≡ 4 }
     ensures message { AppendsFront no_random_text (M.contents msgs.old) (M.contents msgs.new) }
 {
-    tell_text("Cannot get random bytes.\n", msgs);
+    write_text("Cannot get random bytes.\n", msgs);
     4
 }
 
@@ -54,7 +56,7 @@ pub fn out_of_memory<M: Write>(msgs: &mut M) -> u8
     ensures status { result ≡ 3 }
     ensures message { AppendsFront memory_text (M.contents msgs.old) (M.contents msgs.new) }
 {
-    tell_text(OUT_OF_MEMORY, msgs);
+    write_text(OUT_OF_MEMORY, msgs);
     3
 }
 
@@ -63,7 +65,7 @@ pub fn refused_option<M: Write>(alloc: Global, fault: &OptionFault, msgs: &mut M
     ensures status { result ≡ 1 }
     ensures message { AppendsFront (option_text fault.now) (M.contents msgs.old) (M.contents msgs.new) }
 {
-    tell(option_message(alloc, fault), msgs);
+    write_message(option_message(alloc, fault), msgs);
     1
 }
 
@@ -72,7 +74,7 @@ pub fn incomplete_line<M: Write>(msgs: &mut M) -> u8
     ensures status { result ≡ 1 }
     ensures message { AppendsFront incomplete_text (M.contents msgs.old) (M.contents msgs.new) }
 {
-    tell_text("error: the command line is not complete\n", msgs);
+    write_text("error: the command line is not complete\n", msgs);
     1
 }
 
@@ -84,7 +86,7 @@ pub fn refused_words<M: Write>(alloc: Global, fault: &WordsFault, msgs: &mut M) 
 {
     match fault {
         WordsFault::NotText(number, word) => {
-            tell(not_text_message(alloc, *number, word.as_slice()), msgs);
+            write_message(not_text_message(alloc, *number, word.as_slice()), msgs);
             1
         }
         WordsFault::Memory => out_of_memory(msgs),
@@ -101,6 +103,6 @@ pub fn refused_line<M: Write>(fault: &LineFault, usage: &str, msgs: &mut M) -> u
     if fault.is_memory() {
         return out_of_memory(msgs);
     }
-    fault.tell(usage, msgs);
+    fault.write_message(usage, msgs);
     1
 }

@@ -33,7 +33,7 @@ returns-in-Err-clause-ended g c = λ _.
           c.loop-name.invariant.same.told c.loop-name.invariant.same.files c.loop-name.invariant.next
           c.loop-name.invariant.within (omega (arith, c.loop-name.invariant.failures)) refl c.in-Err.ensures.reason;
       counted = rw c.loop-name.invariant.failures at c.in-Err.ensures.counted;
-      message = rw (get_or_from_slice_get _ _ _ _ named) (rw c.loop-name.invariant.quiet at c.tell.ensures.front);
+      message = rw (get_or_from_slice_get _ _ _ _ named) (rw c.loop-name.invariant.quiet at c.write_message.ensures.front);
       written = λ t.
           let part = c.in-Err.ensures.written (c.loop-name.invariant.same.told.0 t) in
           part_more _ _ _ _ _ _ _ _ named (c.loop-name.invariant.out t)

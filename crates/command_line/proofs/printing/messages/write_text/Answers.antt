@@ -1,5 +1,5 @@
 use Rattle.command_line.proofs.Fronts.{front_of}
-use Rattle.command_line.proofs.printing.messages.tell_text.Goals as goal
+use Rattle.command_line.proofs.printing.messages.write_text.Goals as goal
 
 pub returns-in-Ok-clause-front : goal.returns-in-Ok-clause-front
 returns-in-Ok-clause-front g c =

@@ -1,6 +1,6 @@
 use Rattle.std.proofs.lemmas.List.{take_all}
 use Rattle.command_line.proofs.Fronts.{front_of, front_whole, pieces_front, pieces_whole, appends_nothing}
-use Rattle.command_line.proofs.printing.messages.tell_pieces.Goals as goal
+use Rattle.command_line.proofs.printing.messages.write_pieces.Goals as goal
 
 pub loop-piece-init : goal.loop-piece-init
 loop-piece-init g c = appends_nothing _
