@@ -1,6 +1,6 @@
 -- What the texts of options mean, with the defaults of both programs (veritysetup(8); fsverity(1)). How a number is
 -- written is this project's own, since both pages leave it open.
-use Rattle.std.specs.Prelude.{ℕ, ◌+◌, ◌-◌, ◌*◌, ◌/◌, ◌^◌, ◌&&◌, List, [], ◌∷◌, length, Option, Some, None, Result, Err, if◌then◌else◌, nat_le, nat_lt}
+use Rattle.std.specs.Prelude.{ℕ, ◌+◌, ◌-◌, ◌*◌, ◌/◌, ◌^◌, ◌&&◌, List, [], ◌∷◌, length, Option, Some, None, Result, Ok, Err, if◌then◌else◌, nat_le, nat_lt}
 use Rattle.std.specs.Result.{result_ok}
 use Rattle.std.specs.Str.{all_ascii_digits}
 use Rattle.hex.specs.Hex.{decode_of}
@@ -36,6 +36,12 @@ salt_of most text = if nat_le (length text / 2) most then result_ok (decode_of t
 abbrev pub algorithm_or_default : Option (List ℕ) → Option Algorithm
 algorithm_or_default None = Some Sha256
 algorithm_or_default (Some name) = named name
+
+-- one step after another, up to the first that fails
+infixl 10 ◌>>=◌
+abbrev pub ◌>>=◌ : {X Y E : Type 0} → Result X E → (X → Result Y E) → Result Y E
+(Ok x) >>= next = next x
+(Err fault) >>= next = Err fault
 
 -- the next step with the value of an option, or this fault if there is none
 abbrev pub or_fault : {X Y E : Type 0} → Option X → E → (X → Result Y E) → Result Y E

@@ -6,10 +6,10 @@ use Rattle.command_line.specs.declared.printing.print_fault.PrintFault.TheVarian
 
 -- some of the text's first bytes are added, perhaps none and perhaps all
 abbrev pub AppendsFront : List ℕ → Option (List ℕ) → Option (List ℕ) → Type 0
-AppendsFront text before after = (taken : ℕ) × Appends before after (take taken text)
+AppendsFront text before after = (count : ℕ) × Appends before after (take count text)
 
 -- the text is added whole; without memory nothing is added; only its first bytes if a write fails
 abbrev pub Prints : Result (Unit {0}) PrintFault → List ℕ → Option (List ℕ) → Option (List ℕ) → Type 0
 Prints (Ok done) text before after = Appends before after text
 Prints (Err Memory) text before after = Keeps before after
-Prints (Err (Output taken)) text before after = (taken < length text) × Appends before after (take taken text)
+Prints (Err (Output count)) text before after = (count < length text) × Appends before after (take count text)

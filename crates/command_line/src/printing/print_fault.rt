@@ -34,7 +34,7 @@ pub fn print_whole<W: Write>(
     match text {
         Ok(text) => match put_all(out, text.as_bytes()) {
             Ok(()) => Ok(()),
-            Err(PutFault(taken)) => Err(PrintFault::Output(taken)),
+            Err(PutFault(count)) => Err(PrintFault::Output(count)),
         },
         Err(_) => Err(PrintFault::Memory),
     }

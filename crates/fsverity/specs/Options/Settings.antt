@@ -1,11 +1,11 @@
 -- The settings that the options of `fsverity digest` give (fsverity(1), "fsverity digest"; Linux kernel, fs-verity
 -- page, "FS_IOC_ENABLE_VERITY"). Without options they are SHA-256, blocks of 4096 bytes and no salt.
-use Rattle.std.specs.Prelude.{ℕ, ◌&&◌, Bool, nat_lt, List, [], Option, Some, None, Result, Ok, Err, unwrap_or, option_and_then, if◌then◌else◌}
+use Rattle.std.specs.Prelude.{ℕ, ◌&&◌, Bool, nat_lt, List, [], Option, Some, None, Result, Ok, Err, ok_or, unwrap_or, option_and_then, if◌then◌else◌}
 use Rattle.verity_hash.specs.Algorithms.{digest_len_of}
 use Rattle.verity_hash.specs.declared.algorithm.Algorithm.{Algorithm}
 use Rattle.verity_hash.specs.declared.salting.SaltRule.TheVariants.{PaddedBefore}
 use Rattle.verity_plan.specs.Settings.{Settings, is_block_size, is_of_fsverity, least_block, most_salt}
-use Rattle.command_line.specs.Options.{algorithm_or_default, default_block_size, number_of, or_fault, salt_of}
+use Rattle.command_line.specs.Options.{algorithm_or_default, default_block_size, number_of, salt_of, ◌>>=◌}
 use Rattle.fsverity.specs.declared.options.option_fault.FsOptionFault.{FsOptionFault}
 use Rattle.fsverity.specs.declared.options.option_fault.FsOptionFault.TheVariants.{UnknownHash, BadBlockSize, BadSalt, OneFileOnly}
 
@@ -31,15 +31,11 @@ block_size_of algorithm (Some digits) = option_and_then (size_within_limits algo
 abbrev pub salt_bytes_of : Option (List ℕ) → Option (List ℕ)
 salt_bytes_of text = salt_of (most_salt PaddedBefore) (unwrap_or text [])
 
--- the settings, if no output file is named or there is only one input file
-abbrev pub settings_for_files : ℕ → Bool → Settings → Result Settings FsOptionFault
-settings_for_files files out_files s = if out_files && nat_lt 1 files then Err OneFileOnly else Ok s
-
 -- the settings, or the first option that is refused, for so many input files and for an output file or none
 abbrev pub fs_settings : Option (List ℕ) → Option (List ℕ) → Option (List ℕ) → ℕ → Bool → Result Settings FsOptionFault
-fs_settings hash_alg block_size salt files out_files =
-    or_fault (algorithm_of hash_alg) UnknownHash (λ algorithm.
-    or_fault (block_size_of algorithm block_size) BadBlockSize (λ block.
-    or_fault (salt_bytes_of salt) BadSalt (λ bytes.
-    settings_for_files files out_files
-    (record { algorithm = algorithm; rule = PaddedBefore; salt = bytes; data_block = block; hash_block = block }))))
+fs_settings hash_alg block_size salt files out_files = do
+  algorithm ← ok_or (algorithm_of hash_alg) UnknownHash
+  block ← ok_or (block_size_of algorithm block_size) BadBlockSize
+  bytes ← ok_or (salt_bytes_of salt) BadSalt
+  if out_files && nat_lt 1 files then Err OneFileOnly
+      else Ok (record { algorithm = algorithm; rule = PaddedBefore; salt = bytes; data_block = block; hash_block = block })

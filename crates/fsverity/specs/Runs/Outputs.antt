@@ -72,9 +72,9 @@ status_of (Err fault) = 1
 -- the message of a fault at the file of this name
 abbrev pub output_fault_text : OutputFault → List ℕ → List ℕ
 output_fault_text (Digest fault) name = fault_text fault name
-output_fault_text (Descriptor taken) name = codes "fsverity: cannot write descriptor.\n"
+output_fault_text (Descriptor count) name = codes "fsverity: cannot write descriptor.\n"
 output_fault_text (Line Memory) name = codes "fsverity: out of memory.\n"
-output_fault_text (Line (Output taken)) name = codes "fsverity: cannot write output.\n"
+output_fault_text (Line (Output count)) name = codes "fsverity: cannot write output.\n"
 
 -- the message of an outcome
 abbrev pub message_of : Outcome → List ℕ → List ℕ
@@ -92,7 +92,7 @@ Reads task (Ok done) before after = HasRead task.size before after
 Reads task (Err fault) before after = FaultsIn task.settings task.size before after fault
 
 -- what the tree's device holds for these bytes of the source; it stays if no tree is wanted
-abbrev pub WritesTree : OutputTask → List ℕ → Result (Unit {0}) DigestFault → List ℕ → List ℕ → Type 0
+abbrev pub WritesTree : {X : Type 0} → OutputTask → List ℕ → Result X DigestFault → List ℕ → List ℕ → Type 0
 WritesTree task bytes result before after =
     MatchBool task.wants_tree (Stands task.settings task.size bytes result before after) (after ≡ before)
 
@@ -103,15 +103,15 @@ AddsDescriptor task root before after = MatchBool task.wants_descriptor
 
 -- only this many of its first bytes are added
 abbrev pub AddsPart : OutputTask → List ℕ → ℕ → Option (List ℕ) → Option (List ℕ) → Type 0
-AddsPart task root taken before after = MatchBool task.wants_descriptor
-    ((taken < length (descriptor_text (descriptor_of task.settings task.size root)))
-    × Appends before after (take taken (descriptor_text (descriptor_of task.settings task.size root)))) ⊥
+AddsPart task root count before after = MatchBool task.wants_descriptor
+    ((count < length (descriptor_text (descriptor_of task.settings task.size root)))
+    × Appends before after (take count (descriptor_text (descriptor_of task.settings task.size root)))) ⊥
 
 -- what is added to the descriptor's writer
 abbrev pub WritesDescriptor : OutputTask → List ℕ → Outcome → Option (List ℕ) → Option (List ℕ) → Type 0
 WritesDescriptor task root (Ok done) before after = AddsDescriptor task root before after
 WritesDescriptor task root (Err (Digest fault)) before after = Keeps before after
-WritesDescriptor task root (Err (Descriptor taken)) before after = AddsPart task root taken before after
+WritesDescriptor task root (Err (Descriptor count)) before after = AddsPart task root count before after
 WritesDescriptor task root (Err (Line fault)) before after = AddsDescriptor task root before after
 
 -- the line for this root hash
@@ -122,9 +122,8 @@ line_of_root task root =
 -- what is added to out: the line, or only its first bytes if a write fails
 abbrev pub PrintsLine : OutputTask → List ℕ → Outcome → Option (List ℕ) → Option (List ℕ) → Type 0
 PrintsLine task root (Ok done) before after = Prints (Ok tt) (line_of_root task root) before after
-PrintsLine task root (Err (Digest fault)) before after = Keeps before after
-PrintsLine task root (Err (Descriptor taken)) before after = Keeps before after
 PrintsLine task root (Err (Line fault)) before after = Prints (Err fault) (line_of_root task root) before after
+PrintsLine task root outcome before after = Keeps before after
 
 -- the descriptor and the line have one root hash, which is the file's if the source tells its bytes
 pub record WritesTexts (task : OutputTask) (outcome : Outcome) (told : Type 0) (bytes : List ℕ) (texts : OutputChange)

@@ -1,9 +1,9 @@
 //! A run over one file with output files.
-ghost use Rattle.std.specs.Prelude.{◌≡◌, ◌↔◌, ◌⊎◌, length, false, IfOk, IsTrue, MatchBool};
+ghost use Rattle.std.specs.Prelude.{◌≡◌, ◌↔◌, ◌⊎◌, length, false, IfOk, IsTrue};
 ghost use Rattle.verity_hash.specs.declared.salting.SaltRule.TheVariants.{PaddedBefore};
 ghost use Rattle.verity_plan.specs.Settings.{digest_len};
 ghost use Rattle.verity_io.specs.Counting.{Counts, change};
-ghost use Rattle.fsverity.specs.Runs.FileDigest.{GivesDigest, IsDigestOfSource, Stands, device_failed, is_too_large, source_failed};
+ghost use Rattle.fsverity.specs.Runs.FileDigest.{GivesDigest, IsDigestOfSource, device_failed, is_too_large, source_failed};
 ghost use Rattle.fsverity.specs.Runs.Outputs.{IsWritten, OutputRun, Reads, WritesTexts, WritesTree};
 ghost use Rattle.fsverity.specs.Runs.Outputs.{digest_result, output_change, output_task};
 ghost use Rattle.fsverity.specs.declared.runs.digest_fault.DigestFault.TheVariants.{TooLarge};
@@ -47,10 +47,8 @@ fn digest_for_task<S: Source, D: Device>(
     ensures tree_count { Counts (device_failed result) (D.failures tree.old) (D.failures tree.new) }
     ensures bytes { S.tells source.old
         → GivesDigest task.now.settings.now task.now.size result (S.remaining source.old) (S.remaining source.new) }
-    ensures stands { S.tells source.old → D.tells tree.old → MatchBool task.now.wants_tree
-        (Stands task.now.settings.now task.now.size (S.remaining source.old) result
-        (D.content tree.old) (D.content tree.new))
-        (D.content tree.new ≡ D.content tree.old) }
+    ensures stands { S.tells source.old → D.tells tree.old
+        → WritesTree (task_of task.now) (S.remaining source.old) result (D.content tree.old) (D.content tree.new) }
 {
     if task.wants_tree {
         digest_file_with_tree(alloc, task.settings, task.size, source, tree)
@@ -109,7 +107,7 @@ fn write_outputs<S: Source, D: Device, W: Write, O: Write>(
     };
     match put_descriptor(&made, task.wants_descriptor, descriptor) {
         Ok(()) => {}
-        Err(PutFault(taken)) => return Err(OutputFault::Descriptor(taken)),
+        Err(PutFault(count)) => return Err(OutputFault::Descriptor(count)),
     }
     match print_line(alloc, task.settings, task.form, task.name, &made, out) {
         Ok(()) => Ok(()),
