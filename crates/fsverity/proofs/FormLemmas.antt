@@ -1,7 +1,7 @@
 -- Facts on the lines of files: what a form asks of a digest, and what a writer holds after nothing was written.
 use Rattle.std.proofs.Common.{◌≡◌, ℕ, ◌<◌, List, length, Option, Some, None, true, refl, arith}
 use Rattle.std.specs.Io.KnownBytes.{Keeps}
-use Rattle.verity_hash.specs.Algorithms.{digest_len_of}
+use Rattle.verity_hash.specs.Hashing.{digest_len_of}
 use Rattle.verity_hash.specs.declared.algorithm.Algorithm.{Algorithm}
 use Rattle.verity_hash.specs.declared.algorithm.Algorithm.TheVariants.{Sha256, Sha512, Sha1, Sha224, Sha384}
 use Rattle.verity_format.specs.Descriptors.{algorithm_number}

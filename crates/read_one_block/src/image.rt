@@ -2,7 +2,7 @@
 ghost use Rattle.std.specs.Prelude.{◌≡◌, ◌*◌, ◌<◌, ℕ, List, length, take, drop, IfErr, OnOk};
 ghost use Rattle.verity_io.specs.Counting.{Counts, CountsFailure};
 ghost use Rattle.verity_plan.specs.Plans.{levels_of};
-ghost use Rattle.verity_hash.specs.Bytes.{filled};
+ghost use Rattle.verity_hash.specs.Hashing.{filled};
 ghost use Rattle.verity_tree.specs.Levels.{block_at, data_blocks, root};
 ghost use Rattle.read_one_block.specs.Reading.{Answers, IsPathOn, IsRight, WasRead, data_failed, is_failure};
 ghost use Rattle.read_one_block.specs.Reading.{tree_failed};

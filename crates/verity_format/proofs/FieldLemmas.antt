@@ -5,7 +5,7 @@ use Rattle.std.proofs.Math.Seq.{take-add}
 use Rattle.std.proofs.lemmas.List.{drop-replicate, drop_at, length-replicate, length-take-le}
 use Rattle.std.proofs.lemmas.List.{replicate-append-replicate, take-replicate, take_at}
 use borrow.Rule.Slice.PartMut.{put_mid}
-use Rattle.verity_hash.specs.Bytes.{filled, IsHeld}
+use Rattle.verity_hash.specs.Hashing.{filled, IsHeld}
 
 -- as many fields as were put
 front_long : (n at : ℕ) (block : List ℕ) → IsHeld n block at → length (take at block) ≡ at

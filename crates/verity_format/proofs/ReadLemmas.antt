@@ -8,8 +8,8 @@ use Rattle.verity_plan.specs.Settings.{Settings, IsValid, is_verity_block_size, 
 use Rattle.verity_plan.specs.Settings.{type_of_number}
 use Rattle.verity_plan.specs.declared.hash_type.HashType.{HashType}
 use Rattle.verity_plan.specs.declared.hash_type.HashType.TheVariants.{Original, Current}
-use Rattle.verity_format.specs.SuperblockFields.{SuperblockFields, superblock_of, superblock_of_type, type_of}
-use Rattle.verity_format.specs.Fields.{field, number_at}
+use Rattle.verity_format.specs.Superblocks.{SuperblockFields, superblock_of, superblock_of_type, type_of}
+use Rattle.verity_format.specs.Superblocks.{field, number_at}
 use Rattle.verity_format.specs.Superblocks.{AreSettings, IsSuperblock, blocks_tests, cause, first_failed, header_tests}
 use Rattle.verity_format.specs.Superblocks.{settings_tests, signature}
 use Rattle.verity_format.specs.declared.super_fault.SuperFault.{SuperFault}

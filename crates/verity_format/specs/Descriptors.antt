@@ -1,9 +1,10 @@
 -- The fs-verity descriptor and the file digest (Linux kernel, fs-verity page, "fs-verity descriptor" and "File digest
--- computation").
-use Rattle.std.specs.Prelude.{◌≡◌, ℕ, ◌+◌, ◌^◌, ◌<◌, List, [], ◌∷◌, ◌++◌, length, replicate, nat_lt}
+-- computation"), and what is signed of a file digest (the same page, "Built-in signature verification", struct
+-- fsverity_formatted_digest).
+use Rattle.std.specs.Prelude.{◌≡◌, ℕ, ◌+◌, ◌^◌, ◌<◌, List, [], ◌∷◌, ◌++◌, length, replicate, nat_lt, codes}
 use Rattle.byteorder.specs.Endian.{little_bytes}
-use Rattle.verity_hash.specs.Algorithms.{hash_of}
-use Rattle.verity_hash.specs.Bytes.{filled}
+use Rattle.verity_hash.specs.Hashing.{hash_of}
+use Rattle.verity_hash.specs.Hashing.{filled}
 use Rattle.verity_hash.specs.declared.algorithm.Algorithm.{Algorithm}
 use Rattle.verity_hash.specs.declared.algorithm.Algorithm.TheVariants.{Sha256, Sha512, Sha1, Sha224, Sha384}
 use Rattle.verity_hash.specs.declared.salting.SaltRule.TheVariants.{PaddedBefore}
@@ -48,3 +49,10 @@ descriptor_text v = filled 256 (1 ∷ algorithm_number v.tree.algorithm ∷ log2
 -- the digest of a file
 abbrev pub digest_of_file : DescriptorFields → List ℕ
 digest_of_file v = hash_of v.tree.algorithm (descriptor_text v)
+
+-- the eight letters, the algorithm's number, the digest's length, the digest
+abbrev pub formatted : Algorithm → List ℕ → List ℕ
+formatted algorithm digest = codes "FSVerity"
+    ++ little_bytes 2 (algorithm_number algorithm)
+    ++ little_bytes 2 (length digest)
+    ++ digest

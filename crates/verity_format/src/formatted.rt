@@ -1,8 +1,8 @@
 //! What is signed of a file digest.
 ghost use Rattle.std.specs.Prelude.{◌≡◌, ◌<◌, ◌≤◌, length, SomeIff};
-ghost use Rattle.verity_hash.specs.Algorithms.{digest_len_of};
+ghost use Rattle.verity_hash.specs.Hashing.{digest_len_of};
 ghost use Rattle.verity_format.specs.Descriptors.{algorithm_number};
-ghost use Rattle.verity_format.specs.FormattedDigests.{formatted};
+ghost use Rattle.verity_format.specs.Descriptors.{formatted};
 
 use crate::descriptor::number_of;
 use crate::field_writer::FieldWriter;

@@ -1,7 +1,7 @@
 //! Laws of superblocks: of the bytes that are written and of what bytes say, for whoever writes another tool for the
 //! format.
 ghost use Rattle.std.specs.Prelude.{◌≡◌, ◌↔◌, ℕ, List, None, Ok};
-ghost use Rattle.verity_format.specs.SuperblockFields.{SuperblockFields, IsValidSuperblock};
+ghost use Rattle.verity_format.specs.Superblocks.{SuperblockFields, IsValidSuperblock};
 ghost use Rattle.verity_format.specs.Superblocks.{IsSuperblock, cause, superblock_text};
 
 use crate::{SuperFault, Superblock, read_superblock, write_superblock};

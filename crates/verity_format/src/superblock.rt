@@ -1,6 +1,6 @@
 //! The value of a superblock.
 ghost use Rattle.std.specs.Prelude.{◌≡◌};
-ghost use Rattle.verity_format.specs.SuperblockFields.{IsValidSuperblock, superblock_of, type_of};
+ghost use Rattle.verity_format.specs.Superblocks.{IsValidSuperblock, superblock_of, type_of};
 
 use std::marker::Model;
 use verity_hash::SaltRule;
@@ -18,7 +18,7 @@ pub struct Superblock {
 }
 
 impl Model for Superblock {
-    ghost use Rattle.verity_format.specs.SuperblockFields.{SuperblockFields, IsValidSuperblock};
+    ghost use Rattle.verity_format.specs.Superblocks.{SuperblockFields, IsValidSuperblock};
 
     ghost Value = { SuperblockFields };
 

@@ -1,6 +1,6 @@
 //! The salted hash of a block.
 ghost use Rattle.std.specs.Prelude.{◌≡◌};
-ghost use Rattle.verity_hash.specs.Salted.{salted_input, salted_hash};
+ghost use Rattle.verity_hash.specs.Hashing.{salted_input, salted_hash};
 
 use crate::hasher::Hasher;
 use crate::{Algorithm, Digest};

@@ -13,7 +13,7 @@ use Rattle.verity_plan.specs.Plans.{valid_plan, Planned, IsPlanned, HasBlock, by
 use Rattle.verity_plan.specs.Plans.{store_length_of, has_room}
 use Rattle.verity_plan.specs.declared.plan_fault.PlanFault.TheVariants.{NoData, TooLarge}
 use Rattle.std.specs.Int.{div_ceil}
-use Rattle.verity_plan.specs.Counts.{level_count, level_size}
+use Rattle.verity_plan.specs.Plans.{level_count, level_size}
 use Rattle.verity_plan.specs.Settings.{fan}
 use Rattle.verity_plan.proofs.CountLemmas.{div_ceil-div_ceil, IsLevelCount-level_count, le-div_ceil, div_ceil-le}
 use Rattle.verity_plan.proofs.FanLemmas.{fan-two, some_data, two_slots, digest_len_of-pos, data_most, hash_most}

@@ -42,7 +42,7 @@ impl Model for Plan {
 }
 
 ghost use Rattle.std.specs.Int.{div_ceil};
-ghost use Rattle.verity_plan.specs.Counts.{level_count, blocks_from};
+ghost use Rattle.verity_plan.specs.Plans.{level_count, blocks_from};
 
 impl Plan {
     /// A plan for a number of whole data blocks, with the hash area from block `base` on, counted in hash blocks

@@ -5,7 +5,7 @@ ghost use Rattle.verity_plan.specs.Settings.{Settings, IsValid, hash, fan, slot_
 ghost use Rattle.verity_plan.specs.Settings.{is_block_size, is_verity_block_size, is_of_fsverity, most_block};
 ghost use Rattle.verity_plan.specs.Settings.{most_salt, least_power, rule_of, valid_settings, verity_settings};
 ghost use Rattle.verity_plan.specs.Settings.{fsverity_settings};
-ghost use Rattle.verity_hash.specs.Algorithms.{digest_len_of};
+ghost use Rattle.verity_hash.specs.Hashing.{digest_len_of};
 
 use crate::{HashType, SettingFault};
 use std::marker::Model;

@@ -12,8 +12,8 @@ use Rattle.std.proofs.Math.Nat.{div-eq_of_lt, mul-le-mul_right}
 use Rattle.std.proofs.Math.Seq.{drop-cons}
 use Rattle.std.specs.Fork.{slice_chunk}
 use Rattle.std.specs.List.{flat_map}
-use Rattle.verity_hash.specs.Bytes.{filled}
-use Rattle.verity_plan.specs.Counts.{level_count}
+use Rattle.verity_hash.specs.Hashing.{filled}
+use Rattle.verity_plan.specs.Plans.{level_count}
 use Rattle.verity_tree.specs.Levels.{block_at, cut, hash_block_of, blocks_up, root}
 use Rattle.verity_tree.specs.Steps.OpenBlocks.{digests_under}
 use Rattle.verity_tree.specs.Paths.{true_chain}

@@ -8,7 +8,7 @@ use Rattle.std.proofs.lemmas.List.FromFn.{get_or-map-range_with_len}
 use Rattle.std.proofs.lemmas.Slice.{between-put_mid}
 use borrow.Rule.Slice.PartMut.{put_mid}
 use Rattle.std.specs.List.{range_with_len}
-use Rattle.verity_hash.specs.Bytes.{filled}
+use Rattle.verity_hash.specs.Hashing.{filled}
 use Rattle.verity_io.specs.Reading.{HasRead}
 use Rattle.verity_tree.specs.Reading.{EndsWithin, FailsWithin, bytes_of}
 use Rattle.verity_tree.specs.Steps.DataBlocks.{HoldsBlock, StopsWithin}

@@ -12,7 +12,7 @@ use Rattle.std.specs.List.{flat_map}
 use Rattle.std.specs.Fork.{slice_chunk}
 use Rattle.std.specs.Int.{div_ceil}
 use Rattle.verity_plan.proofs.CountLemmas.{mul_le}
-use Rattle.verity_hash.specs.Bytes.{filled}
+use Rattle.verity_hash.specs.Hashing.{filled}
 use Rattle.verity_hash.proofs.HashLemmas.{length-salted_hash}
 use Rattle.verity_plan.specs.Settings.{Settings, hash, fan, slot, slot_width, digest_len}
 use Rattle.verity_tree.specs.Levels.{hash_block_of, blocks_up}

@@ -13,7 +13,7 @@ use Rattle.std.specs.Fork.{slice_chunk}
 use Rattle.std.specs.Int.{div_ceil}
 use Rattle.verity_plan.specs.Settings.{Settings, hash, fan, slot_width, digest_len}
 use Rattle.verity_tree.specs.Levels.{hash_block_of, blocks_up, root}
-use Rattle.verity_plan.specs.Counts.{level_count}
+use Rattle.verity_plan.specs.Plans.{level_count}
 use Rattle.verity_tree.specs.Steps.OpenBlocks.{digests_under, open_block, open_block_with, HasOpenBlocks, level_digest}
 use Rattle.verity_tree.specs.Steps.OpenBlocks.{IsCarrying}
 use Rattle.verity_tree.specs.Steps.OpenBlocks.{IsNext, IsClosed, IsKept, IsCarriedOn, climb, arrival}

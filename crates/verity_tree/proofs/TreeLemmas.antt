@@ -7,7 +7,7 @@ use Rattle.std.specs.Int.{div_ceil}
 use Rattle.std.specs.Prelude.{nat_le}
 use Rattle.verity_plan.specs.Settings.{Settings, fan, hash}
 use Rattle.verity_tree.specs.Levels.{pack, up, blocks_up, height}
-use Rattle.verity_plan.specs.Counts.{level_count}
+use Rattle.verity_plan.specs.Plans.{level_count}
 use Rattle.verity_plan.proofs.LeastLemmas.{least_from-same}
 use Rattle.verity_plan.proofs.CountLemmas.{div_ceil-div_ceil, leb-div_ceil_one}
 

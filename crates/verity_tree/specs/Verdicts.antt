@@ -1,29 +1,17 @@
 -- Whether the hash blocks that a device holds are the tree's, and which is the first in closing order that is not
 -- (veritysetup(8), `verify`; the order and the parts are this project's own).
-use Rattle.std.specs.Prelude.{◌≡◌, ◌≤◌, ℕ, ◌+◌, ◌-◌, ◌*◌, Bool, not, min, List, length, take, drop, find, All}
-use Rattle.std.specs.Prelude.{nat_lt, Option, Some, None, Result, Ok, Err, if◌then◌else◌}
+use Rattle.std.specs.Prelude.{◌≡◌, ◌≤◌, ℕ, ◌+◌, ◌-◌, ◌*◌, Bool, not, min, List, length, take, drop, find, All, nat_lt}
+use Rattle.std.specs.Prelude.{Option, Some, None, Result, Ok, Err, if◌then◌else◌}
 use Rattle.std.specs.List.{range_with_len}
 use Rattle.std.specs.Str.{bytes_eq}
-use Rattle.verity_tree.specs.ClosingOrder.{order}
-use Rattle.verity_tree.specs.Image.{tree_block}
+use Rattle.verity_tree.specs.Image.{order, tree_block, stored_block}
 use Rattle.verity_tree.specs.Levels.{root, data_blocks, whole_blocks}
 use Rattle.verity_plan.specs.Plans.{Planned, HasBlock, byte_of, size_under}
 use Rattle.verity_plan.specs.Settings.{Settings, digest_len, fan, slot_width}
 use Rattle.verity_tree.specs.declared.comparing.CompareFault.{CompareFault}
-use Rattle.verity_tree.specs.declared.comparing.CompareFault.TheVariants.{SourceShort}
-use Rattle.verity_tree.specs.declared.comparing.CompareFault.TheVariants.{Differs, RootDiffers}
+use Rattle.verity_tree.specs.declared.comparing.CompareFault.TheVariants.{SourceShort, Differs, RootDiffers}
 use Rattle.verity_tree.specs.declared.part.Part.{Part}
 use Rattle.verity_tree.specs.declared.part.Part.TheVariants.{Missing, Child, Spare}
-
--- the bytes that are stored for a block of a level: fewer than a hash block if the device ends before its end
-abbrev pub stored_block : Planned → List ℕ → ℕ → ℕ → List ℕ
-stored_block p device level block = take p.settings.hash_block (drop (byte_of p level block) device)
-
--- the device holds the whole tree above the data, each hash block at its place, and the root hash is the tree's
-pub record HoldsTree (p : Planned) (device bytes digest : List ℕ) : Type 0 where
-  pub enough : p.wanted ≤ length bytes
-  pub stands : (l j : ℕ) → HasBlock p l j → stored_block p device l j ≡ tree_block p.settings (data_blocks p bytes) l j
-  pub root_is : root p.settings (data_blocks p bytes) ≡ digest
 
 -- the digest in a slot of a hash block
 abbrev pub digest_in : Settings → List ℕ → ℕ → List ℕ

@@ -3,6 +3,5 @@ pub mod Dump
 pub mod Format
 pub mod Verify
 pub mod VerifySteps
-pub mod Images
-pub mod StoredSuperblock
+pub mod HashDevice
 pub mod Outcomes

@@ -1,7 +1,7 @@
 //! The line of a file.
 ghost use Rattle.std.specs.Prelude.{◌≡◌, IfOk, string_bytes};
 ghost use Rattle.hex.specs.Hex.{encode_lower};
-ghost use Rattle.verity_format.specs.FormattedDigests.{formatted};
+ghost use Rattle.verity_format.specs.Descriptors.{formatted};
 ghost use Rattle.fsverity.specs.Texts.Lines.{FitsForm, IsFormattable, line};
 
 use std::alloc::{AllocError, Global};

@@ -2,7 +2,7 @@
 -- to read a public contract.
 use Rattle.std.specs.Prelude.{ℕ, zero, suc, List, [], length, map, take, slice_index_or}
 use Rattle.std.specs.Fork.{slice_chunk}
-use Rattle.verity_plan.specs.Counts.{level_count}
+use Rattle.verity_plan.specs.Plans.{level_count}
 use Rattle.verity_tree.specs.Levels.{block_at, hash_block_of, pack}
 use Rattle.verity_plan.specs.Settings.{Settings, hash, fan}
 

@@ -7,7 +7,7 @@ use Rattle.verity_hash.specs.declared.salting.SaltRule.TheVariants.{Before}
 use Rattle.verity_plan.specs.Plans.{superblock_size}
 use Rattle.verity_plan.specs.Settings.{is_verity_block_size, most_salt}
 use Rattle.command_line.specs.Options.{number_of, salt_of}
-use Rattle.veritysetup.specs.Options.RootHash.{root_of}
+use Rattle.veritysetup.specs.Options.VeritySettings.{root_of}
 use Rattle.veritysetup.specs.Options.Uuids.{random_uuid}
 use Rattle.veritysetup.specs.declared.options.raw_options.RawOptions.{RawOptions}
 

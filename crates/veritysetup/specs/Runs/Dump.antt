@@ -1,14 +1,14 @@
 -- How a run of dump ends (veritysetup(8), "dump"; the statuses are this project's own).
 use Rattle.std.specs.Prelude.{◌≡◌, ℕ, Bool, false, List, Option, None, Result, Ok, Err}
 use Rattle.std.specs.Io.KnownBytes.{Keeps}
-use Rattle.verity_format.specs.SuperblockFields.{SuperblockFields}
+use Rattle.verity_format.specs.Superblocks.{SuperblockFields}
 use Rattle.verity_format.specs.Superblocks.{IsSuperblock}
 use Rattle.verity_io.specs.Counting.{Change, Counts}
 use Rattle.veritysetup.specs.Texts.Messages.{super_text, unread_superblock_text, memory_text, unwritten_output_text}
 use Rattle.veritysetup.specs.Runs.Outcomes.{TextChange, status_of, message_of}
 use Rattle.command_line.specs.Printing.{AppendsFront, Prints}
 use Rattle.veritysetup.specs.Texts.Reports.{report_text, uuid_text}
-use Rattle.veritysetup.specs.Runs.StoredSuperblock.{header, ReadsSuperblock, is_unread}
+use Rattle.veritysetup.specs.Runs.HashDevice.{header, ReadsSuperblock, is_unread}
 use Rattle.veritysetup.specs.declared.runs.dump.DumpFault.{DumpFault}
 use Rattle.veritysetup.specs.declared.runs.dump.DumpFault.TheVariants.{Superblock, Report}
 use Rattle.command_line.specs.declared.printing.print_fault.PrintFault.{PrintFault}

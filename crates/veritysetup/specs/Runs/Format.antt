@@ -11,7 +11,7 @@ use Rattle.verity_tree.specs.Image.{tree_image}
 use Rattle.verity_tree.specs.Building as building
 use Rattle.verity_tree.specs.Levels.{root, data_blocks}
 use Rattle.veritysetup.specs.Options.VeritySettings.{VeritySettings}
-use Rattle.veritysetup.specs.Runs.Images.{image, superblock_for}
+use Rattle.veritysetup.specs.Runs.HashDevice.{image, superblock_for}
 use Rattle.veritysetup.specs.Texts.Messages.{build_text, memory_text, unwritten_output_text, unwritten_superblock_text}
 use Rattle.veritysetup.specs.Runs.Outcomes.{TextChange, status_of, message_of}
 use Rattle.command_line.specs.Printing.{AppendsFront, Prints}

@@ -2,7 +2,7 @@
 -- For the private steps; not needed to read a public contract.
 use Rattle.std.specs.Prelude.{ℕ, List, ◌++◌, codes}
 use Rattle.std.specs.Fmt.{decimal}
-use Rattle.verity_format.specs.SuperblockFields.{SuperblockFields}
+use Rattle.verity_format.specs.Superblocks.{SuperblockFields}
 use Rattle.verity_plan.specs.Settings.{type_number, Settings}
 use Rattle.veritysetup.specs.Texts.Reports.{report_line}
 

@@ -8,7 +8,7 @@ ghost use Rattle.verity_tree.specs.Levels.{data_blocks};
 ghost use Rattle.veritysetup.specs.Runs.Format.{FormatRun, IsFormatted, PrintsReport, Reads, Writes};
 ghost use Rattle.veritysetup.specs.Runs.Format.{device_failed, fault_status, fault_text, format_report, root_above};
 ghost use Rattle.veritysetup.specs.Runs.Format.{source_failed};
-ghost use Rattle.veritysetup.specs.Runs.Images.{with_superblock};
+ghost use Rattle.veritysetup.specs.Runs.HashDevice.{with_superblock};
 ghost use Rattle.veritysetup.specs.Runs.Outcomes.{text_change};
 ghost use Rattle.command_line.specs.Printing.{AppendsFront};
 

@@ -5,7 +5,7 @@ use Rattle.verity_tree.specs.Levels.{root, data_blocks}
 use Rattle.verity_tree.specs.Steps.OpenBlocks.{HasOpenBlocks}
 use Rattle.verity_tree.specs.Steps.ReadingAhead.{IsAhead, IsQuiet, ahead_failed}
 use Rattle.verity_plan.specs.Plans.{levels_of}
-use Rattle.verity_tree.specs.ClosingOrder.{order}
+use Rattle.verity_tree.specs.Image.{order}
 use Rattle.verity_plan.specs.Settings.{digest_len, fan}
 use Rattle.verity_tree.specs.Verdicts.{NoneDiffers}
 use Rattle.verity_tree.specs.declared.pass.closed_block.Task.TheVariants.{Compare}

@@ -1,6 +1,6 @@
 use Rattle.std.proofs.Common.{◌≡◌, ◌∙◌, ap, refl, List, ℕ, ◌++◌, Option}
-use Rattle.verity_format.specs.SuperblockFields.{SuperblockFields}
-use Rattle.verity_hash.specs.Algorithms.{name_of}
+use Rattle.verity_format.specs.Superblocks.{SuperblockFields}
+use Rattle.verity_hash.specs.Hashing.{name_of}
 use Rattle.verity_plan.specs.Settings.{Settings}
 use Rattle.veritysetup.specs.Texts.ReportSteps.{with_hash, with_header, with_sizes}
 use Rattle.veritysetup.specs.Texts.Reports.{salt_text, title, root_line, report_text}
