@@ -11,8 +11,7 @@ use Rattle.verity_plan.specs.Settings.{Settings, IsValid, digest_len, is_verity_
 use Rattle.verity_plan.specs.Settings.{rule_of, type_of_number}
 use Rattle.verity_plan.specs.declared.hash_type.HashType.{HashType}
 use Rattle.verity_plan.specs.declared.hash_type.HashType.TheVariants.{Original, Current}
-use Rattle.verity_format.specs.Superblocks.{field, number_at, until_zero}
-use Rattle.verity_format.specs.Superblocks.{SuperblockFields}
+use Rattle.verity_format.specs.Superblocks.{field, number_at, until_zero, SuperblockFields}
 use Rattle.verity_format.specs.Superblocks.{IsSuperblock, blocks_tests, cause, first_failed, header_tests}
 use Rattle.verity_format.specs.Superblocks.{settings_tests, signature}
 use Rattle.verity_format.specs.declared.super_fault.SuperFault.{SuperFault}

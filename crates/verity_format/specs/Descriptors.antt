@@ -3,12 +3,11 @@
 -- fsverity_formatted_digest).
 use Rattle.std.specs.Prelude.{◌≡◌, ℕ, ◌+◌, ◌^◌, ◌<◌, List, [], ◌∷◌, ◌++◌, length, replicate, nat_lt, codes}
 use Rattle.byteorder.specs.Endian.{little_bytes}
-use Rattle.verity_hash.specs.Hashing.{hash_of}
-use Rattle.verity_hash.specs.Hashing.{filled}
+use Rattle.verity_hash.specs.Hashing.{hash_of, filled}
 use Rattle.verity_hash.specs.declared.algorithm.Algorithm.{Algorithm}
 use Rattle.verity_hash.specs.declared.algorithm.Algorithm.TheVariants.{Sha256, Sha512, Sha1, Sha224, Sha384}
 use Rattle.verity_hash.specs.declared.salting.SaltRule.TheVariants.{PaddedBefore}
-use Rattle.verity_plan.specs.Settings.{least_up_to, Settings, IsValid, digest_len}
+use Rattle.verity_plan.specs.Settings.{log2, Settings, IsValid, digest_len}
 
 -- what the tree is made by, the file's size in bytes, and the root hash
 pub record DescriptorFields : Type 0 where
@@ -32,10 +31,6 @@ algorithm_number Sha512 = 2
 algorithm_number Sha1 = 0
 algorithm_number Sha224 = 0
 algorithm_number Sha384 = 0
-
--- the binary logarithm, rounded down: the least k for which n is below 2 ^ (k + 1)
-unfoldable pub log2 : ℕ → ℕ
-log2 n = least_up_to n (λ k. nat_lt n (2 ^ (k + 1)))
 
 -- the 256 bytes of a descriptor: version, algorithm, logarithm of the block size, salt size, four zeros, the file's
 -- size, 64 bytes of root hash, the salt as it was given, and zeros

@@ -24,8 +24,7 @@ use Rattle.verity_plan.specs.Settings.{type_of_number}
 use Rattle.verity_plan.specs.declared.hash_type.HashType.{HashType}
 use Rattle.verity_plan.specs.declared.hash_type.HashType.TheVariants.{Original, Current}
 use Rattle.std.specs.Str.{bytes_eq}
-use Rattle.verity_hash.specs.Hashing.{name_of, named}
-use Rattle.verity_hash.specs.Hashing.{filled}
+use Rattle.verity_hash.specs.Hashing.{name_of, named, filled}
 use Rattle.verity_plan.specs.Plans.{superblock_size}
 use Rattle.verity_format.specs.declared.super_fault.SuperFault.{SuperFault}
 use Rattle.verity_format.specs.declared.super_fault.SuperFault.TheVariants as fault

@@ -1,7 +1,8 @@
 //! The fs-verity descriptor and the file digest.
 ghost use Rattle.std.specs.Prelude.{◌≡◌, ◌≤◌, ◌<◌, SomeIff};
 ghost use Rattle.verity_format.specs.Descriptors.{IsDescribed, IsValidDescriptor, algorithm_number, descriptor_text};
-ghost use Rattle.verity_format.specs.Descriptors.{digest_of_file, log2};
+ghost use Rattle.verity_format.specs.Descriptors.{digest_of_file};
+ghost use Rattle.verity_plan.specs.Settings.{log2};
 
 use crate::field_writer::FieldWriter;
 use std::marker::Model;

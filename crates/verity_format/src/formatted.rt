@@ -1,8 +1,7 @@
 //! What is signed of a file digest.
 ghost use Rattle.std.specs.Prelude.{◌≡◌, ◌<◌, ◌≤◌, length, SomeIff};
 ghost use Rattle.verity_hash.specs.Hashing.{digest_len_of};
-ghost use Rattle.verity_format.specs.Descriptors.{algorithm_number};
-ghost use Rattle.verity_format.specs.Descriptors.{formatted};
+ghost use Rattle.verity_format.specs.Descriptors.{algorithm_number, formatted};
 
 use crate::descriptor::number_of;
 use crate::field_writer::FieldWriter;

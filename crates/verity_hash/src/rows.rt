@@ -1,8 +1,7 @@
 //! The salted hashes of one to eight blocks, which stand in rows of one size.
 ghost use Rattle.std.specs.Prelude.{◌≡◌, ℕ, ◌+◌, ◌*◌, ◌<◌, ◌≤◌, ◌++◌, [], length, slice_index_or, IfSome};
 ghost use Rattle.std.specs.Fork.{slice_chunk};
-ghost use Rattle.verity_hash.specs.Hashing.{hash_of};
-ghost use Rattle.verity_hash.specs.Hashing.{salted_hash};
+ghost use Rattle.verity_hash.specs.Hashing.{hash_of, salted_hash};
 ghost use Rattle.verity_hash.specs.declared.salting.SaltRule.TheVariants.{PaddedBefore};
 
 use crate::hasher::digest_of;

@@ -26,7 +26,7 @@ log2-found n =
     IsLeast-least_from (λ m. nat_lt n (2 ^ (m + 1))) 0 n n (omega arith) (omega arith) passing
 
 -- the logarithm from the powers that a number lies between
-log2-is : (n k : ℕ) → 2 ^ k ≤ n → n < 2 * 2 ^ k → log2 n ≡ k
+pub log2-is : (n k : ℕ) → 2 ^ k ≤ n → n < 2 * 2 ^ k → log2 n ≡ k
 log2-is n k low high =
     let next : suc k ≡ k + 1 = omega arith in
     let above : n < 2 ^ (k + 1) = omega (arith, pow-suc 2 k, ap (λ (m : ℕ). 2 ^ m) next, high) in

@@ -10,10 +10,9 @@ use Rattle.std.proofs.lemmas.Nat.{div-add-mod', mod_below}
 use Rattle.std.specs.Prelude.{◌==◌, Bool, nat_le, nat_eq, true, false, Ok, Err}
 use Rattle.verity_io.specs.Writing.{most_bytes}
 use Rattle.verity_plan.specs.Plans.{valid_plan, Planned, IsPlanned, HasBlock, byte_of, place_of, levels_of, end_of}
-use Rattle.verity_plan.specs.Plans.{store_length_of, has_room}
+use Rattle.verity_plan.specs.Plans.{store_length_of, has_room, level_count, level_size}
 use Rattle.verity_plan.specs.declared.plan_fault.PlanFault.TheVariants.{NoData, TooLarge}
 use Rattle.std.specs.Int.{div_ceil}
-use Rattle.verity_plan.specs.Plans.{level_count, level_size}
 use Rattle.verity_plan.specs.Settings.{fan}
 use Rattle.verity_plan.proofs.CountLemmas.{div_ceil-div_ceil, IsLevelCount-level_count, le-div_ceil, div_ceil-le}
 use Rattle.verity_plan.proofs.FanLemmas.{fan-two, some_data, two_slots, digest_len_of-pos, data_most, hash_most}

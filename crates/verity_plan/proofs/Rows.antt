@@ -1,8 +1,7 @@
 -- Worked rows: fan-outs, slots, levels and places.
 use Rattle.std.proofs.Common.{◌≡◌, refl}
 use Rattle.verity_plan.specs.Settings.{least_from, log2, slot_count, least_power}
-use Rattle.verity_plan.specs.Plans.{level_count}
-use Rattle.verity_plan.specs.Plans.{place, end_place}
+use Rattle.verity_plan.specs.Plans.{level_count, place, end_place}
 
 fan_512 : slot_count 32 512 ≡ 16
 unfolding least_from log2 slot_count

@@ -4,9 +4,7 @@
 use Rattle.std.specs.Prelude.{◌≡◌, ℕ, zero, suc, ◌+◌, ◌*◌, ◌/◌, ◌^◌, ◌≤◌, ◌&&◌, ◌==◌, Bool, true, false, not, List}
 use Rattle.std.specs.Prelude.{length, Option, Some, None, Result, Ok, Err, if◌then◌else◌, nat_le, nat_lt}
 use Rattle.std.specs.Int.{is_power_of_two}
-use Rattle.verity_hash.specs.Hashing.{digest_len_of}
-use Rattle.verity_hash.specs.Hashing.{filled}
-use Rattle.verity_hash.specs.Hashing.{salted_hash}
+use Rattle.verity_hash.specs.Hashing.{digest_len_of, filled, salted_hash}
 use Rattle.verity_hash.specs.declared.algorithm.Algorithm.{Algorithm}
 use Rattle.verity_hash.specs.declared.algorithm.Algorithm.TheVariants.{Sha256, Sha512, Sha1, Sha224, Sha384}
 use Rattle.verity_hash.specs.declared.salting.SaltRule.{SaltRule}

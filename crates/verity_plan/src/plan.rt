@@ -4,7 +4,7 @@ ghost use Rattle.std.specs.Fork.{slice_chunk};
 ghost use Rattle.verity_io.specs.Writing.{most_bytes};
 ghost use Rattle.verity_plan.specs.Plans.{Planned, IsPlanned, byte_of, levels_of, size_of_level, place_of, end_of};
 ghost use Rattle.verity_plan.specs.Plans.{store_length_of, size_under, HasBlock, valid_plan, plan_for_blocks};
-ghost use Rattle.verity_plan.specs.Plans.{plan_for_bytes};
+ghost use Rattle.verity_plan.specs.Plans.{plan_for_bytes, level_count, blocks_from};
 ghost use Rattle.verity_plan.specs.Settings.{digest_len, fan, hash, slot_width};
 
 use crate::{PlanFault, TreeSettings};
@@ -42,7 +42,6 @@ impl Model for Plan {
 }
 
 ghost use Rattle.std.specs.Int.{div_ceil};
-ghost use Rattle.verity_plan.specs.Plans.{level_count, blocks_from};
 
 impl Plan {
     /// A plan for a number of whole data blocks, with the hash area from block `base` on, counted in hash blocks

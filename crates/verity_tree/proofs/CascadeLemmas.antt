@@ -7,18 +7,14 @@ use Rattle.std.proofs.lemmas.Nat.{div-add-mod', div-mul-add}
 use Rattle.std.proofs.Math.Nat.{one-le-pow, pow-suc}
 use Rattle.verity_plan.specs.Settings.{Settings, hash, fan}
 use Rattle.verity_tree.specs.Levels.{blocks_up}
-use Rattle.verity_plan.specs.Plans.{level_count, level_size}
-use Rattle.verity_tree.specs.Image.{closing, closes}
+use Rattle.verity_plan.specs.Plans.{level_count, level_size, place, byte_at, Planned}
+use Rattle.verity_tree.specs.Image.{closing, closes, stored_block, tree_block, device_with}
 use Rattle.verity_tree.specs.Steps.Cascade.{EndsBlock, first_closing}
-use Rattle.verity_plan.specs.Plans.{place, byte_at}
 use Rattle.verity_tree.specs.Steps.OpenBlocks.{digests_under, open_block, open_block_with, IsReached, IsCarrying}
 use Rattle.verity_tree.specs.Steps.OpenBlocks.{IsNext}
 use Rattle.verity_tree.specs.Steps.OpenBlocks.{IsKept, climb, arrival}
 use Rattle.verity_io.specs.Writing.{put}
-use Rattle.verity_plan.specs.Plans.{Planned}
 use Rattle.verity_tree.specs.Verdicts.{NoneDiffers, StandsThere}
-use Rattle.verity_tree.specs.Image.{stored_block}
-use Rattle.verity_tree.specs.Image.{tree_block, device_with}
 use Rattle.verity_tree.proofs.QuotientLemmas.{quotient-below, quotient-next, IsReached-full}
 use Rattle.verity_tree.proofs.OpenBlockSteps.{level_digest-below, level_digest-next, level_digest-root, place-first}
 use Rattle.verity_tree.proofs.OrderSplit.{closing-prefix, closing-all, closes-reached, closes-last, first_closing-more}

@@ -8,15 +8,13 @@ use Rattle.std.specs.Prelude.{find, not, nat_lt, Some, None, Option}
 use Rattle.std.proofs.lemmas.Bool.{not-true}
 use Rattle.std.specs.Str.{bytes_eq}
 use Rattle.verity_tree.specs.Reading.{EndsWithin}
-use Rattle.verity_tree.specs.Image.{order}
+use Rattle.verity_tree.specs.Image.{order, tree_block, stored_block}
 use Rattle.verity_tree.specs.Comparing.{ComesTo, Judges}
 use Rattle.verity_tree.specs.Steps.OnePass.{fault_by, fault_of, StopsFor}
-use Rattle.verity_tree.specs.Image.{tree_block}
 use Rattle.verity_tree.specs.Levels.{root, data_blocks, whole_blocks}
 use Rattle.verity_plan.specs.Plans.{Planned, IsPlanned}
 use Rattle.verity_plan.specs.Settings.{fan}
 use Rattle.verity_tree.specs.Verdicts.{NoneDiffers, StandsThere, differs, verdict_by, part_of, verdict}
-use Rattle.verity_tree.specs.Image.{stored_block}
 use Rattle.verity_tree.specs.declared.pass.cascade.Stop.{Stop}
 use Rattle.verity_tree.specs.declared.comparing.CompareFault.TheVariants.{SourceShort, RootDiffers}
 use Rattle.verity_tree.specs.declared.comparing.CompareFault.TheVariants as F

@@ -11,9 +11,8 @@ use Rattle.std.specs.Prelude.{Contains}
 use Rattle.verity_plan.proofs.CountLemmas.{mul_le}
 use Rattle.verity_plan.specs.Settings.{Settings, fan}
 use Rattle.verity_tree.specs.Levels.{hash_block_of, data_blocks}
-use Rattle.verity_tree.specs.Image.{closing, order}
+use Rattle.verity_tree.specs.Image.{closing, order, tree_block, device_with, tree_image_after, StopsAt}
 use Rattle.verity_io.specs.Writing.{Spoiled}
-use Rattle.verity_tree.specs.Image.{tree_block, device_with, tree_image_after, StopsAt}
 use Rattle.verity_tree.proofs.OrderSplit.{closing-front, order-front, order-more, device_with-append, device_with-order}
 use Rattle.verity_tree.specs.Reading.{ReadsUpTo, bytes_of}
 use Rattle.verity_io.specs.Reading.{HasRead}

@@ -9,15 +9,13 @@ use Rattle.std.proofs.Math.Nat.{one-le-pow}
 use Rattle.std.specs.Int.{div_ceil}
 use Rattle.std.specs.List.{filter, range_with_len}
 use Rattle.std.specs.Prelude.{◌==◌, ◌||◌, slice_index_or}
-use Rattle.verity_plan.specs.Plans.{level_count}
-use Rattle.verity_tree.specs.Image.{closes, closing, order}
+use Rattle.verity_plan.specs.Plans.{level_count, byte_at}
+use Rattle.verity_tree.specs.Image.{closes, closing, order, device_with}
 use Rattle.verity_tree.specs.Steps.Cascade.{first_closing}
 use Rattle.verity_plan.specs.Settings.{Settings, fan}
 use Rattle.verity_tree.specs.Steps.OpenBlocks.{IsReached}
 use Rattle.verity_tree.specs.Levels.{blocks_up}
 use Rattle.verity_io.specs.Writing.{put}
-use Rattle.verity_tree.specs.Image.{device_with}
-use Rattle.verity_plan.specs.Plans.{byte_at}
 use Rattle.verity_tree.proofs.QuotientLemmas.{div_ceil-last, quotient-stays}
 
 -- a test that the first numbers pass and the others don't

@@ -1,15 +1,12 @@
 //! Laws of the definitions of trees: each holds for all settings and data. Those of slots, counts and places are
 //! `verity_plan`'s, and stand here too.
 ghost use Rattle.std.specs.Prelude.{◌≡◌, ◌⊎◌, ℕ, ◌<◌, ◌≤◌, List, [], length, slice_index_or, Result, Ok};
-ghost use Rattle.verity_plan.specs.Plans.{level_count, level_size};
-ghost use Rattle.verity_plan.specs.Plans.{Planned, IsPlanned, levels_of};
+ghost use Rattle.verity_plan.specs.Plans.{level_count, level_size, Planned, IsPlanned, levels_of};
 ghost use Rattle.verity_plan.specs.Settings.{Settings, fan};
-ghost use Rattle.verity_tree.specs.Image.{ClosesOnce, order, times};
-ghost use Rattle.verity_tree.specs.Image.{tree_block};
+ghost use Rattle.verity_tree.specs.Image.{ClosesOnce, order, times, tree_block, HoldsTree};
 ghost use Rattle.verity_tree.specs.Levels.{data_blocks, level, height, root};
 ghost use Rattle.verity_tree.specs.Paths.{ChecksBlock, HasCollision, IsAccepted, true_path};
 ghost use Rattle.verity_tree.specs.Verdicts.{verdict};
-ghost use Rattle.verity_tree.specs.Image.{HoldsTree};
 ghost use Rattle.verity_tree.specs.declared.path.PathFault.{PathFault};
 
 pub use verity_plan::laws::{

@@ -5,8 +5,7 @@ use Rattle.std.specs.List.{concat}
 use Rattle.hex.specs.Hex.{encode_lower}
 use Rattle.verity_hash.specs.Hashing.{digest_len_of, name_of}
 use Rattle.verity_hash.specs.declared.algorithm.Algorithm.{Algorithm}
-use Rattle.verity_format.specs.Descriptors.{algorithm_number}
-use Rattle.verity_format.specs.Descriptors.{formatted}
+use Rattle.verity_format.specs.Descriptors.{algorithm_number, formatted}
 use Rattle.fsverity.specs.declared.texts.digest_lines.Form.{Form}
 use Rattle.fsverity.specs.declared.texts.digest_lines.Form.TheVariants.{Full, Compact, Builtin, CompactBuiltin}
 

@@ -4,14 +4,12 @@ use Rattle.std.specs.Prelude.{◌≡◌, ◌⊎◌, ℕ, ◌+◌, ◌/◌, ◌%�
 use Rattle.std.specs.List.{range_with_len}
 use Rattle.verity_hash.specs.declared.digest.Digest.{Digest}
 use Rattle.verity_plan.specs.Settings.{Settings, hash, fan}
-use Rattle.verity_tree.specs.Image.{closing, closes}
-use Rattle.verity_tree.specs.Image.{tree_block, device_with}
+use Rattle.verity_tree.specs.Image.{closing, closes, tree_block, device_with, stored_block}
 use Rattle.verity_plan.specs.Plans.{Planned, byte_of, levels_of}
 use Rattle.verity_tree.specs.declared.pass.cascade.Stop.{Stop}
 use Rattle.verity_tree.specs.declared.pass.closed_block.Task.{Task}
 use Rattle.verity_tree.specs.Steps.ClosedBlocks.{IsCause, call_failed, closed_block}
 use Rattle.verity_tree.specs.Verdicts.{NoneDiffers}
-use Rattle.verity_tree.specs.Image.{stored_block}
 use Rattle.verity_tree.specs.Steps.OpenBlocks.{Arrival, IsNext, open_block_with, IsCarriedOn, IsKept, IsClosed}
 use Rattle.verity_io.specs.Writing.{put, Spoiled}
 use Rattle.verity_tree.specs.declared.pass.cascade.LevelStep.{LevelStep}

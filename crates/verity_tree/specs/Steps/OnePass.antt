@@ -4,8 +4,7 @@ use Rattle.std.specs.Prelude.{◌≡◌, ℕ, ◌+◌, ◌<◌, ◌≤◌, Bool,
 use Rattle.verity_hash.specs.declared.digest.Digest.{Digest}
 use Rattle.verity_tree.specs.Building.{Builds, BuildsImage}
 use Rattle.verity_tree.specs.Reading.{bytes_of}
-use Rattle.verity_tree.specs.Image.{tree_block}
-use Rattle.verity_tree.specs.Image.{ComesNext, order}
+use Rattle.verity_tree.specs.Image.{tree_block, ComesNext, order}
 use Rattle.verity_tree.specs.Steps.ClosedBlocks.{IsCause, call_failed, closed_block}
 use Rattle.verity_tree.specs.Levels.{data_blocks}
 use Rattle.verity_plan.specs.Plans.{Planned}

@@ -1,8 +1,7 @@
 -- How a run of dump ends (veritysetup(8), "dump"; the statuses are this project's own).
 use Rattle.std.specs.Prelude.{◌≡◌, ℕ, Bool, false, List, Option, None, Result, Ok, Err}
 use Rattle.std.specs.Io.KnownBytes.{Keeps}
-use Rattle.verity_format.specs.Superblocks.{SuperblockFields}
-use Rattle.verity_format.specs.Superblocks.{IsSuperblock}
+use Rattle.verity_format.specs.Superblocks.{SuperblockFields, IsSuperblock}
 use Rattle.verity_io.specs.Counting.{Change, Counts}
 use Rattle.veritysetup.specs.Texts.Messages.{super_text, unread_superblock_text, memory_text, unwritten_output_text}
 use Rattle.veritysetup.specs.Runs.Outcomes.{TextChange, status_of, message_of}

@@ -2,12 +2,11 @@
 -- block at its place and then that superblock (cryptsetup's on-disk format page, "dm-verity header"; Linux kernel,
 -- dm-verity page, "On-disk format").
 use Rattle.std.specs.Prelude.{◌≡◌, ℕ, Bool, true, false, List, take, drop, Some, Result, Ok, Err, if◌then◌else◌}
-use Rattle.verity_format.specs.Superblocks.{IsSuperblock, cause, superblock_text}
+use Rattle.verity_format.specs.Superblocks.{IsSuperblock, cause, superblock_text, SuperblockFields}
 use Rattle.verity_format.specs.declared.superblock.Superblock.{Superblock}
 use Rattle.verity_plan.specs.Plans.{superblock_size}
 use Rattle.veritysetup.specs.declared.runs.stored_superblock.StoredFault.{StoredFault}
 use Rattle.veritysetup.specs.declared.runs.stored_superblock.StoredFault.TheVariants.{Unread, Refused}
-use Rattle.verity_format.specs.Superblocks.{SuperblockFields}
 use Rattle.verity_tree.specs.Image.{tree_image}
 use Rattle.verity_io.specs.Writing.{put}
 use Rattle.veritysetup.specs.Options.VeritySettings.{VeritySettings}

@@ -1,7 +1,6 @@
 -- How a run of verify ends (veritysetup(8), "verify"; statuses and messages are this project's own).
 use Rattle.std.specs.Prelude.{◌≡◌, ℕ, Bool, true, false, List, Option, Some, None, Result, Ok, Err}
-use Rattle.verity_format.specs.Superblocks.{SuperblockFields}
-use Rattle.verity_format.specs.Superblocks.{IsSuperblock}
+use Rattle.verity_format.specs.Superblocks.{SuperblockFields, IsSuperblock}
 use Rattle.verity_io.specs.Counting.{Change, Counts}
 use Rattle.verity_io.specs.Reading.{HasRead}
 use Rattle.verity_plan.specs.Plans.{Planned}
@@ -11,11 +10,10 @@ use Rattle.verity_tree.specs.Comparing as comparing
 use Rattle.verity_tree.specs.Image.{HoldsTree}
 use Rattle.verity_tree.specs.declared.comparing.CompareFault.{CompareFault}
 use Rattle.verity_tree.specs.declared.comparing.CompareFault.TheVariants as fault
-use Rattle.veritysetup.specs.Options.VeritySettings.{plan_at}
+use Rattle.veritysetup.specs.Options.VeritySettings.{plan_at, root_of}
 use Rattle.veritysetup.specs.Texts.Messages.{compare_text, memory_text, option_text, super_text, too_large_text, unread_superblock_text}
 use Rattle.veritysetup.specs.Runs.Outcomes.{status_of, message_of}
 use Rattle.command_line.specs.Printing.{AppendsFront}
-use Rattle.veritysetup.specs.Options.VeritySettings.{root_of}
 use Rattle.veritysetup.specs.Runs.HashDevice.{ReadsSuperblock, header, is_unread}
 use Rattle.veritysetup.specs.declared.options.raw_options.OptionFault.TheVariants as option
 use Rattle.veritysetup.specs.declared.runs.stored_superblock.StoredFault.TheVariants.{Unread, Refused}

@@ -5,9 +5,7 @@ use Rattle.std.proofs.lemmas.Grind.{common_steps}
 use Rattle.std.proofs.lemmas.List.{append-nil}
 use Rattle.std.specs.Fork.{slice_chunk}
 use Rattle.std.specs.Int.{next_multiple_of}
-use Rattle.verity_hash.specs.Hashing.{hash_of, input_block_of}
-use Rattle.verity_hash.specs.Hashing.{filled}
-use Rattle.verity_hash.specs.Hashing.{salted_hash}
+use Rattle.verity_hash.specs.Hashing.{hash_of, input_block_of, filled, salted_hash}
 use Rattle.verity_hash.specs.declared.algorithm.Algorithm.{Algorithm}
 use Rattle.verity_hash.specs.declared.digest.Digest.{Digest}
 use Rattle.verity_hash.specs.declared.salting.SaltRule.TheVariants.{PaddedBefore}

@@ -1,8 +1,7 @@
 use Rattle.std.proofs.Common.{◌≡◌, ℕ, ◌+◌, ◌*◌, ◌<◌, arith, sym, ◌∙◌, ap, inl, inr}
 use Rattle.std.proofs.Math.Nat.{mul-le-mul_right}
 use Rattle.verity_io.specs.Writing.{most_bytes}
-use Rattle.verity_plan.specs.Plans.{level_count, blocks_from}
-use Rattle.verity_plan.specs.Plans.{Planned, end_of}
+use Rattle.verity_plan.specs.Plans.{level_count, blocks_from, Planned, end_of}
 use Rattle.verity_plan.proofs.FanLemmas.{some_data, two_slots, digest_len_of-pos}
 use Rattle.verity_plan.proofs.PlanLemmas.{valid_plan-large, past-quotient, within-quotient, base-le-end, has_room-data}
 use Rattle.verity_plan.proofs.PlanLemmas.{has_room-hash, some_wanted}

@@ -1,19 +1,15 @@
 use Rattle.std.proofs.Common.{List, ap, arith, eqb, length, refl, subst, sym, true, ℕ, ◌*◌, ◌+◌, ◌-◌, ◌/◌, ◌<◌, ◌^◌}
 use Rattle.std.proofs.Common.{◌∙◌}
 use Rattle.std.proofs.Common.{◌≡◌, ◌≤◌}
-use Rattle.verity_tree.specs.Image.{closing, closes}
+use Rattle.verity_tree.specs.Image.{closing, closes, tree_block, device_with, stored_block}
 use Rattle.verity_tree.specs.Steps.Cascade.{first_closing}
-use Rattle.verity_plan.specs.Plans.{level_count}
-use Rattle.verity_plan.specs.Plans.{byte_at}
-use Rattle.verity_tree.specs.Image.{tree_block, device_with}
+use Rattle.verity_plan.specs.Plans.{level_count, byte_at, byte_of, levels_of}
 use Rattle.verity_tree.specs.Steps.OpenBlocks.{IsCarrying, digests_under, open_block_with, climb}
-use Rattle.verity_plan.specs.Plans.{byte_of, levels_of}
 use Rattle.verity_plan.specs.Settings.{fan}
 use Rattle.verity_io.specs.Writing.{Spoiled}
 use Rattle.std.proofs.lemmas.List.Elements.{All-nil}
 use Rattle.verity_tree.specs.Steps.ClosedBlocks.{IsCause, closed_block}
 use Rattle.verity_tree.specs.Verdicts.{NoneDiffers}
-use Rattle.verity_tree.specs.Image.{stored_block}
 use Rattle.verity_tree.proofs.OpenBlockSteps.{carry-closed, carry-kept, carry-all, IsCarrying-first, place-first}
 use Rattle.verity_tree.proofs.CascadeLemmas.{level_digest-is_next, closed-block, closes-stopped_all, closing-below}
 use Rattle.verity_tree.proofs.CascadeLemmas.{closing-done, closing-kept, closing-place, device-closed}

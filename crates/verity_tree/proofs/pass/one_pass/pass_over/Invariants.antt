@@ -1,11 +1,10 @@
 use Rattle.std.proofs.Common.{◌≡◌, ◌<◌, length}
 use Rattle.verity_io.specs.Counting.{Counts}
-use Rattle.verity_tree.specs.Image.{tree_image_after}
+use Rattle.verity_tree.specs.Image.{tree_image_after, order}
 use Rattle.verity_tree.specs.Levels.{root, data_blocks}
 use Rattle.verity_tree.specs.Steps.OpenBlocks.{HasOpenBlocks}
 use Rattle.verity_tree.specs.Steps.ReadingAhead.{IsAhead, IsQuiet, ahead_failed}
 use Rattle.verity_plan.specs.Plans.{levels_of}
-use Rattle.verity_tree.specs.Image.{order}
 use Rattle.verity_plan.specs.Settings.{digest_len, fan}
 use Rattle.verity_tree.specs.Verdicts.{NoneDiffers}
 use Rattle.verity_tree.specs.declared.pass.closed_block.Task.TheVariants.{Compare}
