@@ -42,8 +42,3 @@ infixl 10 ◌>>=◌
 abbrev pub ◌>>=◌ : {X Y E : Type 0} → Result X E → (X → Result Y E) → Result Y E
 (Ok x) >>= next = next x
 (Err fault) >>= next = Err fault
-
--- the next step with the value of an option, or this fault if there is none
-abbrev pub or_fault : {X Y E : Type 0} → Option X → E → (X → Result Y E) → Result Y E
-or_fault None fault next = Err fault
-or_fault (Some x) fault next = next x

@@ -3,7 +3,7 @@
 -- this project's own.
 use Rattle.std.specs.Prelude.{ℕ, ◌/◌, ◌&&◌, Bool, not, nat_lt, List, Option, Result, Ok, Err, ok_or, unwrap_or, if◌then◌else◌}
 use Rattle.verity_plan.specs.Settings.{rule_of, type_of_number}
-use Rattle.command_line.specs.Options.{algorithm_or_default, default_block_size, number_or}
+use Rattle.command_line.specs.Options.{algorithm_or_default, default_block_size, number_or, ◌>>=◌}
 use Rattle.veritysetup.specs.Options.Texts.{Texts, area_uuid, block_size_of, multiple_of, number_if_given, offset_unit, root_if_given, salt_or_random, uuid_or_random}
 use Rattle.veritysetup.specs.declared.options.raw_options.OptionName.TheVariants.{Format, DataBlockSize, HashBlockSize, DataBlocks, HashOffset}
 use Rattle.veritysetup.specs.declared.options.raw_options.OptionFault.{OptionFault}
@@ -14,12 +14,6 @@ use Rattle.verity_plan.specs.declared.plan_fault.PlanFault.TheVariants as plan
 use Rattle.veritysetup.specs.Options.VeritySettings.{VeritySettings, plan_at}
 use Rattle.veritysetup.specs.declared.options.numbers.OptionNumbers.{OptionNumbers}
 use Rattle.veritysetup.specs.declared.options.parameters.Parameters.{Parameters}
-
--- one step after another, up to the first fault
-infixl 10 ◌>>=◌
-abbrev pub ◌>>=◌ : {A B E : Type 0} → Result A E → (A → Result B E) → Result B E
-(Ok x) >>= next = next x
-(Err fault) >>= next = Err fault
 
 -- the numbers that the texts stand for; by default hash type 1, blocks of 4096 and offset 0
 abbrev pub numbers : Texts → Result OptionNumbers OptionFault
