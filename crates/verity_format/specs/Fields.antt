@@ -10,6 +10,6 @@ field at n block = take n (drop at block)
 unfoldable pub number_at : ℕ → ℕ → List ℕ → ℕ
 number_at at n block = little_number n (drop at block)
 
--- the bytes before the first zero, or all of them where there is none
+-- the bytes before the first zero, or all of them if there is none
 abbrev pub until_zero : List ℕ → List ℕ
 until_zero text = take (unwrap_or (position (λ byte. byte == 0) text) (length text)) text

@@ -1,4 +1,4 @@
--- What is signed of a file digest (Linux kernel, fs-verity page, "Built-in signature verification", struct
+-- The form in which a file digest is signed (Linux kernel, fs-verity page, "Built-in signature verification", struct
 -- fsverity_formatted_digest).
 use Rattle.std.specs.Prelude.{ℕ, List, ◌++◌, length, codes}
 use Rattle.byteorder.specs.Endian.{little_bytes}

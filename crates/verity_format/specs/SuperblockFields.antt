@@ -8,7 +8,7 @@ use Rattle.verity_plan.specs.Settings.{Settings, IsValid, rule_of}
 use Rattle.verity_plan.specs.declared.hash_type.HashType.{HashType}
 use Rattle.verity_plan.specs.declared.hash_type.HashType.TheVariants.{Original, Current}
 
--- the hash type, what the tree is made by, the UUID's 16 bytes, and the number of data blocks
+-- the hash type, how the tree is made, the UUID's 16 bytes, and the number of data blocks
 pub record SuperblockFields : Type 0 where
   pub hash_type : HashType
   pub tree : Settings
@@ -23,13 +23,13 @@ pub record IsValidSuperblock (v : SuperblockFields) : Type 0 where
   pub some : 0 < v.blocks
   pub within : v.blocks * v.tree.data_block ≤ most_bytes
 
--- the hash type that has its salt there; fs-verity's settings have none
+-- the hash type that puts its salt there; fs-verity's settings have none
 abbrev pub type_of : SaltRule → Option HashType
 type_of Before = Some Current
 type_of After = Some Original
 type_of PaddedBefore = None
 
--- the superblock of a tree over so many data blocks, if there is one
+-- the superblock of a tree over this many data blocks, if there is one
 abbrev pub superblock_of_type : Option HashType → Settings → List ℕ → ℕ → Option SuperblockFields
 superblock_of_type None tree uuid blocks = None
 superblock_of_type (Some hash_type) tree uuid blocks =

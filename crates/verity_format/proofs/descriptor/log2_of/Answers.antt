@@ -1,4 +1,4 @@
--- The first power of two above a number comes after its logarithm.
+-- Two to the power of a number's logarithm plus one is the first power of two above it.
 use Rattle.std.proofs.Common.{◌≡◌, ℕ, ◌+◌, ◌*◌, ◌^◌, ◌<◌, ◌≤◌, suc, true, false, ltb, arith, ap}
 use Rattle.std.proofs.lemmas.Bool.Decides.{nat_tests}
 use Rattle.std.proofs.Math.Nat.{le_trans, pow-le-pow_right, pow-suc}
