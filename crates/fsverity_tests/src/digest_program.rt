@@ -1,5 +1,5 @@
-//! The program fsverity over a runtime in memory: what is opened when, the lines, every message of its own, and the
-//! statuses.
+//! The program fsverity over a runtime in memory: which files are opened when, the lines, every message of its own, and
+//! the statuses.
 use crate::words::USAGE;
 use fixtures::{NO_TEXT, Said, Shape, data, descriptor, filled};
 use fsverity::{ProgressLine, read_words, run_program};
@@ -10,7 +10,7 @@ use std::io;
 use std::test::Fail;
 use verity_hash::Algorithm;
 
-/// What is opened before all files.
+/// What is opened before any file.
 pub const NULLS: &str = "/dev/null: read\n/dev/null: read\n/dev/null: read\n";
 
 /// A disk with the null device, an empty file, and a file of 4097 bytes.
@@ -122,7 +122,7 @@ fn refused_options_open_nothing(rt: HostRuntime) -> Result<(), Fail> {
     Ok(())
 }
 
-/// What is said of refused words: what clap says, once, and then the usage where clap's text doesn't end with it.
+/// The message for refused words: clap's text, once, and then the usage if clap's text doesn't end with it.
 fn refusal(alloc: Global, line: &str) -> Result<String, Fail> {
     let mut words = Vec::new(alloc);
     for word in line.split(' ') {
@@ -260,6 +260,7 @@ fn null_files_are_open_to_the_end(rt: HostRuntime) -> Result<(), Fail> {
     for (words, held) in HELD {
         let disk = disk(alloc)?;
         let line = format!(in alloc; "fsverity digest {words}")?;
+        // Only what the disk recorded is tested.
         let _said = run(alloc, &disk, line.as_str());
         let opened = "open /dev/null\n".repeat(alloc, 3)?;
         let closed = "close /dev/null\n".repeat(alloc, 3)?;

@@ -1,5 +1,5 @@
-//! Runs of digest over files in memory: the lines, and the message of each fault. Expected digests are those of sha2 over
-//! stated bytes.
+//! Runs of digest over files in memory: the lines, and the message of each fault. Expected digests are those of sha2
+//! over stated bytes.
 ghost use Rattle.std.specs.Prelude.{◌≡◌, length};
 
 use crate::digest::DEFAULTS;
@@ -29,7 +29,7 @@ fn run<O: Opener, W: Write>(
     Ok((status, msgs))
 }
 
-/// The line of a file of so many bytes with this root hash, by SHA-256 and blocks of 4096 bytes.
+/// The line of a file of this many bytes with this root hash, by SHA-256 and blocks of 4096 bytes.
 fn line(alloc: Global, size: u64, root: &[u8], name: &str) -> Result<String, AllocError> {
     let bytes = descriptor(alloc, &[1, 1, 12, 0], size, root, &[])?;
     let digits = hex::encode(alloc, Sha256::digest(bytes.as_slice()).as_slice())?;

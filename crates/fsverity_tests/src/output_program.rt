@@ -1,5 +1,5 @@
-//! The program fsverity with output files, over a runtime in memory: what is opened when, what stands in the files, and
-//! that no file is lost that is named twice.
+//! The program fsverity with output files, over a runtime in memory: which files are opened when, what the files hold,
+//! and that no file is lost if it is named twice.
 use crate::digest_program::{NULLS, disk, expected, run};
 use fixtures::data;
 use memory_runtime::{Disk, Kind};
@@ -150,7 +150,7 @@ fn the_null_device_serves_for_both(rt: HostRuntime) -> Result<(), Fail> {
     Ok(())
 }
 
-/// What is opened of the files, and the message, where one of them can't be opened.
+/// Which of the files are opened, and the message, if one of them can't be opened.
 #[test]
 fn nothing_is_opened_after_a_refusal(rt: HostRuntime) -> Result<(), Fail> {
     let alloc = rt.alloc();

@@ -1,4 +1,4 @@
-//! Runs of digest with output files, in memory: the tree, the descriptor and the line, and what stands after each
+//! Runs of digest with output files, in memory: the tree, the descriptor and the line, and what is left after each
 //! fault. Expected bytes are laid out by the kernel's page on fs-verity, with digests of sha2.
 use crate::digest::DEFAULTS;
 use fixtures::{Narrow, Shape, data, descriptor};

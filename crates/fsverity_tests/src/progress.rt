@@ -1,4 +1,4 @@
-//! How far long work is: it is shown on a terminal alone, and erased before anything else is written there.
+//! The progress line of long work: it is shown only on a terminal, and erased before anything else is written there.
 use crate::digest_program::disk;
 use fixtures::shown_before;
 use fsverity::{ErasingWriter, ProgressLine, run_program};
@@ -10,11 +10,11 @@ use std::test::Fail;
 /// A quarter of a MiB.
 const QUARTER: usize = 1 << 18;
 
-/// After how many bytes the line is written again.
+/// How many bytes of work pass before the line is written again.
 const STEP: u64 = 1 << 16;
 
-/// A disk with files of a quarter of a MiB, of a quarter and a byte, and of a MiB and a tail, on which a later write fails
-/// where that is asked for.
+/// A disk with files of a quarter of a MiB, of a quarter and a byte, and of a MiB and a tail, on which a later write
+/// fails if that is asked for.
 fn disk_with_large(alloc: Global, failing: u64) -> io::Result<Disk> {
     let disk = disk(alloc)?;
     disk.make("small", vec![in alloc; 5u8; QUARTER]?)?;
@@ -24,7 +24,7 @@ fn disk_with_large(alloc: Global, failing: u64) -> io::Result<Disk> {
     Ok(disk)
 }
 
-/// What a run writes, its lines and its messages to one terminal, or without a step to one pipe.
+/// What a run writes when its lines and its messages go to one terminal, or, without a step, to one pipe.
 fn written(alloc: Global, disk: &Disk, words: &str, step: Option<u64>) -> io::Result<Vec<u8>> {
     let words = format!(in alloc; "fsverity digest {words}")?;
     let mut runtime = MemoryRuntime::new(alloc, disk, words.as_str());
@@ -36,7 +36,8 @@ fn written(alloc: Global, disk: &Disk, words: &str, step: Option<u64>) -> io::Re
     disk.standard_error()
 }
 
-/// Words of runs, the write that fails, how many lines they show of how many MiB, and how what they write beside begins.
+/// Words of runs, the write that fails, how many progress lines they show of how many MiB, and how their other output
+/// begins.
 const RUNS: [(&str, u64, (u64, u64), &str); 6] = [
     ("small", 0, (0, 0), "sha256:"),
     ("long", 0, (16, 1), "sha256:"),
@@ -67,7 +68,7 @@ fn a_terminal_is_told_how_far_it_is(rt: HostRuntime) -> Result<(), Fail> {
     Ok(())
 }
 
-/// Where the lines of files go elsewhere, by a writer of their own, the end of the run erases the line.
+/// If the lines of files go elsewhere, by a writer of their own, the end of the run erases the progress line.
 #[test]
 fn the_line_is_erased_in_the_end(rt: HostRuntime) -> Result<(), Fail> {
     let alloc = rt.alloc();

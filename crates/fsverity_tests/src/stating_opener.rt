@@ -1,10 +1,10 @@
-//! An opener that doesn't tell its files, and states other lengths than theirs.
+//! An opener that doesn't tell its files, and states wrong lengths for them.
 ghost use Rattle.std.specs.Prelude.{◌≡◌, ◌≤◌, ◌+◌, ℕ, List, [], length};
 
 use fsverity::Opener;
 use verity_tree::{Failed, MemorySource};
 
-/// Files in memory whose stated lengths are longer by some bytes.
+/// Files in memory whose stated lengths are some bytes too large.
 #[derive(Drop)]
 pub struct StatingOpener<'a> {
     files: &'a [Option<&'a [u8]>],
@@ -26,7 +26,7 @@ impl<'a> StatingOpener<'a> {
         }
     }
 
-    /// How many files were started.
+    /// How many files were begun.
     pub fn started(&self) -> usize {
         self.next
     }
@@ -63,7 +63,7 @@ impl<'a> Opener for StatingOpener<'a> {
     }
 
     fn end(&mut self, stream: MemorySource<'a>) {
-        // A source over memory has no failures to add.
+        // Read for the proof: it bounds the count, to which a source over memory adds nothing.
         let _failures = self.failures;
         drop(stream);
     }

@@ -7,9 +7,9 @@ use verity_tree::{
     Device, Failed, FileDevice, FileSource, Fused, MemoryDevice, MemorySource, Source,
 };
 
-/// A file whose every second read or write is interrupted. A read gives one byte, a write takes one and none past `room`,
-/// and no offset above `top` can be reached. A byte `!` can't be read, nor, as in Linux, what would end past the largest
-/// offset.
+/// A file whose every second read or write is interrupted. A read gives one byte, a write takes one and none past
+/// `room`, and no offset above `top` can be reached. A byte `!` can't be read, and, as in Linux, neither can anything
+/// that would end past the largest offset.
 #[derive(Drop)]
 struct Unsteady {
     bytes: Vec<u8>,

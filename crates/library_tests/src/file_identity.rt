@@ -5,7 +5,7 @@ use std::os::unix::fs::MetadataExt;
 use std::rt::Files;
 use std::test::Fail;
 
-/// This program, as the system shows it to itself.
+/// This program's own file, as the system shows it.
 const PROGRAM: &str = "/proc/self/exe";
 
 /// A regular file of which the system says that it is empty.

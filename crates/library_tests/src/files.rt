@@ -7,14 +7,14 @@ use verity_format::put_all;
 use verity_io::MOST_BYTES;
 use verity_tree::{Device, Failed, FileDevice, FileSource, Source};
 
-/// An offset that no u32 holds.
+/// An offset that is too large for a u32.
 const FAR: u64 = 5_000_000_000;
 
 /// How often a call is interrupted before it goes through.
 const INTERRUPTS: u32 = 1000;
 
 /// A file with a hole at its start: nothing below `first` can be read or written. A call gives or takes `piece` bytes
-/// at most, and goes through after so many interrupts.
+/// at most, and goes through after this many interrupts.
 #[derive(Drop)]
 struct Sparse {
     first: u64,
@@ -93,7 +93,7 @@ impl Write for Sparse {
     }
 }
 
-/// So many bytes, each other than its neighbours.
+/// This many bytes, each different from its neighbours.
 fn counted(alloc: Global, len: usize) -> Result<Vec<u8>, AllocError> {
     let mut bytes = Vec::new(alloc);
     for i in 0..len {
@@ -145,7 +145,7 @@ fn long_blocks_stand_at_far_offsets(rt: HostRuntime) -> Result<(), Fail> {
     Ok(())
 }
 
-/// The last bytes of the longest file. A read that would end past them isn't tried.
+/// The last bytes of the longest possible file. A read that would end past them isn't tried.
 #[test]
 fn a_block_ends_at_the_largest_offset(rt: HostRuntime) -> Result<(), Fail> {
     let alloc = rt.alloc();

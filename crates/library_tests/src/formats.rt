@@ -48,7 +48,7 @@ fn superblocks_are_written(rt: HostRuntime) -> Result<(), Fail> {
     Ok(())
 }
 
-/// What differs from one block, and the first fault.
+/// What differs from the superblock of one block, and the first fault.
 const REFUSED: [(&[Field<'static>], SuperFault); 17] = [
     (&[(7, &[1])], SuperFault::Signature),
     (
@@ -119,7 +119,7 @@ fn superblocks_are_refused(rt: HostRuntime) {
     assert_eq!(rt; read_superblock(&[]), Err(SuperFault::Short));
 }
 
-/// What differs from one block and changes nothing of what is read.
+/// What differs from the superblock of one block without changing what is read.
 const IGNORED: [&[Field<'static>]; 4] = [
     &[],
     &[(82, &[0xff; 430])],

@@ -1,4 +1,4 @@
-//! Tests of the libraries below the programs, but for trees: sources and devices over files, the bytes of the formats,
+//! Tests of the libraries below the programs, except trees: sources and devices over files, the bytes of the formats,
 //! and what both command lines share; and of the runtime in memory that programs are tested over. Expected bytes come
 //! from the formats' public pages, expected digests from `sha2` over stated bytes.
 #![tactic(auto)]

@@ -53,14 +53,14 @@ impl OpenFile for Unsynced {
     }
 }
 
-/// The kinds of an error that say that a file can't be synced.
+/// The kinds of errors that say that a file can't be synced.
 const LET_PASS: [ErrorKind; 3] = [
     ErrorKind::ReadOnlyFilesystem,
     ErrorKind::InvalidInput,
     ErrorKind::Unsupported,
 ];
 
-/// Kinds that the disk's own troubles have, and two that say little. By the contract every kind but the three is a failure.
+/// Kinds of a disk's own errors, and two that say little. By the contract every kind but the three is a failure.
 const FAILURES: [ErrorKind; 8] = [
     ErrorKind::QuotaExceeded,
     ErrorKind::StorageFull,

@@ -1,4 +1,4 @@
-//! Words of the system, and texts copied out of command lines, where memory is ample.
+//! Words of the system, and texts copied out of command lines, with ample memory.
 use clap::Command;
 use command_line::{
     copied_value, copied_values, given_words, option, positionals, program, text_of, texts_of,

@@ -20,7 +20,7 @@ pub record IsPathOn (p : Planned) (i : ℕ) (device path : List ℕ) : Type 0 wh
   pub whole : length path ≡ levels_of p * p.settings.hash_block
   pub each : (l : ℕ) → l < levels_of p → slice_chunk path p.settings.hash_block l ≡ stored_above p i device l
 
--- the block is data block i of these bytes; or at some level the path and the tree have different blocks with one
+-- the block is data block i of these bytes; or at some level the path and the tree have different blocks with the same
 -- salted hash
 abbrev pub IsRight : Planned → List ℕ → ℕ → List ℕ → List ℕ → Type 0
 IsRight p bytes i block path =
@@ -33,7 +33,7 @@ Answers p i block path root (Err DataFailed) = i < p.blocks
 Answers p i block path root (Err (TreeFailed level)) = (i < p.blocks) × (level < levels_of p)
 Answers p i block path root (Err (Refused fault)) = ChecksBlock p i block path root (Err fault)
 
--- a fact where nothing failed
+-- a fact if nothing failed
 abbrev pub WasRead : Result Unit ReadFault → Type 0 → Type 0
 WasRead (Ok _) fact = fact
 WasRead (Err DataFailed) fact = ⊤

@@ -1,4 +1,4 @@
--- Bytes say a superblock exactly where they pass every test, and then just one.
+-- Bytes say a superblock exactly if they pass every test, and then just one.
 use Rattle.std.proofs.Common.{◌≡◌, ℕ, ◌*◌, ◌<◌, ◌≤◌, Bool, true, false, List, [], ◌∷◌, ◌++◌, length, take, drop, Option}
 use Rattle.std.proofs.Common.{Some, None, is_some, nat_le, nat_lt, arith, refl, ap, sym, ◌∙◌, length-drop}
 use Rattle.std.specs.Cmp.Lexicographic.{bytes_decides}

@@ -1,4 +1,4 @@
--- Reading a superblock: which test fails first, and what the parts that pass make.
+-- Reading a superblock: which test fails first, and what is made of the parts that pass.
 use Rattle.std.proofs.Common.{◌≡◌, ℕ, ◌*◌, ◌<◌, ◌≤◌, ◌&&◌, Bool, true, false, List, [], ◌∷◌, ◌++◌, length, Option, Some}
 use Rattle.std.proofs.Common.{None, Ok, if◌then◌else◌, nat_le, nat_lt, take, arith, sym, ap, ◌∙◌, refl, subst}
 use Rattle.std.proofs.lemmas.Bool.Decides.{nat_tests}
@@ -14,7 +14,7 @@ use Rattle.verity_format.specs.Superblocks.{AreSettings, IsSuperblock, blocks_te
 use Rattle.verity_format.specs.Superblocks.{settings_tests, signature}
 use Rattle.verity_format.specs.declared.super_fault.SuperFault.{SuperFault}
 
--- tests that pass leave it to those after them
+-- if these tests pass, those after them decide
 first_failed-passed : (xs ys : List (Bool × SuperFault)) → first_failed xs ≡ None
     → first_failed (xs ++ ys) ≡ first_failed ys
 first_failed-passed [] ys passed = refl
@@ -126,7 +126,7 @@ IsSuperblock-made s hash_type tree uuid blocks v valid rule sixteen made long si
       valid = record { tree = valid; of_type = rule; uuid = sixteen; some = all.1; within = all.2 };
     })
 
--- no superblock of settings with a type and of some blocks: there is too much data
+-- settings with a type and some blocks make no superblock: there is too much data
 pub superblock_of-none : (hash_type : HashType) (tree : Settings) (uuid : List ℕ) (blocks : ℕ)
     → tree.rule ≡ rule_of hash_type → 0 < blocks → superblock_of tree uuid blocks ≡ None
     → nat_le (blocks * tree.data_block) most_bytes ≡ false

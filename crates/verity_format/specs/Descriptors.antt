@@ -9,7 +9,7 @@ use Rattle.verity_hash.specs.declared.algorithm.Algorithm.TheVariants.{Sha256, S
 use Rattle.verity_hash.specs.declared.salting.SaltRule.TheVariants.{PaddedBefore}
 use Rattle.verity_plan.specs.Settings.{log2, Settings, IsValid, digest_len}
 
--- what the tree is made by, the file's size in bytes, and the root hash
+-- how the tree is made, the file's size in bytes, and the root hash
 pub record DescriptorFields : Type 0 where
   pub tree : Settings
   pub size : ℕ
@@ -24,7 +24,7 @@ pub record IsValidDescriptor (v : DescriptorFields) : Type 0 where
   pub described : IsDescribed v.tree v.root
   pub size : v.size < 2 ^ 64
 
--- the number of an algorithm in the kernel's interface, 0 where it has none
+-- the number of an algorithm in the kernel's interface, 0 if it has none
 abbrev pub algorithm_number : Algorithm → ℕ
 algorithm_number Sha256 = 1
 algorithm_number Sha512 = 2

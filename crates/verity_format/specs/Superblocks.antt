@@ -37,11 +37,11 @@ field at n block = take n (drop at block)
 unfoldable pub number_at : ℕ → ℕ → List ℕ → ℕ
 number_at at n block = little_number n (drop at block)
 
--- the bytes before the first zero, or all of them where there is none
+-- the bytes before the first zero, or all of them if there is none
 abbrev pub until_zero : List ℕ → List ℕ
 until_zero text = take (unwrap_or (position (λ byte. byte == 0) text) (length text)) text
 
--- the hash type, what the tree is made by, the UUID's 16 bytes, and the number of data blocks
+-- the hash type, how the tree is made, the UUID's 16 bytes, and the number of data blocks
 pub record SuperblockFields : Type 0 where
   pub hash_type : HashType
   pub tree : Settings
@@ -56,13 +56,13 @@ pub record IsValidSuperblock (v : SuperblockFields) : Type 0 where
   pub some : 0 < v.blocks
   pub within : v.blocks * v.tree.data_block ≤ most_bytes
 
--- the hash type that has its salt there; fs-verity's settings have none
+-- the hash type that puts its salt there; fs-verity's settings have none
 abbrev pub type_of : SaltRule → Option HashType
 type_of Before = Some Current
 type_of After = Some Original
 type_of PaddedBefore = None
 
--- the superblock of a tree over so many data blocks, if there is one
+-- the superblock of a tree over this many data blocks, if there is one
 abbrev pub superblock_of_type : Option HashType → Settings → List ℕ → ℕ → Option SuperblockFields
 superblock_of_type None tree uuid blocks = None
 superblock_of_type (Some hash_type) tree uuid blocks =

@@ -47,7 +47,7 @@ impl<const N: usize> FieldWriter<N> {
         self.at = end;
     }
 
-    /// Puts so many zeros.
+    /// Puts `count` zeros.
     pub(crate) fn put_zeros(&mut self, count: usize)
         requires { length self.old + count ≤ N }
         ensures bytes { self.new ≡ self.old ++ replicate count 0 }

@@ -74,7 +74,7 @@ fn read_settings(bytes: &[u8], hash_type: HashType) -> Result<TreeSettings, Supe
     Ok(settings_within_limits(algorithm, hash_type, salt, data_block, hash_block))
 }
 
-/// The settings of parts that are within dm-verity's limits.
+/// The settings made of these parts, if they are within dm-verity's limits.
 fn settings_within_limits(
     algorithm: Algorithm,
     hash_type: HashType,

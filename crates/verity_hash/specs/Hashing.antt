@@ -63,7 +63,7 @@ pub record IsHeld (size : ℕ) (bytes : List ℕ) (len : ℕ) : Type 0 where
   pub most : len ≤ size
   pub zeros : bytes ≡ filled size (take len bytes)
 
--- what is hashed for a block: the salt, padded with zeros where the rule says so, before the block or after it
+-- what is hashed for a block: the salt, padded with zeros if the rule says so, before the block or after it
 abbrev pub salted_input : Algorithm → SaltRule → List ℕ → List ℕ → List ℕ
 salted_input algorithm Before salt block = salt ++ block
 salted_input algorithm After salt block = block ++ salt

@@ -19,7 +19,7 @@ pub enum SaltRule {
     PaddedBefore,
 }
 
-/// Zeros to pad a salt with, as many as the longest input block has bytes.
+/// Zeros to pad a salt with, one for each byte of the longest input block.
 pub(crate) const ZEROS: [u8; 128] = [0; 128];
 
 /// A hasher that has taken all that is hashed for a block.

@@ -1,4 +1,4 @@
-//! What dump prints of a superblock, and what it says of bytes that are none.
+//! What dump prints of a superblock, and what it says of bytes that are not a superblock.
 use crate::images::image_17;
 use fixtures::{Field, REPORT_1, REPORT_17, Report, lay, one_block};
 use std::alloc::{AllocError, Global};
@@ -16,7 +16,7 @@ fn dumped<D: Device>(alloc: Global, device: &mut D) -> (u8, Vec<u8>, Vec<u8>) {
     (status, out, msgs)
 }
 
-/// The superblock of one block of 4096 bytes, with other bytes at some offsets, cut to a length.
+/// The superblock of one block of 4096 bytes, with changed bytes at some offsets, cut to a length.
 fn changed(alloc: Global, changes: &[Field<'_>], len: usize) -> Result<Vec<u8>, AllocError> {
     let mut bytes = one_block();
     lay(&mut bytes, changes);

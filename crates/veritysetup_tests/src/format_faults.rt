@@ -1,4 +1,4 @@
-//! Each hash block is written once, and what format says where the data ends too soon.
+//! Each hash block is written once, and what format says if the data ends too soon.
 use crate::images::{SMALL, formatted, image_of};
 use fixtures::data;
 use std::test::Fail;

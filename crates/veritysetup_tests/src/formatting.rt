@@ -1,4 +1,4 @@
-//! Images that format makes, against trees of lists by `sha2`, and what it leaves after a fault.
+//! Images that format makes, compared with trees made from plain lists with `sha2`, and what it leaves after a fault.
 use crate::images::{SMALL, formatted, image_17, image_of};
 use fixtures::{REPORT_17, Report, filled, lay};
 use std::test::Fail;

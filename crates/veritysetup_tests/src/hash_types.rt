@@ -7,7 +7,7 @@ use verity_hash::Algorithm;
 use verity_tree::{MemoryDevice, MemorySource};
 use veritysetup::{OptionFault, OptionName, VerifyInput, run_verify, settings_of};
 
-/// The tree with so many levels above some data, where `abcd` is hashed after each block.
+/// The tree with this many levels above some data, with `abcd` hashed after each block.
 fn tree_above(alloc: Global, data: &[u8], levels: usize) -> Result<Tree, AllocError> {
     let mut shape = Shape::new(alloc, Algorithm::Sha256, (512, 512), (16, 32));
     shape.after = Vec::from_slice(alloc, &[0xab, 0xcd])?;

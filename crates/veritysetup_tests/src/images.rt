@@ -1,4 +1,4 @@
-//! Images of hash devices, made by format, and made by `sha2`.
+//! Images of hash devices, made by format, and made with `sha2`.
 use fixtures::{Said, Shape, data, filled, superblock};
 use std::alloc::{AllocError, Global};
 use verity_hash::Algorithm;
@@ -28,8 +28,8 @@ pub struct Image {
     pub root: Vec<u8>,
 }
 
-/// The image of so many blocks, by SHA-256: the superblock, zeros up to the first whole hash block, and the levels, the
-/// top first.
+/// The image of this many blocks, by SHA-256: the superblock, zeros up to the first whole hash block, and the levels,
+/// the top first.
 pub fn image_of(
     alloc: Global,
     (data_block, hash_block): (usize, usize),

@@ -1,4 +1,4 @@
-//! Which files and folders format asks the system to keep.
+//! Which files and folders format asks the system to sync.
 use crate::program_runs::{disk_of, run};
 use memory_runtime::{Call, Disk, Kind};
 use std::alloc::Global;
@@ -75,6 +75,7 @@ fn a_refused_run_keeps_nothing(rt: HostRuntime) -> Result<(), Fail> {
         "verify data data ab",
     ] {
         let disk = disk_of_folders(alloc)?;
+        // Only the number of syncs is tested.
         let _said = run(alloc, &disk, words)?;
         assert_eq!(rt; disk.calls(Call::Sync)?, 0, "at {words}");
     }

@@ -18,7 +18,7 @@ const BARE: RawOptions<'static> = RawOptions {
     ..SMALL
 };
 
-/// The hash block size, whether there is no superblock, the hash offset; the place of the first hash block.
+/// The hash block size, whether the superblock is left out, the hash offset; the place of the first hash block.
 const BASES: [(&str, bool, &str, Result<u64, OptionFault>); 8] = [
     ("4096", false, "0", Ok(1)),
     ("4096", false, "512", Ok(1)),
@@ -70,7 +70,7 @@ fn hash_areas_end_below_the_limit(rt: HostRuntime) {
     }
 }
 
-/// The hash offset, the number of data blocks where it is given, and the file's length; the fault.
+/// The hash offset, the number of data blocks if it is given, and the file's length; the fault.
 const OVERLAPS: [(&str, Option<&str>, u64, Option<OptionFault>); 5] = [
     ("0", None, 8704, Some(OptionFault::Overlap)),
     ("8192", Some("17"), 8704, Some(OptionFault::Overlap)),
@@ -114,7 +114,7 @@ fn the_offset_of_a_superblock_is_read(rt: HostRuntime) {
     }
 }
 
-/// A status and the message that comes with it, of a verification by settings.
+/// The status of a verification by settings, and its message.
 fn verdict(
     alloc: Global,
     settings: &Settings,
@@ -235,7 +235,7 @@ fn superblocks_stand_at_their_offset(rt: HostRuntime) -> Result<(), Fail> {
     Ok(())
 }
 
-/// A device of which these bytes from an offset on are the last, too far for memory. It has no others.
+/// A device that ends with these bytes from an offset on, too large for memory. It has no other bytes.
 #[derive(Clone, Copy)]
 struct Far<'a> {
     offset: u64,
@@ -263,8 +263,8 @@ impl Device for Far<'_> {
     }
 }
 
-/// A superblock of 17 blocks at the last offset at which its three hash blocks end at the largest offset or before it, and
-/// at the next one.
+/// A superblock of 17 blocks at the last offset at which its three hash blocks end at the largest offset or before it,
+/// and at the next one.
 #[test]
 fn an_area_past_the_largest_offset_is_too_large(rt: HostRuntime) -> Result<(), Fail> {
     let alloc = rt.alloc();

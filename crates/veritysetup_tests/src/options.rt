@@ -1,4 +1,4 @@
-//! The options of format, and what is drawn for those that are missing.
+//! The options of format, and the random values drawn for those that are missing.
 use crate::images::SMALL;
 use fixtures::UUID;
 use rand::rngs::StdRng;
@@ -105,7 +105,7 @@ const SIZE: Option<&'static str> = Some("512");
 
 const WORD: Option<&'static str> = Some("x");
 
-/// Options, and the first fault of them.
+/// Options, and the first fault in them.
 const REFUSED: [(Texts, Option<OptionFault>); 23] = [
     (
         [WORD, WORD, WORD, WORD, WORD, WORD],

@@ -1,4 +1,4 @@
-//! The program over files in memory: which are opened when, and two names of one file.
+//! The program over files in memory: which files are opened when, and two names of one file.
 use crate::images::image_17;
 use crate::program_runs::{OPTIONS_17, disk_of, run};
 use fixtures::{REPORT_17, filled};
@@ -34,6 +34,7 @@ fn files_are_opened_in_order(rt: HostRuntime) -> Result<(), Fail> {
     let alloc = rt.alloc();
     for (words, opened) in OPENED {
         let disk = disk_of(alloc, &[5; 8192])?;
+        // Only what the disk recorded is tested.
         let _said = run(alloc, &disk, words)?;
         let expected = format!(in alloc; "{NULL_FILES}{opened}")?;
         assert_eq!(rt; disk.opened()?.as_str(), expected.as_str(), "at {words}");
@@ -64,6 +65,7 @@ fn null_files_are_open_to_the_end(rt: HostRuntime) -> Result<(), Fail> {
     for (words, held) in HELD {
         let disk = disk_of(alloc, &[5; 8192])?;
         disk.make("hash.img", [0; 8192].to_vec(alloc)?)?;
+        // Only what the disk recorded is tested.
         let _said = run(alloc, &disk, words)?;
         let opened = "open /dev/null\n".repeat(alloc, 3)?;
         let closed = "close /dev/null\n".repeat(alloc, 3)?;
@@ -221,7 +223,7 @@ fn a_tree_is_dumped_and_verified(rt: HostRuntime) -> Result<(), Fail> {
     let said = run(alloc, &disk, "dump hash.img")?;
     assert_eq!(rt; said.status, 0);
     assert_eq!(rt; said.out.as_slice(), REPORT_17.text(alloc)?.as_bytes());
-    // Beside a superblock no option but the hash offset is looked at.
+    // With a superblock no option but the hash offset is looked at.
     let words = format!(in alloc;
         "verify --hash md5 --salt x --data-blocks 0 data hash.img {root}"
     )?;

@@ -1,4 +1,4 @@
-//! The program over files in memory: what its options choose, its own messages, and what stands after it.
+//! The program over files in memory: what its options choose, its own messages, and what it leaves behind.
 use crate::images::image_of;
 use crate::words::{DUMP_USAGE, FORMAT_USAGE, VERIFY_USAGE};
 use fixtures::{NO_TEXT, REPORT_17, Report, Said, filled, words_of};
@@ -169,7 +169,7 @@ fn a_refusal_makes_no_file(rt: HostRuntime) -> Result<(), Fail> {
     Ok(())
 }
 
-/// Runs the program where there are no random bytes.
+/// Runs the program without random bytes.
 fn run_without_random<'a>(alloc: Global, disk: &'a Disk, words: &'a str) -> Said {
     let mut runtime = MemoryRuntime::new(alloc, disk, words);
     runtime.random = &[];
@@ -194,7 +194,7 @@ fn no_random_bytes_make_no_file(rt: HostRuntime) -> Result<(), Fail> {
     Ok(())
 }
 
-/// What is said of refused words: what clap says, once, and then the usage where clap's text doesn't end with it.
+/// The message for refused words: clap's text, once, and then the usage if clap's text doesn't end with it.
 fn refusal(alloc: Global, words: &str, usage: &str) -> Result<String, Fail> {
     let words = words_of(alloc, "veritysetup", words)?;
     let fault = read_words(alloc, words.as_slice()).err().ok_or("a fault")?;

@@ -1,4 +1,4 @@
-//! How far long work is: it is shown on a terminal alone, and erased before anything else is written there.
+//! The progress line of long work: it is shown only on a terminal, and erased before anything else is written there.
 use crate::program_runs::disk_of;
 use command_line::ProgressReader;
 use fixtures::{Shape, shown_before};
@@ -14,10 +14,11 @@ use veritysetup::{ErasingWriter, ProgressLine, run_program};
 /// A quarter of a MiB.
 const QUARTER: usize = 1 << 18;
 
-/// After how many bytes the line is written again.
+/// How many bytes of work pass before the line is written again.
 const STEP: u64 = 1 << 16;
 
-/// The status of a run and what it writes, its report and its messages to one terminal, or without a step to one pipe.
+/// The status of a run, and what it writes when its report and its messages go to one terminal, or, without a step, to
+/// one pipe.
 fn written(
     alloc: Global,
     disk: &Disk,
@@ -39,8 +40,8 @@ fn written(
 /// How a report begins.
 const REPORT: &str = "VERITY header information for ";
 
-/// Words of runs, their status, how many lines they show of how many MiB, and how what they write beside begins. The
-/// files are those of `disk_of_files`; `ROOT` stands for the root hash of `data`.
+/// Words of runs, their status, how many lines they show of how many MiB, and how their other output begins. The files
+/// are those of `disk_of_files`; `ROOT` stands for the root hash of `data`.
 const SHORT: [(&str, u8, (u64, u64), &str); 6] = [
     ("format data new", 0, (4, 0), REPORT),
     ("format small new", 0, (0, 0), REPORT),
@@ -60,8 +61,8 @@ const SHORT: [(&str, u8, (u64, u64), &str); 6] = [
     ),
 ];
 
-/// The same of longer data; `ROOT` stands for the root hash of the first 256 blocks of `long`. How many MiB there are is
-/// what is covered, and where a superblock says what that is, the length of DATA.
+/// The same of longer data; `ROOT` stands for the root hash of the first 256 blocks of `long`. The number of MiB is
+/// that of the covered data, or, if a superblock says how much is covered, the length of DATA.
 const LONG: [(&str, u8, (u64, u64), &str); 3] = [
     ("format --data-blocks 256 long new", 0, (16, 1), REPORT),
     (
@@ -79,8 +80,8 @@ fn root_of(alloc: Global, data: &[u8], levels: usize) -> Result<String, AllocErr
     hex::encode(alloc, shape.tree(alloc, data, levels)?.root.as_slice())
 }
 
-/// A disk with data of a quarter of a MiB and a block, of a quarter, of a quarter and a tail, and of 2 MiB and a tail, and
-/// the images that these words make.
+/// A disk with data of a quarter of a MiB and a block, of a quarter, of a quarter and a tail, and of 2 MiB and a tail,
+/// and the images made by these commands.
 fn disk_of_files(alloc: Global, images: &[&str]) -> io::Result<Disk> {
     let mut data = vec![in alloc; 5u8; QUARTER + 4096]?;
     let disk = disk_of(alloc, data.as_slice())?;
@@ -97,7 +98,7 @@ fn disk_of_files(alloc: Global, images: &[&str]) -> io::Result<Disk> {
     Ok(disk)
 }
 
-/// A run writes the same to a terminal as to a pipe, after the lines that say how far it is.
+/// A run writes the same to a terminal as to a pipe, after the progress lines.
 fn check<R: Abort + AllocGlobal>(
     rt: &R,
     disk: &Disk,
@@ -172,7 +173,7 @@ fn whether_somebody_looks_on_is_asked_once(rt: HostRuntime) -> Result<(), Fail> 
     Ok(())
 }
 
-/// A reader that doesn't end, and changes nothing of the buffer.
+/// A reader that never ends, and leaves the buffer as it is.
 #[derive(Drop)]
 struct Endless;
 
@@ -182,7 +183,7 @@ impl Read for Endless {
     }
 }
 
-/// 5000 MiB, which nobody stores: the line after each 64 MiB.
+/// 5000 MiB, which are stored nowhere: the line after each 64 MiB.
 #[test]
 fn more_than_four_gib_are_shown_in_mib(rt: HostRuntime) -> Result<(), Fail> {
     let alloc = rt.alloc();

@@ -1,4 +1,4 @@
-//! Data that is shorter than wanted, and data that grows while it is read.
+//! Data that is too short, and data that grows while it is read.
 use crate::images::image_17;
 use crate::program_runs::{OPTIONS_17, disk_of, run};
 use fixtures::filled;
@@ -7,7 +7,7 @@ use std::alloc::Global;
 use std::io;
 use std::test::Fail;
 
-/// The length of the data, the options after those of the image of 17 blocks, HASH, and status and message.
+/// The length of the data, the options after those of the image of 17 blocks, HASH, and the status and the message.
 const SHORT: [(usize, &str, &str, u8, &str); 8] = [
     (
         8704,
@@ -45,7 +45,7 @@ const SHORT: [(usize, &str, &str, u8, &str); 8] = [
         4,
         "Data ends before the end of block 17.\n",
     ),
-    // What is refused for another cause is refused for that.
+    // What is refused for another cause is still refused for that.
     (
         8704,
         "--data-blocks 18",
@@ -69,7 +69,7 @@ const SHORT: [(usize, &str, &str, u8, &str); 8] = [
     ),
 ];
 
-/// The bytes of the file of this name; nothing where there is none.
+/// The bytes of the file of this name; empty if there is none.
 fn bytes_of(disk: &Disk, alloc: Global, name: &str) -> io::Result<Vec<u8>> {
     if disk.has(name)? {
         disk.bytes_of(name)

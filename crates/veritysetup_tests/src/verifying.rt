@@ -1,4 +1,4 @@
-//! Verdicts of verify on an image of 17 blocks, of which bytes are changed or cut.
+//! Verdicts of verify on an image of 17 blocks with bytes changed or cut off.
 use crate::images::image_17;
 use fixtures::flip;
 use std::alloc::{AllocError, Global};

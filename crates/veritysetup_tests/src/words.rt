@@ -5,7 +5,7 @@ use std::test::Fail;
 use veritysetup::{Line, LineFault, read_words};
 
 /// Words after the program's name, and the line: the command, the options that are given, and the files. A word written
-/// '' is empty.
+/// as '' is empty.
 const TAKEN: [(&str, &str); 30] = [
     ("format data hash", "Format: data hash"),
     ("dump hash", "Dump: hash"),

@@ -1,4 +1,4 @@
--- The salt fills its input block up with zeros.
+-- The salt is padded with zeros to its input block.
 use Rattle.std.proofs.Common.{◌≡◌, ℕ, ◌<◌, List, [], ◌++◌, length, slice_index_or, Option, Some, None, IfSome, ap, arith}
 use Rattle.std.proofs.Common.{◌≤◌, ◌∙◌, drop, replicate, take}
 use Rattle.std.proofs.lemmas.Grind.{common_steps}
