@@ -116,7 +116,7 @@ run_functions() {
     fail 'the run functions' 'expected: fewer than 100 requests'
 }
 
-# prepare FOLDER: puts the files there that a command finds before it makes its own; none if a command doesn't say so.
+# prepare FOLDER: makes the files that the next command finds there; none, if nothing else is said.
 prepare() { :; }
 
 # ending COMMAND..: runs a command that makes its files in the folder `made`, and keeps its status, output and messages.
