@@ -19,5 +19,5 @@ for build in "${builds[@]}"; do
         if [ -x "$script" ]; then parts+=("env BIN=$build $script"); fi
     done
 done
-parts+=(tests/install.sh tests/completion.sh 'tests/memory.sh --short' tests/soak.sh)
+parts+=(tests/definitions.sh tests/install.sh tests/completion.sh 'tests/memory.sh --short' tests/soak.sh)
 BIN=bin exec tests/run.sh "${parts[@]}"
