@@ -56,7 +56,7 @@ pub record PlacesAreOnce (fan n base : ℕ) : Type 0 where
   pub each : (p : ℕ) → base ≤ p → p < end_place fan n base → (l : ℕ) × (j : ℕ) × IsTreeBlock fan n l j
       × (place fan n base l j ≡ p)
 
--- the number of data blocks, the bytes that are read for them, and where the hash area begins, in hash blocks
+-- the number of data blocks, the bytes that are read for them, and where the tree begins, in hash blocks
 pub record Planned : Type 0 where
   pub settings : Settings
   pub blocks : ℕ
@@ -71,7 +71,7 @@ block_count s size = div_ceil size s.data_block
 abbrev pub superblock_size : ℕ
 superblock_size = 512
 
--- where the hash area begins, in hash blocks: at the first whole hash block after a superblock at this offset, or at
+-- where the tree begins, in hash blocks: at the first whole hash block after a superblock at this offset, or at
 -- the offset if there is no superblock (cryptsetup's on-disk format page; veritysetup(8), `--hash-offset`); none if the
 -- superblock's end, or the offset, is past the limit
 abbrev pub base_of : ℕ → Bool → ℕ → Option ℕ

@@ -1,4 +1,4 @@
-//! Where the hash area begins on a hash device.
+//! Where the tree begins on a hash device.
 ghost use Rattle.std.specs.Prelude.{◌≡◌, ◌<◌};
 ghost use Rattle.verity_plan.specs.Plans.{base_of};
 

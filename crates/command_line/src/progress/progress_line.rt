@@ -71,7 +71,7 @@ pub struct ErasingWriter<'a, R, W> {
 }
 
 impl<'a, R: ProgressRuntime, W: Write> ErasingWriter<'a, R, W> {
-    /// Passes everything that is written on to this writer.
+    /// A writer that passes everything on to `inner`.
     pub fn new(line: &'a ProgressLine<'a, R>, inner: W) -> Self
         ensures { inner_writer result ≡ inner }
     {

@@ -1,5 +1,5 @@
--- What the options choose (veritysetup(8), "format", "root_hash"; cryptsetup's on-disk format page). A root hash is
--- written as as many hexadecimal digits of either case as a digest has.
+-- The settings of a hash device, which the options choose (veritysetup(8), "format", "root_hash"; cryptsetup's on-disk
+-- format page). A root hash is written in hexadecimal digits of either case, two for each byte of a digest.
 use Rattle.std.specs.Prelude.{ℕ, ◌*◌, ◌==◌, List, length, Option, None, if◌then◌else◌, ◌≡◌, Bool, Some, Result, Err}
 use Rattle.std.specs.Result.{result_ok}
 use Rattle.hex.specs.Hex.{decode_of}

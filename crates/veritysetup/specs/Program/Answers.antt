@@ -25,7 +25,7 @@ no_random_text = codes "Cannot get random bytes.\n"
 abbrev pub incomplete_text : List ℕ
 incomplete_text = codes "error: the command line is not complete\n"
 
--- the words of the command line can't be had
+-- the words of the command line can't be read
 abbrev pub words_text : WordsFault → List ℕ
 words_text (NotText number word) = not_text number word.items
 words_text Memory = memory_text
