@@ -85,14 +85,14 @@ clean:
 	rm -rf bin crates/*/out
 
 help:
-	@echo 'Times are for four cores. A + means: make programs runs first, which takes 15 minutes the first time.'
+	@echo 'Times are for four cores. A + means: make programs runs first, which takes 11 minutes the first time.'
 	@echo 'In brackets: what you can set, as in: make soak SECONDS=60'
 	@echo
-	@echo 'make run             10 minutes    proves and builds fsverity, and prints the digest of a file'
-	@echo 'make programs        15 minutes    proves and builds bin/fsverity and bin/veritysetup [CPU]'
-	@echo 'make test            75 minutes    all tests: gate, the programs as a user runs them, documents, comparisons'
+	@echo 'make run             7 minutes     proves and builds fsverity, and prints the digest of a file'
+	@echo 'make programs        11 minutes    proves and builds bin/fsverity and bin/veritysetup [CPU]'
+	@echo 'make test            65 minutes    all tests: gate, the programs as a user runs them, documents, comparisons'
 	@echo 'make check           5 minutes +   all tests but the gate'
-	@echo 'make gate            65 minutes    every proof from nothing, code changes that must be refused, tests of the crates'
+	@echo 'make gate            57 minutes    every proof from nothing, code changes that must be refused, tests of the crates'
 	@echo 'make check-programs  30 seconds +  runs the programs as a user would'
 	@echo 'make out-of-memory   7 minutes +   refuses each request for memory in turn'
 	@echo 'make interop         10 minutes +  compares the programs with those of Debian, over all settings'

@@ -1,7 +1,7 @@
 #!/bin/bash
 # build.sh CRATE PROGRAM [CPU]: proves and builds the program of crates/CRATE for a processor that `rt run --cpu` takes,
 # x86-64-v2 if none is said, and puts it at bin/PROGRAM. Each crate that had to be proved anew is named once it is.
-# bin/PROGRAM.made keeps for which processor and of what that was built, so that nothing is done where both are the same.
+# bin/PROGRAM.made keeps for which processor and of what that was built, so that nothing is done if both are the same.
 set -euo pipefail
 cd "$(dirname "$0")"
 crate=$1 program=$2 cpu=${3:-x86-64-v2}

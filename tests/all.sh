@@ -1,6 +1,6 @@
 #!/bin/bash
 # All tests: the gate, then the programs that it built, run as a user runs them, the examples of the documents, and the
-# comparisons with Debian's programs, where these are installed. These go over the programs for each processor that
+# comparisons with Debian's programs, if these are installed. These go over the programs for each processor that
 # runs here; a minute of random runs goes over those of bin/. The last line is 'N passed, M failed', over all parts.
 # With --without-gate the programs that are in bin/ are tested, and the output says that the gate was left out.
 set -u
@@ -19,5 +19,5 @@ for build in "${builds[@]}"; do
         if [ -x "$script" ]; then parts+=("env BIN=$build $script"); fi
     done
 done
-parts+=(tests/install.sh tests/completion.sh 'tests/memory.sh --short' tests/soak.sh)
+parts+=(tests/definitions.sh tests/install.sh tests/completion.sh 'tests/memory.sh --short' tests/soak.sh)
 BIN=bin exec tests/run.sh "${parts[@]}"

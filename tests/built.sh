@@ -1,5 +1,5 @@
 #!/bin/bash
-# Takes the programs that the gate built into bin/x86-64-v2/, and where this processor has all of x86-64-v3 builds them
+# Takes the programs that the gate built into bin/x86-64-v2/, and if this processor has all of x86-64-v3 builds them
 # for that into bin/x86-64-v3/. bin/ gets those for this processor. The gate removes what earlier runs left before it
 # begins, so these are the programs that it has just proved.
 set -u
@@ -36,7 +36,7 @@ over_gate() {
     ) >"$scratch/log" 2>&1 || cat "$scratch/log"
 }
 
-# over_checks NAME TO: builds a program for x86-64-v3 over what earlier checks have proved and kept. Where there is such
+# over_checks NAME TO: builds a program for x86-64-v3 over what earlier checks have proved and kept. If there is such
 # work, the gate has put it back.
 over_checks() {
     rm -f "crates/${1}_cli/out/${1}_cli"

@@ -13,7 +13,7 @@ failed=0
 scratch=$(mktemp -d)
 trap 'rm -rf "$scratch"' EXIT
 
-# needs PROGRAM PACKAGE: ends with status LEFT_OUT where a tool is missing that this script needs. Nothing is installed.
+# needs PROGRAM PACKAGE: ends with status LEFT_OUT if a tool is missing that this script needs. Nothing is installed.
 needs() {
     if ! command -v "$1" >/dev/null; then
         echo "$0: $1 is not installed (Debian: $2)"
@@ -33,7 +33,7 @@ needs_other() {
     fi
 }
 
-# has_program NAME: stops where a program was not built.
+# has_program NAME: stops if a program was not built.
 has_program() {
     if [ ! -x "$BIN/$1" ]; then
         echo "$0: $BIN/$1 is not there: run 'make programs' first" >&2
@@ -82,7 +82,7 @@ runs() {
     is_text "$name: standard error" "$err" "$scratch/.err"
 }
 
-# is_text NAME EXPECTED FILE: a file holds a text and one newline, or nothing where the text is empty.
+# is_text NAME EXPECTED FILE: a file holds a text and one newline, or nothing if the text is empty.
 is_text() {
     local expected=$scratch/.expected message
     case $2 in
@@ -161,7 +161,7 @@ flip() {
     set_byte "$1" "$2" "$(printf '%02x' $((old ^ $3)))"
 }
 
-# finish: says how many checks passed and failed, and answers 1 where one failed or none was made.
+# finish: says how many checks passed and failed, and answers 1 if one failed or none was made.
 finish() {
     echo "$0:"
     echo "$((checked - failed)) passed, $failed failed"

@@ -9,7 +9,7 @@ cd "$(dirname "$0")/.."
 has_program fsverity
 has_program veritysetup
 
-# offers OFFERED WORD..: where the last of a line's words is being typed, all of this is offered, in order. Bash cuts
+# offers OFFERED WORD..: while the last of a line's words is being typed, all of this is offered, in order. Bash cuts
 # words at = too.
 offers() {
     local offered=$1 function

@@ -3,7 +3,7 @@
 # The programs' messages as docs/DEFINITIONS.md has them, each after its status and with `_` for each name or number.
 stated_messages=$(sed -nE 's/^\|.*\| `(.*)` \| ([0-9]) \|$/\2 \1/p' docs/DEFINITIONS.md | sed -E 's/\b[A-Z]+\b/_/g')
 
-# stated_status TEXT: the status of an example that shows this text: that of the message at its end, and 0 where no
+# stated_status TEXT: the status of an example that shows this text: that of the message at its end, and 0 if no
 # message stands there.
 stated_status() {
     local last
@@ -23,7 +23,7 @@ lacking() {
 }
 
 # run_example COMMAND EXPECTED: runs a command in this shell, so that its variables and its status stay for the next, and
-# compares what it prints on both streams, and its status. Where a program is missing, the rest of the group is left out
+# compares what it prints on both streams, and its status. If a program is missing, the rest of the group is left out
 # with it.
 run_example() {
     if [ -n "$missing" ]; then return; fi

@@ -54,8 +54,8 @@ defined_statuses() {
 
 # meant CRATE: the messages in a crate's sources: texts that end with a full stop and a new line, alone or in pieces.
 meant() {
-    sed -E 's/^ *\/\/.*//' crates/"$1"/src/*.rt |
-        sed -nE -e 's/tell_pieces\(&\["([^"]*)", [a-z]+, "([^"]*)"\]/"\1_\2"/' -e 's/.*"([^"]*)\\n".*/\1/p' |
+    find crates/"$1"/src -name '*.rt' -exec sed -E 's/^ *\/\/.*//' {} + |
+        sed -nE -e 's/write_pieces\(&\["([^"]*)", [a-z]+, "([^"]*)"\]/"\1_\2"/' -e 's/.*"([^"]*)\\n".*/\1/p' |
         sed -E 's/\{[^}]*\}/_/g' | grep '\.$' | sort -u
 }
 

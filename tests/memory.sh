@@ -3,7 +3,7 @@
 # crates/memory_tests, by `rt try`, which builds them anew for each number; and of both programs' commands, by a library
 # that is loaded before them. Needs the toolchain and a C compiler. BIN=FOLDER takes the programs of another folder.
 # With --short, as a part of all tests, the run functions have just the requests of a store, of a report and of a line
-# refused, and where there is no C compiler, the programs' commands are left out.
+# refused, and if there is no C compiler, the programs' commands are left out.
 set -u
 cd "$(dirname "$0")/.."
 . tests/checks.sh
@@ -20,14 +20,14 @@ refuser=$scratch/refuse_memory.so
 # The most requests of a run, so that a count that doesn't end is found.
 most=2000
 
-# some_refused NAME COUNT: so many requests were refused in turn; where it is none, nothing was tried.
+# some_refused NAME COUNT: so many requests were refused in turn; if it is none, nothing was tried.
 some_refused() {
     if [ "$2" -gt 0 ]; then pass; else fail "$1" 'expected: requests that are refused' 'found:    none'; fi
     echo "$1: $2 requests"
 }
 
-# How each test of the run functions ends where a request is refused, from its first request to its last. Each ends whole
-# where none is.
+# How each test of the run functions ends if a request is refused, from its first request to its last. Each ends whole
+# if none is.
 declare -A endings_of=(
     [images::format_is_whole]='Unprepared Untouched Stopped'
     [images::format_of_a_tree_alone_is_whole]='Unprepared Untouched Stopped'
@@ -51,7 +51,7 @@ endings_in() {
     ' "$1"
 }
 
-# How each test of the run functions ends where just one request is refused: the first of the store, of the report or of
+# How each test of the run functions ends if just one request is refused: the first of the store, of the report or of
 # the line, each at the number that it has in the tests of the image and in those of files.
 declare -A ending_at=(
     [5]='dump_is_whole Untouched
@@ -69,7 +69,7 @@ declare -A ending_at=(
 )
 
 # refuse_of_run_functions NUMBER: runs the tests of the run functions with this request of each refused, and writes the
-# test's endings to $scratch/endings. Answers 1 where they have not run.
+# test's endings to $scratch/endings. Answers 1 if they have not run.
 refuse_of_run_functions() {
     (cd crates/memory_tests && rt try --test --fail-alloc "$1") >"$scratch/log" 2>&1
     if ! grep -q '^test result: ' "$scratch/log"; then
@@ -81,7 +81,7 @@ refuse_of_run_functions() {
         "$(cut -d ' ' -f 1 "$scratch/endings" | sort)"
 }
 
-# The tests' endings where the requests of a store, a report and a line are refused.
+# The tests' endings if the requests of a store, a report and a line are refused.
 first_requests() {
     local number test ending
     for number in "${!ending_at[@]}"; do
@@ -116,7 +116,7 @@ run_functions() {
     fail 'the run functions' 'expected: fewer than 100 requests'
 }
 
-# prepare FOLDER: the files that a command finds where it makes its own; none unless a command says otherwise.
+# prepare FOLDER: makes the files that the next command finds there; none, if nothing else is said.
 prepare() { :; }
 
 # ending COMMAND..: runs a command that makes its files in the folder `made`, and keeps its status, output and messages.
@@ -128,8 +128,8 @@ ending() {
     "$@" >"$scratch/out" 2>"$scratch/err" </dev/null || found=$?
 }
 
-# stands: whether what a run left may stand where it ran out of memory: the files that it makes are all whole, or each is
-# as before, or empty where there was none; and nothing is printed, or for fsverity whole lines of the first files.
+# stands: whether what a run left may stand if it ran out of memory: the files that it makes are all whole, or each is
+# as before, or empty if there was none; and nothing is printed, or for fsverity whole lines of the first files.
 stands() {
     local file
     if ! diff -r "$made" "$whole" >/dev/null; then
@@ -145,15 +145,15 @@ stands() {
         cmp -s -n "$(stat -c %s "$scratch/out")" "$scratch/out" "$scratch/whole_out"
 }
 
-# is_whole: a run left and printed what it does where nothing is refused.
+# is_whole: a run left and printed what it does if nothing is refused.
 is_whole() {
     diff -r "$made" "$whole" >/dev/null && cmp -s "$scratch/out" "$scratch/whole_out" &&
         cmp -s "$scratch/err" "$scratch/whole_err"
 }
 
-# refuse NAME STATUS ENDINGS COMMAND..: the command ends with this status where nothing is refused. Where a request is
+# refuse NAME STATUS ENDINGS COMMAND..: the command ends with this status if nothing is refused. If a request is
 # refused it ends in one of the endings 'STATUS MESSAGE', separated by '|', and what it leaves may stand. The first
-# requests are for the words, and end as $memory_ending says, or as if nothing were refused where a word keeps more room
+# requests are for the words, and end as $memory_ending says, or as if nothing were refused when a word keeps more room
 # than it takes. Then come those of clap, in a row, which end as $clap_ending says, and no later one does.
 refuse() {
     local name=$1 status=$2 endings=$3 number=1 stage=words expected seen
@@ -198,7 +198,7 @@ refuse() {
     some_refused "$name" $((number - 1))
 }
 
-# How a run ends where the program finds no memory, and where clap finds none.
+# How a run ends if the program finds no memory, and if clap finds none.
 endings_of_setup() {
     memory_ending='3 Out of memory.'
     clap_ending='1 error: out of memory'

@@ -1,5 +1,5 @@
 /* Lets one request for memory of a program fail, so that a script can refuse each in turn: the one with the number that
-   REFUSED_REQUEST gives, counted from 1. The file that REFUSED_TOLD names is made where one was refused. Loaded before
+   REFUSED_REQUEST gives, counted from 1. The file that REFUSED_TOLD names is made if one was refused. Loaded before
    a program by LD_PRELOAD. */
 #define _GNU_SOURCE
 #include <dlfcn.h>

@@ -1,7 +1,7 @@
 #!/bin/bash
 # tests/run.sh PART..: runs each part, a command in one word, and shows its output under a line that says how far the
 # run is. Each part has to end with a line 'N passed, M failed', and so does the whole run, with the sums. The status is
-# 1 where anything failed, or a part ended without that line. A part that ends with status 77 was left out and says why
+# 1 if anything failed, or a part ended without that line. A part that ends with status 77 was left out and says why
 # itself.
 set -u
 cd "$(dirname "$0")/.."

@@ -1,12 +1,12 @@
 #!/bin/bash
 # Random runs of both programs: settings, data, changed bytes, cut files, option texts, superblocks and command lines.
 # Each run is compared with a second reading of docs/DEFINITIONS.md in Python, and one in eight with Debian's programs
-# too, where docs/DIFFERENCES.md lets them agree. The code is in tests/soak/.
+# too, as far as docs/DIFFERENCES.md lets them agree. The code is in tests/soak/.
 #
 #   tests/soak.sh                  a minute of the cases of seed 1, after the self-test
 #   tests/soak.sh SEED=N SECONDS=N [CASES=N] [WORKERS=N]
 #   tests/soak.sh SEED=N CASE=N    repeats one case, as a failed one is printed
-#   tests/soak.sh --self-test      runs faulty programs, and passes where each is seen
+#   tests/soak.sh --self-test      runs faulty programs, and passes if each is seen
 set -u
 cd "$(dirname "$0")/.."
 . tests/checks.sh

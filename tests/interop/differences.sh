@@ -62,7 +62,7 @@ says_not() {
     fi
 }
 
-# unread COMMAND..: runs a command whose standard output is a pipe that nobody reads, where SIGPIPE ends a program.
+# unread COMMAND..: runs a command whose standard output is a pipe that nobody reads, so that SIGPIPE ends a program.
 unread() {
     rm -f "$scratch/unread"
     mkfifo "$scratch/unread"

@@ -2,7 +2,7 @@
 """What veritysetup verify has to say of an image, by the trees of trees.py, a plain computation of its own.
 
 expected.py [--hash-offset N] [--bare "ALGORITHM DATA-BLOCK HASH-BLOCK SALT BLOCKS HASH-TYPE"] DATA HASH ROOT CHANGE..
-prints a line for each change, `data OFFSET MASK` or `hash OFFSET MASK`: what is to be said where the bits of the mask are
+prints a line for each change, `data OFFSET MASK` or `hash OFFSET MASK`: what is to be said if the bits of the mask are
 turned in that byte of DATA or HASH. This is `right`, or the message of the first block in closing order that differs. The
 superblock of HASH is read as the on-disk format page of cryptsetup has it; --bare is for a hash area without one.
 """

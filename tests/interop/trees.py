@@ -57,7 +57,7 @@ class Shape:
 
 
 class Tree(Shape):
-    """The tree of some data. Where this ends before the last data block, it is the hash blocks that have closed."""
+    """The tree of some data. If this ends before the last data block, it is the hash blocks that have closed."""
 
     def __init__(self, settings, base, data):
         super().__init__(settings, base)
@@ -107,7 +107,7 @@ class Tree(Shape):
 
 
 def put(device, at, text):
-    """Puts bytes at a place of a device, after zeros where it ends before it."""
+    """Puts bytes at a place of a device, after zeros if it ends before it."""
     device.extend(bytes(max(0, at - len(device))))
     device[at : at + len(text)] = text
 

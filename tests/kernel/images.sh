@@ -36,7 +36,7 @@ image() {
         ;;
     esac
     mkdir -p "${data%/*}"
-    # Where the number of blocks is odd there is a tail, which isn't covered.
+    # If the number of blocks is odd there is a tail, which isn't covered.
     sample $((blocks * data_block + blocks % 2 * 512)) >"$data"
     "$BIN/veritysetup" format "${settings[@]}" "${where[@]}" "$data" "$hash" >"$scratch/report" ||
         fail "$name" 'no image was made'
@@ -44,7 +44,7 @@ image() {
     if [ "$1" = bare ]; then where+=("${settings[@]}"); fi
 }
 
-# without FIRST END: what `whole` of the guest prints where the blocks from FIRST on and before END are refused.
+# without FIRST END: what `whole` of the guest prints if the blocks from FIRST on and before END are refused.
 without() {
     {
         head -c $(($1 * data_block)) "$data"
@@ -101,7 +101,7 @@ ask_changes() {
     done
 }
 
-# ask_others: asks for the image with another root hash and with another salt, where each block is refused.
+# ask_others: asks for the image with another root hash and with another salt: each block is refused.
 ask_others() {
     local command other=0${root:1}
     if [ "$other" = "$root" ]; then other=1${root:1}; fi

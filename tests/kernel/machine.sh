@@ -26,7 +26,7 @@ One of Debian's kernels (linux-image-cloud-amd64, linux-image-amd64) can be had 
     apt-get download \$(apt-cache depends linux-image-cloud-amd64 | sed -n 's/.*Depends: //p')
     dpkg -x linux-image-*.deb FOLDER
     make kernel KERNEL=\$(echo FOLDER/boot/vmlinuz-*)
-MODULES=FOLDER names the modules where they aren't in ../lib/modules/VERSION from vmlinuz-VERSION.
+MODULES=FOLDER names the modules if they aren't in ../lib/modules/VERSION from vmlinuz-VERSION.
 END
     exit 1
 }
@@ -95,7 +95,7 @@ boot() {
     timeout "$time_limit" qemu-system-x86_64 -accel tcg -m 1024 -nodefaults -display none -no-reboot \
         -kernel "$kernel" -initrd "$scratch/archive" -append 'console=ttyS0 panic=-1 quiet' \
         -serial "file:$scratch/console" -serial "file:$scratch/answers" </dev/null ||
-        fail 'the virtual machine' "it ended with status $?, where 124 says that $time_limit seconds were over"
+        fail 'the virtual machine' "it ended with status $?; 124 means that $time_limit seconds were over"
 }
 
 # compare: the answers with what is expected. A guest that left something open, as after a panic, is one failure.

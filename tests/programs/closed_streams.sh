@@ -21,8 +21,8 @@ without() {
         exec "$@"' "$@"
 }
 
-# prints NAME STATUS TEXT MESSAGE COMMAND..: a command that prints a text where standard output is open, and ends with
-# this status and message where it is closed; the message is seen where standard error is open.
+# prints NAME STATUS TEXT MESSAGE COMMAND..: a command that prints a text if standard output is open, and ends with
+# this status and message if it is closed; the message is seen if standard error is open.
 prints() {
     local name=$1 status=$2 text=$3 message=$4
     shift 4

@@ -149,7 +149,7 @@ one_file() {
     runs 'one file: verify' 0 '' '' "$veritysetup" verify --hash-offset 8704 "$both" "$both" "$root"
 }
 
-# Where the report cannot be written the image is whole all the same.
+# If the report can't be written the image is whole all the same.
 outputs() {
     local unwritten='Cannot write output.'
     rm -f "$hash"

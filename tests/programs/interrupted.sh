@@ -25,7 +25,7 @@ older_root=$(image "$older" "$scratch/older.img")
 newer_root=$(image "$newer" "$scratch/newer.img")
 
 # The start of a command that can't write past byte 5120 of a file, where the sixth hash block of level 0 ends. The next
-# word is `killed` where such a write ends it by a signal, or `refused` where the write alone is refused.
+# word is `killed` if such a write ends it by a signal, or `refused` if the write alone is refused.
 limited=(bash -c 'ulimit -c 0; ulimit -f 5; if [ "$0" = refused ]; then trap "" XFSZ; fi; exec "$@"')
 
 # formats NAME HOW STATUS ERR: the limited run of format over the newer data.

@@ -20,7 +20,7 @@ has_loops() {
         cmp -s "$loop" "$scratch/tried_node"
 }
 
-# needs_loops: ends with status LEFT_OUT where there are none.
+# needs_loops: ends with status LEFT_OUT if there are none.
 needs_loops() {
     if ! has_loops; then
         echo "$0: no loop device can be made here"

@@ -37,7 +37,7 @@ flip "$data" 8192 255
 runs 'digest' 0 "sha256:3d248ca542a24fc62d1c43b916eae5016878e2533c88238480b26128a1f1af95 $scratch/empty" '' \
     "${bare[@]}" "$BIN/fsverity" digest "$scratch/empty"
 
-# No report lands in the image where standard streams are closed.
+# No report lands in the image if standard streams are closed.
 rm "$hash"
 runs 'all streams closed' 4 '' '' \
     bash -c '"$@" <&- >&- 2>&-' - "${veritysetup[@]}" format "${image_17_options[@]}" "$data" "$hash"

@@ -1,6 +1,6 @@
 # Runs in the background that can be stopped and ended by signals. Sourced after tests/checks.sh.
 
-# starts COMMAND..: runs a command in the background, where signals end it as they do in a terminal. Sets `pid`.
+# starts COMMAND..: runs a command in the background, and lets signals end it as they do in a terminal. Sets `pid`.
 starts() {
     env --default-signal=INT,TERM,XFSZ "$@" >"$scratch/.out" 2>"$scratch/.err" </dev/null &
     pid=$!
@@ -26,7 +26,7 @@ ended() {
     is_text "$1: standard error" "$4" "$scratch/.err"
 }
 
-# read_so_far FILE: prints how many bytes of a file the process has read, where it has it open.
+# read_so_far FILE: prints how many bytes of a file the process has read, if it has it open.
 read_so_far() {
     local link
     for link in /proc/"$pid"/fd/*; do

@@ -1,6 +1,6 @@
 #!/bin/bash
 # Runs the programs on a terminal of their own, which `script` makes: how far long work is is shown there each 64 MiB,
-# where there are more than 256 MiB, and erased before anything else is written; where standard error goes elsewhere,
+# if there are more than 256 MiB, and erased before anything else is written; if standard error goes elsewhere,
 # nothing is shown.
 set -u
 cd "$(dirname "$0")/../.."

@@ -1,5 +1,5 @@
-"""Debian's veritysetup and fsverity beside a run of ours. They are asked where docs/DIFFERENCES.md lets them agree, by
-plain option texts: what other texts mean is for the second reading alone."""
+"""Debian's veritysetup and fsverity beside a run of ours. They are asked as far as docs/DIFFERENCES.md lets them agree,
+by plain option texts: what other texts mean is for the second reading alone."""
 
 import re
 import shutil
@@ -18,7 +18,7 @@ VALUES = re.compile(r"^(UUID|Hash type|Data blocks|Data block size|Hash block si
 
 
 def compare(program, words, scene, ours, drawn, run):
-    """What differs, as a list of texts, or None where Debian's program isn't asked. `ours` is the outcome that was
+    """What differs, as a list of texts, or None if Debian's program isn't asked. `ours` is the outcome that was
     expected and found; `run` runs a program with words, on the files of the case."""
     line = read_line(program, words)
     if line is None or any(word.startswith("-") for word in line.words):
@@ -94,7 +94,7 @@ def dump(line, scene, ours, drawn, theirs):
 
 
 def verify(line, scene, ours, drawn, theirs):
-    """Both accept the image, or neither does; with status 2 where whole blocks differ."""
+    """Both accept the image, or neither does; with status 2 if whole blocks differ."""
     area, data, device, _ = compared(line, scene)
     if area.offset >= 2**63 or " is not UTF-8: " in ours.err:
         return None

@@ -8,7 +8,7 @@ from collections import namedtuple
 
 HEX = set(string.hexdigits)
 
-# What a run does: status, standard output, standard error, and the files that stand then, by name. `err` is USAGE where
+# What a run does: status, standard output, standard error, and the files that stand then, by name. `err` is USAGE if
 # the command line is refused, in words that are not fixed.
 Outcome = namedtuple("Outcome", "status out err files")
 USAGE = object()
@@ -54,14 +54,14 @@ class Scene:
         self.links = links or {}
 
     def name(self, path):
-        """The name of the file to which a path leads, also where it isn't there yet. None where it can't be."""
+        """The name of the file to which a path leads, also if it isn't there yet. None if it can't be."""
         plain = posixpath.normpath(path) if path else ""
         if not plain or "/" in plain or len(os.fsencode(plain)) > 255:
             return None
         return self.links.get(plain, plain)
 
     def content(self, path):
-        """The bytes of a file, or None where it can't be opened."""
+        """The bytes of a file, or None if it can't be opened."""
         return self.files.get(self.name(path))
 
 
@@ -80,7 +80,7 @@ def not_text(words):
 
 
 def read_line(program, words):
-    """The command line that words make, or None where they are refused."""
+    """The command line that words make, or None if they are refused."""
     commands = COMMANDS[program]
     if not words or words[0] not in commands:
         return None
@@ -129,7 +129,7 @@ def is_block_size(value, least):
 
 
 def uuid(text):
-    """The 16 bytes of a UUID: with hyphens, without, in braces, or as a URN. None where the text is no UUID."""
+    """The 16 bytes of a UUID: with hyphens, without, in braces, or as a URN. None if the text is no UUID."""
     if len(text) == 38 and text[0] + text[-1] == "{}":
         text, plain = text[1:-1], False
     elif len(text) == 45 and text[:9].lower() == "urn:uuid:":

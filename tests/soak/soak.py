@@ -3,7 +3,7 @@
 a part of it with Debian's programs.
 
 soak.py [SEED=N] [SECONDS=N] [CASES=N] [WORKERS=N] goes over cases 0, 1, .. until the time or the number is reached;
-soak.py SEED=N CASE=N repeats one and keeps its files where it fails; soak.py --self-test runs faulty programs, which
+soak.py SEED=N CASE=N repeats one and keeps its files if it fails; soak.py --self-test runs faulty programs, which
 have to fail. Seed and number of a case determine everything in it. The last line is 'N passed, M failed'.
 """
 
@@ -151,7 +151,7 @@ def judge(case, folder, programs):
 
 
 def shown(case):
-    """The command of a case, as a shell takes it where all words are text."""
+    """The command of a case, as a shell takes it if all words are text."""
     return shlex.join(os.fsencode(word).decode(errors="backslashreplace") for word in [case.program, *case.words])
 
 
@@ -226,7 +226,7 @@ def self_test(programs, folder):
 
 
 def one_case(seed, which, programs, folder):
-    """Repeats one case. Where it fails, its files stay as they were before the run."""
+    """Repeats one case. If it fails, its files stay as they were before the run."""
     case = make_case(seed, which)
     texts, _ = judge(case, folder, programs)
     print(shown(case))

@@ -10,7 +10,7 @@ from trees import MOST_BYTES, Settings, Shape, Tree, put, verdict
 SUPERBLOCK_SIZE = 512
 NAMES = ["sha256", "sha512", "sha384", "sha224", "sha1"]
 
-# What is drawn where no salt or no UUID is given.
+# What is drawn if no salt or no UUID is given.
 Drawn = namedtuple("Drawn", "salt uuid")
 
 # The hash area: settings, the hash block at which the tree begins, and the superblock's place and UUID; `uuid` is None

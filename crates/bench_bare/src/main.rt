@@ -1,5 +1,5 @@
-//! The measure that the programs are held against: the hash of each block of a file, each after a salt of 32 bytes, by
-//! the crate `sha2`, and nothing else. It prints the exclusive or of the digests' first bytes.
+//! The baseline that the programs are measured against: it hashes each block of a file, after a salt of 32 bytes, with
+//! the crate `sha2`, and does nothing else. It prints the exclusive or of the digests' first bytes.
 //!
 //! Words: sha256 or sha512, the size of a block (512, 4096, 16384 or 65536), and the file.
 #![tactic(auto)]
@@ -26,7 +26,7 @@ fn first_byte(long: bool, block: &[u8]) -> u8 {
     }
 }
 
-/// Hashes what a reader gives, as many bytes at a time as the buffer has.
+/// Hashes what a reader gives, a buffer at a time.
 fn hash_all<R: Read>(reader: &mut R, long: bool, buffer: &mut [u8]) -> io::Result<u8> {
     let mut joined = 0;
     for _ in 0..u64::MAX {

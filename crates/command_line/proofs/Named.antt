@@ -73,7 +73,7 @@ pub met_rows : (o : Option (Text × List Row)) (given : List Row) → Some given
 met_rows None given e = cc
 met_rows (Some p) given e = (p, refl, cc)
 
--- what has no value in common with a list of values isn't one of them
+-- a value that no element has isn't one of the list's values
 pub none_of : {X Y : Type 0} (f : X → Y) (xs : List X) (y : Y) → ((x : X) → f x ≢ y) → IsOneOf y (map f xs) → ⊥
 none_of f [] y none one = one
 none_of f (x ∷ xs) y none (inl e) = none x e
@@ -99,7 +99,7 @@ or_true : (x : Bool) → (x || true) ≡ true
 or_true true = refl
 or_true false = refl
 
--- where the command `help` is off
+-- the subcommands of the built command are those of the app, if the command `help` is off
 pub names_stay : (a : App) → a.top.disable_help_subcommand ≡ true → sub_names (built a) ≡ sub_names a
 names_stay a off = go a.top.is_built
   where

@@ -4,23 +4,23 @@ use Rattle.std.specs.Prelude.{slice_get}
 use Rattle.std.proofs.lemmas.List.{map-append}
 
 -- a list that has no element of this index is taken whole
-pub taken_whole : {X : Type 0} (xs : List X) (i : ℕ) → slice_get xs i ≡ None → take i xs ≡ xs
-taken_whole [] zero none = refl
-taken_whole [] (suc i) none = refl
-taken_whole (x ∷ xs) zero none = absurd cc
-taken_whole (x ∷ xs) (suc i) none = ap (λ rest. x ∷ rest) (taken_whole xs i none)
+pub take-whole : {X : Type 0} (xs : List X) (i : ℕ) → slice_get xs i ≡ None → take i xs ≡ xs
+take-whole [] zero none = refl
+take-whole [] (suc i) none = refl
+take-whole (x ∷ xs) zero none = absurd cc
+take-whole (x ∷ xs) (suc i) none = ap (λ rest. x ∷ rest) (take-whole xs i none)
 
-taken_more : {X : Type 0} (xs : List X) (i : ℕ) (x : X) → slice_get xs i ≡ Some x
+take-more : {X : Type 0} (xs : List X) (i : ℕ) (x : X) → slice_get xs i ≡ Some x
     → take (suc i) xs ≡ take i xs ++ x ∷ []
-taken_more [] i x is = absurd cc
-taken_more (y ∷ ys) zero x is = let same : y ≡ x = cc in ap (λ z. z ∷ []) same
-taken_more (y ∷ ys) (suc i) x is = ap (λ rest. y ∷ rest) (taken_more ys i x is)
+take-more [] i x is = absurd cc
+take-more (y ∷ ys) zero x is = let same : y ≡ x = cc in ap (λ z. z ∷ []) same
+take-more (y ∷ ys) (suc i) x is = ap (λ rest. y ∷ rest) (take-more ys i x is)
 
 -- one more element, whose value is that of the next index
-pub listed_more : {X : Type 0} (f : X → List ℕ) (xs more : List X) (x : X) (words : List (List ℕ)) (i : ℕ) (word : List ℕ)
+pub map-push-take : {X : Type 0} (f : X → List ℕ) (xs more : List X) (x : X) (words : List (List ℕ)) (i : ℕ) (word : List ℕ)
     → map f xs ≡ take i words → slice_get words i ≡ Some word → f x ≡ word → more ≡ xs ++ x ∷ []
     → map f more ≡ take (i + 1) words
-listed_more f xs more x words i word so_far is same pushed =
-    let next : take (i + 1) words ≡ take i words ++ word ∷ [] = rw add-one (taken_more words i word is) in
+map-push-take f xs more x words i word so_far is same pushed =
+    let next : take (i + 1) words ≡ take i words ++ word ∷ [] = rw add-one (take-more words i word is) in
     ap (map f) pushed ∙ map-append f xs (x ∷ [])
     ∙ ap₂ (λ (front : List (List ℕ)) (last : List ℕ). front ++ last ∷ []) so_far same ∙ sym next

@@ -24,7 +24,7 @@ flag_of (Some text) = bytes_eq text (codes "true")
 abbrev pub word_rule : Text → Rule
 word_rule name = record (new_rule name) { action = Some Set; required = true }
 
--- the words beside the options, one or more
+-- one or more words that aren't options
 abbrev pub words_rule : Text → Rule
 words_rule name = record (new_rule name) { action = Some Append; required = true }
 

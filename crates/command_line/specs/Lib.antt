@@ -4,5 +4,5 @@ pub mod LineFaults
 pub mod Printing
 pub mod NullFiles
 pub mod SystemWords
-pub mod Showing
+pub mod Progress
 pub mod FileIdentities

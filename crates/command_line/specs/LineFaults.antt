@@ -1,13 +1,13 @@
--- Why a command line is refused: clap refuses it, perhaps since clap itself has no memory; or clap takes it, and there
--- is no memory for the copies of its words.
+-- Why a command line is refused: clap refuses it, perhaps because clap itself has no memory; or clap accepts it, and
+-- there is no memory for the copies of its words.
 use Rattle.std.specs.Prelude.{◌≡◌, []}
 use Rattle.clap.specs.Kinds.{HasKind, Kinds}
 use Rattle.clap.specs.Words.{kind_of}
 use Rattle.clap.specs.declared.error.ErrorKind.TheVariants.{OutOfMemory}
-use Rattle.command_line.specs.declared.line_fault.LineFault.{LineFault}
-use Rattle.command_line.specs.declared.line_fault.LineFault.TheVariants.{Refused, Memory}
+use Rattle.command_line.specs.declared.words.line_fault.LineFault.{LineFault}
+use Rattle.command_line.specs.declared.words.line_fault.LineFault.TheVariants.{Refused, Memory}
 
--- there is no memory for the copies; a line that clap refuses isn't meant, even if clap itself had no memory
+-- there is no memory for the copies; this leaves out lines that clap refuses, even if clap itself had no memory
 abbrev pub IsMemory : LineFault → Type 0
 IsMemory (Refused e) = ⊥
 IsMemory Memory = Unit {0}

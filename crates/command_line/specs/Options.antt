@@ -1,10 +1,10 @@
--- What the texts of options stand for, with the defaults of both programs (veritysetup(8); fsverity(1)). How a text
--- writes a number is this project's own, since both pages leave it open.
-use Rattle.std.specs.Prelude.{ℕ, ◌+◌, ◌-◌, ◌*◌, ◌/◌, ◌^◌, ◌&&◌, List, [], ◌∷◌, length, Option, Some, None, Result, Err, if◌then◌else◌, nat_le, nat_lt}
+-- What the texts of options mean, with the defaults of both programs (veritysetup(8); fsverity(1)). How a number is
+-- written is this project's own, since both pages leave it open.
+use Rattle.std.specs.Prelude.{ℕ, ◌+◌, ◌-◌, ◌*◌, ◌/◌, ◌^◌, ◌&&◌, List, [], ◌∷◌, length, Option, Some, None, Result, Ok, Err, if◌then◌else◌, nat_le, nat_lt}
 use Rattle.std.specs.Result.{result_ok}
 use Rattle.std.specs.Str.{all_ascii_digits}
 use Rattle.hex.specs.Hex.{decode_of}
-use Rattle.verity_hash.specs.Algorithms.{named}
+use Rattle.verity_hash.specs.Hashing.{named}
 use Rattle.verity_hash.specs.declared.algorithm.Algorithm.{Algorithm}
 use Rattle.verity_hash.specs.declared.algorithm.Algorithm.TheVariants.{Sha256}
 
@@ -24,20 +24,21 @@ abbrev pub number_or : ℕ → Option (List ℕ) → Option ℕ
 number_or default None = Some default
 number_or default (Some text) = number_of text
 
--- the size of a block in bytes where none is given
+-- the size of a block in bytes if none is given
 abbrev pub default_block_size : ℕ
 default_block_size = 4096
 
--- the bytes of a salt in hexadecimal digits of either case, two digits a byte, at most so many
+-- the bytes of a salt in hexadecimal digits of either case, two digits a byte, no more bytes than the most
 abbrev pub salt_of : ℕ → List ℕ → Option (List ℕ)
 salt_of most text = if nat_le (length text / 2) most then result_ok (decode_of text) else None
 
--- the algorithm of a name; by default SHA-256
+-- the algorithm of this name, by default SHA-256
 abbrev pub algorithm_or_default : Option (List ℕ) → Option Algorithm
 algorithm_or_default None = Some Sha256
 algorithm_or_default (Some name) = named name
 
--- what follows from a value that an option has to give, or the fault that it gives none
-abbrev pub or_fault : {X Y E : Type 0} → Option X → E → (X → Result Y E) → Result Y E
-or_fault None fault next = Err fault
-or_fault (Some x) fault next = next x
+-- one step after another, up to the first that fails
+infixl 10 ◌>>=◌
+abbrev pub ◌>>=◌ : {X Y E : Type 0} → Result X E → (X → Result Y E) → Result Y E
+(Ok x) >>= next = next x
+(Err fault) >>= next = Err fault

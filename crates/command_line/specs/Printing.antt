@@ -1,15 +1,15 @@
--- What writing a text or a message leaves in a writer, as far as the writer tells what it holds.
+-- What a writer holds after a text or a message was printed, if the writer's contents are known.
 use Rattle.std.specs.Prelude.{ℕ, ◌<◌, List, length, take, Option, Result, Ok, Err}
 use Rattle.std.specs.Io.KnownBytes.{Appends, Keeps}
-use Rattle.command_line.specs.declared.print_fault.PrintFault.{PrintFault}
-use Rattle.command_line.specs.declared.print_fault.PrintFault.TheVariants.{Memory, Output}
+use Rattle.command_line.specs.declared.printing.print_fault.PrintFault.{PrintFault}
+use Rattle.command_line.specs.declared.printing.print_fault.PrintFault.TheVariants.{Memory, Output}
 
--- so many of the text's first bytes are added, perhaps none and perhaps all
+-- some of the text's first bytes are added, perhaps none and perhaps all
 abbrev pub AppendsFront : List ℕ → Option (List ℕ) → Option (List ℕ) → Type 0
-AppendsFront text before after = (taken : ℕ) × Appends before after (take taken text)
+AppendsFront text before after = (count : ℕ) × Appends before after (take count text)
 
--- the text is added whole; nothing without memory; only its first bytes where a write fails
+-- the text is added whole; without memory nothing is added; only its first bytes if a write fails
 abbrev pub Prints : Result (Unit {0}) PrintFault → List ℕ → Option (List ℕ) → Option (List ℕ) → Type 0
 Prints (Ok done) text before after = Appends before after text
 Prints (Err Memory) text before after = Keeps before after
-Prints (Err (Output taken)) text before after = (taken < length text) × Appends before after (take taken text)
+Prints (Err (Output count)) text before after = (count < length text) × Appends before after (take count text)

@@ -8,17 +8,17 @@ use std::alloc::{AllocError, Global};
 use std::test::Fail;
 use verity_hash::Algorithm;
 
-/// How files are digested, in plain numbers.
+/// How files are digested, as plain numbers.
 #[derive(Clone, Copy)]
 struct Settings {
-    /// The options that say so.
+    /// The options that choose it.
     options: &'static str,
     algorithm: Algorithm,
     block: usize,
     /// The number and the width of a block's slots.
     slots: (usize, usize),
     salt: &'static [u8],
-    /// The input block of the hash function, which the salt fills.
+    /// The input block of the hash function, to which the salt is padded.
     input_block: usize,
     /// The first four bytes of the descriptor.
     head: [u8; 4],
@@ -52,7 +52,7 @@ struct Named {
     levels: usize,
 }
 
-/// A form of lines: its options, and whether it names the file and has the bytes that are signed.
+/// A form of lines: its options, and whether it names the file and has the bytes to be signed.
 type Form = (&'static str, bool, bool);
 
 const FORMS: [Form; 4] = [
@@ -133,9 +133,9 @@ impl Settings {
         Ok(scene(words, files, steps))
     }
 
-    /// Digest of a file with output files, `tree` and `made`: the file is opened, and the output files that are wanted,
-    /// which are emptied; the data is read once, and each block of the tree is written as it closes, then the
-    /// descriptor, then the line is printed.
+    /// Digest of a file with output files, `tree` and `made`: the file is opened, and then the output files that are
+    /// asked for, which are emptied; the data is read once, and each block of the tree is written as it closes, then
+    /// the descriptor, then the line is printed.
     fn digest_to(
         &self,
         alloc: Global,
@@ -188,7 +188,8 @@ fn scene(words: String, files: Files, steps: Steps) -> Scene {
     }
 }
 
-/// Files of no byte, of 17 blocks of 512 and 100 bytes, and of one block and a byte, with trees of such blocks.
+/// An empty file, one of 17 blocks of 512 bytes and 100 bytes more, and one of a block and a byte, with trees of such
+/// blocks.
 const FILES: [Named; 3] = [
     Named {
         name: "empty",

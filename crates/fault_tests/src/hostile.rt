@@ -1,5 +1,5 @@
-//! Superblocks and hash devices that strangers hand in: every byte changed, every length, the largest numbers, and many
-//! changes at random, beside a second reading of the superblock.
+//! Superblocks and hash devices from an attacker: every byte changed, every length, the largest numbers, and many
+//! random changes, compared with a second reading of the superblock.
 use crate::second_reading::{refusal, report};
 use fixtures::{Said, Shape, Tree, data, filled, superblock};
 use std::alloc::{AllocError, Global};
@@ -50,7 +50,7 @@ fn dumped(alloc: Global, device: Vec<u8>) -> Said {
     Said { status, out, msgs }
 }
 
-/// Whether dump says of a device what the second reading says.
+/// Whether dump says the same of a device as the second reading.
 fn is_read_alike(alloc: Global, bytes: &[u8]) -> Result<bool, AllocError> {
     let said = dumped(alloc, bytes.to_vec(alloc)?);
     Ok(match refusal(alloc, bytes)? {
@@ -64,8 +64,8 @@ fn is_read_alike(alloc: Global, bytes: &[u8]) -> Result<bool, AllocError> {
     })
 }
 
-/// Offsets of superblock bytes of which the complement is read, with the status of verify and its message, or its first
-/// words.
+/// Offsets of superblock bytes that are replaced by their complement, with the status of verify and its message, or its
+/// first words.
 const COMPLEMENTS: [(usize, usize, u8, &str); 16] = [
     (0, 8, 1, "No verity superblock.\n"),
     (8, 12, 1, "Superblock version "),
@@ -190,8 +190,8 @@ fn the_largest_numbers_are_read(rt: HostRuntime) -> Result<(), Fail> {
     Ok(())
 }
 
-/// Numbers that follow no short pattern, always the same from one seed: Knuth's linear congruential generator of 64
-/// bits, of which the high half is given.
+/// Pseudorandom numbers, always the same from one seed: the high half of Knuth's linear congruential generator of 64
+/// bits.
 #[derive(Clone, Copy)]
 struct Numbers {
     state: u64,
@@ -276,7 +276,10 @@ fn random_changes_are_read_alike(rt: HostRuntime) -> Result<(), Fail> {
             }
         }
     }
-    assert!(rt; (2000..8000).contains(&accepted), "{accepted} are accepted");
+    assert!(rt;
+        (2000..8000).contains(&accepted),
+        "{accepted} were accepted"
+    );
     Ok(())
 }
 
@@ -329,7 +332,7 @@ fn random_changes_are_verified_or_named(rt: HostRuntime) -> Result<(), Fail> {
     for count in [refused_count, verified_count, differing_count] {
         assert!(rt;
             count >= 20,
-            "{refused_count}, {verified_count}, {differing_count}"
+            "{refused_count} refused, {verified_count} verified, {differing_count} differing"
         );
     }
     Ok(())

@@ -6,10 +6,10 @@ use memory_runtime::Call;
 use std::alloc::{AllocError, Global};
 use verity_hash::Algorithm;
 
-/// How an image is made, in plain numbers.
+/// How an image is made, as plain numbers.
 #[derive(Clone, Copy)]
 pub struct Setup {
-    /// The options that say so, beside the UUID.
+    /// The options that choose it, besides the UUID.
     pub options: &'static str,
     pub hash_type: u8,
     pub algorithm: Algorithm,
@@ -26,9 +26,9 @@ pub struct Setup {
     pub superblock: Option<usize>,
     /// Where the tree begins.
     pub tree_at: usize,
-    /// How many bytes the data has after the last block.
+    /// How many bytes of data follow the last block.
     pub more: usize,
-    /// How many bytes the hash device has before, all 77; none where it is missing.
+    /// How many bytes the hash device has before, each of them 77; none if it is missing.
     pub before: Option<usize>,
 }
 
@@ -60,7 +60,7 @@ impl Setup {
         shape.tree(alloc, data(alloc, self.covered())?.as_slice(), self.levels)
     }
 
-    /// The report, with the root hash where it is given.
+    /// The report, with the root hash if it is given.
     fn report(&self, alloc: Global, root: Option<&[u8]>) -> Result<String, AllocError> {
         let salt = salt_text(alloc, self.salt)?;
         let report = Report {
@@ -92,7 +92,7 @@ impl Setup {
     }
 
     /// Format: the data is read once, each hash block is written as it closes, then the superblock, then the report is
-    /// printed, and the system is asked to keep it all, and the name of a new file in its folder, if that can be opened.
+    /// printed, and the system is asked to sync all of it, and the folder of a new file if that can be opened.
     pub fn format(&self, alloc: Global) -> Result<Scene, AllocError> {
         let tree = self.tree(alloc)?;
         let mut steps = Steps::new(alloc);

@@ -1,6 +1,6 @@
 //! Each fault in turn: every call of a program's files fails once, its output and its messages end at each length, and
-//! superblocks and trees are changed byte by byte. What each fault leaves is told by lists of steps and by trees of plain
-//! bytes, with digests of `sha1` and `sha2`.
+//! superblocks and trees are changed byte by byte. What each fault should leave is known from lists of steps and from
+//! trees of plain bytes, with digests of `sha1` and `sha2`.
 #![tactic(auto)]
 
 #[cfg(test)]

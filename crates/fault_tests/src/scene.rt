@@ -1,4 +1,4 @@
-//! A run of a program over files in memory, and how it ends by its list of steps.
+//! A run of a program over files in memory, and how its list of steps says that it ends.
 use crate::steps::{Files, Step};
 use fixtures::Narrow;
 use memory_runtime::{Call, Disk, Kind, MemoryRuntime};
@@ -33,7 +33,7 @@ pub struct Trial {
     pub room: usize,
     /// How many bytes the messages take.
     pub message_room: usize,
-    /// Whether a full output takes nothing, in place of failing.
+    /// Whether a full output takes nothing instead of failing.
     pub takes_nothing: bool,
 }
 
@@ -54,7 +54,7 @@ pub struct Ending {
     pub status: u8,
     pub out: Vec<u8>,
     pub msgs: Vec<u8>,
-    /// The files then.
+    /// The files after the run.
     pub files: Files,
     /// How often each of `CALLS` was made.
     pub calls: [u64; 5],
@@ -69,7 +69,7 @@ impl Program {
         }
     }
 
-    /// The message of an output that can't be written.
+    /// The message for output that can't be written.
     fn unwritten(self) -> &'static [u8] {
         match self {
             Program::Veritysetup => b"Cannot write output.\n",
@@ -78,14 +78,14 @@ impl Program {
     }
 }
 
-/// The first bytes, as many as there is room for.
+/// The first bytes, up to what there is room for.
 fn front(alloc: Global, bytes: &[u8], room: usize) -> Result<Vec<u8>, AllocError> {
     bytes.get(..room).unwrap_or(bytes).to_vec(alloc)
 }
 
 impl Ending {
-    /// Goes on by one step. The answer is the status and the message where the run ends with it, as the call of this
-    /// number and kind fails.
+    /// Takes one step. The answer is the status and the message if the run ends there because the call of this number
+    /// and kind fails.
     fn goes_on<'a>(
         &mut self,
         alloc: Global,
@@ -122,7 +122,7 @@ impl Ending {
         }
     }
 
-    /// What differs first from how a run ended, where each call is made just as often, or each but openings and seeks.
+    /// The first difference from how a run ended. Each call must be made just as often, or each but openings and seeks.
     pub fn differs(&self, found: &Ending, with_all_calls: bool) -> Option<&'static str> {
         if self.status != found.status {
             Some("the status")
@@ -166,7 +166,7 @@ impl Scene {
         count_of(self.steps.as_slice(), call)
     }
 
-    /// How the run ends by its steps.
+    /// How the steps say that the run ends.
     pub fn ending(&self, alloc: Global, trial: &Trial) -> Result<Ending, AllocError> {
         let mut ending = Ending {
             status: 0,

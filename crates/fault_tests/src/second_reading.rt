@@ -1,5 +1,5 @@
 //! A second reading of the superblock, by a table of its fields (cryptsetup's on-disk format page, "dm-verity header"),
-//! in the order in which they are looked at.
+//! in the order in which they are checked.
 use fixtures::{Report, salt_text};
 use std::alloc::{AllocError, Global};
 
@@ -10,7 +10,7 @@ enum Rule {
     Is(&'static [u8]),
     /// One of these numbers.
     Among(&'static [u64]),
-    /// A number that isn't less than the first and not more than the second.
+    /// A number from the first to the second, both included.
     Between(u64, u64),
     /// A known name, up to the first zero.
     Name,
@@ -18,7 +18,7 @@ enum Rule {
     Fits,
 }
 
-/// A field, what it has to be, and the message where it isn't: what comes before its number and after it, or a whole
+/// A field, what it has to be, and the message if it isn't: what comes before its number and after it, or a whole
 /// message.
 struct Row {
     at: usize,
@@ -128,7 +128,7 @@ impl Row {
     }
 }
 
-/// The message where some bytes are no superblock.
+/// The message if some bytes are not a superblock.
 pub fn refusal(alloc: Global, bytes: &[u8]) -> Result<Option<String>, AllocError> {
     if bytes.len() < 512 {
         return Ok(Some(String::from_str(alloc, "Superblock is too short.\n")?));

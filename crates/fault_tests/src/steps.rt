@@ -1,14 +1,14 @@
-//! A run as a list of steps: which call each makes, what the message is where that call fails, and what it leaves.
+//! A run as a list of steps: which call each makes, the message if that call fails, and what it leaves.
 use fixtures::{Tree, lay};
 use memory_runtime::Call;
 use std::alloc::{AllocError, Global};
 
-/// What a step leaves where its call goes through.
+/// What a step leaves if its call goes through.
 #[derive(Drop)]
 pub enum Effect {
     /// Nothing is changed.
     Nothing,
-    /// The file of this name is there, made where it was missing.
+    /// The file of this name is there, made if it was missing.
     Made(&'static str),
     /// The file of this name is there, and empty.
     Emptied(&'static str),
@@ -19,9 +19,9 @@ pub enum Effect {
 /// A step of a run.
 #[derive(Drop)]
 pub enum Step {
-    /// A call of a file, the message where it fails, and what it leaves.
+    /// A call of a file, the message if it fails, and what it leaves.
     Calls(Call, String, Effect),
-    /// A call of a file after which the run is done where it fails, without a message.
+    /// A call of a file that ends the run without a message if it fails.
     Tries(Call),
     /// A text is printed.
     Prints(String),
@@ -30,7 +30,7 @@ pub enum Step {
 /// Files by their names.
 pub type Files = Vec<(&'static str, Vec<u8>)>;
 
-/// The steps of a run, as they are listed.
+/// The steps of a run, in a list.
 #[derive(Drop)]
 pub struct Steps {
     pub alloc: Global,
@@ -44,14 +44,14 @@ pub enum Pass {
     Format(&'static str, usize),
     /// veritysetup reads them.
     Verify,
-    /// fsverity keeps nothing of them, for the file of this name.
+    /// fsverity doesn't keep the blocks of the file of this name.
     Digest(&'static str),
-    /// fsverity writes them to a file, for the file of this name.
+    /// fsverity writes the blocks of the file of this name to a file.
     DigestTo(&'static str, &'static str),
 }
 
 impl Pass {
-    /// The message where this data block can't be read.
+    /// The message if this data block can't be read.
     fn unread(self, alloc: Global, block: usize) -> Result<String, AllocError> {
         match self {
             Pass::Format(_, _) | Pass::Verify => {
@@ -63,7 +63,7 @@ impl Pass {
         }
     }
 
-    /// The message where this hash block can't be written or read.
+    /// The message if this hash block can't be written or read.
     fn stopped(self, alloc: Global, level: usize, block: usize) -> Result<String, AllocError> {
         match self {
             Pass::Format(_, _) => {
@@ -86,7 +86,7 @@ pub struct Extent {
 }
 
 impl Steps {
-    /// No step yet.
+    /// No steps yet.
     pub fn new(alloc: Global) -> Steps {
         Steps {
             alloc,
@@ -101,7 +101,7 @@ impl Steps {
         Ok(())
     }
 
-    /// One more call of a file, after which the run is done where it fails.
+    /// One more call of a file, which ends the run if it fails.
     pub fn tries(&mut self, call: Call) -> Result<(), AllocError> {
         self.list.push(Step::Tries(call))?;
         Ok(())
@@ -121,7 +121,7 @@ impl Steps {
         Ok(())
     }
 
-    /// A file is opened, and its length is found by its end, from which the run goes back to its start.
+    /// A file is opened, and its length is found by a seek to its end, from which the run goes back to its start.
     pub fn measured(&mut self, message: &str) -> Result<(), AllocError> {
         for call in [Call::Open, Call::Seek, Call::Seek] {
             self.call(call, message, Effect::Nothing)?;
@@ -186,7 +186,7 @@ impl Steps {
     }
 }
 
-/// The bytes of the file of a name, made where it is missing.
+/// The bytes of the file of a name, made if it is missing.
 fn file_of(alloc: Global, files: &mut Files, name: &'static str) -> Result<usize, AllocError> {
     for (number, (other, _)) in files.iter().enumerate() {
         if *other == name {
@@ -198,7 +198,7 @@ fn file_of(alloc: Global, files: &mut Files, name: &'static str) -> Result<usize
 }
 
 impl Effect {
-    /// Leaves in some files what the step leaves.
+    /// Changes some files as the step does.
     pub fn leave(&self, alloc: Global, files: &mut Files) -> Result<(), AllocError> {
         let (name, at, bytes) = match self {
             Effect::Nothing => return Ok(()),

@@ -1,15 +1,15 @@
-//! Every fault of a run in turn, beside how the run ends by its steps.
+//! Every fault of a run in turn, compared with how its steps say that it ends.
 use crate::scene::{CALLS, Ending, STEADY, Scene, Trial};
 use memory_runtime::Call;
 use std::alloc::Global;
 use std::test::Fail;
 
-/// A trial that ends otherwise than by the steps, and how.
+/// A trial that doesn't end as the steps say, and how it ends.
 type Wrong = Option<(Call, usize, &'static str)>;
 
 impl Scene {
-    /// What differs, in a trial, from how the run ends by its steps. The files that are looked at are those of a run
-    /// that goes through.
+    /// What differs in a trial from how the steps say that the run ends. The files compared are those of a run that
+    /// goes through.
     fn wrong(
         &self,
         alloc: Global,
@@ -18,15 +18,15 @@ impl Scene {
     ) -> Result<Option<&'static str>, Fail> {
         let expected = self.ending(alloc, trial)?;
         let found = self.run(alloc, trial, whole)?;
-        // Where the null device is not opened another file is tried, and a place that is not reached may be the end.
+        // If the null device can't be opened, the root folder is tried, and a seek that fails may be the end.
         let (call, number) = trial.failing;
         let goes_on = matches!(call, Call::Open | Call::Seek)
             && (1..=self.count(call)).contains(&number);
         Ok(expected.differs(&found, !goes_on))
     }
 
-    /// The first call of a file whose failing ends otherwise than it should. Each of a kind fails in turn, and one more
-    /// than there are, so that nothing fails.
+    /// The first call of a file whose failure doesn't end the run as it should. Each call of a kind fails in turn, and
+    /// then one more than there are, so that nothing fails.
     pub fn wrong_call(&self, alloc: Global) -> Result<Wrong, Fail> {
         let whole = self.ending(alloc, &STEADY)?;
         for call in CALLS {
@@ -41,7 +41,7 @@ impl Scene {
         Ok(None)
     }
 
-    /// The first length at which a full output ends a run otherwise than it should: it fails, or takes nothing.
+    /// The first length at which a full output doesn't end a run as it should: it fails, or takes nothing.
     pub fn wrong_output(&self, alloc: Global) -> Result<Wrong, Fail> {
         let whole = self.ending(alloc, &STEADY)?;
         for takes_nothing in [false, true] {
@@ -57,7 +57,7 @@ impl Scene {
         Ok(None)
     }
 
-    /// The first length at which full messages end a run otherwise than they should, where this call fails first.
+    /// The first length at which full messages don't end a run as they should, after this call has failed.
     pub fn wrong_message(&self, alloc: Global, call: Call) -> Result<Wrong, Fail> {
         let whole = self.ending(alloc, &STEADY)?;
         let mut trial = STEADY;

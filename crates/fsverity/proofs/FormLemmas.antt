@@ -1,14 +1,14 @@
 -- Facts on the lines of files: what a form asks of a digest, and what a writer holds after nothing was written.
 use Rattle.std.proofs.Common.{◌≡◌, ℕ, ◌<◌, List, length, Option, Some, None, true, refl, arith}
 use Rattle.std.specs.Io.KnownBytes.{Keeps}
-use Rattle.verity_hash.specs.Algorithms.{digest_len_of}
+use Rattle.verity_hash.specs.Hashing.{digest_len_of}
 use Rattle.verity_hash.specs.declared.algorithm.Algorithm.{Algorithm}
 use Rattle.verity_hash.specs.declared.algorithm.Algorithm.TheVariants.{Sha256, Sha512, Sha1, Sha224, Sha384}
 use Rattle.verity_format.specs.Descriptors.{algorithm_number}
 use Rattle.verity_plan.specs.Settings.{is_of_fsverity}
-use Rattle.fsverity.specs.Lines.{FitsForm}
-use Rattle.fsverity.specs.declared.digest_lines.Form.{Form}
-use Rattle.fsverity.specs.declared.digest_lines.Form.TheVariants.{Full, Compact, Builtin, CompactBuiltin}
+use Rattle.fsverity.specs.Texts.Lines.{FitsForm}
+use Rattle.fsverity.specs.declared.texts.digest_lines.Form.{Form}
+use Rattle.fsverity.specs.declared.texts.digest_lines.Form.TheVariants.{Full, Compact, Builtin, CompactBuiltin}
 
 -- an algorithm of fs-verity has a number
 has_number : (a : Algorithm) → is_of_fsverity a ≡ true → 0 < algorithm_number a
@@ -26,7 +26,7 @@ fits_form Compact a digest known whole = tt
 fits_form Builtin a digest known whole = (has_number a known, whole)
 fits_form CompactBuiltin a digest known whole = (has_number a known, whole)
 
--- nothing was written
-pub kept : (held : Option (List ℕ)) → Keeps held held
-kept None = tt
-kept (Some bytes) = refl
+-- a writer keeps what it holds if nothing was written
+pub Keeps-same : (held : Option (List ℕ)) → Keeps held held
+Keeps-same None = tt
+Keeps-same (Some bytes) = refl

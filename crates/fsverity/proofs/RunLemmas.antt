@@ -7,13 +7,13 @@ use Rattle.std.specs.Io.KnownBytes.{Appends}
 use Rattle.command_line.proofs.Fronts.{appends_nothing, pieces_more}
 use Rattle.verity_format.proofs.KnownLemmas.{appends_twice}
 use Rattle.verity_plan.specs.Settings.{Settings}
-use Rattle.fsverity.specs.Lines.{line}
-use Rattle.fsverity.specs.Opening.{OpenerChange}
-use Rattle.fsverity.specs.Runs.{HasReason, IsLargeAt, Run, StandsOf, WritesUpTo, file_line, has_digest, lines, stop}
-use Rattle.fsverity.specs.RunSteps.{HasOneAt, Step, StopsStep, WritesLine, WritesPart, WritesStep}
-use Rattle.fsverity.specs.declared.digest_fault.DigestFault.TheVariants.{TooLarge, SourceShort, SourceFailed, DeviceFailed, Memory}
-use Rattle.fsverity.specs.declared.run_fault.RunFault.{RunFault}
-use Rattle.fsverity.specs.declared.run_fault.RunFault.TheVariants.{NotOpened, Digest, NotWritten}
+use Rattle.fsverity.specs.Texts.Lines.{line}
+use Rattle.fsverity.specs.Openers.Opening.{OpenerChange}
+use Rattle.fsverity.specs.Runs.Digest.{HasReason, IsLargeAt, Run, StandsOf, WritesUpTo, file_line, has_digest, lines, first_refused}
+use Rattle.fsverity.specs.Runs.DigestSteps.{HasDigestAt, Step, StopsStep, WritesLine, WritesPart, WritesStep}
+use Rattle.fsverity.specs.declared.runs.digest_fault.DigestFault.TheVariants.{TooLarge, SourceShort, SourceFailed, DeviceFailed, Memory}
+use Rattle.fsverity.specs.declared.runs.run_fault.RunFault.{RunFault}
+use Rattle.fsverity.specs.declared.runs.run_fault.RunFault.TheVariants.{NotOpened, Digest, NotWritten}
 
 -- one more element passes
 pub passes_more : {A : Type 0} (p : A → Bool) (xs : List A) (i : ℕ) (x : A) → slice_get xs i ≡ Some x → p x ≡ true →
@@ -63,7 +63,7 @@ element_at [] i below = absurd (omega arith)
 element_at (x ∷ xs) zero below = (x, refl)
 element_at (x ∷ xs) (suc i) below = element_at xs i (omega arith)
 
--- nothing stands of a line, whatever ended the run
+-- nothing of a line may be written, whatever ended the run
 stands_nothing : (whole : List ℕ) (fault : RunFault) → StandsOf whole [] fault
 stands_nothing whole NotOpened = refl
 stands_nothing whole (Digest fault) = refl
@@ -98,7 +98,7 @@ line_more run files i name old mid new named so_far line =
     (appends_twice old mid new (lines run.settings run.form (take i pairs)) (file_line run.settings run.form name line.file)
     so_far line.written)
 
--- the lines before a file that ends the run, and what stands of its own
+-- the lines before a file that ends the run, and what is written of its own
 pub part_more : (run : Run) (files : List (Option (List ℕ))) (i : ℕ) (fault : RunFault) (name : List ℕ)
     (old mid new : Option (List ℕ)) → slice_get run.names i ≡ Some name →
     Appends old mid (lines run.settings run.form (take i (zip run.names files))) →
@@ -113,16 +113,16 @@ part_more run files i fault name old mid new named so_far part = record {
       so_far part.written;
 }
 
--- a file that has a digest is before the stop, where none before it is absent or too large
-before_stop : (s : Settings) (files : List (Option (List ℕ))) (f : ℕ) → HasOneAt s files f → f ≤ stop s files →
-    f < stop s files
-before_stop s files f one within =
-    let more : f + 1 ≤ stop s files = passes_more (has_digest s) files f (Some one.0) one.1 one.2 within in
+-- a file that has a digest is before the first that has none, if no file before it is absent or too large
+before_first_refused : (s : Settings) (files : List (Option (List ℕ))) (f : ℕ) → HasDigestAt s files f → f ≤ first_refused s files →
+    f < first_refused s files
+before_first_refused s files f one within =
+    let more : f + 1 ≤ first_refused s files = passes_more (has_digest s) files f (Some one.0) one.1 one.2 within in
     omega (arith, more)
 
--- a step that stops ends the run, where no file before its own is absent or too large
+-- a step that stops ends the run, if no file before its own is absent or too large
 pub stops_run : (s : Settings) (run step : OpenerChange) (f : ℕ) (fault : RunFault) →
-    (run.told ↔ step.told) → step.files ≡ run.files → step.next_before ≡ f → (run.told → f ≤ stop s run.files) →
+    (run.told ↔ step.told) → step.files ≡ run.files → step.next_before ≡ f → (run.told → f ≤ first_refused s run.files) →
     run.failures_before ≤ step.failures_before → run.failures_after ≡ step.failures_after →
     StopsStep s step fault → HasReason s run f fault
 stops_run s run step f NotOpened told same index within le after (inl absent) =
@@ -134,11 +134,11 @@ stops_run s run step f (Digest TooLarge) told same index within le after large =
     (large', passes_to (has_digest s) run.files f (Some large'.0) large'.1 (ap not large'.2) (within t))
 stops_run s run step f (Digest (SourceShort i)) told same index within le after reason = λ t. reason (told.0 t)
 stops_run s run step f (Digest (SourceFailed i)) told same index within le after reason = (
-  λ t. before_stop s run.files f (rw (same, index) at (reason.0 (told.0 t))) (within t),
+  λ t. before_first_refused s run.files f (rw (same, index) at (reason.0 (told.0 t))) (within t),
   omega (arith, le, after, reason.1),
 )
 stops_run s run step f (Digest (DeviceFailed level block)) told same index within le after reason = reason
 stops_run s run step f (Digest Memory) told same index within le after one =
-    λ t. before_stop s run.files f (rw (same, index) at (one (told.0 t))) (within t)
+    λ t. before_first_refused s run.files f (rw (same, index) at (one (told.0 t))) (within t)
 stops_run s run step f NotWritten told same index within le after one =
-    λ t. before_stop s run.files f (rw (same, index) at (one (told.0 t))) (within t)
+    λ t. before_first_refused s run.files f (rw (same, index) at (one (told.0 t))) (within t)

@@ -1,11 +1,5 @@
+pub mod Words
 pub mod Options
-pub mod Lines
-pub mod Messages
-pub mod Opening
-pub mod Digests
+pub mod Openers
 pub mod Runs
-pub mod OutputRuns
-pub mod OutputSteps
-pub mod RunSteps
-pub mod CommandLines
-pub mod FusedOpeners
+pub mod Texts

@@ -71,7 +71,7 @@ impl Calls {
         }
     }
 
-    /// Lets the call of this number fail.
+    /// Makes the call of this number fail.
     pub fn set_failing(&mut self, call: Call, number: u64) {
         match call {
             Call::Open => self.opens.failing = number,

@@ -1,4 +1,4 @@
-//! What stands on a disk, and what was done to it.
+//! What a disk holds, and what was done to it.
 use crate::call::{Call, Calls};
 use crate::kind::Kind;
 use std::alloc::{AllocError, Global};
@@ -24,7 +24,7 @@ impl Stored {
         }
     }
 
-    /// Lets it grow as it is read for the first time.
+    /// Makes it grow when it is read for the first time.
     pub fn grow(&mut self) -> Result<(), AllocError> {
         self.bytes.extend_from_slice(self.growth.as_slice())?;
         self.growth.clear();
@@ -32,7 +32,7 @@ impl Stored {
     }
 }
 
-/// Files with their names, and what was called.
+/// Files with their names, and the calls that were made.
 #[derive(Drop)]
 pub struct Contents {
     /// A name, and the number of its file.
@@ -48,7 +48,7 @@ pub struct Contents {
     pub standard_error: Vec<u8>,
     /// How often the clock was read.
     pub clock_reads: u64,
-    /// How often the runtime was asked whether somebody looks on.
+    /// How often the runtime was asked for the step of the progress line.
     pub looks: u64,
     pub calls: Calls,
 }
@@ -100,7 +100,7 @@ impl Contents {
         }
     }
 
-    /// Writes down that a file was opened, synced or closed, by its first name.
+    /// Records that a file was opened, synced or closed, by its first name.
     pub fn hold(&mut self, word: &str, number: usize) -> Result<(), AllocError> {
         for (name, other) in &self.names {
             if *other == number {
@@ -117,7 +117,7 @@ impl Contents {
         self.refused.iter().any(|refused| refused.as_str() == name)
     }
 
-    /// Writes down how a name was opened.
+    /// Records how a name was opened.
     fn write_down(&mut self, how: &OpenOptions, name: &str) -> Result<(), AllocError> {
         self.opened.push_str(name)?;
         self.opened.push(':')?;
@@ -136,7 +136,7 @@ impl Contents {
         self.opened.push('\n')
     }
 
-    /// Opens a name: finds its file, or makes it where that is asked for, and cuts it where that is. The answer is its
+    /// Opens a name: finds its file, or makes it if that is asked for, and empties it if that is. The answer is its
     /// number.
     pub fn open(&mut self, alloc: Global, how: &OpenOptions, name: &str) -> io::Result<usize> {
         self.write_down(how, name)?;

@@ -11,7 +11,8 @@ use std::fs::{Metadata, OpenOptions};
 use std::io;
 use std::io::ErrorKind;
 
-/// Files by their names, what was opened, and which calls fail. Each error is out of memory, or that no file has a name.
+/// Files by their names, what was opened, and which calls fail. Each error says that there is no memory, or no file
+/// with the given name.
 #[derive(Drop)]
 pub struct Disk {
     alloc: Global,
@@ -34,7 +35,7 @@ impl Disk {
         }
     }
 
-    /// What stands here, to be looked at.
+    /// The contents, for reading.
     pub(crate) fn seen(&self) -> io::Result<Ref<'_, Contents>> {
         match self.contents.try_borrow() {
             Ok(contents) => Ok(contents),
@@ -42,7 +43,7 @@ impl Disk {
         }
     }
 
-    /// What stands here, to be changed.
+    /// The contents, for changing.
     pub(crate) fn changed(&self) -> io::Result<RefMut<'_, Contents>> {
         match self.contents.try_borrow_mut() {
             Ok(contents) => Ok(contents),
@@ -50,7 +51,7 @@ impl Disk {
         }
     }
 
-    /// Makes a file of these bytes.
+    /// Makes a file with these bytes.
     pub fn make(&self, name: &str, bytes: Vec<u8>) -> io::Result<()> {
         self.make_kind(name, Kind::Plain, bytes)
     }
@@ -72,7 +73,7 @@ impl Disk {
         Ok(())
     }
 
-    /// Lets the file of this name grow by these bytes as soon as it is read.
+    /// Makes the file of this name grow by these bytes as soon as it is read.
     pub fn grow(&self, name: &str, bytes: &[u8]) -> io::Result<()> {
         let mut contents = self.changed()?;
         let Some(number) = contents.number_of(name) else {
@@ -84,14 +85,14 @@ impl Disk {
         }
     }
 
-    /// Lets each opening of this name fail.
+    /// Makes each opening of this name fail.
     pub fn refuse(&self, name: &str) -> io::Result<()> {
         let name = String::from_str(self.alloc, name)?;
         self.changed()?.refused.push(name)?;
         Ok(())
     }
 
-    /// Lets the call of this number fail, counted from 1 over all files.
+    /// Makes the call of this number fail, counted from 1 over all files.
     pub fn fail(&self, call: Call, number: u64) -> io::Result<()> {
         self.changed()?.calls.set_failing(call, number);
         Ok(())
@@ -107,7 +108,7 @@ impl Disk {
         self.seen().ok()?.number_of(name)
     }
 
-    /// Which file the one of this number is.
+    /// The identity of the file of this number.
     pub(crate) fn identity(&self, number: usize) -> Option<FileIdentity> {
         let contents = self.seen().ok()?;
         let inode = number as u64;
@@ -130,13 +131,13 @@ impl Disk {
         }
     }
 
-    /// What was opened, in order, a line each, as `hash: read write create`. An opening that was refused counts.
+    /// What was opened, in order, each in a line such as `hash: read write create`. An opening that was refused counts.
     pub fn opened(&self) -> io::Result<String> {
         Ok(String::from_str(self.alloc, self.seen()?.opened.as_str())?)
     }
 
-    /// What was opened, synced and closed again, in order, a line each, as `open hash`, `sync hash` and `close hash`. A
-    /// file goes by its first name.
+    /// What was opened, synced and closed again, in order, each in a line such as `open hash`, `sync hash` or
+    /// `close hash`. A file goes by its first name.
     pub fn held(&self) -> io::Result<String> {
         Ok(String::from_str(self.alloc, self.seen()?.held.as_str())?)
     }
@@ -161,7 +162,7 @@ impl Disk {
         Ok(self.seen()?.calls.count(call).made)
     }
 
-    /// How often the runtimes over this disk were asked whether somebody looks on.
+    /// How often the runtimes over this disk were asked for the step of the progress line.
     pub fn looks(&self) -> io::Result<u64> {
         Ok(self.seen()?.looks)
     }
@@ -189,13 +190,13 @@ impl Disk {
         Ok(number)
     }
 
-    /// Syncs the file of this number. It is written down where it doesn't fail.
+    /// Syncs the file of this number. It is recorded if it doesn't fail.
     pub(crate) fn sync(&self, number: usize) -> io::Result<()> {
         self.count(Call::Sync)?;
         Ok(self.changed()?.hold("sync", number)?)
     }
 
-    /// Writes down that a file was closed.
+    /// Records that a file was closed.
     pub(crate) fn close(&self, number: usize) -> io::Result<()> {
         Ok(self.changed()?.hold("close", number)?)
     }

@@ -8,7 +8,7 @@ use std::fs::{Metadata, OpenFile};
 use std::io;
 use std::io::{Cursor, ErrorKind, Read, Seek, SeekFrom, Write};
 
-/// The largest offset of a file, which a folder tells as its end.
+/// The largest offset of a file, which a folder gives as its end.
 const LAST_OFFSET: u64 = (1 << 63) - 1;
 
 /// A file of a disk, opened.
@@ -38,9 +38,10 @@ impl<'a> MemoryFile<'a> {
     }
 }
 
-/// The disk keeps when a file was closed, as far as there is memory for it.
+/// The disk records that the file was closed, if there is memory for it.
 impl Drop for MemoryFile<'_> {
     fn drop(self) {
+        // A drop can't report that there is no memory.
         let _closed = self.disk.close(self.number);
         let MemoryFile {
             disk: _,

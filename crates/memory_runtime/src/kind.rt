@@ -5,12 +5,12 @@
 pub enum Kind {
     /// A file of a file system.
     Plain,
-    /// A block device, as a disk.
+    /// A block device, such as a disk.
     Block,
-    /// A character device, as the null device.
+    /// A character device, such as the null device.
     Character,
-    /// A pipe, in which no offset can be sought.
+    /// A pipe, which can't be moved to an offset.
     Pipe,
-    /// A folder, which is opened for reading and then can't be read.
+    /// A folder, which can be opened for reading but not read.
     Folder,
 }

@@ -1,5 +1,6 @@
-//! A runtime in memory, for tests of programs: the words of the command line, files by their names, random bytes, and calls
-//! that fail. A test makes a disk, runs a program over it, and asks the disk what was opened and what stands there.
+//! A runtime in memory, for tests of programs: the words of the command line, files by their names, random bytes, and
+//! calls that fail. A test makes a disk, runs a program over it, and asks the disk what was opened and what its files
+//! hold.
 #![tactic(auto)]
 
 mod call;

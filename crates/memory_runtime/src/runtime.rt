@@ -4,7 +4,7 @@ ghost use Rattle.std.specs.Io.{WritesAtMost};
 use crate::disk::{Disk, refused};
 use crate::file::MemoryFile;
 use crate::standard_error::StandardError;
-use command_line::{FileIdentity, Identities, Onlooker};
+use command_line::{FileIdentity, Identities, ProgressRuntime};
 use std::alloc::{Allocator, Global};
 use std::env::{Env, FillError};
 use std::fmt::Display;
@@ -15,24 +15,25 @@ use std::random::RandomSource;
 use std::rt::Files;
 use std::time::{Clock, Duration};
 
-/// A runtime over a disk. What isn't named here is refused, as directories and environment variables.
+/// A runtime over a disk. What isn't provided here is refused, such as directories and environment variables.
 #[derive(Clone, Copy)]
 pub struct MemoryRuntime<'a> {
     alloc: Global,
     disk: &'a Disk,
-    /// The words of the command line, the program's name first, with a space between two. A word written '' is empty.
+    /// The words of the command line, the program's name first, with a space between two. A word written as '' is
+    /// empty.
     words: &'a str,
-    /// One more word at the end, which may be no text.
+    /// One more word at the end, which needn't be text.
     pub last_word: Option<&'a [u8]>,
-    /// The random bytes, which are given over and over. With none they are refused.
+    /// The random bytes, which are repeated over and over. If there are none, requests for them are refused.
     pub random: &'a [u8],
-    /// After how many bytes a line that says how far work is is written again, where standard error is a terminal.
+    /// How many bytes of work pass before the progress line is written again, if standard error is a terminal.
     pub step: Option<u64>,
 }
 
 impl<'a> MemoryRuntime<'a> {
     /// A runtime with these words of the command line, the program's name first and a space between two. A word written
-    /// '' is empty. Its random bytes are all 7, and standard error is no terminal.
+    /// as '' is empty. Its random bytes are all 7, and standard error is no terminal.
     pub fn new(alloc: Global, disk: &'a Disk, words: &'a str) -> Self {
         MemoryRuntime {
             alloc,
@@ -158,7 +159,7 @@ impl Identities for MemoryRuntime<'_> {
     }
 }
 
-/// Each time that the clock is read half a second has passed.
+/// Half a second passes between two readings of the clock.
 impl Clock for MemoryRuntime<'_> {
     fn monotonic(&self) -> io::Result<Duration> {
         let mut contents = self.disk.changed()?;
@@ -181,7 +182,7 @@ impl Eprint for MemoryRuntime<'_> {
     }
 }
 
-impl Onlooker for MemoryRuntime<'_> {
+impl ProgressRuntime for MemoryRuntime<'_> {
     fn step(&self) -> Option<u64> {
         self.disk.count_look();
         self.step

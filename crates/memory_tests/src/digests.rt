@@ -18,7 +18,7 @@ const OPTIONS: DigestOptions<'static> = DigestOptions {
 /// The line of the file.
 const LINE: &str = "sha256:124501040b815e1c594d5c33a0f4983b34bed80132f220f9c7e0a345473ffa60 a\n";
 
-/// What a run needs, made before it: the file, and places for what the run writes and says.
+/// What a run needs, made before it: the file, and buffers for what the run writes and its messages.
 #[derive(Drop)]
 struct Prepared {
     data: Vec<u8>,
@@ -43,7 +43,7 @@ fn is_out_of_memory(status: u8, msgs: &[u8]) -> bool {
     status == 1 && msgs == b"fsverity: out of memory.\n".as_slice()
 }
 
-/// Digests the file twice. A refusal leaves the lines of the files before.
+/// Digests the file twice. After a refusal the lines of the files before it stand.
 fn digest(alloc: Global) -> Outcome {
     let (Ok(mut made), Ok(settings)) = (prepare(alloc), digest_settings(&OPTIONS)) else {
         return Outcome::Unprepared;
@@ -71,8 +71,8 @@ fn digest(alloc: Global) -> Outcome {
     Outcome::Stopped.if_right(are_lines && lines.len() == 1)
 }
 
-/// Digests the file with both output files. A refused store leaves them as they are, and nothing is read; a refused line
-/// leaves the tree and the descriptor, and nothing is printed.
+/// Digests the file with both output files. If the store is refused, they stay as they are and nothing is read; a
+/// refused line leaves the tree and the descriptor, and nothing is printed.
 fn digest_to(alloc: Global) -> Outcome {
     let (Ok(mut made), Ok(settings)) = (prepare(alloc), digest_settings(&OPTIONS)) else {
         return Outcome::Unprepared;

@@ -43,8 +43,8 @@ Salt:            \t-
 /// The size of the image in bytes: the superblock and the tree.
 const IMAGE_SIZE: usize = 512 + TREE_SIZE;
 
-/// What a run needs, made before it: the data, a hash device that holds some bytes, and places for what the run prints and
-/// says.
+/// What a run needs, made before it: the data, a hash device that holds some bytes, and buffers for what the run prints
+/// and its messages.
 #[derive(Drop)]
 struct Prepared {
     data: Vec<u8>,
@@ -90,8 +90,8 @@ fn is_report(text: &[u8], uuid: &str, words: &[&str]) -> bool {
     rest.is_empty()
 }
 
-/// Formats a device that holds some bytes. A refused store leaves it as before, and nothing is read; a refused report
-/// leaves all of the image, and nothing is printed.
+/// Formats a device that holds some bytes. If the store is refused, the device stays as it was and nothing is read; if
+/// the report is refused, the whole image stands and nothing is printed.
 fn format(
     alloc: Global,
     options: &RawOptions<'_>,
@@ -148,7 +148,7 @@ fn dump(alloc: Global) -> Outcome {
     Outcome::Whole.if_right(status == 0 && is_report(made.out.as_slice(), UUID, &[]))
 }
 
-/// Verifies a device that holds some bytes. The data is read only where there is a store.
+/// Verifies a device that holds some bytes. The data is read only if there is a store.
 fn verify(alloc: Global, input: &VerifyInput<'_>, held: &[u8], expected: (u8, &[u8])) -> Outcome {
     let Ok(mut made) = prepare(alloc, held) else {
         return Outcome::Unprepared;

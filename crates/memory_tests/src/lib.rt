@@ -1,5 +1,5 @@
-//! The run functions where a request for memory is refused, which `make out-of-memory` sees to: each request of each
-//! test here is refused in turn, first those of its preparation. `tests/memory.sh` says how each test ends then.
+//! The run functions when a request for memory is refused: `make out-of-memory` refuses each request of each test here
+//! in turn, first those of its preparation. `tests/memory.sh` says how each test ends then.
 #![tactic(auto)]
 
 #[cfg(test)]

@@ -1,15 +1,15 @@
 //! How a run ended in which a request for memory may have been refused.
 
-/// Each test expects `Whole`, and ends so where no request is refused.
+/// Each test expects `Whole`, and ends so if no request is refused.
 #[derive(Clone, Copy, Debug, PartialEq, Eq)]
 pub enum Outcome {
-    /// All is done.
+    /// Everything was done.
     Whole,
     /// The test could not prepare itself.
     Unprepared,
-    /// Out of memory was answered, and nothing is written or printed; where the test sees what is read, nothing is read.
+    /// Out of memory was answered, and nothing is written or printed; if the test sees what is read, nothing is read.
     Untouched,
-    /// Out of memory was answered, and what comes before the request that was refused stands whole, and nothing else.
+    /// Out of memory was answered, and everything from before the refused request stands whole, and nothing else.
     Stopped,
     /// The run ended by another fault, with its status, and there was no memory for its message.
     NoMessage,
@@ -18,7 +18,7 @@ pub enum Outcome {
 }
 
 impl Outcome {
-    /// An outcome, if what stands is what must stand then.
+    /// The given outcome, if what stands is what must stand then, and otherwise `Wrong`.
     pub fn if_right(self, is_right: bool) -> Outcome {
         if is_right { self } else { Outcome::Wrong }
     }

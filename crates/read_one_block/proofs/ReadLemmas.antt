@@ -6,7 +6,7 @@ use Rattle.std.proofs.lemmas.List.{length-take-le}
 use Rattle.std.proofs.Math.Nat.{mul-le-mul_right}
 use Rattle.std.specs.Fork.{slice_chunk}
 use borrow.Rule.Slice.PartMut.{put_mid}
-use Rattle.verity_hash.specs.Bytes.{filled}
+use Rattle.verity_hash.specs.Hashing.{filled}
 use Rattle.verity_plan.specs.Plans.{Planned, byte_of}
 use Rattle.verity_plan.specs.Settings.{fan}
 use Rattle.verity_tree.proofs.OpenBlockSteps.{chunk-other, chunk-same}
@@ -23,14 +23,14 @@ read-stored p i l at n j device before size place index same =
     ∙ ap (λ (xs : List ℕ). filled p.settings.hash_block
     (take p.settings.hash_block (drop (byte_of p l (i / fan p.settings ^ (l + 1))) xs))) same
 
--- a level's run of a path is within it
+-- the hash block of a level lies within the path
 pub run-within : (path : List ℕ) (l levels size : ℕ) → l < levels → length path ≡ levels * size
     → l * size + size ≤ length path
 run-within path l levels size below whole =
     let next : l + 1 ≤ levels = omega arith in
     omega (arith, whole, mul-le-mul_right size next)
 
--- and has its length
+-- and has the length of a hash block
 pub length-run : (path : List ℕ) (l size : ℕ) → l * size + size ≤ length path
     → length (take (l * size + size - l * size) (drop (l * size) path)) ≡ size
 length-run path l size within =
@@ -38,7 +38,7 @@ length-run path l size within =
     length-take-le (l * size + size - l * size) (drop (l * size) path)
     (omega (arith, wide, length-drop (l * size) path, within)) ∙ wide
 
--- one level more of a path is read
+-- one more level of a path is read
 pub path-more : (p : Planned) (i l size : ℕ) (path block device : List ℕ) → size ≡ p.settings.hash_block
     → length block ≡ size → l * size + size ≤ length path
     → block ≡ stored_above p i device l

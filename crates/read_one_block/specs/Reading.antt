@@ -4,23 +4,23 @@ use Rattle.std.specs.Prelude.{slice_index_or, Result, Ok, Err}
 use Rattle.std.specs.Fork.{slice_chunk}
 use Rattle.verity_plan.specs.Plans.{Planned, levels_of}
 use Rattle.verity_plan.specs.Settings.{fan}
-use Rattle.verity_hash.specs.Bytes.{filled}
+use Rattle.verity_hash.specs.Hashing.{filled}
 use Rattle.verity_tree.specs.Levels.{data_blocks}
 use Rattle.verity_tree.specs.Paths.{ChecksBlock, HasCollision, IsAccepted}
-use Rattle.verity_tree.specs.Verdicts.{stored}
+use Rattle.verity_tree.specs.Image.{stored_block}
 use Rattle.read_one_block.specs.declared.image.ReadFault.{ReadFault}
 use Rattle.read_one_block.specs.declared.image.ReadFault.TheVariants.{DataFailed, TreeFailed, Refused}
 
 -- what a device holds at the place of the hash block of level l above data block i, zeros where it ends
 abbrev pub stored_above : Planned → ℕ → List ℕ → ℕ → List ℕ
-stored_above p i device l = filled p.settings.hash_block (stored p device l (i / fan p.settings ^ (l + 1)))
+stored_above p i device l = filled p.settings.hash_block (stored_block p device l (i / fan p.settings ^ (l + 1)))
 
 -- the blocks of a path are those that a device holds above data block i
 pub record IsPathOn (p : Planned) (i : ℕ) (device path : List ℕ) : Type 0 where
   pub whole : length path ≡ levels_of p * p.settings.hash_block
   pub each : (l : ℕ) → l < levels_of p → slice_chunk path p.settings.hash_block l ≡ stored_above p i device l
 
--- the block is data block i of these bytes; or at some level the path and the tree have different blocks with one
+-- the block is data block i of these bytes; or at some level the path and the tree have different blocks with the same
 -- salted hash
 abbrev pub IsRight : Planned → List ℕ → ℕ → List ℕ → List ℕ → Type 0
 IsRight p bytes i block path =
@@ -33,7 +33,7 @@ Answers p i block path root (Err DataFailed) = i < p.blocks
 Answers p i block path root (Err (TreeFailed level)) = (i < p.blocks) × (level < levels_of p)
 Answers p i block path root (Err (Refused fault)) = ChecksBlock p i block path root (Err fault)
 
--- a fact where nothing failed
+-- a fact if nothing failed
 abbrev pub WasRead : Result Unit ReadFault → Type 0 → Type 0
 WasRead (Ok _) fact = fact
 WasRead (Err DataFailed) fact = ⊤

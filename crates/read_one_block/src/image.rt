@@ -2,7 +2,7 @@
 ghost use Rattle.std.specs.Prelude.{◌≡◌, ◌*◌, ◌<◌, ℕ, List, length, take, drop, IfErr, OnOk};
 ghost use Rattle.verity_io.specs.Counting.{Counts, CountsFailure};
 ghost use Rattle.verity_plan.specs.Plans.{levels_of};
-ghost use Rattle.verity_hash.specs.Bytes.{filled};
+ghost use Rattle.verity_hash.specs.Hashing.{filled};
 ghost use Rattle.verity_tree.specs.Levels.{block_at, data_blocks, root};
 ghost use Rattle.read_one_block.specs.Reading.{Answers, IsPathOn, IsRight, WasRead, data_failed, is_failure};
 ghost use Rattle.read_one_block.specs.Reading.{tree_failed};
@@ -55,10 +55,10 @@ impl fmt::Display for ReadFault {
 
 impl<A: Device, B: Device> Image<A, B> {
     /// Reads data block `i`, counted from 0, and the hash blocks above it, level 0 first, and checks them. What `block`
-    /// holds is to be used only where the answer is `Ok`.
+    /// holds is to be used only if the answer is `Ok`.
     ///
-    /// Whatever the two devices give, a block that is handed out is that of the data with this root hash; else two
-    /// different blocks with one salted hash are at hand.
+    /// Whatever the two devices give, a block that is handed out is that of the data with this root hash; otherwise two
+    /// different blocks with the same salted hash have been found.
     pub fn read(&mut self, i: u64, block: &mut [u8], path: &mut [u8]) -> Result<(), ReadFault>
         requires block { length block.old ≡ self.old.plan.settings.data_block }
         requires path { length path.old ≡ levels_of self.old.plan * self.old.plan.settings.hash_block }
@@ -75,7 +75,7 @@ impl<A: Device, B: Device> Image<A, B> {
             → self.old.root ≡ root self.old.plan.settings (data_blocks self.old.plan bytes)
             → IsRight self.old.plan bytes i block.new path.new) }
 
-        // The answer is that of the check, on what the devices hold.
+        // The answer is that of the check on what the devices hold.
         ensures answer { Answers self.old.plan i block.new path.new self.old.root result }
         ensures data { A.tells self.old.data → i < self.old.plan.blocks → WasRead result
             (block.new ≡ block_at self.old.plan.settings.data_block (A.content self.old.data) i) }
@@ -105,7 +105,7 @@ impl<A: Device, B: Device> Image<A, B> {
 pub fn path_length(plan: &Plan) -> usize
     ensures { result ≡ levels_of plan.now * plan.now.settings.hash_block }
 {
-    // That a plan has data blocks says that its levels are few.
+    // Called for the proof: its contract says that the plan is valid, so it has few levels.
     let _blocks = plan.blocks();
     plan.levels() * plan.hash_block()
 }

@@ -1,5 +1,5 @@
-//! A worked example: single blocks of a large image are read and checked, without the rest of it, as a boot loader or a
-//! store of large files would. It makes an image of 257 blocks in memory, and reads some blocks of it, before and after
+//! A worked example: single blocks of a large image are read and checked, without the rest of it, as in a boot loader
+//! or a store of large files. It makes an image of 257 blocks in memory, and reads some blocks of it, before and after
 //! bytes of data, tree and root hash have changed.
 #![tactic(auto)]
 
@@ -13,8 +13,8 @@ use std::process::ExitCode;
 use verity_hash::{Algorithm, Digest};
 use verity_tree::{Device, HashType, MemoryDevice, MemorySource, Plan, Store, TreeSettings, build};
 
-/// An image of 257 data blocks of 512 bytes, in which byte k is the remainder of k by 251, with hash blocks of 512
-/// bytes, SHA-256 and no salt. None where there is no memory.
+/// An image of 257 data blocks of 512 bytes, whose byte k is k modulo 251, with hash blocks of 512 bytes, SHA-256 and
+/// no salt. `None` if there is no memory.
 fn example(alloc: Global) -> Option<Image<MemoryDevice, MemoryDevice>> {
     let mut data = vec![in alloc; 0u8; 131_584].ok()?;
     for (k, byte) in data.iter_mut().enumerate() {

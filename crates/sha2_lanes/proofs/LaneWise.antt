@@ -22,7 +22,7 @@ zip_lanes {n} {f} {g} {x} {y} o p q = record {
       get_or-zip2 o x y j 0 0 0 jx jy ∙ (ap (λ u. o u (slice_index y j)) (p.value j lt) ∙ ap (o (f j)) (q.value j lt));
 }
 
--- an operator on one
+-- an operator on one vector
 pub map_lanes : {n : ℕ} {f : ℕ → ℕ} {x : List ℕ} (o : ℕ → ℕ) → HasLanes n x f → HasLanes n (map o x) (λ j. o (f j))
 map_lanes {n} {f} {x} o p = record {
   long = length-map x o ∙ p.long;
@@ -62,7 +62,7 @@ lane_of_eight v j l = absurd (omega arith)
 pub cons_eq : {a b : ℕ} {s t : List ℕ} → a ≡ b → s ≡ t → a ∷ s ≡ b ∷ t
 cons_eq {a} {b} {s} {t} e f = ap (λ z. z ∷ s) e ∙ ap (λ z. b ∷ z) f
 
--- a fact of each of eight lanes, lane by lane
+-- a fact of each of eight lanes, from the fact of each
 pub eight_cases : (P : ℕ → Type 0) → P 0 → P 1 → P 2 → P 3 → P 4 → P 5 → P 6 → P 7 → (j : ℕ) → j < 8 → P j
 eight_cases P a b c d e f g h zero lt = a
 eight_cases P a b c d e f g h (suc zero) lt = b
@@ -74,12 +74,12 @@ eight_cases P a b c d e f g h (suc (suc (suc (suc (suc (suc zero)))))) lt = g
 eight_cases P a b c d e f g h (suc (suc (suc (suc (suc (suc (suc zero))))))) lt = h
 eight_cases P a b c d e f g h (suc (suc (suc (suc (suc (suc (suc (suc j)))))))) lt = absurd (omega arith)
 
--- and of each of the first n of them
+-- and of each of the first n lanes
 pub first_cases : {n : ℕ} (P : ℕ → Type 0) → n ≤ 8 → (0 < n → P 0) → (1 < n → P 1) → (2 < n → P 2) → (3 < n → P 3)
     → (4 < n → P 4) → (5 < n → P 5) → (6 < n → P 6) → (7 < n → P 7) → (j : ℕ) → j < n → P j
 first_cases {n} P most a b c d e f g h j lt = eight_cases (λ i. i < n → P i) a b c d e f g h j (omega arith) lt
 
--- and of each of four
+-- and of each of four lanes
 pub four_cases : (P : ℕ → Type 0) → P 0 → P 1 → P 2 → P 3 → (j : ℕ) → j < 4 → P j
 four_cases P a b c d zero lt = a
 four_cases P a b c d (suc zero) lt = b

@@ -81,6 +81,6 @@ padded_outside before parts len after j at within room place =
     ∙ (same_outside 128 before first part (after ++ pad) len at width width' inside place
     ∙ ap (λ z. take 128 (drop at z)) whole')
 
--- how many blocks the padded message has
+-- the number of blocks of the padded message
 pub blocks_of : (m : List ℕ) (k n : ℕ) → length m ≡ n → k ≡ block_count n → k ≡ length (S512.padded_message m) / 128
 blocks_of m k n is count = omega (arith, length-padded_message m, ap block_count is)

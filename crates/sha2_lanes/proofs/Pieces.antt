@@ -1,4 +1,4 @@
--- Rows of the bytes of a message, and the parts of which it is made. Nothing here speaks of a size of words.
+-- Rows of the bytes of a message, and the parts of which it is made. Nothing here depends on the size of words.
 use Rattle.std.proofs.Common.{◌≡◌, ℕ, ◌+◌, ◌-◌, ◌*◌, ◌<◌, ◌≤◌, List, [], ◌++◌, length, slice_index, take, drop, refl, ap, sym, ◌∙◌, arith, ◌⊎◌, inl, inr}
 use Rattle.std.specs.Prelude.{replicate}
 use Rattle.std.proofs.lemmas.Bool.{cases_lt}
@@ -13,7 +13,7 @@ use Rattle.sha2_lanes.specs.Lanes.{message_of, HoldsFrom}
 
 -- ---- a row that is filled piece by piece
 
--- zeros hold no message yet
+-- a row of zeros holds no byte of a message yet
 pub empty_row : (n at : ℕ) → HoldsFrom (replicate n 0) [] at
 empty_row n at i lt =
     get_or-replicate n i 0 0 (omega (arith, length-replicate {A = ℕ} n 0)) ∙ sym (get_or_past [] (at + i) 0 (omega arith))

@@ -18,6 +18,6 @@ row rows j = slice_index_or rows j []
 abbrev pub message_of : List ℕ → List ℕ → ℕ → List ℕ → ℕ → List ℕ
 message_of before parts len after j = before ++ take len (drop (j * len) parts) ++ after
 
--- the row r has the bytes from byte `at` on of m, and zeros where m has ended
+-- the row r has the bytes from byte `at` on of m, and zeros after the end of m
 abbrev pub HoldsFrom : List ℕ → List ℕ → ℕ → Type 0
 HoldsFrom r m at = (i : ℕ) → i < length r → slice_index r i ≡ slice_index m (at + i)

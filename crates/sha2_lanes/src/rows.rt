@@ -1,9 +1,9 @@
-//! Rows of bytes, filled with pieces of a message, and the places of the parts.
+//! Rows of bytes, filled with pieces of a message, and where the parts begin.
 ghost use Rattle.std.specs.Prelude.{◌≡◌, ℕ, ◌+◌, ◌*◌, ◌<◌, ◌≤◌, ◌^◌, ◌++◌, List, length, slice_index};
 ghost use Rattle.sha2_lanes.specs.Lanes.{HoldsFrom};
 
-/// Puts those bytes of `piece` into the row that lie in it, where the row begins at byte `at` of a message and the
-/// piece at byte `from`.
+/// Puts those bytes of `piece` into the row that lie in it: the row begins at byte `at` of a message, and the piece at
+/// byte `from`.
 #[inline(always)]
 pub(crate) fn put(row: &mut [u8], at: u128, piece: &[u8], from: u128)
     requires row_near { at < 2 ^ 127 }
@@ -25,8 +25,8 @@ pub(crate) fn put(row: &mut [u8], at: u128, piece: &[u8], from: u128)
     }
 }
 
-/// Where the part of each lane begins, in `total` bytes of parts of `len` bytes each. A lane to spare has the last
-/// part.
+/// Where the part of each lane begins, in `total` bytes of parts of `len` bytes each. A lane without a message has the
+/// last part.
 #[inline(always)]
 pub(crate) fn places_of(total: usize, len: usize) -> [usize; 8]
     requires { len ≤ total }

@@ -1,4 +1,4 @@
-//! Settings, and the shape that their pages give them.
+//! Settings, and the shape of their trees by the kernel's pages.
 use fixtures::{Shape, filled};
 use std::alloc::Global;
 use std::test::Fail;
@@ -6,7 +6,7 @@ use verity_hash::Algorithm;
 use verity_tree::{HashType, TreeSettings};
 
 /// Settings, and how a tree is made by them. Each function takes the sizes of a data block and a hash block, one size
-/// where they are the same, and the number and the width of a hash block's slots.
+/// if they are the same, and the number and the width of a hash block's slots.
 #[derive(Drop)]
 pub struct Case {
     pub settings: TreeSettings,
@@ -44,7 +44,7 @@ impl Case {
         Ok(Case { settings, shape })
     }
 
-    /// fs-verity: a salt comes before each block, with zeros to an input block of the hash function.
+    /// fs-verity: a salt comes before each block, padded with zeros to an input block of the hash function.
     pub fn fsverity(
         alloc: Global,
         algorithm: Algorithm,

@@ -1,5 +1,5 @@
-//! Stored trees that are compared with their data: 17 data blocks, all blocks of 512 bytes, so block (1,0) stands at byte
-//! 512, (0,0) at 1024 and (0,1) at 1536.
+//! Stored trees that are compared with their data: 17 data blocks. All blocks have 512 bytes, so block (1,0) stands at
+//! byte 512, (0,0) at 1024 and (0,1) at 1536.
 use crate::trees::{small, small_tree};
 use fixtures::{data, flip};
 use std::alloc::Global;
@@ -7,19 +7,19 @@ use std::test::Fail;
 use verity_hash::{Algorithm, Digest};
 use verity_tree::{CompareFault, Fused, MemoryDevice, MemorySource, Part, Plan, Store, compare};
 
-/// What is done to a right tree and its data before they are compared.
+/// What is done to a correct tree and its data before they are compared.
 #[derive(Clone, Copy, Debug)]
 enum Change {
     Nothing,
-    /// This byte of the device is another.
+    /// This byte of the device is changed.
     DeviceByte(usize),
-    /// This byte of the data is another.
+    /// This byte of the data is changed.
     DataByte(usize),
     /// The device is cut to a length.
     DeviceCut(usize),
     /// The data is cut to a length.
     DataCut(usize),
-    /// This read of the source fails; each takes a data block.
+    /// This read of the source fails. Each read takes a data block.
     SourceFails(u64),
     /// This read of the device fails.
     DeviceFails(u64),
@@ -38,7 +38,7 @@ struct Compared {
 }
 
 impl Compared {
-    /// The right tree.
+    /// The correct tree.
     fn new(alloc: Global) -> Result<Self, Fail> {
         let data = data(alloc, 8704)?;
         let tree = small_tree(alloc, data.as_slice(), 2)?;

@@ -1,13 +1,13 @@
-//! A stored tree is compared with its data while each read of a hash block fails in turn: which block is named, at every
-//! level, and how much of the data was read.
+//! A stored tree is compared with its data while each read of a hash block fails in turn: which block is named, at
+//! every level, and how much of the data was read.
 use crate::cases::Case;
 use fixtures::data;
 use std::test::Fail;
 use verity_hash::{Algorithm, Digest};
 use verity_tree::{CompareFault, Fused, MemoryDevice, MemorySource, Plan, Store, compare};
 
-/// The hash blocks above nine data blocks, with two digests in each, in closing order: the level, the block, and how many
-/// bytes of the data are left then. The last four close with one data block.
+/// The hash blocks above nine data blocks, with two digests in each, in the order in which they close: the level, the
+/// block, and how many bytes of the data are left then. The last four close with the same data block.
 const ORDER: [(usize, u64, usize); 11] = [
     (0, 0, 448),
     (0, 1, 320),

@@ -1,6 +1,6 @@
 //! Reads within data blocks and each write of a run fail in turn, and the data ends within blocks in turn, for trees of
-//! many fan-outs and sources that give few bytes at a time: what is answered, how much was read and what stands on the
-//! device, beside trees by plain lists of bytes.
+//! many fan-outs and sources that give few bytes at a time: the answer, how much was read and what the device holds are
+//! compared with trees made from plain lists of bytes.
 use crate::cases::Case;
 use crate::pieces::Pieces;
 use crate::plain_trees::{Closed, closing_order, these_stand};
@@ -10,7 +10,7 @@ use std::test::Fail;
 use verity_hash::{Algorithm, Digest};
 use verity_tree::{BuildFault, Fused, MemoryDevice, Plan, Store, build};
 
-/// A tree to be built, and how it is by plain lists.
+/// A tree to be built, and the same tree made from plain lists.
 #[derive(Drop)]
 struct Expected {
     /// How the tree is laid out.
@@ -19,15 +19,15 @@ struct Expected {
     bytes: Vec<u8>,
     /// The plan for it.
     plan: Plan,
-    /// The root hash by plain lists.
+    /// The root hash made from plain lists.
     root: Vec<u8>,
-    /// The hash device by plain lists.
+    /// The hash device made from plain lists.
     image: Vec<u8>,
-    /// Its hash blocks in closing order.
+    /// Its hash blocks in the order in which they close.
     order: Vec<Closed>,
 }
 
-/// A case with data of a size in bytes, which gives a tree with so many levels.
+/// A case with data of this size in bytes, whose tree has this many levels.
 fn prepared(alloc: Global, case: Case, size: usize, levels: usize) -> Result<Expected, Fail> {
     let bytes = data(alloc, size)?;
     let plan = Plan::for_bytes(&case.settings, size as u64, 0)?;
@@ -66,7 +66,7 @@ fn disks(alloc: Global, data_block: u32, hash_block: u32) -> Result<Case, Fail> 
     )
 }
 
-/// dm-verity, with blocks of these sizes, and so many slots of a width.
+/// dm-verity, with blocks of these sizes, and slots of this number and width.
 fn by(
     alloc: Global,
     algorithm: Algorithm,
@@ -76,8 +76,8 @@ fn by(
     Case::verity(alloc, algorithm, b"salt", sizes, slots)
 }
 
-/// Trees with fan-outs of 2 to 16. Their last data blocks are as many as fill rows of eight, or a few more; the last
-/// block may be cut.
+/// Trees with fan-outs of 2 to 16. Their data blocks fill rows of eight, or leave a last row of a few; the last block
+/// may be cut.
 fn fans(alloc: Global) -> Result<Vec<Expected>, Fail> {
     let mut cases = Vec::new(alloc);
     cases.push(prepared(alloc, files(alloc, 64)?, 64 * 13 - 9, 4)?)?;
@@ -121,12 +121,12 @@ fn few_blocks(alloc: Global) -> Result<Vec<Expected>, Fail> {
     Ok(cases)
 }
 
-/// How many hash blocks have closed after so many data blocks.
+/// How many hash blocks have closed after this many data blocks.
 fn closed_after(order: &[Closed], blocks: usize) -> usize {
     order.iter().filter(|closed| closed.2 <= blocks).count()
 }
 
-/// What stands after a build.
+/// What is there after a build.
 #[derive(Drop)]
 struct Outcome {
     /// The answer.
@@ -149,7 +149,7 @@ struct Failing {
 /// No call fails.
 const NONE: Failing = Failing { read: 0, write: 0 };
 
-/// A build from a source that gives so many bytes at a time.
+/// A build from a source that gives this many bytes at a time.
 fn run(
     alloc: Global,
     plan: &Plan,
@@ -174,7 +174,7 @@ fn run(
 }
 
 impl Expected {
-    /// Whether a run ended with this fault, with so many bytes left, when so many hash blocks had closed.
+    /// Whether a run ended with this fault, with this many bytes left, after this many hash blocks had closed.
     fn stops(&self, outcome: &Outcome, fault: BuildFault, rest: usize, closed: usize) -> bool {
         let image = self.image.as_slice();
         let device = outcome.device.as_slice();
@@ -183,20 +183,19 @@ impl Expected {
             && these_stand(&self.plan, &self.order, closed, image, device)
     }
 
-    /// How many bytes follow so many data blocks.
+    /// How many bytes follow this many data blocks.
     fn after(&self, blocks: usize) -> usize {
         let read = blocks.saturating_mul(self.case.shape.data_block);
         self.bytes.len().saturating_sub(read)
     }
 
-    /// How many reads take the bytes of a data block.
+    /// How many reads a data block takes.
     fn reads_of(&self, i: u64, piece: usize) -> usize {
         let held = self.after(i as usize).min(self.case.shape.data_block);
         held.div_ceil(piece.max(1))
     }
 
-    /// The first data block within which a failing read, the first of the block or the one half way, isn't answered as
-    /// it should be, of those tried.
+    /// The first data block tried in which a failing read, the block's first or the one half way, gets a wrong answer.
     fn wrong_read(&self, alloc: Global, tried: Tried) -> Result<Option<u64>, AllocError> {
         let piece = tried.piece;
         let mut before = 0usize;
@@ -226,7 +225,7 @@ impl Expected {
         Ok(None)
     }
 
-    /// The first data block within which an end of the data isn't answered as it should be, of those tried.
+    /// The first data block tried in which an end of the data gets a wrong answer.
     fn wrong_end(&self, alloc: Global, tried: Tried) -> Result<Option<u64>, AllocError> {
         for i in 0..self.plan.blocks() {
             if i % tried.every.max(1) != 0 {
@@ -247,7 +246,7 @@ impl Expected {
         Ok(None)
     }
 
-    /// The first write whose failing isn't answered as it should be.
+    /// The first write whose failure gets a wrong answer.
     fn wrong_write(&self, alloc: Global, piece: usize) -> Result<Option<usize>, AllocError> {
         for (closed, (level, block, read)) in self.order.iter().enumerate() {
             let failing = Failing {
@@ -267,7 +266,7 @@ impl Expected {
         Ok(None)
     }
 
-    /// Whether the tree is as it should be where nothing fails.
+    /// Whether the tree is as it should be if nothing fails.
     fn is_built(&self, alloc: Global, piece: usize) -> Result<bool, AllocError> {
         let outcome = run(alloc, &self.plan, self.bytes.as_slice(), piece, NONE)?;
         let root = Digest::from_bytes(self.root.as_slice());
@@ -285,12 +284,12 @@ impl Expected {
 struct Tried {
     /// How many bytes it gives at a time.
     piece: usize,
-    /// Of so many data blocks one has failing reads and an end of the data within it.
+    /// One data block in this many has failing reads and an end of the data within it.
     every: u64,
 }
 
-/// Each data block is tried, over sources that give all that fit, and few bytes at a time, of which no block is a multiple,
-/// or one.
+/// Each data block is tried, over sources that give as much as fits, one byte at a time, or a few bytes at a time of
+/// which no block is a multiple.
 const EACH_TRIED: [Tried; 4] = [
     Tried {
         piece: usize::MAX,
@@ -304,7 +303,7 @@ const EACH_TRIED: [Tried; 4] = [
     Tried { piece: 1, every: 1 },
 ];
 
-/// The same, where of sources that give few bytes at a time one data block in three or in 13 is tried.
+/// The same, but over sources that give few bytes at a time one data block in three or in 13 is tried.
 const TRIED: [Tried; 4] = [
     Tried {
         piece: usize::MAX,
@@ -324,7 +323,7 @@ const TRIED: [Tried; 4] = [
     },
 ];
 
-/// The same for many data blocks: one in 13, so that each place among eight is tried, or fewer.
+/// The same for many data blocks: one in 13, so that each place in a row of eight is tried, or fewer.
 const TRIED_OF_MANY: [Tried; 4] = [
     Tried {
         piece: usize::MAX,
@@ -344,7 +343,7 @@ const TRIED_OF_MANY: [Tried; 4] = [
     },
 ];
 
-/// What isn't as it should be, at which fan-out and number of data blocks, with how many bytes at a time.
+/// What went wrong, with the fan-out, the number of data blocks and how many bytes were read at a time.
 #[derive(Clone, Copy, Debug, PartialEq, Eq)]
 struct Wrong {
     what: &'static str,
@@ -353,7 +352,7 @@ struct Wrong {
     piece: usize,
 }
 
-/// The first of the trees that isn't as it should be after one of the faults tried, or with none.
+/// The first of the trees that goes wrong after one of the faults tried, or with none.
 fn first_wrong(
     alloc: Global,
     trees: &[Expected],

@@ -1,4 +1,4 @@
-//! The largest block sizes, where memory is ample.
+//! The largest block sizes, with ample memory.
 use crate::cases::Case;
 use fixtures::data;
 use std::alloc::Global;
@@ -73,7 +73,8 @@ fn the_largest_blocks_have_trees(rt: HostRuntime) -> Result<(), Fail> {
     Ok(())
 }
 
-/// Whether a tree over some data is built as by plain lists, and the plain second body has the same root hash.
+/// Whether the tree built over some data is the one made from plain lists, and the plain second body has the same root
+/// hash.
 fn has_its_tree(alloc: Global, case: &Case, bytes: &[u8]) -> Result<bool, Fail> {
     let plan = Plan::for_bytes(&case.settings, bytes.len() as u64, 0)?;
     let expected = case.shape.tree(alloc, bytes, plan.levels())?;
@@ -90,8 +91,8 @@ fn has_its_tree(alloc: Global, case: &Case, bytes: &[u8]) -> Result<bool, Fail> 
     Ok(made == expected.root.as_slice() && whole == image.as_slice() && plain == root)
 }
 
-/// Sizes of data blocks, and how many: of 32768 bytes four are hashed side by side, of 16384 eight, and larger ones one
-/// by one.
+/// Sizes of data blocks, and how many: of 32768 bytes four are hashed side by side, of 16384 eight, and larger blocks
+/// one by one.
 const COUNTS: [(u32, usize); 8] = [
     (16_384, 9),
     (32_768, 1),

@@ -1,5 +1,5 @@
-//! Tests of trees: their shapes, plans and hash blocks, how they are built and compared, and how single blocks are checked
-//! by their paths. Expected digests come from `sha1` and `sha2` over stated bytes.
+//! Tests of trees: their shapes, plans and hash blocks, how they are built and compared, and how single blocks are
+//! checked by their paths. Expected digests come from `sha1` and `sha2` over stated bytes.
 #![tactic(auto)]
 
 #[cfg(test)]

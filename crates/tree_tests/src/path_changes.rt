@@ -1,6 +1,6 @@
-//! Changed bits of data blocks, paths and root hashes: in images of all settings each data block is accepted by its path,
-//! and the change of each bit that it is checked by is refused at the lowest level that it reaches. Larger images
-//! stand beside them, in which bits are changed for three of the data blocks.
+//! Changed bits of data blocks, paths and root hashes: in images of all settings each data block is accepted by its
+//! path, and the change of each bit that it is checked by is refused at the lowest level that it reaches. In larger
+//! images bits are changed for three of the data blocks.
 use crate::cases::Case;
 use crate::path_rows::Image;
 use fixtures::flip_bit;
@@ -23,8 +23,8 @@ fn first_wrong(image: &Image, i: usize, row: &mut [u8]) -> Result<Option<usize>,
     Ok(None)
 }
 
-/// The first data block, from one number to before another, and the first bit that are answered wrongly; bit 0 also where
-/// the block isn't accepted as it is.
+/// The first data block in a range of numbers, and its first bit, that get a wrong answer; bit 0 also if the unchanged
+/// block isn't accepted.
 fn wrong_between(
     alloc: Global,
     image: &Image,
@@ -133,10 +133,10 @@ fn image_of(alloc: Global, format: Format, row: &Row) -> Result<Image, Fail> {
     Image::new(alloc, case, blocks, levels)
 }
 
-/// A row with a data block and a bit that are answered wrongly.
+/// A row with a data block and a bit that get a wrong answer.
 type Wrong = Option<(Row, usize, usize)>;
 
-/// What is answered wrongly in the first row where something is.
+/// The wrong answer in the first row that has one.
 fn wrong_row(alloc: Global, format: Format, rows: &[Row]) -> Result<Wrong, Fail> {
     for row in rows {
         let image = image_of(alloc, format, row)?;
@@ -177,7 +177,7 @@ fn changes_in_large_blocks_of_files_are_refused(rt: HostRuntime) -> Result<(), F
     Ok(())
 }
 
-/// Three levels. These and the next images have so many bits that their data blocks are shared out among tests.
+/// Three levels. This image and the next ones have so many bits that their data blocks are shared out among tests.
 const DEEP: Row = (SHA256, b"", (512, 512), (16, 32), (257, 3));
 
 /// Data blocks larger than hash blocks.
@@ -186,7 +186,7 @@ const LARGE_DATA: Row = (SHA256, b"", (4096, 512), (16, 32), (17, 2));
 /// Two levels with 64 slots in a hash block.
 const WIDE: Row = (SHA256, b"", (512, 2048), (64, 32), (65, 2));
 
-/// What is answered wrongly for one of so many parts of an image's data blocks, counted from 0.
+/// The wrong answer for one part of an image's data blocks, counted from 0 among this many parts.
 fn wrong_in_part(
     alloc: Global,
     format: Format,
@@ -294,7 +294,7 @@ const WIDE_FILES: [(Format, Row); 4] = [
     (Format::File, (SHA512, b"", (4096, 4096), (64, 64), (65, 2))),
 ];
 
-/// What is answered wrongly, where bits are changed for the first, the middle and the last data block.
+/// The wrong answer, if bits are changed for the first, the middle and the last data block.
 fn wrong_wide_row(alloc: Global, rows: &[(Format, Row)]) -> Result<Wrong, Fail> {
     for (format, row) in rows {
         let image = image_of(alloc, *format, row)?;

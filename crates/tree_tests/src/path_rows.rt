@@ -11,7 +11,7 @@ fn quotient(number: usize, divisor: usize) -> usize {
     number.checked_div(divisor).unwrap_or(0)
 }
 
-/// The run of so many bytes of this number, or none where there are fewer.
+/// The piece of this number among pieces of this many bytes, or none if there are fewer bytes.
 fn run(bytes: &[u8], size: usize, number: usize) -> &[u8] {
     let from = number.saturating_mul(size);
     bytes.get(from..from.saturating_add(size)).unwrap_or(&[])
@@ -28,7 +28,7 @@ pub struct Image {
 }
 
 impl Image {
-    /// The tree with so many levels above so many data blocks.
+    /// The tree with this many levels above this many data blocks.
     pub fn new(alloc: Global, case: Case, blocks: usize, levels: usize) -> Result<Image, Fail> {
         let Case { settings, shape } = case;
         let data = data(alloc, blocks.saturating_mul(shape.data_block))?;
@@ -42,7 +42,7 @@ impl Image {
         })
     }
 
-    /// The number of the block that stands so many levels above data block `i`.
+    /// The number of the block that stands this many levels above data block `i`.
     fn ancestor(&self, i: usize, levels: usize) -> usize {
         let mut number = i;
         for _ in 0..levels {
@@ -63,7 +63,7 @@ impl Image {
         Ok(row)
     }
 
-    /// What is answered to a row of data block `i`.
+    /// The answer to a row of data block `i`.
     pub fn answer(&self, i: usize, row: &[u8]) -> Result<Result<(), PathFault>, Fail> {
         let start = self.shape.data_block;
         let end = row.len().saturating_sub(self.tree.root.len());
@@ -73,8 +73,8 @@ impl Image {
         Ok(check_block(&self.plan, i as u64, block, path, &root))
     }
 
-    /// The level at which a path no longer holds when this byte of the row of data block `i` is another: that where a
-    /// changed data block or digest is looked up, or the next above a block that is changed elsewhere.
+    /// The level at which a path no longer holds when this byte of the row of data block `i` is changed: the one in
+    /// which a changed data block or digest is looked up, or the next above a block that is changed elsewhere.
     pub fn level_of(&self, i: usize, byte: usize) -> usize {
         let levels = self.tree.levels.len();
         let Some(past) = byte.checked_sub(self.shape.data_block) else {

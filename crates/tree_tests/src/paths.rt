@@ -1,5 +1,5 @@
-//! Data blocks that are checked by their paths: 257 data blocks, all blocks of 512 bytes, so level 2 stands at byte 512 of
-//! the image, level 1 at 1024 and level 0 at 2048. Expected images are made with `sha2`.
+//! Data blocks that are checked by their paths: 257 data blocks. All blocks have 512 bytes, so level 2 stands at byte
+//! 512 of the image, level 1 at 1024 and level 0 at 2048. Expected images are made with `sha2`.
 use crate::trees::{small, small_tree};
 use fixtures::{data, filled, flip};
 use sha2::{Digest as Hasher, Sha256};
@@ -12,15 +12,15 @@ use verity_tree::{PathFault, Plan, TreeSettings, check_block};
 #[derive(Clone, Copy, Debug)]
 enum Change {
     Nothing,
-    /// This byte of the data block is another.
+    /// This byte of the data block is changed.
     BlockByte(usize),
-    /// This byte of the path is another.
+    /// This byte of the path is changed.
     PathByte(usize),
     /// The data block is cut to a length.
     BlockCut(usize),
     /// The path is cut to a length.
     PathCut(usize),
-    /// The path has a block more.
+    /// The path has one more block.
     PathMore,
     /// The root hash is all zeros.
     Root,
@@ -40,7 +40,8 @@ fn block_of(bytes: &[u8], number: usize) -> &[u8] {
 }
 
 impl Checked {
-    /// A data block and its path in the tree: level 0 begins with block 4 of the image, level 1 with 2, level 2 with 1.
+    /// A data block and its path in the tree: level 0 begins with block 4 of the image, level 1 with block 2, level 2
+    /// with block 1.
     fn new(alloc: Global, i: usize) -> Result<Self, Fail> {
         let data = data(alloc, 131_584)?;
         let tree = small_tree(alloc, data.as_slice(), 3)?;

@@ -1,7 +1,7 @@
 //! A source that gives a few bytes at a time.
 use verity_io::{Failed, MemorySource, Source};
 
-/// Bytes in memory, of which each read gives a few at most.
+/// Bytes in memory, of which each read gives at most a few.
 #[derive(Drop)]
 pub struct Pieces<'a> {
     bytes: MemorySource<'a>,
@@ -9,7 +9,7 @@ pub struct Pieces<'a> {
 }
 
 impl<'a> Pieces<'a> {
-    /// A source of these bytes that gives so many at a time.
+    /// A source of these bytes that gives this many at a time.
     pub fn new(bytes: &'a [u8], piece: usize) -> Self {
         Pieces {
             bytes: MemorySource::new(bytes),
@@ -26,7 +26,7 @@ impl<'a> Pieces<'a> {
 impl<'a> Source for Pieces<'a> {
     ghost use Rattle.std.specs.Prelude.{[]};
 
-    // Tests say what it gives.
+    // What it gives is tested, not proved.
     ghost tells = { λ _. ⊥ };
 
     ghost remaining = { λ _. [] };

@@ -1,4 +1,4 @@
-//! Trees of many shapes beside trees by plain lists of bytes, hashed with `sha2`.
+//! Trees of many shapes, compared with trees made from plain lists of bytes and hashed with `sha2`.
 use crate::cases::Case;
 use fixtures::data;
 use std::alloc::{AllocError, Global};
@@ -75,8 +75,8 @@ fn trees_of_all_shapes_are_built(rt: HostRuntime) -> Result<(), Fail> {
 /// A hash block as it closes: its level, its number in the level, and how many data blocks were read by then.
 pub type Closed = (usize, u64, usize);
 
-/// The hash blocks of a tree in closing order: after each data block those that are then full, or last, from level 0
-/// up.
+/// The hash blocks of a tree in the order in which they close: after each data block those that are then full, or last,
+/// from level 0 up.
 pub fn closing_order(
     alloc: Global,
     fan: usize,
@@ -102,7 +102,7 @@ fn byte_at(bytes: &[u8], at: usize) -> u8 {
     bytes.get(at).copied().unwrap_or(0)
 }
 
-/// Whether the first blocks of an order, so many, stand on a device as in the tree, and zeros at the others' places.
+/// Whether the first `closed` blocks of an order stand on a device as in the tree, with zeros in place of the others.
 pub fn these_stand(
     plan: &Plan,
     order: &[Closed],

@@ -1,4 +1,4 @@
-//! The salted hashes of one to eight blocks, beside `sha1` and `sha2` over what is hashed for each.
+//! The salted hashes of one to eight blocks, compared with `sha1` and `sha2` over what is hashed for each.
 ghost use Rattle.std.specs.Prelude.{◌<◌};
 
 use fixtures::{Shape, data, filled};
@@ -16,10 +16,10 @@ const ALGORITHMS: [Algorithm; 5] = [
 
 const RULES: [SaltRule; 3] = [SaltRule::Before, SaltRule::After, SaltRule::PaddedBefore];
 
-/// Lengths of salts round the edges of input blocks.
+/// Lengths of salts near multiples of the input block.
 const SALTS: [usize; 10] = [0, 1, 32, 63, 64, 65, 127, 128, 129, 255];
 
-/// Sizes of blocks: none, a few bytes, round the edges of the last input block, and usual ones.
+/// Sizes of blocks: none, a few bytes, near the end of the last input block, and usual ones.
 const SIZES: [usize; 12] = [0, 1, 55, 56, 63, 64, 111, 112, 119, 128, 512, 1024];
 
 /// The input block of FIPS 180-4, figure 1.
@@ -32,7 +32,7 @@ fn input_block(algorithm: Algorithm) -> usize
     }
 }
 
-/// How a block is hashed by plain lists.
+/// How a block is hashed as a plain list.
 fn shape(
     alloc: Global,
     algorithm: Algorithm,
@@ -51,7 +51,7 @@ fn shape(
     Ok(shape)
 }
 
-/// The first of `count` blocks of one size whose salted hash isn't that by plain lists.
+/// The first of `count` blocks of one size whose salted hash isn't that of the plain list.
 fn wrong_row(
     alloc: Global,
     algorithm: Algorithm,

@@ -1,5 +1,5 @@
-//! One to eight messages hashed side by side: the examples of FIPS 180-4 in each lane, and lengths round the borders of
-//! blocks, with bytes before and after the parts, beside the crate `sha2`.
+//! One to eight messages hashed side by side: the examples of FIPS 180-4 in each lane, and lengths near the borders of
+//! blocks, with bytes before and after the parts, compared with the crate `sha2`.
 use fixtures::data;
 use sha2::{Digest, Sha224, Sha256, Sha384, Sha512};
 use sha2_lanes::{sha224, sha256, sha384, sha512};
@@ -89,7 +89,7 @@ fn one_by_one(alloc: Global, function: Function, pieces: &Pieces) -> Result<Vec<
 }
 
 /// A function, a message and its digest: the examples of one and of two blocks on NIST's page on FIPS 180-4, and the
-/// message without a byte.
+/// empty message.
 struct Example {
     function: Function,
     message: &'static [u8],
@@ -209,7 +209,7 @@ fn digits_of_part(
     Ok(hex::encode(alloc, digest)?)
 }
 
-/// Lengths of parts, and of whole messages, round the borders of blocks of 64 and of 128 bytes and of their padding.
+/// Lengths of parts, and of whole messages, near the borders of blocks of 64 and of 128 bytes and of their padding.
 const BORDERS: [usize; 13] = [0, 1, 54, 55, 56, 63, 64, 111, 112, 119, 120, 127, 128];
 
 const SALTS: [usize; 6] = [0, 1, 32, 64, 255, 256];

@@ -1,4 +1,5 @@
-//! Five hash functions, and slots that are wider than digests. Expected digests come from `sha1` and from published vectors.
+//! Five hash functions, and slots that are wider than digests. Expected digests come from `sha1` and from published
+//! vectors.
 use fixtures::{Shape, data};
 use std::test::Fail;
 use verity_hash::{Algorithm, SaltRule, salted};
@@ -90,7 +91,7 @@ fn wide_slots_are_built(rt: HostRuntime) -> Result<(), Fail> {
         let image = expected.image(alloc, 512)?;
         assert_eq!(rt; device.bytes(), image.as_slice(), "at {width}");
         assert_eq!(rt; root.as_bytes(), expected.root.as_slice(), "at {width}");
-        // The byte after the first digest of the top: the second digest's first, or spare.
+        // The byte after the first digest of the top: the second digest's first, or a spare byte.
         let part = if width == 20 {
             Part::Child(1)
         } else {

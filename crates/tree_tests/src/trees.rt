@@ -1,4 +1,4 @@
-//! Salted hashes, plans, and trees that are built. Expected trees are made by `sha2`.
+//! Salted hashes, plans, and trees that are built. Expected trees are made with `sha2`.
 use fixtures::{Shape, Tree, data};
 use std::alloc::{AllocError, Global};
 use std::test::Fail;
@@ -13,7 +13,7 @@ pub fn small() -> Result<TreeSettings, SettingFault> {
     TreeSettings::verity(Algorithm::Sha256, HashType::Current, &[], 512, 512)
 }
 
-/// The tree by `sha2` with so many levels above some data.
+/// The tree made with `sha2` with this many levels above some data.
 pub fn small_tree(alloc: Global, data: &[u8], levels: usize) -> Result<Tree, AllocError> {
     Shape::new(alloc, Algorithm::Sha256, (512, 512), (16, 32)).tree(alloc, data, levels)
 }
@@ -42,7 +42,7 @@ fn salts_go_before(rt: HostRuntime) -> Result<(), Fail> {
     Ok(())
 }
 
-/// What a plan answers: fan-out, levels, place after the last hash block, length of a store.
+/// What a plan says: fan-out, levels, the place after the last hash block, the length of a store.
 fn numbers(plan: &Plan) -> (usize, usize, u64, usize) {
     (plan.fan(), plan.levels(), plan.end(), plan.store_length())
 }
@@ -164,12 +164,12 @@ fn trees_are_built(rt: HostRuntime) -> Result<(), Fail> {
     Ok(())
 }
 
-/// The bytes from one offset to another, or none where there are fewer.
+/// The bytes from one offset to another, or none if there are fewer.
 fn part(bytes: &[u8], from: usize, to: usize) -> &[u8] {
     bytes.get(from..to).unwrap_or(&[])
 }
 
-/// A byte, so many times.
+/// A byte, repeated.
 fn repeated(alloc: Global, byte: u8, len: usize) -> Result<Vec<u8>, AllocError> {
     vec![in alloc; byte; len]
 }

@@ -5,13 +5,13 @@ use Rattle.std.proofs.Math.Seq.{take-add}
 use Rattle.std.proofs.lemmas.List.{drop-replicate, drop_at, length-replicate, length-take-le}
 use Rattle.std.proofs.lemmas.List.{replicate-append-replicate, take-replicate, take_at}
 use borrow.Rule.Slice.PartMut.{put_mid}
-use Rattle.verity_hash.specs.Bytes.{filled, IsHeld}
+use Rattle.verity_hash.specs.Hashing.{filled, IsHeld}
 
--- as many fields as were put
+-- there are as many bytes of fields as were put
 front_long : (n at : ℕ) (block : List ℕ) → IsHeld n block at → length (take at block) ≡ at
 front_long n at block held = length-take-le at block (omega (arith, held.whole, held.most))
 
--- what has room after the fields has room after their offset
+-- bytes that fit after the fields fit after their offset
 pub room_after : (n at count : ℕ) (block fields : List ℕ) → IsHeld n block at → take at block ≡ fields
     → length fields + count ≤ n
     → at + count ≤ n
@@ -44,7 +44,7 @@ take-put_mid n at k end block xs held ends same =
     ∙ take_at (take at block ++ xs) (replicate (n - length (take at block ++ xs)) 0) end
     (omega (arith, length-append (take at block) xs, long))
 
--- a block that is its first bytes and zeros is held
+-- a field writer may hold a block of some first bytes and then zeros
 held_from : (n end : ℕ) (block front : List ℕ) → block ≡ filled n front → take end block ≡ front → length front ≤ n
     → end ≤ n → IsHeld n block end
 held_from n end block front whole taken short most = record {
@@ -67,7 +67,7 @@ IsHeld-put_mid n at k end block xs held ends same room =
     held_from n end (put_mid at k block xs) (take at block ++ xs) (put_mid-filled n at k block xs held same)
     (take-put_mid n at k end block xs held ends same) (omega (arith, length-append (take at block) xs, long)) room
 
--- zeros that are put stand there already
+-- the zeros to be put stand there already
 pub take-zeros : (n at count : ℕ) (block : List ℕ) → IsHeld n block at → at + count ≤ n
     → take (at + count) block ≡ take at block ++ replicate count 0
 take-zeros n at count block held room =

@@ -1,18 +1,17 @@
--- Bytes say a superblock exactly where they pass every test, and then just one.
+-- Bytes say a superblock exactly if they pass every test, and then just one.
 use Rattle.std.proofs.Common.{◌≡◌, ℕ, ◌*◌, ◌<◌, ◌≤◌, Bool, true, false, List, [], ◌∷◌, ◌++◌, length, take, drop, Option}
 use Rattle.std.proofs.Common.{Some, None, is_some, nat_le, nat_lt, arith, refl, ap, sym, ◌∙◌, length-drop}
 use Rattle.std.specs.Cmp.Lexicographic.{bytes_decides}
 use Rattle.std.proofs.lemmas.Bool.{eqb-true, le-leb, leb-true}
 use Rattle.std.proofs.lemmas.Bool.Decides.{nat_tests}
 use Rattle.std.proofs.lemmas.List.{length-take-le}
-use Rattle.verity_hash.specs.Algorithms.{named}
+use Rattle.verity_hash.specs.Hashing.{named}
 use Rattle.verity_io.specs.Writing.{most_bytes}
 use Rattle.verity_plan.specs.Settings.{Settings, IsValid, digest_len, is_verity_block_size, least_block, most_salt}
 use Rattle.verity_plan.specs.Settings.{rule_of, type_of_number}
 use Rattle.verity_plan.specs.declared.hash_type.HashType.{HashType}
 use Rattle.verity_plan.specs.declared.hash_type.HashType.TheVariants.{Original, Current}
-use Rattle.verity_format.specs.Fields.{field, number_at, until_zero}
-use Rattle.verity_format.specs.SuperblockFields.{SuperblockFields}
+use Rattle.verity_format.specs.Superblocks.{field, number_at, until_zero, SuperblockFields}
 use Rattle.verity_format.specs.Superblocks.{IsSuperblock, blocks_tests, cause, first_failed, header_tests}
 use Rattle.verity_format.specs.Superblocks.{settings_tests, signature}
 use Rattle.verity_format.specs.declared.super_fault.SuperFault.{SuperFault}

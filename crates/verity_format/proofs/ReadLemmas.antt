@@ -1,4 +1,4 @@
--- Reading a superblock: which test fails first, and what the parts that pass make.
+-- Reading a superblock: which test fails first, and what is made of the parts that pass.
 use Rattle.std.proofs.Common.{◌≡◌, ℕ, ◌*◌, ◌<◌, ◌≤◌, ◌&&◌, Bool, true, false, List, [], ◌∷◌, ◌++◌, length, Option, Some}
 use Rattle.std.proofs.Common.{None, Ok, if◌then◌else◌, nat_le, nat_lt, take, arith, sym, ap, ◌∙◌, refl, subst}
 use Rattle.std.proofs.lemmas.Bool.Decides.{nat_tests}
@@ -8,13 +8,13 @@ use Rattle.verity_plan.specs.Settings.{Settings, IsValid, is_verity_block_size, 
 use Rattle.verity_plan.specs.Settings.{type_of_number}
 use Rattle.verity_plan.specs.declared.hash_type.HashType.{HashType}
 use Rattle.verity_plan.specs.declared.hash_type.HashType.TheVariants.{Original, Current}
-use Rattle.verity_format.specs.SuperblockFields.{SuperblockFields, superblock_of, superblock_of_type, type_of}
-use Rattle.verity_format.specs.Fields.{field, number_at}
+use Rattle.verity_format.specs.Superblocks.{SuperblockFields, superblock_of, superblock_of_type, type_of}
+use Rattle.verity_format.specs.Superblocks.{field, number_at}
 use Rattle.verity_format.specs.Superblocks.{AreSettings, IsSuperblock, blocks_tests, cause, first_failed, header_tests}
 use Rattle.verity_format.specs.Superblocks.{settings_tests, signature}
 use Rattle.verity_format.specs.declared.super_fault.SuperFault.{SuperFault}
 
--- tests that pass leave it to those after them
+-- if these tests pass, those after them decide
 first_failed-passed : (xs ys : List (Bool × SuperFault)) → first_failed xs ≡ None
     → first_failed (xs ++ ys) ≡ first_failed ys
 first_failed-passed [] ys passed = refl
@@ -126,7 +126,7 @@ IsSuperblock-made s hash_type tree uuid blocks v valid rule sixteen made long si
       valid = record { tree = valid; of_type = rule; uuid = sixteen; some = all.1; within = all.2 };
     })
 
--- no superblock of settings with a type and of some blocks: there is too much data
+-- settings with a type and some blocks make no superblock: there is too much data
 pub superblock_of-none : (hash_type : HashType) (tree : Settings) (uuid : List ℕ) (blocks : ℕ)
     → tree.rule ≡ rule_of hash_type → 0 < blocks → superblock_of tree uuid blocks ≡ None
     → nat_le (blocks * tree.data_block) most_bytes ≡ false

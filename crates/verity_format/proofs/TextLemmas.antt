@@ -6,8 +6,7 @@ use Rattle.std.proofs.Math.Seq.{drop-append-add}
 use Rattle.std.proofs.lemmas.List.{drop_at, length-replicate, take_at}
 use Rattle.byteorder.specs.Endian.{little_bytes, little_number}
 use Rattle.byteorder.specs.Numbers.{little_number-reads_back}
-use Rattle.verity_hash.specs.Algorithms.{name_of, named}
-use Rattle.verity_hash.specs.Bytes.{filled}
+use Rattle.verity_hash.specs.Hashing.{name_of, named, filled}
 use Rattle.verity_hash.specs.declared.algorithm.Algorithm.{Algorithm}
 use Rattle.verity_hash.specs.declared.algorithm.Algorithm.TheVariants.{Sha256, Sha512, Sha1, Sha224, Sha384}
 use Rattle.verity_hash.specs.declared.salting.SaltRule.{SaltRule}
@@ -16,8 +15,7 @@ use Rattle.verity_plan.specs.Settings.{most_salt, type_number, type_of_number}
 use Rattle.verity_plan.specs.declared.hash_type.HashType.{HashType}
 use Rattle.verity_plan.specs.declared.hash_type.HashType.TheVariants.{Original, Current}
 use Rattle.verity_plan.proofs.FanLemmas.{data_most, hash_most, some_data}
-use Rattle.verity_format.specs.Fields.{number_at, until_zero}
-use Rattle.verity_format.specs.SuperblockFields.{SuperblockFields, IsValidSuperblock}
+use Rattle.verity_format.specs.Superblocks.{number_at, until_zero, SuperblockFields, IsValidSuperblock}
 use Rattle.verity_format.specs.Superblocks.{IsSuperblock, signature, superblock_text}
 
 -- what follows the name

@@ -1,15 +1,15 @@
 -- The fs-verity descriptor and the file digest (Linux kernel, fs-verity page, "fs-verity descriptor" and "File digest
--- computation").
-use Rattle.std.specs.Prelude.{◌≡◌, ℕ, ◌+◌, ◌^◌, ◌<◌, List, [], ◌∷◌, ◌++◌, length, replicate, nat_lt}
+-- computation"), and what is signed of a file digest (the same page, "Built-in signature verification", struct
+-- fsverity_formatted_digest).
+use Rattle.std.specs.Prelude.{◌≡◌, ℕ, ◌+◌, ◌^◌, ◌<◌, List, [], ◌∷◌, ◌++◌, length, replicate, nat_lt, codes}
 use Rattle.byteorder.specs.Endian.{little_bytes}
-use Rattle.verity_hash.specs.Algorithms.{hash_of}
-use Rattle.verity_hash.specs.Bytes.{filled}
+use Rattle.verity_hash.specs.Hashing.{hash_of, filled}
 use Rattle.verity_hash.specs.declared.algorithm.Algorithm.{Algorithm}
 use Rattle.verity_hash.specs.declared.algorithm.Algorithm.TheVariants.{Sha256, Sha512, Sha1, Sha224, Sha384}
 use Rattle.verity_hash.specs.declared.salting.SaltRule.TheVariants.{PaddedBefore}
-use Rattle.verity_plan.specs.Settings.{least_up_to, Settings, IsValid, digest_len}
+use Rattle.verity_plan.specs.Settings.{log2, Settings, IsValid, digest_len}
 
--- what the tree is made by, the file's size in bytes, and the root hash
+-- how the tree is made, the file's size in bytes, and the root hash
 pub record DescriptorFields : Type 0 where
   pub tree : Settings
   pub size : ℕ
@@ -24,17 +24,13 @@ pub record IsValidDescriptor (v : DescriptorFields) : Type 0 where
   pub described : IsDescribed v.tree v.root
   pub size : v.size < 2 ^ 64
 
--- the number of an algorithm in the kernel's interface, 0 where it has none
+-- the number of an algorithm in the kernel's interface, 0 if it has none
 abbrev pub algorithm_number : Algorithm → ℕ
 algorithm_number Sha256 = 1
 algorithm_number Sha512 = 2
 algorithm_number Sha1 = 0
 algorithm_number Sha224 = 0
 algorithm_number Sha384 = 0
-
--- the binary logarithm, rounded down: the least k for which n is below 2 ^ (k + 1)
-unfoldable pub log2 : ℕ → ℕ
-log2 n = least_up_to n (λ k. nat_lt n (2 ^ (k + 1)))
 
 -- the 256 bytes of a descriptor: version, algorithm, logarithm of the block size, salt size, four zeros, the file's
 -- size, 64 bytes of root hash, the salt as it was given, and zeros
@@ -48,3 +44,10 @@ descriptor_text v = filled 256 (1 ∷ algorithm_number v.tree.algorithm ∷ log2
 -- the digest of a file
 abbrev pub digest_of_file : DescriptorFields → List ℕ
 digest_of_file v = hash_of v.tree.algorithm (descriptor_text v)
+
+-- the eight letters, the algorithm's number, the digest's length, the digest
+abbrev pub formatted : Algorithm → List ℕ → List ℕ
+formatted algorithm digest = codes "FSVerity"
+    ++ little_bytes 2 (algorithm_number algorithm)
+    ++ little_bytes 2 (length digest)
+    ++ digest

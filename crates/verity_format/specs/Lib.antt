@@ -1,6 +1,3 @@
-pub mod Fields
-pub mod SuperblockFields
 pub mod Superblocks
 pub mod Descriptors
-pub mod FormattedDigests
 pub mod Putting

@@ -13,20 +13,64 @@
 --       82       6  pad                    zeros                   ignored
 --       88     256  salt                   salt, then zeros        the first salt size bytes
 --      344     168  pad                    zeros                   ignored
-use Rattle.std.specs.Prelude.{◌≡◌, ℕ, ◌*◌, ◌≤◌, ◌==◌, Bool, List, [], ◌∷◌, ◌++◌, length, take, replicate, codes, Option}
-use Rattle.std.specs.Prelude.{Some, None, is_some, if◌then◌else◌, nat_le, nat_lt}
-use Rattle.std.specs.Str.{bytes_eq}
-use Rattle.byteorder.specs.Endian.{little_bytes}
-use Rattle.verity_hash.specs.Algorithms.{name_of, named}
-use Rattle.verity_hash.specs.Bytes.{filled}
-use Rattle.verity_hash.specs.declared.salting.SaltRule.TheVariants.{Before}
+use Rattle.std.specs.Prelude.{ℕ, ◌==◌, List, length, take, drop, position, unwrap_or, ◌≡◌, ◌*◌, ◌<◌, ◌≤◌, ◌&&◌, nat_le}
+use Rattle.std.specs.Prelude.{nat_lt, Option, Some, None, if◌then◌else◌, Bool, [], ◌∷◌, ◌++◌, replicate, codes, is_some}
+use Rattle.byteorder.specs.Endian.{little_number, little_bytes}
+use Rattle.verity_hash.specs.declared.salting.SaltRule.{SaltRule}
+use Rattle.verity_hash.specs.declared.salting.SaltRule.TheVariants.{Before, After, PaddedBefore}
 use Rattle.verity_io.specs.Writing.{most_bytes}
+use Rattle.verity_plan.specs.Settings.{Settings, IsValid, rule_of, is_verity_block_size, most_salt, type_number}
+use Rattle.verity_plan.specs.Settings.{type_of_number}
+use Rattle.verity_plan.specs.declared.hash_type.HashType.{HashType}
+use Rattle.verity_plan.specs.declared.hash_type.HashType.TheVariants.{Original, Current}
+use Rattle.std.specs.Str.{bytes_eq}
+use Rattle.verity_hash.specs.Hashing.{name_of, named, filled}
 use Rattle.verity_plan.specs.Plans.{superblock_size}
-use Rattle.verity_plan.specs.Settings.{Settings, is_verity_block_size, most_salt, type_number, type_of_number}
-use Rattle.verity_format.specs.Fields.{field, number_at, until_zero}
-use Rattle.verity_format.specs.SuperblockFields.{SuperblockFields, IsValidSuperblock}
 use Rattle.verity_format.specs.declared.super_fault.SuperFault.{SuperFault}
 use Rattle.verity_format.specs.declared.super_fault.SuperFault.TheVariants as fault
+
+-- the n bytes from offset `at`
+abbrev pub field : ℕ → ℕ → List ℕ → List ℕ
+field at n block = take n (drop at block)
+
+-- the number in the n bytes from offset `at`
+unfoldable pub number_at : ℕ → ℕ → List ℕ → ℕ
+number_at at n block = little_number n (drop at block)
+
+-- the bytes before the first zero, or all of them if there is none
+abbrev pub until_zero : List ℕ → List ℕ
+until_zero text = take (unwrap_or (position (λ byte. byte == 0) text) (length text)) text
+
+-- the hash type, how the tree is made, the UUID's 16 bytes, and the number of data blocks
+pub record SuperblockFields : Type 0 where
+  pub hash_type : HashType
+  pub tree : Settings
+  pub uuid : List ℕ
+  pub blocks : ℕ
+
+-- what a superblock can say: settings of its hash type, and data of 1 to 2 ^ 63 - 1 bytes
+pub record IsValidSuperblock (v : SuperblockFields) : Type 0 where
+  pub tree : IsValid v.tree
+  pub of_type : v.tree.rule ≡ rule_of v.hash_type
+  pub uuid : length v.uuid ≡ 16
+  pub some : 0 < v.blocks
+  pub within : v.blocks * v.tree.data_block ≤ most_bytes
+
+-- the hash type that puts its salt there; fs-verity's settings have none
+abbrev pub type_of : SaltRule → Option HashType
+type_of Before = Some Current
+type_of After = Some Original
+type_of PaddedBefore = None
+
+-- the superblock of a tree over this many data blocks, if there is one
+abbrev pub superblock_of_type : Option HashType → Settings → List ℕ → ℕ → Option SuperblockFields
+superblock_of_type None tree uuid blocks = None
+superblock_of_type (Some hash_type) tree uuid blocks =
+    if nat_lt 0 blocks && nat_le (blocks * tree.data_block) most_bytes
+    then Some (record { hash_type = hash_type; tree = tree; uuid = uuid; blocks = blocks }) else None
+
+abbrev pub superblock_of : Settings → List ℕ → ℕ → Option SuperblockFields
+superblock_of tree uuid blocks = superblock_of_type (type_of tree.rule) tree uuid blocks
 
 abbrev pub signature : List ℕ
 signature = codes "verity" ++ 0 ∷ 0 ∷ []

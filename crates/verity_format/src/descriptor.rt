@@ -1,15 +1,16 @@
 //! The fs-verity descriptor and the file digest.
 ghost use Rattle.std.specs.Prelude.{◌≡◌, ◌≤◌, ◌<◌, SomeIff};
 ghost use Rattle.verity_format.specs.Descriptors.{IsDescribed, IsValidDescriptor, algorithm_number, descriptor_text};
-ghost use Rattle.verity_format.specs.Descriptors.{digest_of_file, log2};
+ghost use Rattle.verity_format.specs.Descriptors.{digest_of_file};
+ghost use Rattle.verity_plan.specs.Settings.{log2};
 
 use crate::field_writer::FieldWriter;
 use std::marker::Model;
 use verity_hash::{Algorithm, Digest, SaltRule, salted};
 use verity_plan::TreeSettings;
 
-/// What fs-verity says of a file, version 1: how its tree was made, its size and its root hash (Linux kernel, fs-verity
-/// page, "fs-verity descriptor"). Valid by its type.
+/// What fs-verity records of a file, version 1: how its tree was made, its size and its root hash (Linux kernel,
+/// fs-verity page, "fs-verity descriptor"). Valid by its type.
 #[derive(Clone, Copy, Debug, PartialEq, Eq)]
 pub struct Descriptor {
     tree: TreeSettings,
@@ -30,12 +31,13 @@ impl Model for Descriptor {
 }
 
 impl Descriptor {
-    /// The descriptor of a file of so many bytes with this root hash. `None` where the settings are not fs-verity's or
-    /// the root hash is not as long as the algorithm's digests.
+    /// The descriptor of a file of `size` bytes with this root hash. `None` if the settings are not fs-verity's or the
+    /// root hash is not as long as the algorithm's digests.
     pub fn of(tree: &TreeSettings, size: u64, root: &Digest) -> Option<Descriptor>
         ensures { SomeIff result (IsDescribed tree.now root.now)
             (record { tree = tree.now; size = size; root = root.now }) }
     {
+        // Called for the proof: its contract says that the settings are valid.
         let _valid = tree.data_block();
         match tree.rule() {
             SaltRule::PaddedBefore if root.as_bytes().len() == tree.algorithm().digest_len() => {
@@ -57,7 +59,7 @@ impl Descriptor {
     }
 }
 
-/// The number of an algorithm (Linux kernel, `FS_VERITY_HASH_ALG_*`), 0 where it has none.
+/// The number of an algorithm (Linux kernel, `FS_VERITY_HASH_ALG_*`), 0 if it has none.
 pub(crate) fn number_of(algorithm: Algorithm) -> u8
     ensures { result ≡ algorithm_number algorithm }
 {

@@ -1,7 +1,7 @@
 //! A block of bytes that is written field by field.
 ghost use Rattle.std.specs.Prelude.{◌≡◌, ◌≤◌, ◌+◌, [], ◌++◌, length, replicate};
 ghost use Rattle.byteorder.specs.Endian.{little_bytes};
-ghost use Rattle.verity_hash.specs.Bytes.{filled};
+ghost use Rattle.verity_hash.specs.Hashing.{filled};
 
 use byteorder::{ByteOrder, LittleEndian};
 use std::marker::Model;
@@ -16,7 +16,7 @@ pub(crate) struct FieldWriter<const N: usize> {
 
 impl<const N: usize> Model for FieldWriter<N> {
     ghost use Rattle.std.specs.Prelude.{ℕ, List, take};
-    ghost use Rattle.verity_hash.specs.Bytes.{IsHeld};
+    ghost use Rattle.verity_hash.specs.Hashing.{IsHeld};
 
     ghost Value = { List ℕ };
 
@@ -47,7 +47,7 @@ impl<const N: usize> FieldWriter<N> {
         self.at = end;
     }
 
-    /// Puts so many zeros.
+    /// Puts `count` zeros.
     pub(crate) fn put_zeros(&mut self, count: usize)
         requires { length self.old + count ≤ N }
         ensures bytes { self.new ≡ self.old ++ replicate count 0 }

@@ -1,8 +1,7 @@
-//! What is signed of a file digest.
+//! The form in which a file digest is signed.
 ghost use Rattle.std.specs.Prelude.{◌≡◌, ◌<◌, ◌≤◌, length, SomeIff};
-ghost use Rattle.verity_hash.specs.Algorithms.{digest_len_of};
-ghost use Rattle.verity_format.specs.Descriptors.{algorithm_number};
-ghost use Rattle.verity_format.specs.FormattedDigests.{formatted};
+ghost use Rattle.verity_hash.specs.Hashing.{digest_len_of};
+ghost use Rattle.verity_format.specs.Descriptors.{algorithm_number, formatted};
 
 use crate::descriptor::number_of;
 use crate::field_writer::FieldWriter;
@@ -35,7 +34,7 @@ impl Formatted {
     }
 }
 
-/// The formatted digest, or `None` where fs-verity has no number for the algorithm or the digest is not as long as the
+/// The formatted digest, or `None` if fs-verity has no number for the algorithm or the digest is not as long as the
 /// algorithm's digests.
 pub fn formatted_digest(algorithm: Algorithm, digest: &Digest) -> Option<Formatted>
     ensures { SomeIff result ((0 < algorithm_number algorithm) × (length digest.now ≡ digest_len_of algorithm))

@@ -1,7 +1,6 @@
-//! Laws of superblocks: of the bytes that are written and of what bytes say, for whoever writes another tool for the
-//! format.
+//! Laws of superblocks, on the bytes that are written and on what bytes say, for authors of other tools for the format.
 ghost use Rattle.std.specs.Prelude.{◌≡◌, ◌↔◌, ℕ, List, None, Ok};
-ghost use Rattle.verity_format.specs.SuperblockFields.{SuperblockFields, IsValidSuperblock};
+ghost use Rattle.verity_format.specs.Superblocks.{SuperblockFields, IsValidSuperblock};
 ghost use Rattle.verity_format.specs.Superblocks.{IsSuperblock, cause, superblock_text};
 
 use crate::{SuperFault, Superblock, read_superblock, write_superblock};
@@ -16,15 +15,16 @@ pub fn bytes_say_one_superblock()
     ensures { (s : List ℕ) (v w : SuperblockFields) → IsSuperblock s v → IsSuperblock s w → v ≡ w }
 {}
 
-/// Bytes say a superblock exactly where they pass every test.
+/// Bytes say a superblock exactly if they pass every test.
 pub fn bytes_say_a_superblock_or_fail_a_test()
     ensures { (s : List ℕ) → ((v : SuperblockFields) × IsSuperblock s v) ↔ (cause s ≡ None) }
 {}
 
-/// What is written is read as the superblock that was written.
+/// Reading the bytes that are written for a superblock gives that superblock back.
 pub fn through_bytes(superblock: &Superblock) -> Result<Superblock, SuperFault>
     ensures { result ≡ Ok superblock.now }
 {
+    // Called for the proof: its contract says that the superblock is valid.
     let _tree = superblock.tree();
     text_says_its_superblock();
     bytes_say_one_superblock();

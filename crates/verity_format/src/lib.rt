@@ -1,4 +1,4 @@
-//! The bytes of dm-verity superblocks, fs-verity descriptors and formatted digests, and writing a text whole.
+//! The bytes of dm-verity superblocks, fs-verity descriptors and formatted digests, and writing a whole text.
 #![tactic(auto)]
 
 mod descriptor;

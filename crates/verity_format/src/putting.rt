@@ -1,4 +1,4 @@
-//! Writing a text whole.
+//! Writing a whole text.
 ghost use Rattle.std.specs.Prelude.{◌≢◌, ◌≤◌, ◌<◌, take, length, IfErr, IfOk, OnOk};
 ghost use Rattle.std.specs.Io.KnownBytes.{Appends, WriteAppends};
 ghost use Rattle.std.specs.IoError.{error_kind};
@@ -7,12 +7,12 @@ ghost use Rattle.verity_format.specs.Putting.{taken};
 use std::io;
 use std::io::{ErrorKind, Write};
 
-/// The first bytes of a text were taken, this many, and then a write failed or took nothing.
+/// This many of the first bytes of a text were taken, and then a write failed or took nothing.
 #[derive(Clone, Copy, Debug, PartialEq, Eq)]
 pub struct PutFault(pub usize);
 
-/// Writes a text whole, with as many writes as the writer needs. The fault says how many of its bytes, fewer than all,
-/// were taken before a write failed or took nothing.
+/// Writes a whole text, in as many writes as it takes. The fault says how many of its bytes, fewer than all, were taken
+/// before a write failed or took nothing.
 pub fn put_all<W: Write>(writer: &mut W, text: &[u8]) -> Result<(), PutFault>
     ensures whole { OnOk result (Appends (W.contents writer.old) (W.contents writer.new) text.now) }
     ensures fewer { IfErr result (λ fault. taken fault < length text.now) }
@@ -34,8 +34,8 @@ pub fn put_all<W: Write>(writer: &mut W, text: &[u8]) -> Result<(), PutFault>
     Ok(())
 }
 
-/// One write, tried again where a signal interrupts it: how many bytes were taken. The error is never an interrupt: it
-/// is the writer's, or that all tries were interrupted.
+/// One write, tried again if a signal interrupts it: how many bytes were taken. The error is never an interrupt: it is
+/// the writer's own, or says that every try was interrupted.
 fn write_retrying<W: Write>(writer: &mut W, text: &[u8]) -> io::Result<usize>
     ensures bound { IfOk result (λ count. count ≤ length text.now) }
     ensures front { WriteAppends (W.contents writer.old) (W.contents writer.new) result text.now }

@@ -3,7 +3,7 @@ ghost use Rattle.std.specs.Prelude.{◌≡◌, ◌≤◌, ◌+◌, ◌==◌, len
 ghost use Rattle.verity_hash.specs.declared.salting.SaltRule.TheVariants.{Before};
 ghost use Rattle.verity_plan.specs.Plans.{superblock_size};
 ghost use Rattle.verity_plan.specs.Settings.{most_salt, is_verity_block_size, IsValid, rule_of};
-ghost use Rattle.verity_format.specs.Fields.{number_at, until_zero};
+ghost use Rattle.verity_format.specs.Superblocks.{number_at, until_zero};
 ghost use Rattle.verity_format.specs.Superblocks.{AreSettings, IsSuperblock, cause, first_failed, settings_tests};
 
 use crate::writing::VERSION;
@@ -74,7 +74,7 @@ fn read_settings(bytes: &[u8], hash_type: HashType) -> Result<TreeSettings, Supe
     Ok(settings_within_limits(algorithm, hash_type, salt, data_block, hash_block))
 }
 
-/// The settings of parts that are within dm-verity's limits.
+/// The settings made of these parts, if they are within dm-verity's limits.
 fn settings_within_limits(
     algorithm: Algorithm,
     hash_type: HashType,
@@ -98,7 +98,7 @@ fn settings_within_limits(
 }
 
 /// The number in two bytes.
-#[tactic(auto, unfolding(crate::specs::Fields::number_at))]
+#[tactic(auto, unfolding(crate::specs::Superblocks::number_at))]
 fn u16_at(bytes: &[u8], at: usize) -> u16
     requires { at + 2 ≤ length bytes.now }
     ensures { result ≡ number_at at 2 bytes.now }
@@ -107,7 +107,7 @@ fn u16_at(bytes: &[u8], at: usize) -> u16
 }
 
 /// The number in four bytes.
-#[tactic(auto, unfolding(crate::specs::Fields::number_at))]
+#[tactic(auto, unfolding(crate::specs::Superblocks::number_at))]
 fn u32_at(bytes: &[u8], at: usize) -> u32
     requires { at + 4 ≤ length bytes.now }
     ensures { result ≡ number_at at 4 bytes.now }
@@ -116,7 +116,7 @@ fn u32_at(bytes: &[u8], at: usize) -> u32
 }
 
 /// The number in eight bytes.
-#[tactic(auto, unfolding(crate::specs::Fields::number_at))]
+#[tactic(auto, unfolding(crate::specs::Superblocks::number_at))]
 fn u64_at(bytes: &[u8], at: usize) -> u64
     requires { at + 8 ≤ length bytes.now }
     ensures { result ≡ number_at at 8 bytes.now }

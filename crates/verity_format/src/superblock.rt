@@ -1,14 +1,14 @@
 //! The value of a superblock.
 ghost use Rattle.std.specs.Prelude.{◌≡◌};
-ghost use Rattle.verity_format.specs.SuperblockFields.{IsValidSuperblock, superblock_of, type_of};
+ghost use Rattle.verity_format.specs.Superblocks.{IsValidSuperblock, superblock_of, type_of};
 
 use std::marker::Model;
 use verity_hash::SaltRule;
 use verity_io::MOST_BYTES;
 use verity_plan::{HashType, TreeSettings};
 
-/// A superblock of dm-verity, version 1: what a tree on a device was made by (cryptsetup's on-disk format page,
-/// "dm-verity header"). Valid by its type, so that it can be written.
+/// A superblock of dm-verity, version 1: how a tree on a device was made (cryptsetup's on-disk format page, "dm-verity
+/// header"). Valid by its type, so that it can be written.
 #[derive(Clone, Copy, Debug, PartialEq, Eq)]
 pub struct Superblock {
     hash_type: HashType,
@@ -18,7 +18,7 @@ pub struct Superblock {
 }
 
 impl Model for Superblock {
-    ghost use Rattle.verity_format.specs.SuperblockFields.{SuperblockFields, IsValidSuperblock};
+    ghost use Rattle.verity_format.specs.Superblocks.{SuperblockFields, IsValidSuperblock};
 
     ghost Value = { SuperblockFields };
 
@@ -30,7 +30,7 @@ impl Model for Superblock {
     ghost inverse = { λ v. record { hash_type = v.hash_type; tree = v.tree; uuid = v.uuid; blocks = v.blocks } };
 }
 
-/// dm-verity's hash type that has its salt there.
+/// dm-verity's hash type that puts its salt there.
 fn hash_type_of(rule: SaltRule) -> Option<HashType>
     ensures { result ≡ type_of rule }
 {
@@ -42,7 +42,7 @@ fn hash_type_of(rule: SaltRule) -> Option<HashType>
 }
 
 impl Superblock {
-    /// The superblock of a tree over so many data blocks. `None` for settings of fs-verity, for no data blocks, and
+    /// The superblock of a tree over this many data blocks. `None` for settings of fs-verity, for no data blocks, and
     /// for more than 2^63 - 1 bytes of data.
     pub fn new(tree: &TreeSettings, uuid: [u8; 16], blocks: u64) -> Option<Superblock>
         ensures { result ≡ superblock_of tree.now uuid blocks }
@@ -64,7 +64,7 @@ impl Superblock {
         })
     }
 
-    /// What the tree is made by: algorithm, salt and block sizes.
+    /// How the tree is made: algorithm, salt and block sizes.
     pub fn tree(&self) -> &TreeSettings
         ensures value { result.now ≡ self.now.tree }
         ensures valid { IsValidSuperblock self.now }

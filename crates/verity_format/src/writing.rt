@@ -6,7 +6,7 @@ use crate::Superblock;
 use crate::field_writer::FieldWriter;
 use verity_plan::SUPERBLOCK_SIZE;
 
-/// The version that is written and read.
+/// The only version that is written and read.
 pub(crate) const VERSION: u32 = 1;
 
 /// The 512 bytes of a superblock (cryptsetup's on-disk format page, "dm-verity header"): numbers are little-endian, and

@@ -1,4 +1,4 @@
-//! One trait for all hash functions, since the crates that compute them need not share one.
+//! One trait for all hash functions, because the crates that compute them needn't share one.
 ghost use Rattle.std.specs.Prelude.{◌≡◌, ◌<◌, ◌≤◌, ℕ, List, [], ◌++◌, length};
 ghost use Rattle.sha1.specs.Sha1.{Holds, sha1};
 ghost use Rattle.sha2.specs.Hashers.{Holds224, Holds256, Holds384, Holds512};

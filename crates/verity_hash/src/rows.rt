@@ -1,8 +1,7 @@
 //! The salted hashes of one to eight blocks, which stand in rows of one size.
 ghost use Rattle.std.specs.Prelude.{◌≡◌, ℕ, ◌+◌, ◌*◌, ◌<◌, ◌≤◌, ◌++◌, [], length, slice_index_or, IfSome};
 ghost use Rattle.std.specs.Fork.{slice_chunk};
-ghost use Rattle.verity_hash.specs.Algorithms.{hash_of};
-ghost use Rattle.verity_hash.specs.Salted.{salted_hash};
+ghost use Rattle.verity_hash.specs.Hashing.{hash_of, salted_hash};
 ghost use Rattle.verity_hash.specs.declared.salting.SaltRule.TheVariants.{PaddedBefore};
 
 use crate::hasher::digest_of;
@@ -118,7 +117,7 @@ fn after_padded_salt(
 }
 
 /// The salted hashes of `count` blocks of `size` bytes each, one to eight, which stand one after another in `rows`:
-/// each is what `salted` gives for its block. The digests after theirs count for nothing. Those of SHA-2 are computed
+/// each is what `salted` gives for its block. The digests after theirs are meaningless. Those of SHA-2 are computed
 /// side by side, in much less time: any number of them by SHA-224 and SHA-256 takes as long as eight, and by SHA-384
 /// and SHA-512 one to four take half as long as five to eight.
 pub fn salted_rows(

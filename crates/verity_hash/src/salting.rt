@@ -1,6 +1,6 @@
 //! The salted hash of a block.
 ghost use Rattle.std.specs.Prelude.{◌≡◌};
-ghost use Rattle.verity_hash.specs.Salted.{salted_input, salted_hash};
+ghost use Rattle.verity_hash.specs.Hashing.{salted_input, salted_hash};
 
 use crate::hasher::Hasher;
 use crate::{Algorithm, Digest};
@@ -19,7 +19,7 @@ pub enum SaltRule {
     PaddedBefore,
 }
 
-/// Zeros to pad a salt with, as many as the longest input block has bytes.
+/// Zeros to pad a salt with, one for each byte of the longest input block.
 pub(crate) const ZEROS: [u8; 128] = [0; 128];
 
 /// A hasher that has taken all that is hashed for a block.

@@ -1,5 +1,5 @@
--- Counts of failures, this project's own: a source and a device keep one, which stops at the last value of a u64. And
--- what contracts see of a source or a device round a call.
+-- Counts of failures, this project's own: each source and each device keeps one, which stops at the last value of a
+-- u64. And what contracts see of a source or a device before and after a call.
 use Rattle.std.specs.Prelude.{◌≡◌, ℕ, ◌+◌, ◌-◌, ◌^◌, ◌≤◌, min, Bool, true, false, List, Result, MatchResult}
 use Rattle.verity_io.specs.declared.failed.Failed.{Failed}
 
@@ -11,12 +11,12 @@ last_count = 2 ^ 64 - 1
 abbrev pub Rose : ℕ → ℕ → Type 0
 Rose before after = min (before + 1) last_count ≤ after
 
--- the count rises by one where a call failed, up to its last value, and else stays
+-- the count rises by one if a call failed, up to its last value, and stays otherwise
 abbrev pub Counts : Bool → ℕ → ℕ → Type 0
 Counts true before after = after ≡ min (before + 1) last_count
 Counts false before after = after ≡ before
 
--- the count rises exactly where the call fails
+-- the count rises exactly if the call fails
 abbrev pub CountsFailure : {X : Type 0} → ℕ → ℕ → Result X Failed → Type 0
 CountsFailure before after result =
     (before ≤ after) × MatchResult result (λ _. Counts false before after) (λ _. Counts true before after)

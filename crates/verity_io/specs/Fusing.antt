@@ -20,7 +20,7 @@ fused_calls f = f.calls
 abbrev pub fused_failures : {T : Type 0} → Fused T → ℕ
 fused_failures f = f.failures
 
--- its next call is the one to fail
+-- the next call is the one that fails
 abbrev pub BlowsNext : {T : Type 0} → Fused T → Type 0
 BlowsNext f = fused_calls f + 1 ≡ fused_call f
 
@@ -33,7 +33,7 @@ CountsCall before after =
 abbrev pub IsBlown : {T X : Type 0} → Fused T → Fused T → Result X Failed → Type 0
 IsBlown before after result = BlowsNext before → IsErr result × (fused_inner after ≡ fused_inner before)
 
--- each other call answers Failed exactly where the value within counts a failure
+-- every other call answers Failed exactly if the value within counts a failure
 abbrev pub IsPassed : {T X : Type 0} → (T → ℕ) → Fused T → Fused T → Result X Failed → Type 0
 IsPassed failures before after result = ¬ BlowsNext before →
     CountsFailure (failures (fused_inner before)) (failures (fused_inner after)) result

@@ -1,4 +1,4 @@
--- For how many bytes a device in memory has room, this project's own.
+-- The capacity of a device in memory, this project's own.
 use Rattle.std.specs.Prelude.{ℕ, vec_capacity}
 use Rattle.verity_io.specs.declared.memory_device.MemoryDevice.{MemoryDevice}
 

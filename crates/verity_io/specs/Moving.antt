@@ -9,7 +9,7 @@ use Rattle.verity_io.specs.declared.file_device.FileDevice.{FileDevice}
 abbrev pub file_of : {F : Type 0} → FileDevice F → F
 file_of device = device.file
 
--- a file was moved to an offset, and then this holds of the file as it stood there
+-- a file was moved to an offset, and this holds of the file as it stood there
 pub record From {F : Type 0} (position : F → Option ℕ) (before : F) (at : ℕ) (Then : F → Type 0) : Type 0 where
   pub moved : F
   pub stands : IfSome (position before) (λ _. position moved ≡ Some at)

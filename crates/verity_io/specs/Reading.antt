@@ -3,20 +3,20 @@
 use Rattle.std.specs.Prelude.{IfOk, ◌≡◌, ◌≤◌, ℕ, ◌<◌, List, [], ◌++◌, length, take, drop, Result, MatchResult}
 use Rattle.verity_io.specs.declared.failed.Failed.{Failed}
 
--- a source of whose remaining bytes n were read
+-- n of the source's remaining bytes were read
 pub record HasRead (n : ℕ) (before after : List ℕ) : Type 0 where
   pub enough : n ≤ length before
   pub rest : after ≡ drop n before
 
--- the first k bytes of the buffer were the next of the source, none only at its end or with no room; all stay at a
--- failure
+-- the first k bytes of the buffer are the next of the source, and k is 0 only at its end or if the buffer has no room;
+-- a failure takes none
 abbrev pub TakesNext : Result ℕ Failed → List ℕ → List ℕ → List ℕ → Type 0
 TakesNext result buf before after = MatchResult result
     (λ k. (before ≡ take k buf ++ after) × (k ≡ 0 → 0 < length buf → after ≡ []))
     (λ _. after ≡ before)
 
--- the buffer has the next bytes of the source, less than its length only at the end; at a failure less than that was
--- read
+-- the buffer has the next bytes of the source, fewer than its length only at the end; fewer than that were read before
+-- a failure
 abbrev pub TakesBlock : Result ℕ Failed → List ℕ → List ℕ → List ℕ → Type 0
 TakesBlock result buf before after = MatchResult result
     (λ k. (before ≡ take k buf ++ after) × (k < length buf → after ≡ []))

@@ -2,11 +2,11 @@
 ghost use Rattle.std.specs.Prelude.{◌≡◌};
 ghost use Rattle.verity_io.specs.Counting.{CountsFailure};
 
-/// A read or a write failed. What the system said of it isn't kept.
+/// A read or a write failed. The system's own error isn't kept.
 #[derive(Clone, Copy, Debug, PartialEq, Eq)]
 pub struct Failed;
 
-// Counts the outcome of a call, and hands it back.
+// Counts the call if it failed, and hands its outcome back.
 pub(crate) fn counted<X>(failures: &mut u64, outcome: Result<X, Failed>) -> Result<X, Failed>
     ensures same { result ≡ outcome }
     ensures count { CountsFailure failures.old failures.new result }

@@ -34,14 +34,14 @@ impl<F: Read + Write + Seek> FileDevice<F> {
 }
 
 impl<F: OpenFile> FileDevice<F> {
-    /// Asks the system to keep on the disk what was written (fsync(2)), and fails where it refuses. A kind of file that
-    /// can't be synced, as the null device, is let pass.
+    /// Asks the system to keep on the disk what was written (fsync(2)), and fails if it refuses. A file of a kind that
+    /// can't be synced, such as the null device, is no failure.
     pub fn sync(&self) -> Result<(), Failed> {
         kept(self.file.sync_all())
     }
 }
 
-// Whether what was written is kept, by the system's answer to a sync.
+// What the system's answer to a sync says: whether what was written is kept.
 fn kept(answer: io::Result<()>) -> Result<(), Failed>
     ensures done { IfOk answer (λ _. IsOk result) }
     ensures refused { IfErr answer (λ error. is_ok result ≡ is_unsyncable (error_kind error)) }
@@ -113,8 +113,8 @@ fn move_to<F: Seek>(file: &mut F, at: u64) -> Result<(), Failed>
     }
 }
 
-// A read that would end past the most bytes of a device isn't tried, for Linux refuses it: the answer is the file's end, or
-// a failure where the file has bytes there.
+// A read that would end past the most bytes of a device isn't tried, because Linux refuses it: the answer is the file's
+// end, or a failure if the file has bytes there.
 fn read_from<F: Read + Seek>(file: &mut F, at: u64, buf: &mut [u8]) -> Result<usize, Failed>
     ensures bound { IfOk result (λ k. k ≤ length buf.new) }
     ensures bytes { IfOk result (λ k.
@@ -146,7 +146,7 @@ fn fill<R: Read>(reader: &mut R, buf: &mut [u8]) -> Result<usize, Failed>
     Ok(filled)
 }
 
-// A file system refuses an offset beyond what it can hold, and the file ends before such an offset.
+// A file system refuses an offset beyond what it can hold, and the file ends before it.
 fn read_refused<F: Seek>(file: &mut F, at: u64) -> Result<usize, Failed>
     ensures bound { IfOk result (λ k. k ≡ 0) }
     ensures beyond { IfOk result (EndsBefore (F.stream_position file.old) (F.stream_bytes file.old) at) }
@@ -157,7 +157,7 @@ fn read_refused<F: Seek>(file: &mut F, at: u64) -> Result<usize, Failed>
     }
 }
 
-// `write_all` tries an interrupted write again, and fails where a write takes nothing.
+// `write_all` tries an interrupted write again, and fails if a write takes nothing.
 fn write_from<F: Write + Seek>(file: &mut F, at: u64, bytes: &[u8]) -> Result<(), Failed>
     ensures bytes { OnOk result (From F.stream_position file.old at (λ moved.
         Appends (F.contents moved) (F.contents file.new) bytes.now)) }

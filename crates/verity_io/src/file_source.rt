@@ -11,8 +11,8 @@ use std::io;
 use std::io::{ErrorKind, Read, Take};
 
 /// The bytes of an opened file from where it stands on, up to a length. The length is the one found at opening: a file
-/// that grows while it is read, since the hash blocks are written into it, gives no more. Over a file of the system it
-/// doesn't tell its bytes; over a reader whose bytes are known it does.
+/// that grows while it is read, because the hash blocks are written into it, gives no more. Over a file of the system
+/// it doesn't tell its bytes; over a reader whose bytes are known it does.
 #[derive(Drop)]
 pub struct FileSource<F = File> {
     file: Take<F>,
@@ -20,7 +20,7 @@ pub struct FileSource<F = File> {
 }
 
 impl<F: Read> FileSource<F> {
-    /// A source of the next bytes of the file, `length` of them or as many as there are.
+    /// A source of the next `length` bytes of the file, or of all the next bytes if there are fewer.
     pub fn new(file: F, length: u64) -> Self
         ensures told { IsSome (F.remaining file) → ⟦<FileSource<F> as Source>⟧.tells result }
         ensures bytes { ⟦<FileSource<F> as Source>⟧.remaining result ≡ take length (unwrap_or (F.remaining file) []) }
@@ -41,7 +41,7 @@ impl<F: Read> FileSource<F> {
 }
 
 impl<F: Read> Source for FileSource<F> {
-    // As far as the reader says: one over memory does, and a file of the system doesn't.
+    // It tells its bytes if the reader does: one over memory does, and a file of the system doesn't.
     ghost tells = { λ s. IsSome (take_remaining F.remaining s.file) };
 
     ghost remaining = { λ s. unwrap_or (take_remaining F.remaining s.file) [] };
@@ -54,7 +54,7 @@ impl<F: Read> Source for FileSource<F> {
     }
 }
 
-// One read, tried again where a signal interrupts it.
+// One read, tried again if a signal interrupts it.
 pub(crate) fn read_some<R: Read>(reader: &mut R, buf: &mut [u8]) -> Result<usize, Failed>
     ensures bound { IfOk result (λ k. k ≤ length buf.new) }
     ensures bytes { ReadConsumes (R.remaining reader.old) (R.remaining reader.new) result buf.new }
@@ -65,7 +65,7 @@ pub(crate) fn read_some<R: Read>(reader: &mut R, buf: &mut [u8]) -> Result<usize
     }
 }
 
-// The error is never an interrupt: of the reader, or that all tries were interrupted.
+// The error is never an interrupt: it is the reader's own, or says that every try was interrupted.
 fn read_retrying<R: Read>(reader: &mut R, buf: &mut [u8]) -> io::Result<usize>
     ensures bound { IfOk result (λ k. k ≤ length buf.new) }
     ensures bytes { ReadConsumes (R.remaining reader.old) (R.remaining reader.new) result buf.new }

@@ -10,8 +10,9 @@ use crate::device::Device;
 use crate::failed::{Failed, counted};
 use crate::source::Source;
 
-/// A source or device that fails one call, at which the value within stays, and passes each other call on: such a call
-/// answers `Failed` exactly where the value within counts a failure. It tries what a caller does at a fault.
+/// A source or device that fails one call, which leaves the value within as it is, and passes every other call on: such
+/// a call answers `Failed` exactly if the value within counts a failure. It serves to test what a caller does after a
+/// fault.
 #[derive(Drop)]
 pub struct Fused<T> {
     inner: T,
@@ -21,7 +22,7 @@ pub struct Fused<T> {
 }
 
 impl<T> Fused<T> {
-    /// Fails the call of this number, counted from 1, and none for 0.
+    /// Makes the call of this number fail, counted from 1, and none for 0.
     pub fn new(inner: T, call: u64) -> Self
         ensures inner { fused_inner result ≡ inner }
         ensures call { fused_call result ≡ call }
@@ -57,7 +58,7 @@ impl<T> Fused<T> {
         &self.inner
     }
 
-    /// Takes the value within out.
+    /// Gives back the value within.
     pub fn into_inner(self) -> T
         ensures { result ≡ fused_inner self }
     {

@@ -10,8 +10,8 @@ use crate::device::Device;
 use crate::failed::{Failed, counted};
 use std::alloc::AllocError;
 
-/// Bytes in memory, which grow by their vector's allocator. Where a write ends past the vector's room and finds no memory
-/// to grow, it fails and leaves them.
+/// Bytes in memory, which grow by their vector's allocator. If a write ends past the vector's capacity and there is no
+/// memory to grow, it fails and leaves them.
 #[derive(Drop)]
 pub struct MemoryDevice {
     bytes: Vec<u8>,
@@ -37,8 +37,8 @@ impl MemoryDevice {
     }
 }
 
-/// A read never fails. A write fails only where the bytes have to grow past the vector's room, and leaves them then. The
-/// room never becomes smaller.
+/// A read never fails. A write fails only if the bytes have to grow past the vector's capacity, and leaves them then.
+/// The capacity never becomes smaller.
 impl Device for MemoryDevice {
     ghost tells = { λ _. Unit {0} };
 
@@ -105,7 +105,7 @@ fn put_at(bytes: &mut Vec<u8>, at: usize, others: &[u8]) -> Result<(), Failed>
     }
 }
 
-// Fills up with zeros to at least a length.
+// Appends zeros up to at least a length.
 fn fill_up(bytes: &mut Vec<u8>, len: usize) -> Result<(), AllocError>
     ensures ok { OnOk result (bytes.new.items ≡ bytes.old.items ++ replicate (len - length bytes.old.items) 0) }
     ensures err { OnErr result (bytes.new.items ≡ bytes.old.items) }

@@ -35,7 +35,7 @@ impl<'a> MemorySource<'a> {
     }
 }
 
-/// A read gives all that fits, and never fails.
+/// A read fills the buffer as far as the bytes go, and never fails.
 impl<'a> Source for MemorySource<'a> {
     ghost tells = { λ _. Unit {0} };
 

@@ -5,7 +5,7 @@ ghost use Rattle.verity_io.specs.Counting.{CountsFailure};
 use crate::device::Device;
 use crate::failed::Failed;
 
-/// A device that takes each write and keeps nothing: for a root hash alone. It never fails.
+/// A device that takes each write and keeps nothing, for when only the root hash is wanted. It never fails.
 #[derive(Clone, Copy)]
 pub struct Nowhere;
 

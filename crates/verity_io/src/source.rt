@@ -5,20 +5,20 @@ ghost use Rattle.verity_io.specs.Reading.{TakesNext, TakesBlock};
 
 use crate::failed::Failed;
 
-/// Where data is read from, once, from its first byte to its last. Laws on bytes hold where the source tells its bytes,
-/// as one over memory does and one over a file doesn't.
+/// Where data is read from, once, from its first byte to its last. Laws on bytes hold if the source tells its bytes, as
+/// one over memory does and one over a file doesn't.
 pub trait Source {
     /// Whether the value tells its bytes.
     ghost tells: { Self → Type 0 };
 
-    /// The remaining bytes, where it tells them.
+    /// The remaining bytes, if it tells them.
     ghost remaining: { Self → List ℕ };
 
     /// How many calls have failed, up to the last value of a u64.
     ghost failures: { Self → ℕ };
 
     /// Reads some of the next bytes into the start of the buffer, and none only at the end or with no room. The answer
-    /// is how many. `Failed` where the source can't be read: no byte is used up then, and the buffer holds anything.
+    /// is how many. `Failed` if the source can't be read: no byte is used up then, and the buffer may hold anything.
     fn read(&mut self, buf: &mut [u8]) -> Result<usize, Failed>
         ensures bound { IfOk result (λ k. k ≤ length buf.new) }
         ensures told { tells self.old → tells self.new }
@@ -27,8 +27,8 @@ pub trait Source {
 }
 
 /// Reads until the buffer is full or the source ends, however short the single reads are. The answer is how many bytes
-/// the buffer has now, fewer than its length only at the source's end. `Failed` where a read fails: some bytes, fewer
-/// than the buffer's length, are used up then.
+/// the buffer has now, fewer than its length only at the source's end. `Failed` if a read fails: some bytes, fewer than
+/// the buffer's length, are used up then.
 pub fn read_block<S: Source>(source: &mut S, buf: &mut [u8]) -> Result<usize, Failed>
     ensures bound { IfOk result (λ k. k ≤ length buf.new) }
     ensures told { S.tells source.old → S.tells source.new }

@@ -7,14 +7,14 @@ use Rattle.std.proofs.Math.Nat.{mul-le-mul_left, mul-le-mul_right, mul-pos, pow-
 use Rattle.std.proofs.lemmas.Bool.{cases_lt}
 use Rattle.std.specs.Int.{div_ceil}
 use Rattle.std.specs.Prelude.{nat_le}
-use Rattle.verity_plan.specs.Counts.{level_count, IsLevelCount}
+use Rattle.verity_plan.specs.Plans.{level_count, IsLevelCount}
 use Rattle.verity_plan.proofs.LeastLemmas.{IsLeast-least_from}
 
 -- more of the same number are not less
 pub mul_le : (a b w : ℕ) → a ≤ b → a * w ≤ b * w
 mul_le a b w h = mul-le-mul_right w h
 
--- n fits k runs of a exactly where the quotient rounded up is at most k
+-- n fits into k runs of a exactly when the quotient, rounded up, is at most k
 pub le-div_ceil : (n a k : ℕ) → 0 < a → div_ceil n a ≤ k → n ≤ k * a
 le-div_ceil n a k some h = omega (arith, div_ceil_times n a some, mul-le-mul_right a h)
 
@@ -62,7 +62,7 @@ IsLevelCount-level_count fan n two =
           (arith, nat_tests, fail);
     }
 
--- one run is enough exactly where the quotient rounded up is at most 1
+-- one run is enough exactly when the quotient, rounded up, is at most 1
 pub leb-div_ceil_one : (n a : ℕ) → 0 < a → leb (div_ceil n a) 1 ≡ leb n a
 leb-div_ceil_one n a some =
     elim (leb_tells n a) [

@@ -1,42 +1,67 @@
--- Fans and slot widths as powers of two.
+-- Fan-outs and slot widths as powers of two.
 use Rattle.std.proofs.Common.{◌≡◌, ℕ, zero, suc, ◌+◌, ◌*◌, ◌/◌, ◌^◌, ◌<◌, ◌≤◌, max, true, false, ltb, leb, arith, ap}
 use Rattle.std.proofs.Common.{refl, inl, inr}
 use Rattle.std.proofs.lemmas.Bool.Decides.{nat_tests}
-use Rattle.std.proofs.Math.Nat.{pow-suc, pow-le-pow_right, mul-le-mul_right, le_trans, div-mul-le_self}
+use Rattle.std.proofs.Math.Nat.{pow-suc, pow-zero, pow-le-pow_right, mul-le-mul_right, le_trans, div-mul-le_self}
 use Rattle.std.proofs.lemmas.Nat.{pow_pos, div-add-mod', mod_below}
 use Rattle.std.proofs.lemmas.Bool.{cases_lt}
 use Rattle.std.specs.Prelude.{nat_le, nat_lt}
 use Rattle.std.specs.Int.{is_power_of_two}
-use Rattle.verity_hash.specs.Algorithms.{digest_len_of}
+use Rattle.verity_hash.specs.Hashing.{digest_len_of}
 use Rattle.verity_hash.specs.declared.algorithm.Algorithm.{Algorithm}
 use Rattle.verity_hash.specs.declared.algorithm.Algorithm.TheVariants.{Sha256, Sha512, Sha1, Sha224, Sha384}
 use Rattle.verity_hash.specs.declared.salting.SaltRule.{SaltRule}
 use Rattle.verity_hash.specs.declared.salting.SaltRule.TheVariants.{Before, After, PaddedBefore}
-use Rattle.verity_plan.specs.Settings.{Settings, IsValid, fan, digest_len, is_block_size, least_block, greatest_fan}
-use Rattle.verity_plan.specs.Settings.{least_power, least_up_to}
+use Rattle.verity_plan.specs.Settings.{Settings, IsValid, fan, digest_len, is_block_size, least_block, slot_count}
+use Rattle.verity_plan.specs.Settings.{least_power, log2}
 use Rattle.verity_plan.proofs.LeastLemmas.{IsLeast, IsLeast-same, IsLeast-least_from}
-use Rattle.verity_plan.proofs.CountLemmas.{lt-pow_self, mul_le}
+use Rattle.verity_plan.proofs.CountLemmas.{lt-pow_self}
 
--- the greatest power of two with room for as many digests
-pub greatest_fan-is : (len size k : ℕ) → 0 < len → 2 ^ k * len ≤ size → size < 2 ^ (k + 1) * len
-    → greatest_fan len size ≡ 2 ^ k
-unfolding greatest_fan
-greatest_fan-is len size k some low high =
-    let at_least : 1 ≤ len = omega arith in
-    let within : k ≤ size = omega (arith, lt-pow_self 2 k (omega arith), mul-le-mul_right (2 ^ k) at_least, low) in
-    let passing : ltb size (2 ^ (k + 1) * len) ≡ true = grind (arith, nat_tests, high) in
-    let here : IsLeast (λ m. nat_lt size (2 ^ (m + 1) * len)) 0 k = record {
+-- the logarithm is the least exponent that passes its test
+log2-found : (n : ℕ) → IsLeast (λ m. nat_lt n (2 ^ (m + 1))) 0 (log2 n)
+unfolding log2
+log2-found n =
+    let wide : n < 2 ^ (n + 1) = omega (arith, lt-pow_self 2 (n + 1) (omega arith)) in
+    let passing : ltb n (2 ^ (n + 1)) ≡ true = grind (arith, nat_tests, wide) in
+    IsLeast-least_from (λ m. nat_lt n (2 ^ (m + 1))) 0 n n (omega arith) (omega arith) passing
+
+-- the logarithm from the powers that a number lies between
+pub log2-is : (n k : ℕ) → 2 ^ k ≤ n → n < 2 * 2 ^ k → log2 n ≡ k
+log2-is n k low high =
+    let next : suc k ≡ k + 1 = omega arith in
+    let above : n < 2 ^ (k + 1) = omega (arith, pow-suc 2 k, ap (λ (m : ℕ). 2 ^ m) next, high) in
+    let passing : ltb n (2 ^ (k + 1)) ≡ true = grind (arith, nat_tests, above) in
+    IsLeast-same (λ m. nat_lt n (2 ^ (m + 1))) 0 _ k (log2-found n) (record {
       from = omega arith;
       passing = passing;
       least = λ m a b.
           let two : 0 < 2 = omega arith in
           let more : m + 1 ≤ k = omega (arith, b) in
-          let below : 2 ^ (m + 1) * len ≤ size = le_trans (mul-le-mul_right len (pow-le-pow_right two more)) low in
-          let failing : ltb size (2 ^ (m + 1) * len) ≡ false = grind (arith, nat_tests, below) in failing;
-    } in
-    let found = IsLeast-least_from (λ m. nat_lt size (2 ^ (m + 1) * len)) 0 size k (omega arith)
-    (omega (arith, within)) passing in
-    ap (λ (m : ℕ). 2 ^ m) (IsLeast-same (λ m. nat_lt size (2 ^ (m + 1) * len)) 0 _ k found here)
+          let below : 2 ^ (m + 1) ≤ n = le_trans (pow-le-pow_right two more) low in
+          let failing : ltb n (2 ^ (m + 1)) ≡ false = grind (arith, nat_tests, below) in failing;
+    })
+
+power_low : (n k : ℕ) → 0 < n → IsLeast (λ m. nat_lt n (2 ^ (m + 1))) 0 k → 2 ^ k ≤ n
+power_low n zero some found = omega (arith, pow-zero 2)
+power_low n (suc k) some found =
+    let fail : ltb n (2 ^ (k + 1)) ≡ false = found.least k (omega arith) (omega arith) in
+    let e : k + 1 ≡ suc k = omega arith in
+    let low : 2 ^ (k + 1) ≤ n = grind (arith, nat_tests, fail) in
+    omega (arith, low, ap (λ (m : ℕ). 2 ^ m) e)
+
+power_high : (n k : ℕ) → IsLeast (λ m. nat_lt n (2 ^ (m + 1))) 0 k → n < 2 * 2 ^ k
+power_high n k found =
+    let passing : ltb n (2 ^ (k + 1)) ≡ true = found.passing in
+    let lt : n < 2 ^ (k + 1) = grind (arith, nat_tests, passing) in
+    let one_more : k + 1 ≡ suc k = omega arith in
+    omega (arith, lt, pow-suc 2 k, ap (λ (m : ℕ). 2 ^ m) one_more)
+
+-- a number lies between the powers of its logarithm and of the next exponent
+log2-low : (n : ℕ) → 0 < n → 2 ^ log2 n ≤ n
+log2-low n some = power_low n (log2 n) some (log2-found n)
+
+log2-high : (n : ℕ) → n < 2 * 2 ^ log2 n
+log2-high n = power_high n (log2 n) (log2-found n)
 
 -- half of a power of two that is not above a length is below it, as are the powers before it
 half_below : (len k m : ℕ) → 2 ^ k / 2 < max 1 len → m < k → 2 ^ m < len
@@ -66,15 +91,20 @@ least_power-is len k high low =
     let found = IsLeast-least_from (λ m. nat_le len (2 ^ m)) 0 len k (omega arith) (omega (arith, within)) passing in
     ap (λ (m : ℕ). 2 ^ m) (IsLeast-same (λ m. nat_le len (2 ^ m)) 0 _ k found here)
 
--- the greatest fan from a quotient
-pub greatest_fan-quotient : (len size k : ℕ) → 0 < len → 2 ^ k ≤ size / len → size / len < 2 * 2 ^ k
-    → greatest_fan len size ≡ 2 ^ k
-greatest_fan-quotient len size k some low high =
-    let one_more : k + 1 ≡ suc k = omega arith in
-    let next : size / len + 1 ≤ 2 ^ (k + 1) = omega (arith, pow-suc 2 k, ap (λ (n : ℕ). 2 ^ n) one_more, high) in
-    greatest_fan-is len size k some
-    (omega (arith, mul-le-mul_right len low, div-mul-le_self size len))
-    (omega (arith, mul-le-mul_right len next, div-add-mod' size len, mod_below size len some))
+-- the fan-out from the powers that the quotient lies between
+pub slot_count-quotient : (len size k : ℕ) → 2 ^ k ≤ size / len → size / len < 2 * 2 ^ k
+    → slot_count len size ≡ 2 ^ k
+unfolding slot_count
+slot_count-quotient len size k low high = ap (λ (m : ℕ). 2 ^ m) (log2-is (size / len) k low high)
+
+-- a number whose product with the divisor fits is within the quotient
+le-quotient : (n size len : ℕ) → 0 < len → n * len ≤ size → n ≤ size / len
+le-quotient n size len some fits = elim (cases_lt (size / len) n) [
+  | inl less ↦
+      let next : size / len + 1 ≤ n = omega arith in
+      absurd (omega (arith, mul-le-mul_right len next, div-add-mod' size len, mod_below size len some, fits))
+  | inr le ↦ le
+]
 
 -- a digest has at least one byte
 pub digest_len_of-pos : (algorithm : Algorithm) → 0 < digest_len_of algorithm
@@ -92,7 +122,7 @@ digest_len_of-most Sha1 = omega arith
 digest_len_of-most Sha224 = omega arith
 digest_len_of-most Sha384 = omega arith
 
--- what a block size is
+-- the least block size
 block_least : (least size : ℕ) → is_block_size least size ≡ true → least ≤ size
 block_least least size h = grind (arith, nat_tests, h)
 
@@ -112,40 +142,30 @@ some_block : (rule : SaltRule) (algorithm : Algorithm) (size : ℕ)
     → is_block_size (least_block rule (digest_len_of algorithm)) size ≡ true → 0 < size
 some_block rule algorithm size h = omega (arith, two_slots_by rule algorithm size h, digest_len_of-pos algorithm)
 
-two_from_power : (len size k : ℕ) → 2 * len ≤ size → ltb size (2 ^ (k + 1) * len) ≡ true → 2 ≤ 2 ^ k
-two_from_power len size zero two passing =
-    let one : 2 ^ (0 + 1) ≡ 2 = refl in
-    let lt : size < 2 ^ (0 + 1) * len = grind (arith, nat_tests, passing) in
-    absurd (omega (arith, two, lt, ap (λ (n : ℕ). n * len) one))
-two_from_power len size (suc k) two passing = omega (arith, pow-suc 2 k, pow_pos k)
+two_from_power : (n k : ℕ) → 2 ≤ n → n < 2 * 2 ^ k → 2 ≤ 2 ^ k
+two_from_power n zero two high = absurd (omega (arith, two, high, pow-zero 2))
+two_from_power n (suc k) two high = omega (arith, pow-suc 2 k, pow_pos k)
 
--- the exponent of the greatest fan
-pub greatest_fan-found : (len size : ℕ) → 0 < len
-    → IsLeast (λ m. nat_lt size (2 ^ (m + 1) * len)) 0 (least_up_to size (λ m. nat_lt size (2 ^ (m + 1) * len)))
-greatest_fan-found len size some =
-    let at_least : 1 ≤ len = omega arith in
-    let base : 2 ≤ 2 = omega arith in
-    let wide : size < 2 ^ (size + 1) * len =
-    omega (arith, lt-pow_self 2 (size + 1) base, mul_le 1 len (2 ^ (size + 1)) at_least) in
-    let passing : ltb size (2 ^ (size + 1) * len) ≡ true = grind (arith, nat_tests, wide) in
-    IsLeast-least_from (λ m. nat_lt size (2 ^ (m + 1) * len)) 0 size size (omega arith) (omega arith) passing
+-- a fan-out is at least 2 if two digests fit
+pub slot_count-two : (len size : ℕ) → 0 < len → 2 * len ≤ size → 2 ≤ slot_count len size
+unfolding slot_count
+slot_count-two len size some two =
+    two_from_power (size / len) (log2 (size / len)) (le-quotient 2 size len some two) (log2-high (size / len))
 
--- a fan is at least 2 where two digests fit
-pub greatest_fan-two : (len size : ℕ) → 0 < len → 2 * len ≤ size → 2 ≤ greatest_fan len size
-unfolding greatest_fan
-greatest_fan-two len size some two = two_from_power len size _ two (greatest_fan-found len size some).passing
-
-twice_power : (len size k : ℕ) → ltb size (2 ^ (k + 1) * len) ≡ true → size < 2 * 2 ^ k * len
-twice_power len size k passing =
-    let lt : size < 2 ^ (k + 1) * len = grind (arith, nat_tests, passing) in
-    let one_more : k + 1 ≡ suc k = omega arith in
-    let twice : 2 ^ (k + 1) ≡ 2 * 2 ^ k = omega (arith, pow-suc 2 k, ap (λ (n : ℕ). 2 ^ n) one_more) in
-    rw twice at lt
+-- as many digests as the fan-out fit
+pub slot_count-fits : (len size : ℕ) → 0 < len → len ≤ size → slot_count len size * len ≤ size
+unfolding slot_count
+slot_count-fits len size some one =
+    let within : 1 ≤ size / len = le-quotient 1 size len some (omega (arith, one)) in
+    let low = log2-low (size / len) within in
+    omega (arith, mul-le-mul_right len low, div-mul-le_self size len)
 
 -- twice as many digests don't fit
-pub greatest_fan-below : (len size : ℕ) → 0 < len → size < 2 * greatest_fan len size * len
-unfolding greatest_fan
-greatest_fan-below len size some = twice_power len size _ (greatest_fan-found len size some).passing
+pub slot_count-below : (len size : ℕ) → 0 < len → size < 2 * slot_count len size * len
+unfolding slot_count
+slot_count-below len size some =
+    let high : size / len + 1 ≤ 2 * 2 ^ log2 (size / len) = omega (arith, log2-high (size / len)) in
+    omega (arith, mul-le-mul_right len high, div-add-mod' size len, mod_below size len some)
 
 -- a hash block has room for two digests
 pub two_slots : (s : Settings) → IsValid s → 2 * digest_len s ≤ s.hash_block
@@ -164,16 +184,16 @@ hash_most s valid = block_most (least_block s.rule (digest_len s)) s.hash_block 
 
 pub fan-two : (s : Settings) → IsValid s → 2 ≤ fan s
 unfolding fan
-fan-two s valid = greatest_fan-two (digest_len s) s.hash_block (digest_len_of-pos s.algorithm) (two_slots s valid)
+fan-two s valid = slot_count-two (digest_len s) s.hash_block (digest_len_of-pos s.algorithm) (two_slots s valid)
 
--- a fan is a power of two
+-- a fan-out is a power of two
 pub fan-power : (s : Settings) → (k : ℕ) × (fan s ≡ 2 ^ k)
-unfolding fan greatest_fan
-fan-power s = (least_up_to s.hash_block (λ k. nat_lt s.hash_block (2 ^ (k + 1) * digest_len s)), refl)
+unfolding fan slot_count
+fan-power s = (log2 (s.hash_block / digest_len s), refl)
 
 pub fan-some : (s : Settings) → 0 < fan s
 fan-some s = let power = fan-power s in omega (arith, power.1, pow_pos power.0)
 
 pub fan-greatest : (s : Settings) → s.hash_block < 2 * fan s * digest_len s
 unfolding fan
-fan-greatest s = greatest_fan-below (digest_len s) s.hash_block (digest_len_of-pos s.algorithm)
+fan-greatest s = slot_count-below (digest_len s) s.hash_block (digest_len_of-pos s.algorithm)

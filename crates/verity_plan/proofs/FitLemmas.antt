@@ -1,33 +1,19 @@
 -- A hash block has room for its slots.
-use Rattle.std.proofs.Common.{◌≡◌, ℕ, zero, suc, ◌+◌, ◌-◌, ◌*◌, ◌^◌, ◌<◌, ◌≤◌, true, false, ltb, leb, arith, ap, refl}
+use Rattle.std.proofs.Common.{◌≡◌, ℕ, zero, suc, ◌+◌, ◌-◌, ◌*◌, ◌^◌, ◌<◌, ◌≤◌, true, false, leb, arith, ap, refl}
 use Rattle.std.proofs.Common.{sym, subst, ◌∙◌, inl, inr}
 use Rattle.std.proofs.lemmas.Bool.{cases_lt}
 use Rattle.std.proofs.lemmas.Bool.Decides.{nat_tests}
 use Rattle.std.proofs.lemmas.Nat.{leading_top, ones_cat, pow-add, pow_pos, zero_from_ones}
 use Rattle.std.proofs.Math.Nat.{mul-le-mul_left, pow-le-pow_right, pow-suc, pow-zero}
-use Rattle.std.specs.Prelude.{nat_le, nat_lt, count_ones}
+use Rattle.std.specs.Prelude.{nat_le, count_ones}
 use Rattle.std.specs.Int.{is_power_of_two}
 use Rattle.verity_hash.specs.declared.salting.SaltRule.{SaltRule}
 use Rattle.verity_hash.specs.declared.salting.SaltRule.TheVariants.{Before, After, PaddedBefore}
 use Rattle.verity_plan.specs.Settings.{Settings, IsValid, fan, digest_len, least_block, slot_width, width_by}
-use Rattle.verity_plan.specs.Settings.{least_up_to, greatest_fan, least_power}
+use Rattle.verity_plan.specs.Settings.{least_up_to, slot_count, least_power}
 use Rattle.verity_plan.proofs.LeastLemmas.{IsLeast, IsLeast-least_from}
 use Rattle.verity_plan.proofs.CountLemmas.{lt-pow_self, mul_le}
-use Rattle.verity_plan.proofs.FanLemmas.{block_power, digest_len_of-pos, fan-two, greatest_fan-found, two_slots}
-
-fits_from_power : (len size k : ℕ) → len ≤ size → IsLeast (λ m. nat_lt size (2 ^ (m + 1) * len)) 0 k
-    → 2 ^ k * len ≤ size
-fits_from_power len size zero one found = omega (arith, pow-zero 2, one, ap (λ (n : ℕ). n * len) (pow-zero 2))
-fits_from_power len size (suc k) one found =
-    let fail : ltb size (2 ^ (k + 1) * len) ≡ false = found.least k (omega arith) (omega arith) in
-    let e : k + 1 ≡ suc k = omega arith in
-    let low : 2 ^ (k + 1) * len ≤ size = grind (arith, nat_tests, fail) in
-    omega (arith, low, ap (λ (n : ℕ). 2 ^ n * len) e)
-
--- as many digests as the fan fit
-pub greatest_fan-fits : (len size : ℕ) → 0 < len → len ≤ size → greatest_fan len size * len ≤ size
-unfolding greatest_fan
-greatest_fan-fits len size some one = fits_from_power len size _ one (greatest_fan-found len size some)
+use Rattle.verity_plan.proofs.FanLemmas.{block_power, digest_len_of-pos, fan-two, slot_count-fits, two_slots}
 
 -- a number with one bit set is a power of two
 pub power_of_two-is : (n : ℕ) → 0 < n → is_power_of_two n ≡ true → (k : ℕ) × (n ≡ 2 ^ k)
@@ -72,7 +58,7 @@ pub least_power-half : (len : ℕ) → 0 < len → least_power len < 2 * len
 unfolding least_power
 least_power-half len some = half_short len _ some (least_power-found len)
 
--- where so many digests fit into a power of two, so many of their slots do, each the least power of two that holds one
+-- if some digests fit into a power of two, so do their slots, each the least power of two that holds a digest
 slots_fit_power : (len b k w : ℕ) → 0 < len → 2 ^ k * len ≤ 2 ^ b → IsLeast (λ m. nat_le len (2 ^ m)) 0 w
     → 2 ^ k * 2 ^ w ≤ 2 ^ b
 slots_fit_power len b k zero some low found =
@@ -92,20 +78,20 @@ slots_fit_power len b k (suc m) some low found =
     let next : k + suc m ≤ b = omega arith in
     omega (arith, pow-add 2 k (suc m), pow-le-pow_right two next)
 
-power_fits : (len b : ℕ) → 0 < len → len ≤ 2 ^ b → greatest_fan len (2 ^ b) * least_power len ≤ 2 ^ b
-unfolding greatest_fan least_power
+power_fits : (len b : ℕ) → 0 < len → len ≤ 2 ^ b → slot_count len (2 ^ b) * least_power len ≤ 2 ^ b
+unfolding slot_count least_power
 power_fits len b some one =
-    slots_fit_power len b _ _ some (greatest_fan-fits len (2 ^ b) some one) (least_power-found len)
+    slots_fit_power len b _ _ some (slot_count-fits len (2 ^ b) some one) (least_power-found len)
 
--- as many slots as the fan fit, by the rule
+-- as many slots as the fan-out fit, by the rule
 width_fits : (rule : SaltRule) (len size : ℕ) → 0 < len → len ≤ size → is_power_of_two size ≡ true
-    → greatest_fan len size * width_by rule len ≤ size
+    → slot_count len size * width_by rule len ≤ size
 width_fits Before len size some one power =
     let exponent = power_of_two-is size (omega (arith, some, one)) power in
-    subst (λ (n : ℕ). greatest_fan len n * least_power len ≤ n) (sym exponent.1)
+    subst (λ (n : ℕ). slot_count len n * least_power len ≤ n) (sym exponent.1)
     (power_fits len exponent.0 some (omega (arith, one, exponent.1)))
-width_fits After len size some one power = greatest_fan-fits len size some one
-width_fits PaddedBefore len size some one power = greatest_fan-fits len size some one
+width_fits After len size some one power = slot_count-fits len size some one
+width_fits PaddedBefore len size some one power = slot_count-fits len size some one
 
 width_above : (rule : SaltRule) (len : ℕ) → len ≤ width_by rule len
 width_above Before len = least_power-above len
@@ -117,7 +103,7 @@ pub digest-slot : (s : Settings) → digest_len s ≤ slot_width s
 unfolding slot_width
 digest-slot s = width_above s.rule (digest_len s)
 
--- as many slots as the fan fit
+-- as many slots as the fan-out fit
 pub fan-fits : (s : Settings) → IsValid s → fan s * slot_width s ≤ s.hash_block
 unfolding fan slot_width
 fan-fits s valid =
@@ -133,10 +119,10 @@ hash_block-some s two fits =
     let wide : 1 ≤ slot_width s = omega (arith, digest-slot s, digest_len_of-pos s.algorithm) in
     omega (arith, mul-le-mul_left (fan s) wide, two, fits)
 
--- as many digests as the fan fit, where one does
+-- as many digests as the fan-out fit, if one does
 pub fan-digests : (s : Settings) → digest_len s ≤ s.hash_block → fan s * digest_len s ≤ s.hash_block
 unfolding fan
-fan-digests s one = greatest_fan-fits (digest_len s) s.hash_block (digest_len_of-pos s.algorithm) one
+fan-digests s one = slot_count-fits (digest_len s) s.hash_block (digest_len_of-pos s.algorithm) one
 
 -- dm-verity's slots: the least power of two that is not below the digest
 pub slot-power : (s : Settings) → s.rule ≡ Before → (k : ℕ) × (slot_width s ≡ 2 ^ k)

@@ -1,4 +1,4 @@
--- What the least number that passes a test is.
+-- The least number that passes a test.
 use Rattle.std.proofs.Common.{◌≡◌, ℕ, zero, suc, ◌+◌, ◌<◌, ◌≤◌, Bool, true, false, arith, sym, ◌∙◌, ap, subst, refl}
 use Rattle.std.proofs.Common.{inl, inr}
 use Rattle.std.proofs.lemmas.Bool.{cases_lt, cases_eq}
@@ -25,7 +25,7 @@ IsLeast-same passes l x y h k =
     let b : y ≤ x = IsLeast-le passes l y x k h.from h.passing in
     omega arith
 
--- where some number passes within the fuel, the least is found
+-- if some number passes within the fuel, the least is found
 pub IsLeast-least_from : (passes : ℕ → Bool) (l fuel k : ℕ) → l ≤ k → k ≤ l + fuel → passes k ≡ true
     → IsLeast passes l (least_from passes l fuel)
 unfolding least_from

@@ -9,11 +9,10 @@ use Rattle.std.proofs.lemmas.Bool.Decides.{nat_tests}
 use Rattle.std.proofs.lemmas.Nat.{div-add-mod', mod_below}
 use Rattle.std.specs.Prelude.{◌==◌, Bool, nat_le, nat_eq, true, false, Ok, Err}
 use Rattle.verity_io.specs.Writing.{most_bytes}
-use Rattle.verity_plan.specs.Plans.{planned, Planned, IsPlanned, HasBlock, byte_of, place_of, levels_of, end_of}
-use Rattle.verity_plan.specs.Plans.{store_length_of, has_room}
+use Rattle.verity_plan.specs.Plans.{valid_plan, Planned, IsPlanned, HasBlock, byte_of, place_of, levels_of, end_of}
+use Rattle.verity_plan.specs.Plans.{store_length_of, has_room, level_count, level_size}
 use Rattle.verity_plan.specs.declared.plan_fault.PlanFault.TheVariants.{NoData, TooLarge}
 use Rattle.std.specs.Int.{div_ceil}
-use Rattle.verity_plan.specs.Counts.{level_count, level_size}
 use Rattle.verity_plan.specs.Settings.{fan}
 use Rattle.verity_plan.proofs.CountLemmas.{div_ceil-div_ceil, IsLevelCount-level_count, le-div_ceil, div_ceil-le}
 use Rattle.verity_plan.proofs.FanLemmas.{fan-two, some_data, two_slots, digest_len_of-pos, data_most, hash_most}
@@ -35,7 +34,7 @@ div_ceil-half n a two more =
     div_ceil-le n a ((n + 1) / 2) (omega arith) (omega (arith, mul-le-mul_left ((n + 1) / 2) two)) in
     omega (arith, half)
 
--- where more than one block is left there is a level more
+-- if more than one block is left, there is one more level
 pub levels-more : (fan n k size : ℕ) → 2 ≤ fan → size ≡ div_ceil n (fan ^ k) → 1 < size → k < level_count fan n
 levels-more fan n k size two is more =
     let count = IsLevelCount-level_count fan n two in
@@ -54,7 +53,7 @@ levels-more fan n k size two is more =
           ))
     ]
 
--- where one block is left there is no level more
+-- if one block is left, there are no more levels
 pub levels-all : (fan n k size : ℕ) → 2 ≤ fan → size ≡ div_ceil n (fan ^ k) → size ≤ 1 → level_count fan n ≤ k
 levels-all fan n k size two is one =
     let count = IsLevelCount-level_count fan n two in
@@ -96,8 +95,8 @@ pub base-le-end : (p : Planned) → p.base ≤ end_of p
 base-le-end p = omega arith
 
 -- no plan for areas past the limit
-pub planned-large : (p : Planned) → 0 < p.blocks → has_room p ≡ false → planned p ≡ Err TooLarge
-planned-large p some none =
+pub valid_plan-large : (p : Planned) → 0 < p.blocks → has_room p ≡ false → valid_plan p ≡ Err TooLarge
+valid_plan-large p some none =
     let tested : nat_eq p.blocks 0 ≡ false = grind (arith, nat_tests, some) in
     rw (tested, none) refl
 
@@ -141,7 +140,7 @@ byte-room p h l j here =
     omega (arith, mul-le-mul_right p.settings.hash_block step, h.hash_most)
 
 -- a plan that is made is the one that was asked for
-pub planned_is : (asked plan : Planned) → Ok plan ≡ planned asked → plan ≡ asked
+pub planned_is : (asked plan : Planned) → Ok plan ≡ valid_plan asked → plan ≡ asked
 planned_is asked plan is = by_tests (asked.blocks == 0) (has_room asked) is
   where
     by_tests : (none room : Bool) → Ok plan ≡ cond none (Err NoData) (cond room (Ok asked) (Err TooLarge))

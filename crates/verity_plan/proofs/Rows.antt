@@ -1,19 +1,18 @@
 -- Worked rows: fan-outs, slots, levels and places.
 use Rattle.std.proofs.Common.{◌≡◌, refl}
-use Rattle.verity_plan.specs.Settings.{least_from, greatest_fan, least_power}
-use Rattle.verity_plan.specs.Counts.{level_count}
-use Rattle.verity_plan.specs.Places.{place, end_place}
+use Rattle.verity_plan.specs.Settings.{least_from, log2, slot_count, least_power}
+use Rattle.verity_plan.specs.Plans.{level_count, place, end_place}
 
-fan_512 : greatest_fan 32 512 ≡ 16
-unfolding least_from greatest_fan
+fan_512 : slot_count 32 512 ≡ 16
+unfolding least_from log2 slot_count
 fan_512 = refl
 
-fan_4096 : greatest_fan 32 4096 ≡ 128
-unfolding least_from greatest_fan
+fan_4096 : slot_count 32 4096 ≡ 128
+unfolding least_from log2 slot_count
 fan_4096 = refl
 
-fan_20 : greatest_fan 20 512 ≡ 16
-unfolding least_from greatest_fan
+fan_20 : slot_count 20 512 ≡ 16
+unfolding least_from log2 slot_count
 fan_20 = refl
 
 width_48 : least_power 48 ≡ 64
@@ -28,12 +27,12 @@ width_28 : least_power 28 ≡ 32
 unfolding least_from least_power
 width_28 = refl
 
-fan_28 : greatest_fan 28 4096 ≡ 128
-unfolding least_from greatest_fan
+fan_28 : slot_count 28 4096 ≡ 128
+unfolding least_from log2 slot_count
 fan_28 = refl
 
-fan_48 : greatest_fan 48 4096 ≡ 64
-unfolding least_from greatest_fan
+fan_48 : slot_count 48 4096 ≡ 64
+unfolding least_from log2 slot_count
 fan_48 = refl
 
 levels_1 : level_count 16 1 ≡ 0

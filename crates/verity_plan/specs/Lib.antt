@@ -1,5 +1,3 @@
 pub mod Settings
-pub mod Counts
-pub mod Places
 pub mod Plans
 pub mod PlanFields

@@ -1,23 +1,69 @@
--- A plan: what is read, and where each hash block goes; and which sizes make one: at least one data block, and a data
--- area and a hash area of at most as many bytes as a device can have, `most_bytes`.
-use Rattle.std.specs.Prelude.{◌≡◌, ◌<◌, ◌≤◌, ℕ, ◌+◌, ◌*◌, ◌/◌, ◌^◌, ◌&&◌, ◌==◌, Bool, true, false, nat_le, Option}
+-- A plan: how many hash blocks each level has, where they stand, and what is read; and which sizes make one: at least one
+-- data block, and a data area and a hash area of at most as many bytes as a device can have, `most_bytes`.
+--
+-- Levels: Linux kernel, dm-verity page, "Hash Tree". Places, counted in hash blocks: the top level first and level 0
+-- last, without gaps (the same page, "On-disk format": a depth at a time, from the root; cryptsetup's on-disk format
+-- page; Linux kernel, fs-verity page, "FS_IOC_READ_VERITY_METADATA").
+use Rattle.std.specs.Prelude.{◌<◌, ◌≤◌, ℕ, ◌+◌, ◌^◌, nat_le, ◌≡◌, ◌-◌, ◌*◌, ◌/◌, ◌&&◌, ◌==◌, Bool, true, false, Option}
 use Rattle.std.specs.Prelude.{Some, None, Result, Ok, Err, if◌then◌else◌}
+use Rattle.std.specs.List.{range_with_len, sum_by}
 use Rattle.std.specs.Int.{div_ceil}
+use Rattle.verity_plan.specs.Settings.{least_up_to, Settings, fan, IsValid}
 use Rattle.verity_io.specs.Writing.{most_bytes}
-use Rattle.verity_plan.specs.Counts.{level_count, level_size, IsTreeBlock}
-use Rattle.verity_plan.specs.Places.{byte_at, place, end_place}
-use Rattle.verity_plan.specs.Settings.{Settings, IsValid, fan}
 use Rattle.verity_plan.specs.declared.plan_fault.PlanFault.{PlanFault}
 use Rattle.verity_plan.specs.declared.plan_fault.PlanFault.TheVariants.{NoData, TooLarge}
 
--- the number of data blocks, the bytes that are read for them, and where the hash area begins, in hash blocks
+-- the number of levels: the least with n ≤ fan ^ levels
+unfoldable pub level_count : ℕ → ℕ → ℕ
+level_count fan n = least_up_to n (λ l. nat_le n (fan ^ l))
+
+-- the least number of levels with n ≤ fan ^ levels
+pub record IsLevelCount (fan n levels : ℕ) : Type 0 where
+  pub enough : n ≤ fan ^ levels
+  pub least : (m : ℕ) → m < levels → fan ^ m < n
+
+-- the number of blocks of a level, level 0 next to the data
+abbrev pub level_size : ℕ → ℕ → ℕ → ℕ
+level_size fan n level = div_ceil n (fan ^ (level + 1))
+
+-- the blocks of some levels from this one upward
+abbrev pub blocks_from : ℕ → ℕ → ℕ → ℕ → ℕ
+blocks_from fan n level levels = sum_by (level_size fan n) (range_with_len level levels)
+
+-- the tree above n data blocks has this block of this level
+pub record IsTreeBlock (fan n level block : ℕ) : Type 0 where
+  pub level_below : level < level_count fan n
+  pub block_below : block < level_size fan n level
+
+-- the place of a block of a level: the levels above it stand before it
+abbrev pub place : ℕ → ℕ → ℕ → ℕ → ℕ → ℕ
+place fan n base level block = base + blocks_from fan n (level + 1) (level_count fan n - (level + 1)) + block
+
+-- the place after all blocks
+abbrev pub end_place : ℕ → ℕ → ℕ → ℕ
+end_place fan n base = base + blocks_from fan n 0 (level_count fan n)
+
+-- the byte at which a block of a level stands
+abbrev pub byte_at : Settings → ℕ → ℕ → ℕ → ℕ → ℕ
+byte_at s n base level block = place (fan s) n base level block * s.hash_block
+
+-- the places are base to the end, each that of one block
+pub record PlacesAreOnce (fan n base : ℕ) : Type 0 where
+  pub within : (l j : ℕ) → IsTreeBlock fan n l j → (base ≤ place fan n base l j)
+      × (place fan n base l j < end_place fan n base)
+  pub once : (l j m k : ℕ) → IsTreeBlock fan n l j → IsTreeBlock fan n m k → place fan n base l j ≡ place fan n base m k
+      → (l ≡ m) × (j ≡ k)
+  pub each : (p : ℕ) → base ≤ p → p < end_place fan n base → (l : ℕ) × (j : ℕ) × IsTreeBlock fan n l j
+      × (place fan n base l j ≡ p)
+
+-- the number of data blocks, the bytes that are read for them, and where the tree begins, in hash blocks
 pub record Planned : Type 0 where
   pub settings : Settings
   pub blocks : ℕ
   pub wanted : ℕ
   pub base : ℕ
 
--- the number of data blocks of so many bytes
+-- the number of data blocks of a size in bytes
 abbrev pub block_count : Settings → ℕ → ℕ
 block_count s size = div_ceil size s.data_block
 
@@ -25,9 +71,9 @@ block_count s size = div_ceil size s.data_block
 abbrev pub superblock_size : ℕ
 superblock_size = 512
 
--- where the hash area begins, in hash blocks: at the first whole hash block after a superblock at this offset, or at
--- the offset where there is no superblock (cryptsetup's on-disk format page; veritysetup(8), `--hash-offset`); none
--- where the superblock's end, or the offset, is past the limit
+-- where the tree begins, in hash blocks: at the first whole hash block after a superblock at this offset, or at
+-- the offset if there is no superblock (cryptsetup's on-disk format page; veritysetup(8), `--hash-offset`); none if the
+-- superblock's end, or the offset, is past the limit
 abbrev pub base_of : ℕ → Bool → ℕ → Option ℕ
 base_of offset true hash_block =
     if nat_le (offset + superblock_size) most_bytes then Some (div_ceil (offset + superblock_size) hash_block) else None
@@ -78,14 +124,15 @@ pub record IsPlanned (p : Planned) : Type 0 where
   pub hash_most : end_of p * p.settings.hash_block ≤ most_bytes
 
 -- the plan, or why there is none
-abbrev pub planned : Planned → Result Planned PlanFault
-planned p = if p.blocks == 0 then Err NoData else (if has_room p then Ok p else Err TooLarge)
+abbrev pub valid_plan : Planned → Result Planned PlanFault
+valid_plan p = if p.blocks == 0 then Err NoData else (if has_room p then Ok p else Err TooLarge)
 
 -- a plan for whole data blocks
 abbrev pub plan_for_blocks : Settings → ℕ → ℕ → Result Planned PlanFault
 plan_for_blocks s blocks base =
-    planned (record { settings = s; blocks = blocks; wanted = blocks * s.data_block; base = base })
+    valid_plan (record { settings = s; blocks = blocks; wanted = blocks * s.data_block; base = base })
 
--- a plan for so many bytes, the last block perhaps not whole
+-- a plan for a size in bytes, the last block perhaps not whole
 abbrev pub plan_for_bytes : Settings → ℕ → ℕ → Result Planned PlanFault
-plan_for_bytes s size base = planned (record { settings = s; blocks = block_count s size; wanted = size; base = base })
+plan_for_bytes s size base = valid_plan
+    (record { settings = s; blocks = block_count s size; wanted = size; base = base })

@@ -1,12 +1,10 @@
 -- What a tree is made by: the construction parameters of the Linux kernel's dm-verity page and the tree parameters of
 -- its fs-verity page; how wide a slot of a hash block is and how many slots a hash block has; and which parameters make
 -- settings.
-use Rattle.std.specs.Prelude.{◌≡◌, ℕ, zero, suc, ◌+◌, ◌*◌, ◌^◌, ◌≤◌, ◌&&◌, ◌==◌, Bool, true, false, not, List, length}
-use Rattle.std.specs.Prelude.{Option, Some, None, Result, Ok, Err, if◌then◌else◌, nat_le, nat_lt}
+use Rattle.std.specs.Prelude.{◌≡◌, ℕ, zero, suc, ◌+◌, ◌*◌, ◌/◌, ◌^◌, ◌≤◌, ◌&&◌, ◌==◌, Bool, true, false, not, List}
+use Rattle.std.specs.Prelude.{length, Option, Some, None, Result, Ok, Err, if◌then◌else◌, nat_le, nat_lt}
 use Rattle.std.specs.Int.{is_power_of_two}
-use Rattle.verity_hash.specs.Algorithms.{digest_len_of}
-use Rattle.verity_hash.specs.Bytes.{filled}
-use Rattle.verity_hash.specs.Salted.{salted_hash}
+use Rattle.verity_hash.specs.Hashing.{digest_len_of, filled, salted_hash}
 use Rattle.verity_hash.specs.declared.algorithm.Algorithm.{Algorithm}
 use Rattle.verity_hash.specs.declared.algorithm.Algorithm.TheVariants.{Sha256, Sha512, Sha1, Sha224, Sha384}
 use Rattle.verity_hash.specs.declared.salting.SaltRule.{SaltRule}
@@ -27,9 +25,13 @@ least_from passes least (suc fuel) =
 abbrev pub least_up_to : ℕ → (ℕ → Bool) → ℕ
 least_up_to most passes = least_from passes 0 most
 
--- the greatest power of two of digests of this length that a hash block has room for
-unfoldable pub greatest_fan : ℕ → ℕ → ℕ
-greatest_fan digest_len hash_block = 2 ^ least_up_to hash_block (λ k. nat_lt hash_block (2 ^ (k + 1) * digest_len))
+-- the binary logarithm, rounded down: the least k with n < 2 ^ (k + 1)
+unfoldable pub log2 : ℕ → ℕ
+log2 n = least_up_to n (λ k. nat_lt n (2 ^ (k + 1)))
+
+-- the number of slots of a hash block: as many digests as have room in it, rounded down to a power of two
+unfoldable pub slot_count : ℕ → ℕ → ℕ
+slot_count digest_len hash_block = 2 ^ log2 (hash_block / digest_len)
 
 -- the least power of two that is not below a length
 unfoldable pub least_power : ℕ → ℕ
@@ -66,7 +68,7 @@ slot s digest = filled (slot_width s) digest
 
 -- the number of slots of a hash block
 unfoldable pub fan : Settings → ℕ
-fan s = greatest_fan (digest_len s) s.hash_block
+fan s = slot_count (digest_len s) s.hash_block
 
 -- the largest block size (of dm-verity, and for fs-verity this project's own); of dm-verity the smallest block size and
 -- the longest salt
@@ -102,9 +104,7 @@ is_verity_block_size size = is_block_size least_verity_block size
 abbrev pub is_of_fsverity : Algorithm → Bool
 is_of_fsverity Sha256 = true
 is_of_fsverity Sha512 = true
-is_of_fsverity Sha1 = false
-is_of_fsverity Sha224 = false
-is_of_fsverity Sha384 = false
+is_of_fsverity _ = false
 
 -- settings that a tree can be made by
 pub record IsValid (s : Settings) : Type 0 where
@@ -114,7 +114,7 @@ pub record IsValid (s : Settings) : Type 0 where
   pub one_size : s.rule ≡ PaddedBefore → s.data_block ≡ s.hash_block
   pub known : s.rule ≡ PaddedBefore → is_of_fsverity s.algorithm ≡ true
 
--- where a hash type has its salt
+-- where the salt goes in a hash type
 abbrev pub rule_of : HashType → SaltRule
 rule_of Original = After
 rule_of Current = Before
@@ -131,14 +131,15 @@ type_of_number number = if number == 0 then Some Original else (if number == 1 t
 -- 256 bytes; cryptsetup's on-disk format page) and of fs-verity (block sizes are powers of two that hold at least two
 -- digests, fsverity(1), `--block-size`, and Linux kernel, fs-verity page, "FS_IOC_ENABLE_VERITY"; salts of up to 32
 -- bytes, the same page). That fs-verity's blocks have at most 524288 bytes is this project's own limit.
-abbrev pub checked : Settings → Result Settings SettingFault
-checked s = if not (is_block_size (least_block s.rule (digest_len_of s.algorithm)) s.data_block) then Err DataBlockSize
+abbrev pub valid_settings : Settings → Result Settings SettingFault
+valid_settings s = if not
+    (is_block_size (least_block s.rule (digest_len_of s.algorithm)) s.data_block) then Err DataBlockSize
     else (if not (is_block_size (least_block s.rule (digest_len_of s.algorithm)) s.hash_block) then Err HashBlockSize
     else (if nat_lt (most_salt s.rule) (length s.salt) then Err SaltSize else Ok s))
 
 -- settings of dm-verity
 abbrev pub verity_settings : Algorithm → HashType → List ℕ → ℕ → ℕ → Result Settings SettingFault
-verity_settings algorithm hash_type salt data_block hash_block = checked (record {
+verity_settings algorithm hash_type salt data_block hash_block = valid_settings (record {
   algorithm = algorithm;
   rule = rule_of hash_type;
   salt = salt;
@@ -149,7 +150,7 @@ verity_settings algorithm hash_type salt data_block hash_block = checked (record
 -- settings of fs-verity: data and tree blocks have one size, and the algorithm is one that fs-verity knows
 abbrev pub fsverity_settings : Algorithm → List ℕ → ℕ → Result Settings SettingFault
 fsverity_settings algorithm salt block = if not (is_of_fsverity algorithm) then Err OtherAlgorithm
-    else (checked (record {
+    else (valid_settings (record {
       algorithm = algorithm;
       rule = PaddedBefore;
       salt = salt;

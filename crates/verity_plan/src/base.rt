@@ -1,4 +1,4 @@
-//! Where the hash area begins on a hash device.
+//! Where the tree begins on a hash device.
 ghost use Rattle.std.specs.Prelude.{◌≡◌, ◌<◌};
 ghost use Rattle.verity_plan.specs.Plans.{base_of};
 
@@ -9,7 +9,7 @@ pub const SUPERBLOCK_SIZE: usize = 512;
 
 /// The place of the first hash block, counted in hash blocks: the first whole one after a superblock at this offset in
 /// bytes, or, without a superblock, the one at the offset (cryptsetup's on-disk format page; veritysetup(8),
-/// `--hash-offset` and `--no-superblock`). `None` where the superblock's end, or the offset, would be past
+/// `--hash-offset` and `--no-superblock`). `None` if the superblock's end, or the offset, would be past
 /// `MOST_BYTES`. The size of a hash block, in bytes, is above 0.
 pub fn base_of(offset: u64, superblock: bool, hash_block: u32) -> Option<u64>
     requires { 0 < hash_block }

@@ -34,7 +34,7 @@ impl HashType {
         }
     }
 
-    /// The hash type of a number, or `None` where it is no type's.
+    /// The hash type of a number, or `None` if no type has it.
     pub fn from_number(number: u64) -> Option<HashType>
         ensures { result ≡ type_of_number number }
     {

@@ -3,8 +3,8 @@ ghost use Rattle.std.specs.Prelude.{◌≡◌, ℕ, ◌+◌, ◌-◌, ◌*◌, �
 ghost use Rattle.std.specs.Fork.{slice_chunk};
 ghost use Rattle.verity_io.specs.Writing.{most_bytes};
 ghost use Rattle.verity_plan.specs.Plans.{Planned, IsPlanned, byte_of, levels_of, size_of_level, place_of, end_of};
-ghost use Rattle.verity_plan.specs.Plans.{store_length_of, size_under, HasBlock, planned, plan_for_blocks};
-ghost use Rattle.verity_plan.specs.Plans.{plan_for_bytes};
+ghost use Rattle.verity_plan.specs.Plans.{store_length_of, size_under, HasBlock, valid_plan, plan_for_blocks};
+ghost use Rattle.verity_plan.specs.Plans.{plan_for_bytes, level_count, blocks_from};
 ghost use Rattle.verity_plan.specs.Settings.{digest_len, fan, hash, slot_width};
 
 use crate::{PlanFault, TreeSettings};
@@ -42,43 +42,43 @@ impl Model for Plan {
 }
 
 ghost use Rattle.std.specs.Int.{div_ceil};
-ghost use Rattle.verity_plan.specs.Counts.{level_count, blocks_from};
 
 impl Plan {
-    /// A plan for so many whole data blocks, with the hash area from block `base` on, counted in hash blocks (Linux
-    /// kernel, dm-verity page, "Construction Parameters").
+    /// A plan for a number of whole data blocks, with the hash area from block `base` on, counted in hash blocks
+    /// (Linux kernel, dm-verity page, "Construction Parameters").
     ///
-    /// `NoData` for no blocks; else `TooLarge` where the data area or the hash area, which ends after the last hash
-    /// block, would go past 2^63 - 1 bytes.
+    /// `NoData` if there are no blocks; else `TooLarge` if the data area or the hash area, which ends after the last
+    /// hash block, would go past 2^63 - 1 bytes.
     pub fn for_blocks(settings: &TreeSettings, blocks: u64, base: u64) -> Result<Plan, PlanFault>
         ensures { result ≡ plan_for_blocks settings.now blocks base }
     {
         match blocks.checked_mul(u64::from(settings.data_block())) {
-            Some(wanted) => Plan::checked(settings, blocks, wanted, base),
+            Some(wanted) => Plan::try_new(settings, blocks, wanted, base),
             None => Err(PlanFault::TooLarge),
         }
     }
 
-    /// A plan for so many bytes, the last data block perhaps not whole, with the hash area from block `base` on,
+    /// A plan for a number of bytes, the last data block perhaps not whole, with the hash area from block `base` on,
     /// counted in hash blocks (Linux kernel, fs-verity page, "Merkle tree").
     ///
-    /// `NoData` for no bytes; else `TooLarge` where the data area, in whole blocks, or the hash area would go past
-    /// 2^63 - 1 bytes.
+    /// `NoData` if there are no bytes; else `TooLarge` if the data area, in whole blocks, or the hash area would go
+    /// past 2^63 - 1 bytes.
     pub fn for_bytes(settings: &TreeSettings, size: u64, base: u64) -> Result<Plan, PlanFault>
         ensures { result ≡ plan_for_bytes settings.now size base }
     {
         let blocks = size.div_ceil(u64::from(settings.data_block()));
-        Plan::checked(settings, blocks, size, base)
+        Plan::try_new(settings, blocks, size, base)
     }
 
-    fn checked(
+    fn try_new(
         settings: &TreeSettings,
         blocks: u64,
         wanted: u64,
         base: u64,
     ) -> Result<Plan, PlanFault>
         requires { blocks ≡ div_ceil wanted settings.now.data_block }
-        ensures { result ≡ planned (record { settings = settings.now; blocks = blocks; wanted = wanted; base = base }) }
+        ensures { result ≡ valid_plan
+            (record { settings = settings.now; blocks = blocks; wanted = wanted; base = base }) }
     {
         if blocks == 0 {
             return Err(PlanFault::NoData);

@@ -3,9 +3,9 @@ ghost use Rattle.std.specs.Prelude.{true, ◌≡◌, ℕ, ◌*◌, ◌≤◌, �
 ghost use Rattle.std.specs.Fork.{slice_chunk};
 ghost use Rattle.verity_plan.specs.Settings.{Settings, IsValid, hash, fan, slot_width, digest_len, least_block};
 ghost use Rattle.verity_plan.specs.Settings.{is_block_size, is_verity_block_size, is_of_fsverity, most_block};
-ghost use Rattle.verity_plan.specs.Settings.{most_salt, least_power, rule_of, checked, verity_settings};
+ghost use Rattle.verity_plan.specs.Settings.{most_salt, least_power, rule_of, valid_settings, verity_settings};
 ghost use Rattle.verity_plan.specs.Settings.{fsverity_settings};
-ghost use Rattle.verity_hash.specs.Algorithms.{digest_len_of};
+ghost use Rattle.verity_hash.specs.Hashing.{digest_len_of};
 
 use crate::{HashType, SettingFault};
 use std::marker::Model;
@@ -66,7 +66,7 @@ impl TreeSettings {
     ) -> Result<TreeSettings, SettingFault>
         ensures { result ≡ verity_settings algorithm hash_type salt.now data_block hash_block }
     {
-        TreeSettings::checked(algorithm, hash_type.rule(), salt, data_block, hash_block)
+        TreeSettings::try_new(algorithm, hash_type.rule(), salt, data_block, hash_block)
     }
 
     /// Settings of fs-verity: data and tree blocks have one size, a power of two of at least twice the digest's length
@@ -84,10 +84,10 @@ impl TreeSettings {
         if !is_of_fsverity(algorithm) {
             return Err(SettingFault::Algorithm);
         }
-        TreeSettings::checked(algorithm, SaltRule::PaddedBefore, salt, block, block)
+        TreeSettings::try_new(algorithm, SaltRule::PaddedBefore, salt, block, block)
     }
 
-    fn checked(
+    fn try_new(
         algorithm: Algorithm,
         rule: SaltRule,
         salt: &[u8],
@@ -97,7 +97,7 @@ impl TreeSettings {
         requires one_size { rule ≡ PaddedBefore → data_block ≡ hash_block }
         requires known { rule ≡ PaddedBefore → is_of_fsverity algorithm ≡ true }
         ensures { result
-            ≡ checked (record {
+            ≡ valid_settings (record {
               algorithm = algorithm;
               rule = rule;
               salt = salt.now;

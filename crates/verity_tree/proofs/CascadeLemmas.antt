@@ -6,21 +6,19 @@ use Rattle.std.proofs.lemmas.Bool.Decides.{eqb_tells}
 use Rattle.std.proofs.lemmas.Nat.{div-add-mod', div-mul-add}
 use Rattle.std.proofs.Math.Nat.{one-le-pow, pow-suc}
 use Rattle.verity_plan.specs.Settings.{Settings, hash, fan}
-use Rattle.verity_tree.specs.Levels.{risen}
-use Rattle.verity_plan.specs.Counts.{level_count, level_size}
-use Rattle.verity_tree.specs.ClosingOrder.{closing, closes}
-use Rattle.verity_tree.specs.Steps.Cascade.{EndsBlock, closed_to}
-use Rattle.verity_plan.specs.Places.{place, byte_at}
-use Rattle.verity_tree.specs.Steps.OpenBlocks.{digests_under, open_block, filling, IsReached, IsCarrying, IsNext}
+use Rattle.verity_tree.specs.Levels.{blocks_up}
+use Rattle.verity_plan.specs.Plans.{level_count, level_size, place, byte_at, Planned}
+use Rattle.verity_tree.specs.Image.{closing, closes, stored_block, tree_block, device_with}
+use Rattle.verity_tree.specs.Steps.Cascade.{EndsBlock, first_closing}
+use Rattle.verity_tree.specs.Steps.OpenBlocks.{digests_under, open_block, open_block_with, IsReached, IsCarrying}
+use Rattle.verity_tree.specs.Steps.OpenBlocks.{IsNext}
 use Rattle.verity_tree.specs.Steps.OpenBlocks.{IsKept, climb, arrival}
 use Rattle.verity_io.specs.Writing.{put}
-use Rattle.verity_plan.specs.Plans.{Planned}
-use Rattle.verity_tree.specs.Verdicts.{NoneDiffers, StandsThere, stored}
-use Rattle.verity_tree.specs.Image.{tree_block, written}
+use Rattle.verity_tree.specs.Verdicts.{NoneDiffers, StandsThere}
 use Rattle.verity_tree.proofs.QuotientLemmas.{quotient-below, quotient-next, IsReached-full}
-use Rattle.verity_tree.proofs.OpenBlockSteps.{carried-below, carried-next, carried-root, place-first}
-use Rattle.verity_tree.proofs.OrderSplit.{closing-prefix, closing-all, closes-reached, closes-last, closed_to-more}
-use Rattle.verity_tree.proofs.OrderSplit.{closes-none, written-more}
+use Rattle.verity_tree.proofs.OpenBlockSteps.{level_digest-below, level_digest-next, level_digest-root, place-first}
+use Rattle.verity_tree.proofs.OrderSplit.{closing-prefix, closing-all, closes-reached, closes-last, first_closing-more}
+use Rattle.verity_tree.proofs.OrderSplit.{closes-none, device_with-more}
 use Rattle.std.proofs.lemmas.List.Elements.{All-append, All-cons, All-nil}
 
 positive : (k : ℕ) → (k ≡ 0 → ⊥) → k ≡ (k - 1) + 1
@@ -59,27 +57,28 @@ reached-down f i m l some h le =
     let e : m ≡ l + (m - l) = omega arith in
     reached-down-by f i l (m - l) some (subst (λ (n : ℕ). IsReached f i n) e h)
 
--- the digest that is carried is the next of its level
-pub carried-is_next : (s : Settings) (blocks : List (List ℕ)) (i m levels count index a k : ℕ)
+-- the digest on its way up is the next of its level
+pub level_digest-is_next : (s : Settings) (blocks : List (List ℕ)) (i m levels count index a k : ℕ)
     (store block digest : List ℕ) → 2 ≤ fan s
     → i < count → m < levels → index ≡ i / fan s ^ m → a ≡ m * s.hash_block → k ≡ s.hash_block
     → block ≡ take k (drop a store) → count ≡ length blocks → IsCarrying s blocks (climb i m levels) store digest
-    → IsNext s (risen s blocks m) (arrival index block digest)
-carried-is_next s blocks i m levels count index a k store block digest two below inside place from wide was many h =
+    → IsNext s (blocks_up s blocks m) (arrival index block digest)
+level_digest-is_next s blocks i m levels count index a k store block digest two below inside place from wide was many h
+    =
     let some : 0 < fan s = omega arith in
     let less : i < length blocks = omega (arith, below, many) in
     record {
-      here = omega (arith, carried-below s blocks i m some less, place);
+      here = omega (arith, level_digest-below s blocks i m some less, place);
       stands = was ∙ ap (λ (n : ℕ). take n (drop a store)) wide ∙ ap (λ (n : ℕ). take s.hash_block (drop n store)) from
           ∙ h.above m (omega arith) inside ∙ ap (open_block s (digests_under s blocks m)) (sym place);
-      digest_is = h.digest_is ∙ ap (λ (n : ℕ). hash s (get_or (risen s blocks m) n [])) (sym place);
+      digest_is = h.digest_is ∙ ap (λ (n : ℕ). hash s (get_or (blocks_up s blocks m) n [])) (sym place);
     }
 
 -- the block that closes is the tree's
 pub closed-block : (s : Settings) (blocks : List (List ℕ)) (i m count index : ℕ) (last : Bool) → 0 < fan s
     → i < count → last ≡ eqb (i + 1) count → index ≡ i / fan s ^ m → count ≡ length blocks
     → (index % fan s + 1 ≡ fan s) ⊎ (last ≡ true)
-    → filling s (digests_under s blocks m) index ≡ tree_block s blocks m (i / fan s ^ (m + 1))
+    → open_block_with s (digests_under s blocks m) index ≡ tree_block s blocks m (i / fan s ^ (m + 1))
 closed-block s blocks i m count index last some below l place many ends =
     let less : i < length blocks = omega (arith, below, many) in
     let either : (i / fan s ^ m % fan s + 1 ≡ fan s) ⊎ (i + 1 ≡ length blocks) = elim ends [
@@ -89,23 +88,23 @@ closed-block s blocks i m count index last some below l place many ends =
         | inr other ↦ let bad : true ≡ false = sym final ∙ l ∙ other.0 in cc
       ])
     ] in
-    ap (filling s (digests_under s blocks m)) place ∙ sym (carried-next s blocks i m some less either)
+    ap (open_block_with s (digests_under s blocks m)) place ∙ sym (level_digest-next s blocks i m some less either)
 
 -- a block that closed is put at its place
 pub device-closed : (s : Settings) (blocks : List (List ℕ)) (base i m index target : ℕ) (start device new : List ℕ)
-    → filling s (digests_under s blocks m) index ≡ tree_block s blocks m (i / fan s ^ (m + 1))
+    → open_block_with s (digests_under s blocks m) index ≡ tree_block s blocks m (i / fan s ^ (m + 1))
     → target ≡ byte_at s (length blocks) base m (i / fan s ^ (m + 1))
-    → device ≡ written s blocks base (closed_to (fan s) i m) start
-    → new ≡ put device target (filling s (digests_under s blocks m) index)
-    → new ≡ written s blocks base (closed_to (fan s) i (m + 1)) start
+    → device ≡ device_with s blocks base (first_closing (fan s) i m) start
+    → new ≡ put device target (open_block_with s (digests_under s blocks m) index)
+    → new ≡ device_with s blocks base (first_closing (fan s) i (m + 1)) start
 device-closed s blocks base i m index target start device new block to so_far put_is =
     put_is
-    ∙ ap (λ (xs : List ℕ). put xs target (filling s (digests_under s blocks m) index)) so_far
-    ∙ ap (λ (n : ℕ). put (written s blocks base (closed_to (fan s) i m) start) n
-    (filling s (digests_under s blocks m) index)) to
-    ∙ ap (put (written s blocks base (closed_to (fan s) i m) start)
+    ∙ ap (λ (xs : List ℕ). put xs target (open_block_with s (digests_under s blocks m) index)) so_far
+    ∙ ap (λ (n : ℕ). put (device_with s blocks base (first_closing (fan s) i m) start) n
+    (open_block_with s (digests_under s blocks m) index)) to
+    ∙ ap (put (device_with s blocks base (first_closing (fan s) i m) start)
     (byte_at s (length blocks) base m (i / fan s ^ (m + 1)))) block
-    ∙ sym (written-more s blocks base i m start)
+    ∙ sym (device_with-more s blocks base i m start)
 
 -- a level that stays open ends the data block's list
 pub closing-kept : (s : Settings) (blocks : List (List ℕ)) (i m levels count index : ℕ) (last : Bool)
@@ -113,7 +112,7 @@ pub closing-kept : (s : Settings) (blocks : List (List ℕ)) (i m levels count i
     → i < count → m < levels → levels ≡ level_count (fan s) count → last ≡ eqb (i + 1) count → index ≡ i / fan s ^ m
     → count ≡ length blocks
     → IsKept s (arrival index block digest) last after → IsCarrying s blocks (climb i m levels) store digest
-    → closing (fan s) count (i + 1) ≡ closed_to (fan s) i m
+    → closing (fan s) count (i + 1) ≡ first_closing (fan s) i m
 closing-kept s blocks i m levels count index last block after store digest two below inside all l place many kept h =
     let f = fan s in
     let n = length blocks in
@@ -137,16 +136,16 @@ closing-kept s blocks i m levels count index last block after store digest two b
 pub closing-done : (s : Settings) (blocks : List (List ℕ)) (i levels count : ℕ) (store digest : List ℕ) → 2 ≤ fan s
     → i < count → levels ≡ level_count (fan s) count → count ≡ length blocks
     → IsCarrying s blocks (climb i levels levels) store digest
-    → closing (fan s) count (i + 1) ≡ closed_to (fan s) i levels
+    → closing (fan s) count (i + 1) ≡ first_closing (fan s) i levels
 closing-done s blocks i levels count store digest two below all many h =
     let f = fan s in
     let n = length blocks in
     let some : 0 < f = omega arith in
     let top : levels ≡ level_count f n = all ∙ ap (level_count f) many in
-    let done = carried-root s blocks i levels store digest two (omega (arith, below, many)) top h in
+    let done = level_digest-root s blocks i levels store digest two (omega (arith, below, many)) top h in
     ap (λ (k : ℕ). closing f k (i + 1)) many
     ∙ closing-all f n i some (λ j low. closes-last f n i j done.0)
-    ∙ ap (closed_to f i) (sym top)
+    ∙ ap (first_closing f i) (sym top)
 
 -- the block that closes with data block i is one of its level
 pub closing-below : (f count m i : ℕ) → 0 < f → i < count → i / f ^ (m + 1) < level_size f count m
@@ -203,13 +202,14 @@ closes-stopped_all s blocks i m levels count index last store digest some below 
 
 -- one block more that stands there
 pub none-differs-more : (p : Planned) (blocks : List (List ℕ)) (i m : ℕ) (device : List ℕ)
-    → NoneDiffers p blocks device (closed_to (fan p.settings) i m)
-    → stored p device m (i / fan p.settings ^ (m + 1)) ≡ tree_block p.settings blocks m (i / fan p.settings ^ (m + 1))
-    → NoneDiffers p blocks device (closed_to (fan p.settings) i (m + 1))
+    → NoneDiffers p blocks device (first_closing (fan p.settings) i m)
+    → stored_block p device m (i / fan p.settings ^ (m + 1)) ≡ tree_block p.settings blocks m
+    (i / fan p.settings ^ (m + 1))
+    → NoneDiffers p blocks device (first_closing (fan p.settings) i (m + 1))
 none-differs-more p blocks i m device h here =
     let pair : ℕ × ℕ = (m, i / fan p.settings ^ (m + 1)) in
-    subst (NoneDiffers p blocks device) (sym (closed_to-more (fan p.settings) i m))
-    (All-append (StandsThere p blocks device) (closed_to (fan p.settings) i m) (pair ∷ []) h
+    subst (NoneDiffers p blocks device) (sym (first_closing-more (fan p.settings) i m))
+    (All-append (StandsThere p blocks device) (first_closing (fan p.settings) i m) (pair ∷ []) h
     (All-cons (StandsThere p blocks device) pair [] here (All-nil (StandsThere p blocks device))))
 
 same_last : (i n : ℕ) → eqb (i + 1) n ≡ true → i + 1 ≡ n

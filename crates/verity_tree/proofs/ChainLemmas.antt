@@ -12,9 +12,9 @@ use Rattle.std.proofs.Math.Nat.{div-eq_of_lt, mul-le-mul_right}
 use Rattle.std.proofs.Math.Seq.{drop-cons}
 use Rattle.std.specs.Fork.{slice_chunk}
 use Rattle.std.specs.List.{flat_map}
-use Rattle.verity_hash.specs.Bytes.{filled}
-use Rattle.verity_plan.specs.Counts.{level_count}
-use Rattle.verity_tree.specs.Levels.{block_at, cut, hash_block_of, risen, root}
+use Rattle.verity_hash.specs.Hashing.{filled}
+use Rattle.verity_plan.specs.Plans.{level_count}
+use Rattle.verity_tree.specs.Levels.{block_at, cut, hash_block_of, blocks_up, root}
 use Rattle.verity_tree.specs.Steps.OpenBlocks.{digests_under}
 use Rattle.verity_tree.specs.Paths.{true_chain}
 use Rattle.verity_plan.specs.Settings.{Settings, digest_len, fan, hash, slot, slot_width}
@@ -22,17 +22,17 @@ use Rattle.verity_tree.specs.Verdicts.{digest_in}
 use Rattle.verity_plan.proofs.CountLemmas.{IsLevelCount-level_count}
 use Rattle.verity_tree.proofs.PathSteps.{div-pow-zero}
 use Rattle.verity_tree.proofs.OpenBlockLemmas.{block-up, length-hash, length-slots}
-use Rattle.verity_tree.proofs.OpenBlockSteps.{carried-below}
+use Rattle.verity_tree.proofs.OpenBlockSteps.{level_digest-below}
 use Rattle.verity_tree.proofs.QuotientLemmas.{quotient-below, quotient-next}
 use Rattle.verity_tree.proofs.TreeLemmas.{height-level_count}
 
 -- the true chain, by levels up
-pub true_chain-risen : (s : Settings) (blocks : List (List ℕ)) (i l : ℕ)
-    → true_chain s blocks i l ≡ get_or (risen s blocks l) (i / fan s ^ l) []
-unfolding risen
-true_chain-risen s blocks i zero = ap (λ (n : ℕ). get_or blocks n []) (div-pow-zero (fan s) i)
-true_chain-risen s blocks i (suc l) =
-    let e : l + 1 ≡ suc l = omega arith in ap (λ (k : ℕ). get_or (risen s blocks k) (i / fan s ^ k) []) e
+pub true_chain-blocks_up : (s : Settings) (blocks : List (List ℕ)) (i l : ℕ)
+    → true_chain s blocks i l ≡ get_or (blocks_up s blocks l) (i / fan s ^ l) []
+unfolding blocks_up
+true_chain-blocks_up s blocks i zero = ap (λ (n : ℕ). get_or blocks n []) (div-pow-zero (fan s) i)
+true_chain-blocks_up s blocks i (suc l) =
+    let e : l + 1 ≡ suc l = omega arith in ap (λ (k : ℕ). get_or (blocks_up s blocks k) (i / fan s ^ k) []) e
 
 -- a digest is found in its slot
 pub digest_in-slots : (s : Settings) (xs : List (List ℕ)) (t : ℕ) → digest_len s ≤ slot_width s → t < length xs
@@ -66,11 +66,12 @@ digest_in-slots s xs t fits below =
 
 -- the digest of block q is in its slot of the block above
 pub digest-up : (s : Settings) (blocks : List (List ℕ)) (l q : ℕ) → digest_len s ≤ slot_width s → 0 < fan s
-    → q < length (risen s blocks l)
-    → digest_in s (get_or (risen s blocks (l + 1)) (q / fan s) []) (q % fan s) ≡ hash s (get_or (risen s blocks l) q [])
+    → q < length (blocks_up s blocks l)
+    → digest_in s (get_or (blocks_up s blocks (l + 1)) (q / fan s) []) (q % fan s) ≡ hash s
+    (get_or (blocks_up s blocks l) q [])
 digest-up s blocks l q fits some below =
     let f = fan s in
-    let xs = risen s blocks l in
+    let xs = blocks_up s blocks l in
     let split : q / f * f + q % f ≡ q = div-add-mod' q f in
     let low : q % f < f = mod_below q f some in
     let run = take f (drop (q / f * f) xs) in
@@ -91,11 +92,12 @@ pub true_chain-up : (s : Settings) (blocks : List (List ℕ)) (i l : ℕ) → di
     → hash s (true_chain s blocks i l) ≡ digest_in s (true_chain s blocks i (suc l)) (i / fan s ^ l % fan s)
 true_chain-up s blocks i l fits some below =
     let q = i / fan s ^ l in
-    let here : q < length (risen s blocks l) =
-    carried-below s blocks i l some below in
-    ap (hash s) (true_chain-risen s blocks i l)
+    let here : q < length (blocks_up s blocks l) =
+    level_digest-below s blocks i l some below in
+    ap (hash s) (true_chain-blocks_up s blocks i l)
     ∙ sym (digest-up s blocks l q fits some here)
-    ∙ ap (λ (n : ℕ). digest_in s (get_or (risen s blocks (l + 1)) n []) (q % fan s)) (sym (quotient-next (fan s) i l))
+    ∙ ap (λ (n : ℕ). digest_in s (get_or (blocks_up s blocks (l + 1)) n []) (q % fan s))
+    (sym (quotient-next (fan s) i l))
 
 -- and at the top
 pub true_chain-root : (s : Settings) (blocks : List (List ℕ)) (i : ℕ) → 2 ≤ fan s → i < length blocks
@@ -105,9 +107,10 @@ true_chain-root s blocks i two below =
     let levels = level_count (fan s) (length blocks) in
     let enough = (IsLevelCount-level_count (fan s) (length blocks) two).enough in
     let less : i < fan s ^ levels = omega (arith, enough, below) in
-    ap (hash s) (true_chain-risen s blocks i levels)
-    ∙ ap (λ (n : ℕ). hash s (get_or (risen s blocks levels) n [])) (div-eq_of_lt less)
-    ∙ ap (λ (l : ℕ). hash s (get_or (risen s blocks l) 0 [])) (sym (height-level_count s blocks (omega (arith, two))))
+    ap (hash s) (true_chain-blocks_up s blocks i levels)
+    ∙ ap (λ (n : ℕ). hash s (get_or (blocks_up s blocks levels) n [])) (div-eq_of_lt less)
+    ∙ ap (λ (l : ℕ). hash s (get_or (blocks_up s blocks l) 0 []))
+    (sym (height-level_count s blocks (omega (arith, two))))
 
 -- bytes filled to a size have it
 pub length-filled : (n : ℕ) (bytes : List ℕ) → length bytes ≤ n → length (filled n bytes) ≡ n
@@ -121,13 +124,13 @@ pub length-true_chain : (s : Settings) (blocks : List (List ℕ)) (i l : ℕ) �
 length-true_chain s blocks i l fits some room below =
     let f = fan s in
     let q = i / f ^ l in
-    let xs = risen s blocks l in
-    let here : q < length xs = carried-below s blocks i l some below in
+    let xs = blocks_up s blocks l in
+    let here : q < length xs = level_digest-below s blocks i l some below in
     let run = take f (drop (q / f * f) xs) in
     let mapped : slice_chunk (digests_under s blocks l) f (q / f) ≡ map (hash s) run =
     ap (take f) (drop-map (hash s) (q / f * f) xs) ∙ take-map (hash s) f (drop (q / f * f) xs) in
     let few : length run ≤ f = omega (arith, length-take f (drop (q / f * f) xs)) in
-    ap (λ (n : ℕ). length (get_or (risen s blocks (l + 1)) n [])) (quotient-next f i l)
+    ap (λ (n : ℕ). length (get_or (blocks_up s blocks (l + 1)) n [])) (quotient-next f i l)
     ∙ ap length (block-up s blocks l (q / f) (quotient-below q (length xs) f some here) ∙ ap (hash_block_of s) mapped)
     ∙ length-filled s.hash_block (flat_map (slot s) (map (hash s) run))
     (omega (arith, length-slots s run fits, mul-le-mul_right (slot_width s) few, room))

@@ -4,12 +4,12 @@ use Rattle.std.proofs.Common.{arith, sym, ◌∙◌, ap, subst, refl, append_ass
 use Rattle.std.proofs.lemmas.List.{append-nil, length-take, take-append-drop, drop-drop}
 use Rattle.verity_tree.specs.Steps.ClosedBlocks.{Closes, IsCause, closed_block}
 use Rattle.verity_plan.specs.Plans.{Planned, byte_of}
-use Rattle.verity_tree.specs.Verdicts.{stored}
+use Rattle.verity_tree.specs.Image.{stored_block}
 use Rattle.verity_io.specs.Writing.{put, Spoiled}
-use Rattle.verity_tree.specs.declared.closed_block.Cause.{Cause}
-use Rattle.verity_tree.specs.declared.closed_block.Cause.TheVariants.{Failed, Differs}
-use Rattle.verity_tree.specs.declared.closed_block.Task.{Task}
-use Rattle.verity_tree.specs.declared.closed_block.Task.TheVariants.{Write, Compare}
+use Rattle.verity_tree.specs.declared.pass.closed_block.Cause.{Cause}
+use Rattle.verity_tree.specs.declared.pass.closed_block.Cause.TheVariants.{Failed, Differs}
+use Rattle.verity_tree.specs.declared.pass.closed_block.Task.{Task}
+use Rattle.verity_tree.specs.declared.pass.closed_block.Task.TheVariants.{Write, Compare}
 
 -- bytes that stand at a place are as if put there
 pub put-same : (device bytes : List ℕ) (at k : ℕ) → 0 < k → length bytes ≡ k → take k (drop at device) ≡ bytes
@@ -57,7 +57,8 @@ Closes-spoiled p Compare l j bytes before after (Differs part) h =
 
 -- a block that is compared and stands there
 pub Closes-same : (p : Planned) (task : Task) (l j : ℕ) (bytes before after : List ℕ) (done : Unit {0}) → task ≡ Compare
-    → Closes p task (closed_block l j bytes) (Ok done) before after → (after ≡ before) × (stored p before l j ≡ bytes)
+    → Closes p task (closed_block l j bytes) (Ok done) before after → (after ≡ before)
+    × (stored_block p before l j ≡ bytes)
 Closes-same p Write l j bytes before after done compare h = cc
 Closes-same p Compare l j bytes before after done compare h = h
 

@@ -1,4 +1,4 @@
--- One data block taken from the source.
+-- One data block read from the source.
 use Rattle.std.proofs.Common.{List, [], ap, arith, drop, false, get_or, inl, inr, length, length-drop}
 use Rattle.std.proofs.Common.{map, min, refl, subst, sym, take, true, ℕ, ◌*◌, ◌+◌, ◌-◌, ◌/◌, ◌<◌, ◌∙◌}
 use Rattle.std.proofs.Common.{◌≡◌, ◌≤◌}
@@ -8,13 +8,13 @@ use Rattle.std.proofs.lemmas.List.FromFn.{get_or-map-range_with_len}
 use Rattle.std.proofs.lemmas.Slice.{between-put_mid}
 use borrow.Rule.Slice.PartMut.{put_mid}
 use Rattle.std.specs.List.{range_with_len}
-use Rattle.verity_hash.specs.Bytes.{filled}
+use Rattle.verity_hash.specs.Hashing.{filled}
 use Rattle.verity_io.specs.Reading.{HasRead}
 use Rattle.verity_tree.specs.Reading.{EndsWithin, FailsWithin, bytes_of}
 use Rattle.verity_tree.specs.Steps.DataBlocks.{HoldsBlock, StopsWithin}
-use Rattle.verity_tree.specs.Levels.{block_at, cut, risen, data_blocks, whole}
+use Rattle.verity_tree.specs.Levels.{block_at, cut, blocks_up, data_blocks, whole_blocks}
 use Rattle.verity_tree.specs.Steps.PlainRoots.{digest_of_block}
-use Rattle.verity_tree.specs.Steps.OpenBlocks.{carried}
+use Rattle.verity_tree.specs.Steps.OpenBlocks.{level_digest}
 use Rattle.verity_plan.specs.Plans.{IsPlanned, Planned}
 use Rattle.verity_plan.specs.Settings.{Settings, hash, fan}
 use Rattle.verity_plan.proofs.CountLemmas.{mul-lt_div_ceil, div_ceil-pos}
@@ -34,9 +34,9 @@ take-take_min n m xs =
     ]
 
 -- the next bytes of a file in a block are its next block
-block-next : (bytes : List ℕ) (b size i want : ℕ) → i * b < size → want ≡ min b (size - i * b)
-    → filled b (take want (drop (i * b) bytes)) ≡ block_at b (take size bytes) i
-block-next bytes b size i want here w =
+block-next : (bytes : List ℕ) (b size i data_len : ℕ) → i * b < size → data_len ≡ min b (size - i * b)
+    → filled b (take data_len (drop (i * b) bytes)) ≡ block_at b (take size bytes) i
+block-next bytes b size i data_len here w =
     let split : i * b + (size - i * b) ≡ size = omega arith in
     ap (filled b)
     (ap (λ (k : ℕ). take k (drop (i * b) bytes)) w
@@ -50,32 +50,32 @@ record NextBlock (s : Settings) (size i : ℕ) (bytes after block : List ℕ) : 
   pub rest : after ≡ drop (min ((i + 1) * s.data_block) size) bytes
   pub digest : hash s block ≡ digest_of_block s size bytes i
 
-NextBlock-read : (s : Settings) (size i want b : ℕ) (bytes rest after block : List ℕ) → b ≡ s.data_block
+NextBlock-read : (s : Settings) (size i data_len b : ℕ) (bytes rest after block : List ℕ) → b ≡ s.data_block
     → i * s.data_block < size
-    → want ≡ min b (size - i * b) → min (i * s.data_block) size ≤ length bytes
+    → data_len ≡ min b (size - i * b) → min (i * s.data_block) size ≤ length bytes
     → rest ≡ drop (min (i * s.data_block) size) bytes
-    → HoldsBlock want b rest after block → NextBlock s size i bytes after block
-NextBlock-read s size i want b bytes rest after block e here w have goes h =
-    let wanted : want ≡ min s.data_block (size - i * s.data_block) = w ∙ ap (λ (n : ℕ). min n (size - i * n)) e in
+    → HoldsBlock data_len b rest after block → NextBlock s size i bytes after block
+NextBlock-read s size i data_len b bytes rest after block e here w have goes h =
+    let wanted : data_len ≡ min s.data_block (size - i * s.data_block) = w ∙ ap (λ (n : ℕ). min n (size - i * n)) e in
     let place : min (i * s.data_block) size ≡ i * s.data_block = omega arith in
-    let next : min ((i + 1) * s.data_block) size ≡ i * s.data_block + want = omega (arith, wanted) in
+    let next : min ((i + 1) * s.data_block) size ≡ i * s.data_block + data_len = omega (arith, wanted) in
     let from : rest ≡ drop (i * s.data_block) bytes = goes ∙ ap (λ (k : ℕ). drop k bytes) place in
     record {
       enough = omega (arith, next, h.enough, ap length from, length-drop (i * s.data_block) bytes, have);
-      rest = h.rest ∙ ap (drop want) from ∙ drop-drop want (i * s.data_block) bytes
+      rest = h.rest ∙ ap (drop data_len) from ∙ drop-drop data_len (i * s.data_block) bytes
           ∙ ap (λ (k : ℕ). drop k bytes) (sym next);
       digest = ap (hash s)
-          (h.bytes ∙ ap (λ (xs : List ℕ). filled b (take want xs)) from
-          ∙ ap (λ (n : ℕ). filled n (take want (drop (i * s.data_block) bytes))) e
-          ∙ block-next bytes s.data_block size i want here wanted);
+          (h.bytes ∙ ap (λ (xs : List ℕ). filled b (take data_len xs)) from
+          ∙ ap (λ (n : ℕ). filled n (take data_len (drop (i * s.data_block) bytes))) e
+          ∙ block-next bytes s.data_block size i data_len here wanted);
     }
 
 -- the digest of data block i is what comes to level 0
-pub carried-data : (s : Settings) (n wanted i : ℕ) (bytes digest : List ℕ) → i < n
+pub level_digest-data : (s : Settings) (n wanted i : ℕ) (bytes digest : List ℕ) → i < n
     → digest ≡ digest_of_block s wanted bytes i
-    → digest ≡ carried s (cut s n wanted bytes) i 0
-unfolding cut risen
-carried-data s n wanted i bytes digest below is =
+    → digest ≡ level_digest s (cut s n wanted bytes) i 0
+unfolding cut blocks_up
+level_digest-data s n wanted i bytes digest below is =
     is
     ∙ ap (hash s)
     (sym (get_or-map-range_with_len (block_at s.data_block (take wanted bytes)) 0 n i i [] below (omega arith)))
@@ -83,13 +83,13 @@ carried-data s n wanted i bytes digest below is =
     (place-first i (fan s))
 
 -- the next data block is read, and hashed where it stands
-pub data-next : (p : Planned) → IsPlanned p → (i want b a : ℕ) (bytes rest after store new digest : List ℕ)
+pub data-next : (p : Planned) → IsPlanned p → (i data_len b a : ℕ) (bytes rest after store new digest : List ℕ)
     → b ≡ p.settings.data_block → i < p.blocks
-    → want ≡ min b (p.wanted - i * b) → a + b ≤ length store → length new ≡ length (take (a + b - a) (drop a store))
-    → HasRead (bytes_of p i) bytes rest → HoldsBlock want (length (take (a + b - a) (drop a store))) rest after new
+    → data_len ≡ min b (p.wanted - i * b) → a + b ≤ length store → length new ≡ length (take (a + b - a) (drop a store))
+    → HasRead (bytes_of p i) bytes rest → HoldsBlock data_len (length (take (a + b - a) (drop a store))) rest after new
     → digest ≡ hash p.settings (take (a + b - a) (drop a (put_mid a (a + b - a) store new)))
-    → HasRead (bytes_of p (i + 1)) bytes after × (digest ≡ carried p.settings (data_blocks p bytes) i 0)
-data-next p planned i want b a bytes rest after store new digest e below w room len read_before block is =
+    → HasRead (bytes_of p (i + 1)) bytes after × (digest ≡ level_digest p.settings (data_blocks p bytes) i 0)
+data-next p planned i data_len b a bytes rest after store new digest e below w room len read_before block is =
     let s = p.settings in
     let wanted = p.wanted in
     let some = some_data s planned.valid in
@@ -99,13 +99,14 @@ data-next p planned i want b a bytes rest after store new digest e below w room 
     let left : length (drop a store) ≡ length store - a = length-drop a store in
     let size : length (take (a + b - a) (drop a store)) ≡ b =
     length-take-le (a + b - a) (drop a store) (omega (arith, left, room)) ∙ wide in
-    let read : HoldsBlock want b rest after new = subst (λ (k : ℕ). HoldsBlock want k rest after new) size block in
-    let next = NextBlock-read s wanted i want b bytes rest after new e here w read_before.enough read_before.rest
+    let read : HoldsBlock data_len b rest after new = subst
+    (λ (k : ℕ). HoldsBlock data_len k rest after new) size block in
+    let next = NextBlock-read s wanted i data_len b bytes rest after new e here w read_before.enough read_before.rest
     read in
     let stands : take (a + b - a) (drop a (put_mid a (a + b - a) store new)) ≡ new =
     between-put_mid a (a + b - a) store new (a + b) (omega (arith, room)) (len ∙ size ∙ sym wide) in (
       record { enough = next.enough; rest = next.rest },
-      carried-data s p.blocks wanted i bytes digest below (is ∙ ap (hash s) stands ∙ next.digest),
+      level_digest-data s p.blocks wanted i bytes digest below (is ∙ ap (hash s) stands ∙ next.digest),
     )
 
 -- nothing was read of the source
@@ -114,7 +115,7 @@ HasRead-none p bytes =
     let none : min (0 * p.settings.data_block) p.wanted ≡ 0 = omega arith in
     record { enough = omega (arith, none); rest = ap (λ (k : ℕ). drop k bytes) (sym none) }
 
--- so many runs are within a quotient
+-- runs that fit are within the quotient
 le-div : (i n a : ℕ) → 0 < a → i * a ≤ n → i ≤ n / a
 le-div i n a some h = elim (cases_lt (n / a) i) [
   | inl less ↦
@@ -133,13 +134,13 @@ blocks-some p planned =
     )
 
 -- bytes that hold all that is wanted hold all blocks
-pub whole-all : (p : Planned) (bytes : List ℕ) → p.wanted ≤ length bytes → whole p bytes ≡ p.blocks
-whole-all p bytes enough =
+pub whole_blocks-all : (p : Planned) (bytes : List ℕ) → p.wanted ≤ length bytes → whole_blocks p bytes ≡ p.blocks
+whole_blocks-all p bytes enough =
     let tested : nat_le p.wanted (length bytes) ≡ true = grind (arith, nat_tests, enough) in rw tested refl
 
 -- bytes that end within block i hold i blocks
 pub whole-short : (p : Planned) (i : ℕ) (bytes : List ℕ) → bytes_of p i ≤ length bytes
-    → length bytes < bytes_of p (i + 1) → whole p bytes ≡ i
+    → length bytes < bytes_of p (i + 1) → whole_blocks p bytes ≡ i
 whole-short p i bytes enough short =
     let less : length bytes < p.wanted = omega (arith, short) in
     let tested : nat_le p.wanted (length bytes) ≡ false = grind (arith, nat_tests, less) in
@@ -147,23 +148,25 @@ whole-short p i bytes enough short =
     let to : length bytes < (i + 1) * p.settings.data_block = omega (arith, short) in
     rw tested (div-eq_of_lt-le p.settings.data_block from to)
 
--- bytes of which i blocks were read hold as many
-pub whole-above : (p : Planned) → IsPlanned p → (i : ℕ) (bytes : List ℕ) → i ≤ p.blocks → bytes_of p i ≤ length bytes
-    → i ≤ whole p bytes
-whole-above p planned i bytes within enough = elim (cases_lt (length bytes) p.wanted) [
+-- bytes of which i blocks were read hold at least i blocks
+pub whole_blocks-above : (p : Planned) → IsPlanned p → (i : ℕ) (bytes : List ℕ) → i ≤ p.blocks
+    → bytes_of p i ≤ length bytes
+    → i ≤ whole_blocks p bytes
+whole_blocks-above p planned i bytes within enough = elim (cases_lt (length bytes) p.wanted) [
   | inl less ↦
       let tested : nat_le p.wanted (length bytes) ≡ false = grind (arith, nat_tests, less) in
       let from : i * p.settings.data_block ≤ length bytes = omega (arith, enough, less) in
       rw tested (le-div i (length bytes) p.settings.data_block (some_data p.settings planned.valid) from)
-  | inr all ↦ omega (arith, whole-all p bytes all, within)
+  | inr all ↦ omega (arith, whole_blocks-all p bytes all, within)
 ]
 
 -- the source ends within block i
-pub short-within : (p : Planned) → IsPlanned p → (i want b : ℕ) (bytes rest after : List ℕ) → b ≡ p.settings.data_block
+pub short-within : (p : Planned) → IsPlanned p → (i data_len b : ℕ) (bytes rest after : List ℕ)
+    → b ≡ p.settings.data_block
     → i < p.blocks
-    → want ≡ min b (p.wanted - i * b) → HasRead (bytes_of p i) bytes rest → length rest < want → after ≡ []
+    → data_len ≡ min b (p.wanted - i * b) → HasRead (bytes_of p i) bytes rest → length rest < data_len → after ≡ []
     → EndsWithin p i bytes after
-short-within p planned i want b bytes rest after e below w read_before short none =
+short-within p planned i data_len b bytes rest after e below w read_before short none =
     let s = p.settings in
     let wanted = p.wanted in
     let some = some_data s planned.valid in
@@ -182,11 +185,12 @@ short-within p planned i want b bytes rest after e below w read_before short non
     }
 
 -- the source failed within block i
-pub failed-within : (p : Planned) → IsPlanned p → (i want b : ℕ) (bytes rest after : List ℕ) → b ≡ p.settings.data_block
+pub failed-within : (p : Planned) → IsPlanned p → (i data_len b : ℕ) (bytes rest after : List ℕ)
+    → b ≡ p.settings.data_block
     → i < p.blocks
-    → want ≡ min b (p.wanted - i * b) → HasRead (bytes_of p i) bytes rest → StopsWithin want rest after
+    → data_len ≡ min b (p.wanted - i * b) → HasRead (bytes_of p i) bytes rest → StopsWithin data_len rest after
     → FailsWithin p i bytes after
-failed-within p planned i want b bytes rest after e below w read_before stop =
+failed-within p planned i data_len b bytes rest after e below w read_before stop =
     let s = p.settings in
     let wanted = p.wanted in
     let some = some_data s planned.valid in

@@ -8,29 +8,29 @@ use Rattle.std.specs.Prelude.{find, not, nat_lt, Some, None, Option}
 use Rattle.std.proofs.lemmas.Bool.{not-true}
 use Rattle.std.specs.Str.{bytes_eq}
 use Rattle.verity_tree.specs.Reading.{EndsWithin}
-use Rattle.verity_tree.specs.ClosingOrder.{order}
+use Rattle.verity_tree.specs.Image.{order, tree_block, stored_block}
 use Rattle.verity_tree.specs.Comparing.{ComesTo, Judges}
 use Rattle.verity_tree.specs.Steps.OnePass.{fault_by, fault_of, StopsFor}
-use Rattle.verity_tree.specs.Image.{tree_block}
-use Rattle.verity_tree.specs.Levels.{root, data_blocks, whole}
+use Rattle.verity_tree.specs.Levels.{root, data_blocks, whole_blocks}
 use Rattle.verity_plan.specs.Plans.{Planned, IsPlanned}
 use Rattle.verity_plan.specs.Settings.{fan}
-use Rattle.verity_tree.specs.Verdicts.{NoneDiffers, StandsThere, differs, judged, part_of, stored, verdict}
-use Rattle.verity_tree.specs.declared.cascade.Stop.{Stop}
+use Rattle.verity_tree.specs.Verdicts.{NoneDiffers, StandsThere, differs, verdict_by, part_of, verdict}
+use Rattle.verity_tree.specs.declared.pass.cascade.Stop.{Stop}
 use Rattle.verity_tree.specs.declared.comparing.CompareFault.TheVariants.{SourceShort, RootDiffers}
 use Rattle.verity_tree.specs.declared.comparing.CompareFault.TheVariants as F
-use Rattle.verity_tree.specs.declared.closed_block.Cause.{Cause}
-use Rattle.verity_tree.specs.declared.closed_block.Cause.TheVariants.{Failed, Differs}
+use Rattle.verity_tree.specs.declared.pass.closed_block.Cause.{Cause}
+use Rattle.verity_tree.specs.declared.pass.closed_block.Cause.TheVariants.{Failed, Differs}
 use Rattle.verity_tree.specs.Steps.ClosedBlocks.{IsCause, closed_block}
 use Rattle.verity_tree.specs.declared.part.Part.{Part}
 use Rattle.verity_tree.proofs.OrderSplit.{order-prefix}
-use Rattle.verity_tree.proofs.DataBlockLemmas.{whole-above, whole-all}
+use Rattle.verity_tree.proofs.DataBlockLemmas.{whole_blocks-above, whole_blocks-all}
 
 -- a block that stands there does not differ
 stands-same : (p : Planned) (blocks : List (List ℕ)) (device : List ℕ) (pair : ℕ × ℕ) → StandsThere p blocks device pair
     → differs p blocks device pair ≡ false
 stands-same p blocks device pair h =
-    let same = (bytes_eq-Decides (stored p device pair.0 pair.1) (tree_block p.settings blocks pair.0 pair.1)).1 h in
+    let same = (bytes_eq-Decides (stored_block p device pair.0 pair.1) (tree_block p.settings blocks pair.0 pair.1)).1 h
+    in
     ap not same
 
 -- no first one that differs among blocks that stand there
@@ -60,52 +60,54 @@ bytes-differ xs ys other = go (bytes_eq xs ys) (bytes_eq-Decides xs ys).0
     go false same = refl
 
 -- all stands there, and the data is whole
-judged-whole : (p : Planned) (device bytes digest : List ℕ) → p.wanted ≤ length bytes
+verdict_by-whole : (p : Planned) (device bytes digest : List ℕ) → p.wanted ≤ length bytes
     → NoneDiffers p (data_blocks p bytes) device (order (fan p.settings) p.blocks p.blocks)
-    → verdict p device bytes digest ≡ judged p device bytes None digest
-judged-whole p device bytes digest enough none =
+    → verdict p device bytes digest ≡ verdict_by p device bytes None digest
+verdict_by-whole p device bytes digest enough none =
     let blocks = data_blocks p bytes in
-    ap (λ (m : ℕ). judged p device bytes (find (differs p blocks device) (order (fan p.settings) p.blocks m)) digest)
-    (whole-all p bytes enough)
-    ∙ ap (λ (met : Option (ℕ × ℕ)). judged p device bytes met digest)
+    ap (λ (m : ℕ). verdict_by p device bytes
+    (find (differs p blocks device) (order (fan p.settings) p.blocks m)) digest)
+    (whole_blocks-all p bytes enough)
+    ∙ ap (λ (met : Option (ℕ × ℕ)). verdict_by p device bytes met digest)
     (find-none p blocks device (order (fan p.settings) p.blocks p.blocks) none)
 
--- where the root is the computed one, all is right
+-- if the root is the computed one, all is right
 pub judges-right : (p : Planned) (device bytes computed digest : List ℕ) → p.wanted ≤ length bytes
     → NoneDiffers p (data_blocks p bytes) device (order (fan p.settings) p.blocks p.blocks)
     → computed ≡ root p.settings (data_blocks p bytes) → computed ≡ digest → verdict p device bytes digest ≡ Ok tt
 judges-right p device bytes computed digest enough none is same =
-    let all : nat_lt (whole p bytes) p.blocks ≡ false =
-    let e = whole-all p bytes enough in grind (arith, nat_tests, e) in
+    let all : nat_lt (whole_blocks p bytes) p.blocks ≡ false =
+    let e = whole_blocks-all p bytes enough in grind (arith, nat_tests, e) in
     let equal = (bytes_eq-Decides (root p.settings (data_blocks p bytes)) digest).1 (sym is ∙ same) in
-    judged-whole p device bytes digest enough none ∙ rw (all, equal) refl
+    verdict_by-whole p device bytes digest enough none ∙ rw (all, equal) refl
 
--- where it is another, the computed one is named
+-- if it is another, the computed one is named
 pub judges-root : (p : Planned) (device bytes computed digest : List ℕ) → p.wanted ≤ length bytes
     → NoneDiffers p (data_blocks p bytes) device (order (fan p.settings) p.blocks p.blocks)
     → computed ≡ root p.settings (data_blocks p bytes) → computed ≢ digest
     → verdict p device bytes digest ≡ Err (RootDiffers computed)
 judges-root p device bytes computed digest enough none is other =
-    let all : nat_lt (whole p bytes) p.blocks ≡ false =
-    let e = whole-all p bytes enough in grind (arith, nat_tests, e) in
+    let all : nat_lt (whole_blocks p bytes) p.blocks ≡ false =
+    let e = whole_blocks-all p bytes enough in grind (arith, nat_tests, e) in
     let unequal : bytes_eq (root p.settings (data_blocks p bytes)) digest ≡ false =
     not-true (bytes_eq (root p.settings (data_blocks p bytes)) digest)
     (bytes-differ (root p.settings (data_blocks p bytes)) digest (λ e. other (is ∙ e))) in
-    judged-whole p device bytes digest enough none ∙ rw (all, unequal) refl
+    verdict_by-whole p device bytes digest enough none ∙ rw (all, unequal) refl
     ∙ ap (λ (xs : List ℕ). Err (RootDiffers xs)) (sym is)
 
--- where the data ends, it is named
+-- if the data ends early, the block that it ends in is named
 pub judges-short : (p : Planned) (device bytes after digest : List ℕ) (i : ℕ) → EndsWithin p i bytes after
     → NoneDiffers p (data_blocks p bytes) device (order (fan p.settings) p.blocks i)
     → verdict p device bytes digest ≡ Err (SourceShort i)
 judges-short p device bytes after digest i ends none =
     let blocks = data_blocks p bytes in
-    let short : judged p device bytes None digest ≡ Err (SourceShort (whole p bytes)) =
-    let less : nat_lt (whole p bytes) p.blocks ≡ true =
+    let short : verdict_by p device bytes None digest ≡ Err (SourceShort (whole_blocks p bytes)) =
+    let less : nat_lt (whole_blocks p bytes) p.blocks ≡ true =
     let below = ends.below in let e = ends.whole_is in grind (arith, nat_tests, below, e) in rw less refl in
-    ap (λ (m : ℕ). judged p device bytes (find (differs p blocks device) (order (fan p.settings) p.blocks m)) digest)
+    ap (λ (m : ℕ). verdict_by p device bytes
+    (find (differs p blocks device) (order (fan p.settings) p.blocks m)) digest)
     (sym ends.whole_is)
-    ∙ ap (λ (met : Option (ℕ × ℕ)). judged p device bytes met digest)
+    ∙ ap (λ (met : Option (ℕ × ℕ)). verdict_by p device bytes met digest)
     (find-none p blocks device (order (fan p.settings) p.blocks i) none)
     ∙ short
     ∙ ap (λ (m : ℕ). Err (SourceShort m)) (sym ends.whole_is)
@@ -113,30 +115,30 @@ judges-short p device bytes after digest i ends none =
 -- the first block that differs is named
 judges-differs : (p : Planned) → IsPlanned p → (device bytes digest : List ℕ) (stop : Stop) (part : Part)
     → StopsFor p bytes device stop
-    → stored p device stop.level stop.block ≢ tree_block p.settings (data_blocks p bytes) stop.level stop.block
-    → part ≡ part_of p stop.level stop.block (stored p device stop.level stop.block)
-    (tree_block p.settings (data_blocks p bytes) stop.level stop.block)
-    → verdict p device bytes digest ≡ Err (F.Differs stop.level stop.block part)
+    → stored_block p device stop.level stop.index ≢ tree_block p.settings (data_blocks p bytes) stop.level stop.index
+    → part ≡ part_of p stop.level stop.index (stored_block p device stop.level stop.index)
+    (tree_block p.settings (data_blocks p bytes) stop.level stop.index)
+    → verdict p device bytes digest ≡ Err (F.Differs stop.level stop.index part)
 judges-differs p planned device bytes digest stop part stops other is =
     let blocks = data_blocks p bytes in
     let f = fan p.settings in
-    let m = whole p bytes in
+    let m = whole_blocks p bytes in
     let within : stops.i + 1 ≤ m =
-    whole-above p planned (stops.i + 1) bytes (omega (arith, stops.below)) stops.enough in
+    whole_blocks-above p planned (stops.i + 1) bytes (omega (arith, stops.below)) stops.enough in
     let after = order-prefix f p.blocks (stops.i + 1) (m - (stops.i + 1)) in
     let e : m ≡ stops.i + 1 + (m - (stops.i + 1)) = omega arith in
-    let pair : ℕ × ℕ = (stop.level, stop.block) in
+    let pair : ℕ × ℕ = (stop.level, stop.index) in
     let split : order f p.blocks m ≡ stops.done ++ (pair ∷ (stops.next.rest ++ after.0)) =
     ap (order f p.blocks) e ∙ after.1 ∙ ap (λ (ps : List (ℕ × ℕ)). ps ++ after.0) stops.next.in_order
     ∙ simp append_assoc in
-    ap (λ (ps : List (ℕ × ℕ)). judged p device bytes (find (differs p blocks device) ps) digest) split
-    ∙ ap (λ (met : Option (ℕ × ℕ)). judged p device bytes met digest)
+    ap (λ (ps : List (ℕ × ℕ)). verdict_by p device bytes (find (differs p blocks device) ps) digest) split
+    ∙ ap (λ (met : Option (ℕ × ℕ)). verdict_by p device bytes met digest)
     (find-first p blocks device stops.done (stops.next.rest ++ after.0) pair stops.same (bytes-differ _ _ other))
-    ∙ ap (λ (q : Part). Err (F.Differs stop.level stop.block q)) (sym is)
+    ∙ ap (λ (q : Part). Err (F.Differs stop.level stop.index q)) (sym is)
 
--- a failure at a block comes where nothing before it differs
+-- a failure at a block comes only if nothing before it differs
 comes-to : (p : Planned) (device bytes : List ℕ) (stop : Stop) → StopsFor p bytes device stop
-    → ComesTo p device bytes (stop.level, stop.block)
+    → ComesTo p device bytes (stop.level, stop.index)
 comes-to p device bytes stop stops =
     let f = fan p.settings in
     let after = order-prefix f p.blocks (stops.i + 1) (p.blocks - (stops.i + 1)) in
@@ -158,8 +160,8 @@ pub judges-stop : (p : Planned) → IsPlanned p → (device bytes digest : List 
 judges-stop p planned device bytes digest stop stops = go stop.cause refl stops.cause_is
   where
     go : (cause : Cause) → stop.cause ≡ cause
-        → IsCause p (closed_block stop.level stop.block
-        (tree_block p.settings (data_blocks p bytes) stop.level stop.block)) device cause
-        → Judges p device bytes digest (Err (fault_by stop.level stop.block cause))
+        → IsCause p (closed_block stop.level stop.index
+        (tree_block p.settings (data_blocks p bytes) stop.level stop.index)) device cause
+        → Judges p device bytes digest (Err (fault_by stop.level stop.index cause))
     go Failed e h = comes-to p device bytes stop stops
     go (Differs part) e h = judges-differs p planned device bytes digest stop part stops h.0 h.1

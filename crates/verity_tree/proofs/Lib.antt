@@ -16,6 +16,7 @@ pub mod Rows
 pub mod VerdictLemmas
 pub mod ClosedBlockLemmas
 pub mod JudgeLemmas
+pub mod HoldsLemmas
 pub mod PathSteps
 pub mod PieceLemmas
 pub mod ChainLemmas

@@ -11,20 +11,19 @@ use Rattle.std.specs.Prelude.{Contains}
 use Rattle.verity_plan.proofs.CountLemmas.{mul_le}
 use Rattle.verity_plan.specs.Settings.{Settings, fan}
 use Rattle.verity_tree.specs.Levels.{hash_block_of, data_blocks}
-use Rattle.verity_tree.specs.ClosingOrder.{closing, order}
+use Rattle.verity_tree.specs.Image.{closing, order, tree_block, device_with, tree_image_after, StopsAt}
 use Rattle.verity_io.specs.Writing.{Spoiled}
-use Rattle.verity_tree.specs.Image.{tree_block, written, begun_after, StopsAt}
-use Rattle.verity_tree.proofs.OrderSplit.{closing-front, order-front, order-more, written-append, written-order}
+use Rattle.verity_tree.proofs.OrderSplit.{closing-front, order-front, order-more, device_with-append, device_with-order}
 use Rattle.verity_tree.specs.Reading.{ReadsUpTo, bytes_of}
 use Rattle.verity_io.specs.Reading.{HasRead}
-use Rattle.verity_tree.specs.Steps.Cascade.{closed_to, ClosesWith}
+use Rattle.verity_tree.specs.Steps.Cascade.{first_closing, ClosesWith}
 use Rattle.verity_plan.specs.Plans.{Planned, byte_of}
 use Rattle.verity_tree.specs.Steps.OpenBlocks.{digests_under, open_block, HasOpenBlocks}
 use Rattle.verity_tree.proofs.OpenBlockSteps.{hash_block_of-none}
 use Rattle.verity_tree.specs.Steps.ClosedBlocks.{IsCause, closed_block}
 use Rattle.verity_tree.specs.Steps.OnePass.{StopsFor}
 use Rattle.verity_tree.specs.Verdicts.{NoneDiffers, StandsThere}
-use Rattle.verity_tree.specs.declared.cascade.Stop.{Stop}
+use Rattle.verity_tree.specs.declared.pass.cascade.Stop.{Stop}
 
 zero_div : (w : ℕ) → 0 < w → 0 / w ≡ 0
 zero_div w some = let e : 0 ≡ 0 * w + 0 = omega arith in ap (λ (x : ℕ). x / w) e ∙ div-mul-add 0 w 0 some
@@ -68,23 +67,23 @@ HasOpenBlocks-after s blocks levels i a k store new place within h = λ l from t
 -- a data block that stopped at a level
 pub image-stopped : (p : Planned) (blocks : List (List ℕ)) (i l j : ℕ) (start device new : List ℕ) → 0 < fan p.settings
     → i < p.blocks
-    → ClosesWith p i l j → device ≡ begun_after p blocks i start
-    → Spoiled (written p.settings blocks p.base (closed_to (fan p.settings) i l) device)
+    → ClosesWith p i l j → device ≡ tree_image_after p blocks i start
+    → Spoiled (device_with p.settings blocks p.base (first_closing (fan p.settings) i l) device)
     (byte_of p l j) p.settings.hash_block new
     → StopsAt p blocks (l, j) start new
 image-stopped p blocks i l j start device new some below with_it so_far h =
     let f = fan p.settings in
     let front = order-front f p.blocks i l some below with_it.level_below with_it.all in
     let pair : (l, i / f ^ (l + 1)) ≡ (l, j) = ap (λ (k : ℕ). (l, k)) (sym with_it.block_is) in
-    let e : written p.settings blocks p.base (closed_to f i l) device ≡ written p.settings blocks p.base
-    (order f p.blocks i ++ closed_to f i l) start =
-    ap (written p.settings blocks p.base (closed_to f i l)) so_far
-    ∙ sym (written-append p.settings blocks p.base (order f p.blocks i) (closed_to f i l) start) in
+    let e : device_with p.settings blocks p.base (first_closing f i l) device ≡ device_with p.settings blocks p.base
+    (order f p.blocks i ++ first_closing f i l) start =
+    ap (device_with p.settings blocks p.base (first_closing f i l)) so_far
+    ∙ sym (device_with-append p.settings blocks p.base (order f p.blocks i) (first_closing f i l) start) in
     record {
-      done = order f p.blocks i ++ closed_to f i l;
+      done = order f p.blocks i ++ first_closing f i l;
       next = record {
         rest = front.0;
-        in_order = front.1 ∙ ap (λ (q : ℕ × ℕ). (order f p.blocks i ++ closed_to f i l ++ q ∷ []) ++ front.0) pair;
+        in_order = front.1 ∙ ap (λ (q : ℕ × ℕ). (order f p.blocks i ++ first_closing f i l ++ q ∷ []) ++ front.0) pair;
       };
       spoiled = subst (λ (xs : List ℕ). Spoiled xs (byte_of p l j) p.settings.hash_block new) e h;
     }
@@ -106,17 +105,18 @@ reads-up-to p i l j before after some below with_it read =
       below = below;
       here = subst (λ (k : ℕ). Contains pairs (l, k)) (sym with_it.block_is)
           (subst (λ (ps : List (ℕ × ℕ)). Contains ps (l, i / f ^ (l + 1))) (sym front.1)
-          (middle (closed_to f i l) front.0 (l, i / f ^ (l + 1))));
+          (middle (first_closing f i l) front.0 (l, i / f ^ (l + 1))));
       read = read;
     }
 
 -- one data block more on the device
 pub image-next : (s : Settings) (blocks : List (List ℕ)) (base n i : ℕ) (start device new : List ℕ)
-    → device ≡ written s blocks base (order (fan s) n i) start
-    → new ≡ written s blocks base (closing (fan s) n (i + 1)) device
-    → new ≡ written s blocks base (order (fan s) n (i + 1)) start
+    → device ≡ device_with s blocks base (order (fan s) n i) start
+    → new ≡ device_with s blocks base (closing (fan s) n (i + 1)) device
+    → new ≡ device_with s blocks base (order (fan s) n (i + 1)) start
 image-next s blocks base n i start device new so_far is =
-    is ∙ ap (written s blocks base (closing (fan s) n (i + 1))) so_far ∙ sym (written-order s blocks base n i start)
+    is ∙ ap (device_with s blocks base (closing (fan s) n (i + 1))) so_far
+    ∙ sym (device_with-order s blocks base n i start)
 
 -- one data block more is compared
 pub none-differs-order : (p : Planned) (blocks : List (List ℕ)) (i : ℕ) (device : List ℕ)
@@ -131,10 +131,10 @@ none-differs-order p blocks i device before h =
 -- a comparison that stops at a level of a data block
 pub stops-for : (p : Planned) (bytes : List ℕ) (i : ℕ) (device : List ℕ) (stop : Stop) → 0 < fan p.settings
     → i < p.blocks
-    → ClosesWith p i stop.level stop.block → bytes_of p (i + 1) ≤ length bytes
+    → ClosesWith p i stop.level stop.index → bytes_of p (i + 1) ≤ length bytes
     → NoneDiffers p (data_blocks p bytes) device (order (fan p.settings) p.blocks i)
-    → NoneDiffers p (data_blocks p bytes) device (closed_to (fan p.settings) i stop.level)
-    → IsCause p (closed_block stop.level stop.block (tree_block p.settings (data_blocks p bytes) stop.level stop.block))
+    → NoneDiffers p (data_blocks p bytes) device (first_closing (fan p.settings) i stop.level)
+    → IsCause p (closed_block stop.level stop.index (tree_block p.settings (data_blocks p bytes) stop.level stop.index))
     device stop.cause
     → StopsFor p bytes device stop
 stops-for p bytes i device stop some below with_it enough before h cause =
@@ -146,13 +146,14 @@ stops-for p bytes i device stop some below with_it enough before h cause =
       i = i;
       below = below;
       enough = enough;
-      done = order f p.blocks i ++ closed_to f i l;
+      done = order f p.blocks i ++ first_closing f i l;
       next = record {
         rest = front.0;
         in_order = order-more f p.blocks i ∙ ap (λ (ps : List (ℕ × ℕ)). order f p.blocks i ++ ps) front.1
-            ∙ ap (λ (k : ℕ). order f p.blocks i ++ (closed_to f i l ++ (l, k) ∷ [] ++ front.0)) (sym with_it.block_is)
+            ∙ ap (λ (k : ℕ). order f p.blocks i ++ (first_closing f i l ++ (l, k) ∷ [] ++ front.0))
+            (sym with_it.block_is)
             ∙ simp append_assoc;
       };
-      same = All-append (StandsThere p blocks device) (order f p.blocks i) (closed_to f i l) before h;
+      same = All-append (StandsThere p blocks device) (order f p.blocks i) (first_closing f i l) before h;
       cause_is = cause;
     }

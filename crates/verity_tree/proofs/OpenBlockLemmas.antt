@@ -12,10 +12,10 @@ use Rattle.std.specs.List.{flat_map}
 use Rattle.std.specs.Fork.{slice_chunk}
 use Rattle.std.specs.Int.{div_ceil}
 use Rattle.verity_plan.proofs.CountLemmas.{mul_le}
-use Rattle.verity_hash.specs.Bytes.{filled}
+use Rattle.verity_hash.specs.Hashing.{filled}
 use Rattle.verity_hash.proofs.HashLemmas.{length-salted_hash}
 use Rattle.verity_plan.specs.Settings.{Settings, hash, fan, slot, slot_width, digest_len}
-use Rattle.verity_tree.specs.Levels.{hash_block_of, risen}
+use Rattle.verity_tree.specs.Levels.{hash_block_of, blocks_up}
 use Rattle.verity_tree.specs.Steps.OpenBlocks.{digests_under, open_block}
 use Rattle.verity_tree.proofs.PrefixLemmas.{get_or-pack}
 
@@ -32,7 +32,7 @@ length-slot s x fits =
       length-hash s x,
     )
 
--- the slots of so many digests
+-- the slots of some digests
 pub length-slots : (s : Settings) (xs : List (List ℕ)) → digest_len s ≤ slot_width s
     → length (flat_map (slot s) (map (hash s) xs)) ≡ length xs * slot_width s
 length-slots s [] fits = let e : 0 ≡ 0 * slot_width s = omega arith in e
@@ -135,11 +135,11 @@ open-close s xs q some ends =
     ]
 
 -- the block of a run stands one level up
-pub block-up : (s : Settings) (blocks : List (List ℕ)) (m j : ℕ) → j < div_ceil (length (risen s blocks m)) (fan s)
-    → get_or (risen s blocks (m + 1)) j [] ≡ hash_block_of s (slice_chunk (digests_under s blocks m) (fan s) j)
-unfolding risen
+pub block-up : (s : Settings) (blocks : List (List ℕ)) (m j : ℕ) → j < div_ceil (length (blocks_up s blocks m)) (fan s)
+    → get_or (blocks_up s blocks (m + 1)) j [] ≡ hash_block_of s (slice_chunk (digests_under s blocks m) (fan s) j)
+unfolding blocks_up
 block-up s blocks m j below =
     let e : m + 1 ≡ suc m = omega arith in
-    ap (λ (k : ℕ). get_or (risen s blocks k) j []) e
+    ap (λ (k : ℕ). get_or (blocks_up s blocks k) j []) e
     ∙ get_or-pack s (digests_under s blocks m) j
-    (omega (arith, below, ap (λ (n : ℕ). div_ceil n (fan s)) (length-map (risen s blocks m) (hash s))))
+    (omega (arith, below, ap (λ (n : ℕ). div_ceil n (fan s)) (length-map (blocks_up s blocks m) (hash s))))

@@ -12,12 +12,13 @@ use Rattle.std.proofs.Math.Nat.{one-le-pow, pow-zero}
 use Rattle.std.specs.Fork.{slice_chunk}
 use Rattle.std.specs.Int.{div_ceil}
 use Rattle.verity_plan.specs.Settings.{Settings, hash, fan, slot_width, digest_len}
-use Rattle.verity_tree.specs.Levels.{hash_block_of, risen, root}
-use Rattle.verity_plan.specs.Counts.{level_count}
-use Rattle.verity_tree.specs.Steps.OpenBlocks.{digests_under, open_block, filling, HasOpenBlocks, carried, IsCarrying}
+use Rattle.verity_tree.specs.Levels.{hash_block_of, blocks_up, root}
+use Rattle.verity_plan.specs.Plans.{level_count}
+use Rattle.verity_tree.specs.Steps.OpenBlocks.{digests_under, open_block, open_block_with, HasOpenBlocks, level_digest}
+use Rattle.verity_tree.specs.Steps.OpenBlocks.{IsCarrying}
 use Rattle.verity_tree.specs.Steps.OpenBlocks.{IsNext, IsClosed, IsKept, IsCarriedOn, climb, arrival}
 use Rattle.verity_plan.proofs.CountLemmas.{IsLevelCount-level_count, mul_le}
-use Rattle.verity_tree.proofs.TreeLemmas.{length-risen, height-level_count}
+use Rattle.verity_tree.proofs.TreeLemmas.{length-blocks_up, height-level_count}
 use Rattle.verity_tree.proofs.QuotientLemmas.{quotient-next, quotient-below, div_ceil-last, IsReached-zero}
 use Rattle.verity_tree.proofs.QuotientLemmas.{quotient-reached, IsReached-full, slots-full, slots-more, quotient-stays}
 use Rattle.verity_tree.proofs.OpenBlockLemmas.{open-push, open-close, block-up}
@@ -58,40 +59,41 @@ chunk-same xs ys size m a k place len room =
     ∙ between-put_mid a k xs ys (m * size + size) (omega (arith, place, room)) (len ∙ e)
 
 -- the place that a digest comes to is in its level
-pub carried-below : (s : Settings) (blocks : List (List ℕ)) (i m : ℕ) → 0 < fan s → i < length blocks
-    → i / fan s ^ m < length (risen s blocks m)
-carried-below s blocks i m some below =
+pub level_digest-below : (s : Settings) (blocks : List (List ℕ)) (i m : ℕ) → 0 < fan s → i < length blocks
+    → i / fan s ^ m < length (blocks_up s blocks m)
+level_digest-below s blocks i m some below =
     omega (
       arith,
       quotient-below i (length blocks) (fan s ^ m) (one-le-pow m (fan s) some) below,
-      length-risen s blocks m some,
+      length-blocks_up s blocks m some,
     )
 
 -- at the last data block the place is the last of each level
-pub carried-last : (s : Settings) (blocks : List (List ℕ)) (i m : ℕ) → 0 < fan s → i + 1 ≡ length blocks
-    → i / fan s ^ m + 1 ≡ length (risen s blocks m)
-carried-last s blocks i m some last =
+pub level_digest-last : (s : Settings) (blocks : List (List ℕ)) (i m : ℕ) → 0 < fan s → i + 1 ≡ length blocks
+    → i / fan s ^ m + 1 ≡ length (blocks_up s blocks m)
+level_digest-last s blocks i m some last =
     sym (div_ceil-last i (fan s ^ m) (one-le-pow m (fan s) some))
     ∙ ap (λ (n : ℕ). div_ceil n (fan s ^ m)) last
-    ∙ sym (length-risen s blocks m some)
+    ∙ sym (length-blocks_up s blocks m some)
 
 -- the block that closes gives the digest one level up
-pub carried-next : (s : Settings) (blocks : List (List ℕ)) (i m : ℕ) → 0 < fan s → i < length blocks
+pub level_digest-next : (s : Settings) (blocks : List (List ℕ)) (i m : ℕ) → 0 < fan s → i < length blocks
     → (i / fan s ^ m % fan s + 1 ≡ fan s) ⊎ (i + 1 ≡ length blocks)
-    → get_or (risen s blocks (m + 1)) (i / fan s ^ (m + 1)) [] ≡ filling s (digests_under s blocks m) (i / fan s ^ m)
-carried-next s blocks i m some below ends =
+    → get_or (blocks_up s blocks (m + 1)) (i / fan s ^ (m + 1)) [] ≡ open_block_with s (digests_under s blocks m)
+    (i / fan s ^ m)
+level_digest-next s blocks i m some below ends =
     let f = fan s in
     let q = i / f ^ m in
     let digests = digests_under s blocks m in
-    let many : length digests ≡ length (risen s blocks m) = length-map (risen s blocks m) (hash s) in
-    let here : q < length (risen s blocks m) = carried-below s blocks i m some below in
-    let run : q / f < div_ceil (length (risen s blocks m)) f =
-    quotient-below q (length (risen s blocks m)) f some here in
+    let many : length digests ≡ length (blocks_up s blocks m) = length-map (blocks_up s blocks m) (hash s) in
+    let here : q < length (blocks_up s blocks m) = level_digest-below s blocks i m some below in
+    let run : q / f < div_ceil (length (blocks_up s blocks m)) f =
+    quotient-below q (length (blocks_up s blocks m)) f some here in
     let closes : (q % f + 1 ≡ f) ⊎ (q + 1 ≡ length digests) = elim ends [
       | inl full ↦ inl full
-      | inr last ↦ inr (carried-last s blocks i m some last ∙ sym many)
+      | inr last ↦ inr (level_digest-last s blocks i m some last ∙ sym many)
     ] in
-    ap (λ (n : ℕ). get_or (risen s blocks (m + 1)) n []) (quotient-next f i m)
+    ap (λ (n : ℕ). get_or (blocks_up s blocks (m + 1)) n []) (quotient-next f i m)
     ∙ block-up s blocks m (q / f) run
     ∙ sym (open-close s digests q some closes)
 
@@ -106,7 +108,7 @@ pub IsCarrying-closed : (s : Settings) (blocks : List (List ℕ)) (i m levels a 
     → 0 < fan s → i < length blocks → m < levels
     → (i / fan s ^ m % fan s + 1 ≡ fan s) ⊎ (i + 1 ≡ length blocks) → levels * s.hash_block ≤ length store
     → a ≡ m * s.hash_block → k ≡ s.hash_block → zeros ≡ replicate s.hash_block 0 → length zeros ≡ s.hash_block
-    → next ≡ hash s (filling s (digests_under s blocks m) (i / fan s ^ m))
+    → next ≡ hash s (open_block_with s (digests_under s blocks m) (i / fan s ^ m))
     → IsCarrying s blocks (climb i m levels) store digest
     → IsCarrying s blocks (climb i (m + 1) levels) (put_mid a k store zeros) next
 IsCarrying-closed s blocks i m levels a k store zeros digest next some below inside ends room place wide none len is h =
@@ -139,7 +141,7 @@ IsCarrying-closed s blocks i m levels a k store zeros digest next some below ins
             ∙ stood
             ∙ ap (λ (n : ℕ). open_block s (digests_under s blocks n) ((i + 1) / f ^ n)) (sym same)
       ];
-      digest_is = is ∙ ap (hash s) (sym (carried-next s blocks i m some below ends));
+      digest_is = is ∙ ap (hash s) (sym (level_digest-next s blocks i m some below ends));
     }
 
 -- a level whose block stays stood ends the cascade
@@ -147,7 +149,7 @@ pub HasOpenBlocks-kept : (s : Settings) (blocks : List (List ℕ)) (i m levels a
     → 0 < fan s → i + 1 < length blocks → m < levels
     → i / fan s ^ m % fan s + 1 < fan s → levels * s.hash_block ≤ length store
     → a ≡ m * s.hash_block → k ≡ s.hash_block → length stood ≡ s.hash_block
-    → stood ≡ filling s (digests_under s blocks m) (i / fan s ^ m)
+    → stood ≡ open_block_with s (digests_under s blocks m) (i / fan s ^ m)
     → IsCarrying s blocks (climb i m levels) store digest
     → HasOpenBlocks s blocks 0 levels (i + 1) (put_mid a k store stood)
 HasOpenBlocks-kept s blocks i m levels a k store stood digest some more inside less room place wide len is h =
@@ -180,12 +182,12 @@ HasOpenBlocks-kept s blocks i m levels a k store stood digest some more inside l
     ]
 
 -- past all levels only the last data block comes, and its digest is the root
-pub carried-root : (s : Settings) (blocks : List (List ℕ)) (i levels : ℕ) (store digest : List ℕ) → 2 ≤ fan s
+pub level_digest-root : (s : Settings) (blocks : List (List ℕ)) (i levels : ℕ) (store digest : List ℕ) → 2 ≤ fan s
     → i < length blocks
     → levels ≡ level_count (fan s) (length blocks) → IsCarrying s blocks (climb i levels levels) store digest
     → (i + 1 ≡ length blocks) × (digest ≡ root s blocks)
 unfolding root
-carried-root s blocks i levels store digest two below count h =
+level_digest-root s blocks i levels store digest two below count h =
     let f = fan s in
     let some : 0 < f = omega arith in
     let most : length blocks ≤ f ^ levels =
@@ -201,8 +203,9 @@ carried-root s blocks i levels store digest two below count h =
     ] in (
       last,
       h.digest_is
-          ∙ ap (λ (n : ℕ). hash s (get_or (risen s blocks levels) n [])) zero_place
-          ∙ ap (λ (l : ℕ). hash s (get_or (risen s blocks l) 0 [])) (count ∙ sym (height-level_count s blocks some)),
+          ∙ ap (λ (n : ℕ). hash s (get_or (blocks_up s blocks levels) n [])) zero_place
+          ∙ ap (λ (l : ℕ). hash s (get_or (blocks_up s blocks l) 0 []))
+          (count ∙ sym (height-level_count s blocks some)),
     )
 
 -- a slot is within its block
@@ -216,12 +219,12 @@ slot-room s q f w len size ef ew el es two fits =
     omega (arith, mul_le (q % f + 1) f w step, area, fits, digest-slot s)
 
 -- the digest in its slot is the block with one more
-pub filling-put : (s : Settings) (below : List (List ℕ)) (q f w : ℕ) (before after digest : List ℕ) → f ≡ fan s
+pub open_block_with-put : (s : Settings) (below : List (List ℕ)) (q f w : ℕ) (before after digest : List ℕ) → f ≡ fan s
     → w ≡ slot_width s → 2 ≤ f
     → fan s * slot_width s ≤ s.hash_block
     → after ≡ take (q % f * w) before ++ digest ++ drop (q % f * w + length digest) before
-    → IsNext s below (arrival q before digest) → after ≡ filling s (map (hash s) below) q
-filling-put s below q f w before after digest ef ew two fits put next =
+    → IsNext s below (arrival q before digest) → after ≡ open_block_with s (map (hash s) below) q
+open_block_with-put s below q f w before after digest ef ew two fits put next =
     let some : 0 < fan s = omega arith in
     let place : q % f * w ≡ q % fan s * slot_width s =
     ap (λ (n : ℕ). q % n * w) ef ∙ ap (λ (n : ℕ). q % fan s * n) ew in
@@ -238,7 +241,7 @@ slots-all s q f e two all =
 
 -- the loop over the levels begins
 pub IsCarrying-first : (s : Settings) (blocks : List (List ℕ)) (i levels : ℕ) (store digest : List ℕ)
-    → digest ≡ carried s blocks i 0
+    → digest ≡ level_digest s blocks i 0
     → HasOpenBlocks s blocks 0 levels i store → IsCarrying s blocks (climb i 0 levels) store digest
 IsCarrying-first s blocks i levels store digest is stands = record {
   reached = λ _. IsReached-zero (fan s) i;
@@ -262,10 +265,10 @@ carry-closed s blocks i m levels count index a k last store block after digest a
     let stands : block ≡ open_block s (digests_under s blocks m) index =
     was ∙ ap (λ (n : ℕ). take n (drop a store)) wide ∙ ap (λ (n : ℕ). take s.hash_block (drop n store)) from
     ∙ h.above m (omega arith) inside ∙ ap (open_block s (digests_under s blocks m)) (sym place) in
-    let next : IsNext s (risen s blocks m) (arrival index block digest) = record {
-      here = omega (arith, carried-below s blocks i m some less, place);
+    let next : IsNext s (blocks_up s blocks m) (arrival index block digest) = record {
+      here = omega (arith, level_digest-below s blocks i m some less, place);
       stands = stands;
-      digest_is = h.digest_is ∙ ap (λ (n : ℕ). hash s (get_or (risen s blocks m) n [])) (sym place);
+      digest_is = h.digest_is ∙ ap (λ (n : ℕ). hash s (get_or (blocks_up s blocks m) n [])) (sym place);
     } in
     let ends : (i / fan s ^ m % fan s + 1 ≡ fan s) ⊎ (i + 1 ≡ length blocks) = elim closed.ends [
       | inl full ↦ inl (ap (λ (n : ℕ). n % fan s + 1) (sym place) ∙ full)
@@ -276,7 +279,8 @@ carry-closed s blocks i m levels count index a k last store block after digest a
     ] in
     IsCarrying-closed s blocks i m levels a k store after digest above some less inside ends room from wide closed.zeros
     (ap length closed.zeros ∙ length-replicate s.hash_block 0)
-    (closed.hashed (risen s blocks m) next ∙ ap (λ (n : ℕ). hash s (filling s (digests_under s blocks m) n)) place) h
+    (closed.hashed (blocks_up s blocks m) next
+    ∙ ap (λ (n : ℕ). hash s (open_block_with s (digests_under s blocks m) n)) place) h
 
 -- a level stays open and the cascade ends
 pub carry-kept : (s : Settings) (blocks : List (List ℕ)) (i m levels count index a k : ℕ) (last : Bool)
@@ -295,10 +299,10 @@ carry-kept s blocks i m levels count index a k last store block after digest two
     h.above m (omega arith) inside in
     let chunk : block ≡ slice_chunk store s.hash_block m =
     was ∙ ap (λ (n : ℕ). take n (drop a store)) wide ∙ ap (λ (n : ℕ). take s.hash_block (drop n store)) from in
-    let next : IsNext s (risen s blocks m) (arrival index block digest) = record {
-      here = omega (arith, carried-below s blocks i m some less, place);
+    let next : IsNext s (blocks_up s blocks m) (arrival index block digest) = record {
+      here = omega (arith, level_digest-below s blocks i m some less, place);
       stands = chunk ∙ here ∙ ap (open_block s (digests_under s blocks m)) (sym place);
-      digest_is = h.digest_is ∙ ap (λ (n : ℕ). hash s (get_or (risen s blocks m) n [])) (sym place);
+      digest_is = h.digest_is ∙ ap (λ (n : ℕ). hash s (get_or (blocks_up s blocks m) n [])) (sym place);
     } in
     let apart : i + 1 ≡ length blocks → ⊥ = λ same. elim (eqb_tells (i + 1) count) [
       | inl equal ↦ let no : true ≡ false = sym equal.0 ∙ sym l ∙ kept.more in cc
@@ -317,7 +321,7 @@ carry-kept s blocks i m levels count index a k last store block after digest two
     record {
       stands = λ _. HasOpenBlocks-kept s blocks i m levels a k store after digest some more inside
           (omega (arith, kept.room, ap (λ (n : ℕ). n % fan s) place)) room from wide size
-          (kept.filled (risen s blocks m) next ∙ ap (filling s (digests_under s blocks m)) place) h;
+          (kept.filled (blocks_up s blocks m) next ∙ ap (open_block_with s (digests_under s blocks m)) place) h;
       root_is = λ same. absurd (apart same);
     }
 
@@ -327,7 +331,7 @@ pub carry-all : (s : Settings) (blocks : List (List ℕ)) (i levels : ℕ) (stor
     → levels ≡ level_count (fan s) (length blocks) → IsCarrying s blocks (climb i levels levels) store digest
     → IsCarriedOn s blocks i levels store digest
 carry-all s blocks i levels store digest two below many h =
-    let done = carried-root s blocks i levels store digest two below many h in
+    let done = level_digest-root s blocks i levels store digest two below many h in
     record {
       stands = λ more. absurd (omega (arith, more, done.0));
       root_is = λ _. done.1;

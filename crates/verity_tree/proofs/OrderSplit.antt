@@ -9,15 +9,13 @@ use Rattle.std.proofs.Math.Nat.{one-le-pow}
 use Rattle.std.specs.Int.{div_ceil}
 use Rattle.std.specs.List.{filter, range_with_len}
 use Rattle.std.specs.Prelude.{◌==◌, ◌||◌, slice_index_or}
-use Rattle.verity_plan.specs.Counts.{level_count}
-use Rattle.verity_tree.specs.ClosingOrder.{closes, closing, order}
-use Rattle.verity_tree.specs.Steps.Cascade.{closed_to}
+use Rattle.verity_plan.specs.Plans.{level_count, byte_at}
+use Rattle.verity_tree.specs.Image.{closes, closing, order, device_with}
+use Rattle.verity_tree.specs.Steps.Cascade.{first_closing}
 use Rattle.verity_plan.specs.Settings.{Settings, fan}
 use Rattle.verity_tree.specs.Steps.OpenBlocks.{IsReached}
-use Rattle.verity_tree.specs.Levels.{risen}
+use Rattle.verity_tree.specs.Levels.{blocks_up}
 use Rattle.verity_io.specs.Writing.{put}
-use Rattle.verity_tree.specs.Image.{written}
-use Rattle.verity_plan.specs.Places.{byte_at}
 use Rattle.verity_tree.proofs.QuotientLemmas.{div_ceil-last, quotient-stays}
 
 -- a test that the first numbers pass and the others don't
@@ -44,7 +42,7 @@ map-same f g (x ∷ xs) same =
 
 -- what closes with a data block is the levels below the first that doesn't close
 pub closing-prefix : (f n i m : ℕ) → 0 < f → m ≤ level_count f n → ((l : ℕ) → l < m → closes f n (i + 1) l ≡ true)
-    → ((l : ℕ) → m ≤ l → closes f n (i + 1) l ≡ false) → closing f n (i + 1) ≡ closed_to f i m
+    → ((l : ℕ) → m ≤ l → closes f n (i + 1) l ≡ false) → closing f n (i + 1) ≡ first_closing f i m
 closing-prefix f n i m some le pass fail =
     ap (map (λ level. (level, div_ceil (i + 1) (f ^ (level + 1)) - 1)))
     (filter-prefix (closes f n (i + 1)) 0 (level_count f n) m le (λ l from to. pass l (omega (arith, to)))
@@ -57,7 +55,7 @@ closing-prefix f n i m some le pass fail =
 
 -- all levels close
 pub closing-all : (f n i : ℕ) → 0 < f → ((l : ℕ) → l < level_count f n → closes f n (i + 1) l ≡ true)
-    → closing f n (i + 1) ≡ closed_to f i (level_count f n)
+    → closing f n (i + 1) ≡ first_closing f i (level_count f n)
 closing-all f n i some pass =
     ap (map (λ level. (level, div_ceil (i + 1) (f ^ (level + 1)) - 1)))
     (filter-prefix (closes f n (i + 1)) 0 (level_count f n) (level_count f n) (omega arith)
@@ -104,38 +102,39 @@ closes-none f n i m l some h room more above =
     (eqb_apart (i + 1) n (λ same. omega (arith, more, same)))
 
 -- one pair more
-pub closed_to-more : (f i m : ℕ) → closed_to f i (m + 1) ≡ closed_to f i m ++ (m, i / f ^ (m + 1)) ∷ []
-closed_to-more f i m = map-range_with_len_more (λ level. (level, i / f ^ (level + 1))) 0 m m (omega arith)
+pub first_closing-more : (f i m : ℕ) → first_closing f i (m + 1) ≡ first_closing f i m ++ (m, i / f ^ (m + 1)) ∷ []
+first_closing-more f i m = map-range_with_len_more (λ level. (level, i / f ^ (level + 1))) 0 m m (omega arith)
 
 -- pairs after pairs
-pub written-append : (s : Settings) (blocks : List (List ℕ)) (base : ℕ) (ps qs : List (ℕ × ℕ)) (device : List ℕ)
-    → written s blocks base (ps ++ qs) device ≡ written s blocks base qs (written s blocks base ps device)
-unfolding written
-written-append s blocks base [] qs device = refl
-written-append s blocks base (p ∷ ps) qs device =
-    written-append s blocks base ps qs
-    (put device (byte_at s (length blocks) base p.0 p.1) (slice_index_or (risen s blocks (p.0 + 1)) p.1 []))
+pub device_with-append : (s : Settings) (blocks : List (List ℕ)) (base : ℕ) (ps qs : List (ℕ × ℕ)) (device : List ℕ)
+    → device_with s blocks base (ps ++ qs) device ≡ device_with s blocks base qs (device_with s blocks base ps device)
+unfolding device_with
+device_with-append s blocks base [] qs device = refl
+device_with-append s blocks base (p ∷ ps) qs device =
+    device_with-append s blocks base ps qs
+    (put device (byte_at s (length blocks) base p.0 p.1) (slice_index_or (blocks_up s blocks (p.0 + 1)) p.1 []))
 
-pub written-more : (s : Settings) (blocks : List (List ℕ)) (base i m : ℕ) (device : List ℕ)
-    → written s blocks base (closed_to (fan s) i (m + 1)) device
-    ≡ put (written s blocks base (closed_to (fan s) i m) device)
+pub device_with-more : (s : Settings) (blocks : List (List ℕ)) (base i m : ℕ) (device : List ℕ)
+    → device_with s blocks base (first_closing (fan s) i (m + 1)) device
+    ≡ put (device_with s blocks base (first_closing (fan s) i m) device)
     (byte_at s (length blocks) base m (i / fan s ^ (m + 1)))
-    (slice_index_or (risen s blocks (m + 1)) (i / fan s ^ (m + 1)) [])
-unfolding written
-written-more s blocks base i m device =
-    ap (λ (ps : List (ℕ × ℕ)). written s blocks base ps device) (closed_to-more (fan s) i m)
-    ∙ written-append s blocks base (closed_to (fan s) i m) ((m, i / fan s ^ (m + 1)) ∷ []) device
+    (slice_index_or (blocks_up s blocks (m + 1)) (i / fan s ^ (m + 1)) [])
+unfolding device_with
+device_with-more s blocks base i m device =
+    ap (λ (ps : List (ℕ × ℕ)). device_with s blocks base ps device) (first_closing-more (fan s) i m)
+    ∙ device_with-append s blocks base (first_closing (fan s) i m) ((m, i / fan s ^ (m + 1)) ∷ []) device
 
 -- one data block more
-pub written-order : (s : Settings) (blocks : List (List ℕ)) (base n i : ℕ) (device : List ℕ)
-    → written s blocks base (order (fan s) n (i + 1)) device
-    ≡ written s blocks base (closing (fan s) n (i + 1)) (written s blocks base (order (fan s) n i) device)
+pub device_with-order : (s : Settings) (blocks : List (List ℕ)) (base n i : ℕ) (device : List ℕ)
+    → device_with s blocks base (order (fan s) n (i + 1)) device
+    ≡ device_with s blocks base (closing (fan s) n (i + 1)) (device_with s blocks base (order (fan s) n i) device)
 unfolding order
-written-order s blocks base n i device =
+device_with-order s blocks base n i device =
     let e : i + 1 ≡ suc i = omega arith in
-    ap (λ (k : ℕ). written s blocks base (order (fan s) n k) device) e
-    ∙ written-append s blocks base (order (fan s) n i) (closing (fan s) n (suc i)) device
-    ∙ ap (λ (k : ℕ). written s blocks base (closing (fan s) n k) (written s blocks base (order (fan s) n i) device))
+    ap (λ (k : ℕ). device_with s blocks base (order (fan s) n k) device) e
+    ∙ device_with-append s blocks base (order (fan s) n i) (closing (fan s) n (suc i)) device
+    ∙ ap (λ (k : ℕ). device_with s blocks base (closing (fan s) n k)
+    (device_with s blocks base (order (fan s) n i) device))
     (sym e)
 
 -- what has closed stays at the front of the order
@@ -165,9 +164,9 @@ filter-front c a (suc m) (suc n) pass le =
           ∙ ap (λ (xs : List ℕ). a ∷ xs) after.1,
     )
 
--- where the levels up to this one close, its pair comes after those of the levels below
+-- if the levels up to this one close, its pair comes after those of the levels below
 pub closing-front : (f n i m : ℕ) → 0 < f → m < level_count f n → ((l : ℕ) → l ≤ m → closes f n (i + 1) l ≡ true)
-    → (rest : List (ℕ × ℕ)) × (closing f n (i + 1) ≡ closed_to f i m ++ (m, i / f ^ (m + 1)) ∷ [] ++ rest)
+    → (rest : List (ℕ × ℕ)) × (closing f n (i + 1) ≡ first_closing f i m ++ (m, i / f ^ (m + 1)) ∷ [] ++ rest)
 closing-front f n i m some below pass =
     let front = filter-front (closes f n (i + 1)) 0 (m + 1) (level_count f n) (λ l from to. pass l (omega (arith, to)))
     (omega (arith, below)) in
@@ -180,12 +179,12 @@ closing-front f n i m some below pass =
           let e : div_ceil (i + 1) (f ^ (l + 1)) - 1 ≡ i / f ^ (l + 1) =
           omega (arith, div_ceil-last i (f ^ (l + 1)) (one-le-pow (l + 1) f some)) in
           ap (λ (j : ℕ). (l, j)) e))
-          ∙ ap (λ (ps : List (ℕ × ℕ)). ps ++ map g front.0) (closed_to-more f i m),
+          ∙ ap (λ (ps : List (ℕ × ℕ)). ps ++ map g front.0) (first_closing-more f i m),
     )
 
 -- the blocks before a block that closes are the first ones of the order
 pub order-front : (f n i m : ℕ) → 0 < f → i < n → m < level_count f n → ((l : ℕ) → l ≤ m → closes f n (i + 1) l ≡ true)
-    → (rest : List (ℕ × ℕ)) × (order f n n ≡ (order f n i ++ closed_to f i m ++ (m, i / f ^ (m + 1)) ∷ []) ++ rest)
+    → (rest : List (ℕ × ℕ)) × (order f n n ≡ (order f n i ++ first_closing f i m ++ (m, i / f ^ (m + 1)) ∷ []) ++ rest)
 unfolding order
 order-front f n i m some below inside pass =
     let front = closing-front f n i m some inside pass in

@@ -5,12 +5,11 @@ use Rattle.std.proofs.lemmas.Bool.{cases_lt}
 use Rattle.std.proofs.lemmas.Slice.Eq.{bytes_eq-Decides}
 use Rattle.std.specs.Prelude.{Result, Ok, Err}
 use Rattle.std.specs.Str.{bytes_eq}
-use Rattle.verity_plan.specs.Counts.{level_count}
+use Rattle.verity_plan.specs.Plans.{level_count, Planned, IsPlanned, levels_of}
 use Rattle.verity_tree.specs.Levels.{data_blocks, root}
 use Rattle.verity_tree.specs.Paths.{ChecksBlock, HasCollision, HoldsAt, IsAccepted, chain, true_chain, true_path}
 use Rattle.verity_tree.specs.declared.path.PathFault.{PathFault}
 use Rattle.verity_tree.specs.declared.path.PathFault.TheVariants.{Index, Length, DiffersAt}
-use Rattle.verity_plan.specs.Plans.{Planned, IsPlanned, levels_of}
 use Rattle.verity_plan.specs.Settings.{IsValid, fan, hash}
 use Rattle.verity_tree.specs.Verdicts.{digest_in}
 use Rattle.verity_tree.proofs.ChainLemmas.{length-data, length-true_chain, true_chain-root, true_chain-up}

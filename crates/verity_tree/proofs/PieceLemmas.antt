@@ -6,7 +6,7 @@ use Rattle.std.proofs.Math.Seq.{drop-append-add}
 use Rattle.std.specs.Fork.{slice_chunk}
 use Rattle.std.specs.List.{flat_map, range_with_len}
 
--- so many pieces
+-- some pieces
 pub length-pieces : (f : ℕ → List ℕ) (size from n : ℕ) → ((m : ℕ) → from ≤ m → m < from + n → length (f m) ≡ size)
     → length (flat_map f (range_with_len from n)) ≡ n * size
 length-pieces f size from zero each = let none : 0 ≡ 0 * size = omega arith in none

@@ -6,13 +6,12 @@ use Rattle.std.proofs.lemmas.List.FromFn.{get_or-map-range_with_len}
 use Rattle.std.proofs.Math.Nat.{pow-zero, pow-suc, one-le-pow, mul-le-mul_right}
 use Rattle.std.specs.Fork.{slice_chunk}
 use Rattle.std.specs.Int.{div_ceil}
-use Rattle.verity_tree.specs.ClosingOrder.{order, times}
+use Rattle.verity_tree.specs.Image.{order, times, tree_block}
 use Rattle.verity_tree.proofs.OrderLemmas.{closed_time}
 use Rattle.verity_plan.specs.Settings.{Settings, hash, fan}
-use Rattle.verity_tree.specs.Levels.{pack, hash_block_of, risen}
-use Rattle.verity_tree.specs.Image.{tree_block}
+use Rattle.verity_tree.specs.Levels.{pack, hash_block_of, blocks_up}
 use Rattle.verity_plan.proofs.CountLemmas.{div_ceil-div_ceil}
-use Rattle.verity_tree.proofs.TreeLemmas.{length-risen}
+use Rattle.verity_tree.proofs.TreeLemmas.{length-blocks_up}
 
 -- the j-th block of digests that are packed
 pub get_or-pack : (s : Settings) (digests : List (List ℕ)) (j : ℕ) → j < div_ceil (length digests) (fan s)
@@ -45,24 +44,24 @@ slice_chunk-same xs ys size j same each =
     ∙ sym (get_or-take size (drop (j * size) ys) m [] below ∙ get_or-drop (j * size) ys m []))
 
 -- a block depends on the data blocks before its closing time alone
-pub risen-prefix : (s : Settings) (xs ys : List (List ℕ)) (i l j : ℕ) → 0 < fan s → length xs ≡ length ys
+pub blocks_up-prefix : (s : Settings) (xs ys : List (List ℕ)) (i l j : ℕ) → 0 < fan s → length xs ≡ length ys
     → ((k : ℕ) → k < i → get_or xs k [] ≡ get_or ys k []) → j < div_ceil (length xs) (fan s ^ l)
-    → min ((j + 1) * fan s ^ l) (length xs) ≤ i → get_or (risen s xs l) j [] ≡ get_or (risen s ys l) j []
-unfolding risen
-risen-prefix s xs ys i zero j pos same each below time =
+    → min ((j + 1) * fan s ^ l) (length xs) ≤ i → get_or (blocks_up s xs l) j [] ≡ get_or (blocks_up s ys l) j []
+unfolding blocks_up
+blocks_up-prefix s xs ys i zero j pos same each below time =
     let one : fan s ^ 0 ≡ 1 = pow-zero (fan s) in
     let area : (j + 1) * fan s ^ 0 ≡ (j + 1) * 1 = ap (λ (n : ℕ). (j + 1) * n) one in
     let size : div_ceil (length xs) (fan s ^ 0) ≡ div_ceil (length xs) 1 = ap (λ (n : ℕ). div_ceil (length xs) n) one in
     each j (omega (arith, area, size, below, time))
-risen-prefix s xs ys i (suc l) j pos same each below time =
+blocks_up-prefix s xs ys i (suc l) j pos same each below time =
     let width = fan s ^ l in
     let wide : 0 < width = one-le-pow l (fan s) pos in
-    let before = risen s xs l in
-    let after = risen s ys l in
+    let before = blocks_up s xs l in
+    let after = blocks_up s ys l in
     let count : length (map (hash s) before) ≡ div_ceil (length xs) width =
-    length-map before (hash s) ∙ length-risen s xs l pos in
+    length-map before (hash s) ∙ length-blocks_up s xs l pos in
     let other : length (map (hash s) after) ≡ div_ceil (length ys) width =
-    length-map after (hash s) ∙ length-risen s ys l pos in
+    length-map after (hash s) ∙ length-blocks_up s ys l pos in
     let equal : div_ceil (length xs) width ≡ div_ceil (length ys) width = ap (λ (n : ℕ). div_ceil n width) same in
     let whole : div_ceil (length xs) (fan s ^ suc l) ≡ div_ceil (div_ceil (length xs) width) (fan s) =
     ap (div_ceil (length xs)) (pow-suc (fan s) l) ∙ sym (div_ceil-div_ceil (length xs) width (fan s) wide pos) in
@@ -86,7 +85,7 @@ risen-prefix s xs ys i (suc l) j pos same each below time =
       ap (λ (n : ℕ). (j + 1) * n) (pow-suc (fan s) l),
     ) in
     get_or-map (hash s) before k [] [] inside
-    ∙ ap (hash s) (risen-prefix s xs ys i l k pos same each (omega (arith, within, count)) sooner)
+    ∙ ap (hash s) (blocks_up-prefix s xs ys i l k pos same each (omega (arith, within, count)) sooner)
     ∙ sym (get_or-map (hash s) after k [] [] beside)))
     ∙ sym (get_or-pack s (map (hash s) after) j there)
 
@@ -97,4 +96,4 @@ pub closed-prefix : (s : Settings) (xs ys : List (List ℕ)) (i l j : ℕ) → 0
     → tree_block s xs l j ≡ tree_block s ys l j
 closed-prefix s xs ys i l j pos same most each some =
     let closed = closed_time (fan s) (length xs) l j i pos most some in
-    risen-prefix s xs ys i (l + 1) j pos same each closed.0.block_below closed.1
+    blocks_up-prefix s xs ys i (l + 1) j pos same each closed.0.block_below closed.1

@@ -21,7 +21,7 @@ quotient-below i n w some below =
       | inr most ↦ absurd (omega (arith, le-div_ceil n w (i / w) some most, div-add-mod' i w, below))
     ]
 
--- so many data blocks, rounded up, are one more than the place of the last
+-- a number of data blocks, divided and rounded up, is one more than the place of the last
 pub div_ceil-last : (i w : ℕ) → 0 < w → div_ceil (i + 1) w ≡ i / w + 1
 div_ceil-last i w some =
     let below : i % w < w = mod_below i w some in

@@ -18,8 +18,8 @@ use Rattle.verity_plan.specs.Settings.{fan}
 use Rattle.verity_tree.specs.Reading.{bytes_of}
 use Rattle.verity_tree.specs.Steps.Cascade.{EndsBlock}
 use Rattle.verity_tree.specs.Steps.ReadingAhead.{IsAhead, IsQuiet, StandsBy, stop_failed}
-use Rattle.verity_tree.specs.declared.data_block.BlockFault.{BlockFault}
-use Rattle.verity_tree.specs.declared.reading_ahead.Ahead.{Ahead}
+use Rattle.verity_tree.specs.declared.pass.data_block.BlockFault.{BlockFault}
+use Rattle.verity_tree.specs.declared.pass.reading_ahead.Ahead.{Ahead}
 
 -- a write further on leaves a row
 pub row-kept : (b r a k : ℕ) (rows new : List ℕ) → r * b + b ≤ a → a ≤ length rows
@@ -73,7 +73,7 @@ none-or : (fault : Option BlockFault) → (fault ≡ None) ⊎ (fault ≢ None)
 none-or None = inl refl
 none-or (Some fault) = inr (some-fault fault)
 
--- where a hash block ends, nothing is ahead
+-- when a hash block ends, nothing is read ahead
 pub settled : (p : Planned) (i : ℕ) (ahead : Ahead) → IsQuiet p (i + 1) ahead → EndsBlock (fan p.settings) p.blocks i
     → (ahead.fault ≡ None) × (ahead.end ≡ i + 1)
 settled p i ahead quiet ends =
@@ -89,9 +89,9 @@ settled p i ahead quiet ends =
     ]
 
 -- nor at the end of the data
-pub all-taken : (p : Planned) (i : ℕ) (ahead : Ahead) → IsQuiet p i ahead → p.blocks ≤ i
+pub all-read : (p : Planned) (i : ℕ) (ahead : Ahead) → IsQuiet p i ahead → p.blocks ≤ i
     → (ahead.fault ≡ None) × (ahead.end ≡ p.blocks)
-all-taken p i ahead quiet done =
+all-read p i ahead quiet done =
     let whole : ahead.end ≡ p.blocks = omega (arith, quiet.from, quiet.to, done) in
     elim (none-or ahead.fault) [
       | inl is ↦ (is, whole)

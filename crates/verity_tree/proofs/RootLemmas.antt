@@ -5,12 +5,12 @@ use Rattle.std.proofs.lemmas.Bool.{cases_lt}
 use Rattle.std.proofs.lemmas.List.{length-map, get_or-map}
 use Rattle.std.proofs.Math.Nat.{pow-zero, pow-suc, one-le-pow}
 use Rattle.std.specs.Int.{div_ceil}
-use Rattle.verity_plan.specs.Counts.{level_count, IsLevelCount}
+use Rattle.verity_plan.specs.Plans.{level_count, IsLevelCount}
 use Rattle.verity_plan.specs.Settings.{Settings, hash, fan}
-use Rattle.verity_tree.specs.Levels.{pack, risen, root}
-use Rattle.verity_tree.specs.Steps.PlainRoots.{digests_risen, root_of_digests}
+use Rattle.verity_tree.specs.Levels.{pack, blocks_up, root}
+use Rattle.verity_tree.specs.Steps.PlainRoots.{digests_up, root_of_digests}
 use Rattle.verity_plan.proofs.CountLemmas.{IsLevelCount-level_count, le-div_ceil, mul-lt_div_ceil, div_ceil-pos}
-use Rattle.verity_tree.proofs.TreeLemmas.{length-pack, length-risen, height-level_count}
+use Rattle.verity_tree.proofs.TreeLemmas.{length-pack, length-blocks_up, height-level_count}
 
 -- two numbers of levels are one
 pub IsLevelCount-same : (fan n x y : ℕ) → IsLevelCount fan n x → IsLevelCount fan n y → x ≡ y
@@ -45,12 +45,12 @@ level_count-one fan two =
     (record { enough = omega (arith, pow-zero fan); least = λ m h. absurd (omega arith) })
 
 -- the levels of digests above one level up
-pub digests_risen-up : (s : Settings) (digests : List (List ℕ)) (l : ℕ)
-    → digests_risen s digests (suc l) ≡ digests_risen s (map (hash s) (pack s digests)) l
-unfolding digests_risen
-digests_risen-up s digests zero = refl
-digests_risen-up s digests (suc l) =
-    ap (λ (ds : List (List ℕ)). map (hash s) (pack s ds)) (digests_risen-up s digests l)
+pub digests_up-up : (s : Settings) (digests : List (List ℕ)) (l : ℕ)
+    → digests_up s digests (suc l) ≡ digests_up s (map (hash s) (pack s digests)) l
+unfolding digests_up
+digests_up-up s digests zero = refl
+digests_up-up s digests (suc l) =
+    ap (λ (ds : List (List ℕ)). map (hash s) (pack s ds)) (digests_up-up s digests l)
 
 -- one level up leaves the same root
 pub root_of_digests-up : (s : Settings) (digests : List (List ℕ)) → 2 ≤ fan s → 1 < length digests
@@ -59,24 +59,25 @@ unfolding root_of_digests
 root_of_digests-up s digests two more =
     let above : length (map (hash s) (pack s digests)) ≡ div_ceil (length digests) (fan s) =
     length-map (pack s digests) (hash s) ∙ length-pack s digests in
-    ap (λ (n : ℕ). get_or (digests_risen s (map (hash s) (pack s digests)) (level_count (fan s) n)) 0 []) above
+    ap (λ (n : ℕ). get_or (digests_up s (map (hash s) (pack s digests)) (level_count (fan s) n)) 0 []) above
     ∙ ap (λ (ds : List (List ℕ)). get_or ds 0 [])
-    (sym (digests_risen-up s digests (level_count (fan s) (div_ceil (length digests) (fan s)))))
-    ∙ ap (λ (l : ℕ). get_or (digests_risen s digests l) 0 []) (sym (level_count-suc (fan s) (length digests) two more))
+    (sym (digests_up-up s digests (level_count (fan s) (div_ceil (length digests) (fan s)))))
+    ∙ ap (λ (l : ℕ). get_or (digests_up s digests l) 0 []) (sym (level_count-suc (fan s) (length digests) two more))
 
 -- a single digest is the root
 pub root_of_digests-one : (s : Settings) (digests : List (List ℕ)) → 2 ≤ fan s → length digests ≡ 1
     → root_of_digests s digests ≡ get_or digests 0 []
-unfolding root_of_digests digests_risen
+unfolding root_of_digests digests_up
 root_of_digests-one s digests two one =
-    ap (λ (l : ℕ). get_or (digests_risen s digests l) 0 []) (ap (level_count (fan s)) one ∙ level_count-one (fan s) two)
+    ap (λ (l : ℕ). get_or (digests_up s digests l) 0 []) (ap (level_count (fan s)) one ∙ level_count-one (fan s) two)
 
 -- the digests of the blocks of a level
-pub map-hash-risen : (s : Settings) (blocks : List (List ℕ)) (l : ℕ)
-    → map (hash s) (risen s blocks l) ≡ digests_risen s (map (hash s) blocks) l
-unfolding risen digests_risen
-map-hash-risen s blocks zero = refl
-map-hash-risen s blocks (suc l) = ap (λ (ds : List (List ℕ)). map (hash s) (pack s ds)) (map-hash-risen s blocks l)
+pub map-hash-blocks_up : (s : Settings) (blocks : List (List ℕ)) (l : ℕ)
+    → map (hash s) (blocks_up s blocks l) ≡ digests_up s (map (hash s) blocks) l
+unfolding blocks_up digests_up
+map-hash-blocks_up s blocks zero = refl
+map-hash-blocks_up s blocks (suc l) = ap (λ (ds : List (List ℕ)). map (hash s) (pack s ds))
+    (map-hash-blocks_up s blocks l)
 
 -- the root above some blocks is the root above their digests
 pub root-digests : (s : Settings) (blocks : List (List ℕ)) → 2 ≤ fan s → 0 < length blocks
@@ -85,16 +86,16 @@ unfolding root root_of_digests
 root-digests s blocks two some =
     let l = level_count (fan s) (length blocks) in
     let low : 0 < fan s = omega arith in
-    let left : 0 < length (risen s blocks l) =
+    let left : 0 < length (blocks_up s blocks l) =
     omega (
       arith,
       div_ceil-pos (length blocks) (fan s ^ l) (one-le-pow l (fan s) low) some,
-      length-risen s blocks l low,
+      length-blocks_up s blocks l low,
     ) in
-    ap (λ (k : ℕ). hash s (get_or (risen s blocks k) 0 [])) (height-level_count s blocks low)
-    ∙ sym (get_or-map (hash s) (risen s blocks l) 0 [] [] left)
-    ∙ ap (λ (ds : List (List ℕ)). get_or ds 0 []) (map-hash-risen s blocks l)
-    ∙ ap (λ (n : ℕ). get_or (digests_risen s (map (hash s) blocks) (level_count (fan s) n)) 0 [])
+    ap (λ (k : ℕ). hash s (get_or (blocks_up s blocks k) 0 [])) (height-level_count s blocks low)
+    ∙ sym (get_or-map (hash s) (blocks_up s blocks l) 0 [] [] left)
+    ∙ ap (λ (ds : List (List ℕ)). get_or ds 0 []) (map-hash-blocks_up s blocks l)
+    ∙ ap (λ (n : ℕ). get_or (digests_up s (map (hash s) blocks) (level_count (fan s) n)) 0 [])
     (sym (length-map blocks (hash s)))
 
 -- how many digests are one level up

@@ -1,8 +1,8 @@
 -- Worked rows: closing orders.
 use Rattle.std.proofs.Common.{◌≡◌, [], ◌∷◌, refl}
 use Rattle.verity_plan.specs.Settings.{least_from}
-use Rattle.verity_plan.specs.Counts.{level_count}
-use Rattle.verity_tree.specs.ClosingOrder.{order}
+use Rattle.verity_plan.specs.Plans.{level_count}
+use Rattle.verity_tree.specs.Image.{order}
 
 order_17 : order 16 17 17 ≡ (0, 0) ∷ (0, 1) ∷ (1, 0) ∷ []
 unfolding least_from level_count order

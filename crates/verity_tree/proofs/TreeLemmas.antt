@@ -6,8 +6,8 @@ use Rattle.std.proofs.Math.Nat.{pow-zero, pow-suc, one-le-pow}
 use Rattle.std.specs.Int.{div_ceil}
 use Rattle.std.specs.Prelude.{nat_le}
 use Rattle.verity_plan.specs.Settings.{Settings, fan, hash}
-use Rattle.verity_tree.specs.Levels.{pack, up, risen, height}
-use Rattle.verity_plan.specs.Counts.{level_count}
+use Rattle.verity_tree.specs.Levels.{pack, up, blocks_up, height}
+use Rattle.verity_plan.specs.Plans.{level_count}
 use Rattle.verity_plan.proofs.LeastLemmas.{least_from-same}
 use Rattle.verity_plan.proofs.CountLemmas.{div_ceil-div_ceil, leb-div_ceil_one}
 
@@ -20,15 +20,15 @@ length-up s blocks =
     length-pack s (map (hash s) blocks) ∙ ap (λ (n : ℕ). div_ceil n (fan s)) (length-map blocks (hash s))
 
 -- l levels up there are ceil(n / fan ^ l) blocks
-pub length-risen : (s : Settings) (blocks : List (List ℕ)) (l : ℕ) → 0 < fan s
-    → length (risen s blocks l) ≡ div_ceil (length blocks) (fan s ^ l)
-unfolding risen
-length-risen s blocks zero some =
+pub length-blocks_up : (s : Settings) (blocks : List (List ℕ)) (l : ℕ) → 0 < fan s
+    → length (blocks_up s blocks l) ≡ div_ceil (length blocks) (fan s ^ l)
+unfolding blocks_up
+length-blocks_up s blocks zero some =
     let one : length blocks ≡ div_ceil (length blocks) 1 = omega arith in
     one ∙ ap (λ (a : ℕ). div_ceil (length blocks) a) (sym (pow-zero (fan s)))
-length-risen s blocks (suc l) some =
-    length-up s (risen s blocks l)
-    ∙ ap (λ (n : ℕ). div_ceil n (fan s)) (length-risen s blocks l some)
+length-blocks_up s blocks (suc l) some =
+    length-up s (blocks_up s blocks l)
+    ∙ ap (λ (n : ℕ). div_ceil n (fan s)) (length-blocks_up s blocks l some)
     ∙ div_ceil-div_ceil (length blocks) (fan s ^ l) (fan s) (one-le-pow l (fan s) some) some
     ∙ ap (div_ceil (length blocks)) (sym (pow-suc (fan s) l))
 
@@ -37,5 +37,5 @@ pub height-level_count : (s : Settings) (blocks : List (List ℕ)) → 0 < fan s
     → height s blocks ≡ level_count (fan s) (length blocks)
 unfolding height level_count
 height-level_count s blocks some = least_from-same _ _ 0 (length blocks) (λ l.
-    ap (λ (n : ℕ). nat_le n 1) (length-risen s blocks l some)
+    ap (λ (n : ℕ). nat_le n 1) (length-blocks_up s blocks l some)
     ∙ leb-div_ceil_one (length blocks) (fan s ^ l) (one-le-pow l (fan s) some))

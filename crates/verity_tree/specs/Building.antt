@@ -3,7 +3,7 @@ use Rattle.std.specs.Prelude.{◌≡◌, ℕ, Bool, true, false, List, Result, O
 use Rattle.verity_hash.specs.declared.digest.Digest.{Digest}
 use Rattle.verity_io.specs.Reading.{HasRead}
 use Rattle.verity_plan.specs.Plans.{Planned}
-use Rattle.verity_tree.specs.Image.{begun, begun_after, StopsAt}
+use Rattle.verity_tree.specs.Image.{tree_image, tree_image_after, StopsAt}
 use Rattle.verity_tree.specs.Levels.{data_blocks, root}
 use Rattle.verity_tree.specs.Reading.{EndsWithin, FailsWithin, ReadsUpTo}
 use Rattle.verity_tree.specs.declared.building.BuildFault.{BuildFault}
@@ -18,26 +18,21 @@ Builds p (Err (DeviceFailed level block)) before after = ReadsUpTo p level block
 
 -- what stands on the device, by the answer
 abbrev pub BuildsImage : Planned → List (List ℕ) → Result Digest BuildFault → List ℕ → List ℕ → Type 0
-BuildsImage p blocks (Ok digest) before after = after ≡ begun p blocks before
-BuildsImage p blocks (Err (SourceShort i)) before after = after ≡ begun_after p blocks i before
-BuildsImage p blocks (Err (SourceFailed i)) before after = after ≡ begun_after p blocks i before
+BuildsImage p blocks (Ok digest) before after = after ≡ tree_image p blocks before
+BuildsImage p blocks (Err (SourceShort i)) before after = after ≡ tree_image_after p blocks i before
+BuildsImage p blocks (Err (SourceFailed i)) before after = after ≡ tree_image_after p blocks i before
 BuildsImage p blocks (Err (DeviceFailed level block)) before after = StopsAt p blocks (level, block) before after
 
 -- whether the answer is a failure of the source, or of the device
 abbrev pub source_failed : Result Digest BuildFault → Bool
-source_failed (Ok digest) = false
-source_failed (Err (SourceShort i)) = false
 source_failed (Err (SourceFailed i)) = true
-source_failed (Err (DeviceFailed level block)) = false
+source_failed _ = false
 
 abbrev pub device_failed : Result Digest BuildFault → Bool
-device_failed (Ok digest) = false
-device_failed (Err (SourceShort i)) = false
-device_failed (Err (SourceFailed i)) = false
 device_failed (Err (DeviceFailed level block)) = true
+device_failed _ = false
 
 -- a fault of the source
 abbrev pub IsOfSource : BuildFault → Type 0
-IsOfSource (SourceShort i) = Unit {0}
-IsOfSource (SourceFailed i) = Unit {0}
 IsOfSource (DeviceFailed level block) = ⊥
+IsOfSource _ = Unit {0}

@@ -3,7 +3,7 @@ use Rattle.std.specs.Prelude.{◌≡◌, ℕ, Bool, true, false, List, Result, O
 use Rattle.verity_io.specs.Reading.{HasRead}
 use Rattle.verity_plan.specs.Plans.{Planned}
 use Rattle.verity_plan.specs.Settings.{fan}
-use Rattle.verity_tree.specs.ClosingOrder.{ComesNext, order}
+use Rattle.verity_tree.specs.Image.{ComesNext, order}
 use Rattle.verity_tree.specs.Levels.{data_blocks}
 use Rattle.verity_tree.specs.Reading.{EndsWithin, FailsWithin, ReadsUpTo}
 use Rattle.verity_tree.specs.Verdicts.{NoneDiffers, verdict}
@@ -17,16 +17,12 @@ pub record ComesTo (p : Planned) (device bytes : List ℕ) (pair : ℕ × ℕ) :
   pub next : ComesNext (order (fan p.settings) p.blocks p.blocks) done pair
   pub same : NoneDiffers p (data_blocks p bytes) device done
 
--- the answer is the verdict, or a failure before which nothing differs
+-- the answer is a failure before which nothing differs, or else the verdict
 abbrev pub Judges : Planned → List ℕ → List ℕ → List ℕ → Result Unit CompareFault → Type 0
 Judges p device bytes digest (Err (SourceFailed i)) =
     NoneDiffers p (data_blocks p bytes) device (order (fan p.settings) p.blocks i)
 Judges p device bytes digest (Err (DeviceFailed level block)) = ComesTo p device bytes (level, block)
-Judges p device bytes digest (Ok right) = verdict p device bytes digest ≡ Ok right
-Judges p device bytes digest (Err (SourceShort i)) = verdict p device bytes digest ≡ Err (SourceShort i)
-Judges p device bytes digest (Err (Differs level block part)) =
-    verdict p device bytes digest ≡ Err (Differs level block part)
-Judges p device bytes digest (Err (RootDiffers computed)) = verdict p device bytes digest ≡ Err (RootDiffers computed)
+Judges p device bytes digest answer = verdict p device bytes digest ≡ answer
 
 -- how much was read
 abbrev pub CompareReads : Planned → Result Unit CompareFault → List ℕ → List ℕ → Type 0
@@ -39,17 +35,9 @@ CompareReads p (Err (RootDiffers computed)) before after = HasRead p.wanted befo
 
 -- whether the answer is a failure of the source, or of the device
 abbrev pub source_failed : Result Unit CompareFault → Bool
-source_failed (Ok right) = false
-source_failed (Err (SourceShort i)) = false
 source_failed (Err (SourceFailed i)) = true
-source_failed (Err (DeviceFailed level block)) = false
-source_failed (Err (Differs level block part)) = false
-source_failed (Err (RootDiffers computed)) = false
+source_failed _ = false
 
 abbrev pub device_failed : Result Unit CompareFault → Bool
-device_failed (Ok right) = false
-device_failed (Err (SourceShort i)) = false
-device_failed (Err (SourceFailed i)) = false
 device_failed (Err (DeviceFailed level block)) = true
-device_failed (Err (Differs level block part)) = false
-device_failed (Err (RootDiffers computed)) = false
+device_failed _ = false

@@ -1,5 +1,4 @@
 pub mod Levels
-pub mod ClosingOrder
 pub mod Image
 pub mod Reading
 pub mod Building

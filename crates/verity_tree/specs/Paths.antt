@@ -57,7 +57,7 @@ abbrev pub true_chain : Settings → List (List ℕ) → ℕ → ℕ → List �
 true_chain s blocks i zero = slice_index_or blocks i []
 true_chain s blocks i (suc l) = tree_block s blocks l (i / fan s ^ (l + 1))
 
--- the true path: the blocks of so many levels above data block i, joined
+-- the true path: the blocks of the lowest levels above data block i, joined
 abbrev pub true_path : Settings → List (List ℕ) → ℕ → ℕ → List ℕ
 true_path s blocks i levels = flat_map (λ l. true_chain s blocks i (suc l)) (range_with_len 0 levels)
 

@@ -3,8 +3,8 @@ use Rattle.std.specs.Prelude.{◌≡◌, ℕ, ◌+◌, ◌*◌, ◌<◌, ◌≤�
 use Rattle.verity_io.specs.Reading.{HasRead}
 use Rattle.verity_plan.specs.Plans.{Planned}
 use Rattle.verity_plan.specs.Settings.{fan}
-use Rattle.verity_tree.specs.ClosingOrder.{closing}
-use Rattle.verity_tree.specs.Levels.{whole}
+use Rattle.verity_tree.specs.Image.{closing}
+use Rattle.verity_tree.specs.Levels.{whole_blocks}
 
 -- the bytes of i data blocks, or all that are wanted
 abbrev pub bytes_of : Planned → ℕ → ℕ
@@ -13,7 +13,7 @@ bytes_of p i = min (i * p.settings.data_block) p.wanted
 -- a source that ended within data block i: it held i whole blocks, and all its bytes were read
 pub record EndsWithin (p : Planned) (i : ℕ) (before after : List ℕ) : Type 0 where
   pub below : i < p.blocks
-  pub whole_is : i ≡ whole p before
+  pub whole_is : i ≡ whole_blocks p before
   pub enough : bytes_of p i ≤ length before
   pub short : length before < bytes_of p (i + 1)
   pub rest : after ≡ []

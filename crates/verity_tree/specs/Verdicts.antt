@@ -1,23 +1,17 @@
 -- Whether the hash blocks that a device holds are the tree's, and which is the first in closing order that is not
 -- (veritysetup(8), `verify`; the order and the parts are this project's own).
-use Rattle.std.specs.Prelude.{◌≡◌, ℕ, ◌+◌, ◌-◌, ◌*◌, Bool, not, min, List, length, take, drop, find, All}
-use Rattle.std.specs.Prelude.{nat_lt, Option, Some, None, Result, Ok, Err, if◌then◌else◌}
+use Rattle.std.specs.Prelude.{◌≡◌, ◌≤◌, ℕ, ◌+◌, ◌-◌, ◌*◌, Bool, not, min, List, length, take, drop, find, All, nat_lt}
+use Rattle.std.specs.Prelude.{Option, Some, None, Result, Ok, Err, if◌then◌else◌}
 use Rattle.std.specs.List.{range_with_len}
 use Rattle.std.specs.Str.{bytes_eq}
-use Rattle.verity_tree.specs.ClosingOrder.{order}
-use Rattle.verity_tree.specs.Image.{tree_block}
-use Rattle.verity_tree.specs.Levels.{root, data_blocks, whole}
-use Rattle.verity_plan.specs.Plans.{Planned, byte_of, size_under}
+use Rattle.verity_tree.specs.Image.{order, tree_block, stored_block}
+use Rattle.verity_tree.specs.Levels.{root, data_blocks, whole_blocks}
+use Rattle.verity_plan.specs.Plans.{Planned, HasBlock, byte_of, size_under}
 use Rattle.verity_plan.specs.Settings.{Settings, digest_len, fan, slot_width}
 use Rattle.verity_tree.specs.declared.comparing.CompareFault.{CompareFault}
-use Rattle.verity_tree.specs.declared.comparing.CompareFault.TheVariants.{SourceShort}
-use Rattle.verity_tree.specs.declared.comparing.CompareFault.TheVariants.{Differs, RootDiffers}
+use Rattle.verity_tree.specs.declared.comparing.CompareFault.TheVariants.{SourceShort, Differs, RootDiffers}
 use Rattle.verity_tree.specs.declared.part.Part.{Part}
 use Rattle.verity_tree.specs.declared.part.Part.TheVariants.{Missing, Child, Spare}
-
--- the bytes that a device holds for a block of a level: fewer than a hash block where it ends before
-abbrev pub stored : Planned → List ℕ → ℕ → ℕ → List ℕ
-stored p device level block = take p.settings.hash_block (drop (byte_of p level block) device)
 
 -- the digest in a slot of a hash block
 abbrev pub digest_in : Settings → List ℕ → ℕ → List ℕ
@@ -25,8 +19,8 @@ digest_in s bytes slot = take (digest_len s) (drop (slot * slot_width s) bytes)
 
 -- the first used slot whose digests differ in two hash blocks of this place
 abbrev pub first_slot : Planned → ℕ → ℕ → List ℕ → List ℕ → Option ℕ
-first_slot p level block held computed =
-    find (λ slot. not (bytes_eq (digest_in p.settings held slot) (digest_in p.settings computed slot)))
+first_slot p level block on_device computed =
+    find (λ slot. not (bytes_eq (digest_in p.settings on_device slot) (digest_in p.settings computed slot)))
     (range_with_len 0 (min (fan p.settings) (size_under p level - block * fan p.settings)))
 
 -- where a whole block differs: in the digest of a child, counted through the level, or in other bytes
@@ -34,26 +28,27 @@ abbrev pub part_at : ℕ → Option ℕ → Part
 part_at first (Some slot) = Child (first + slot)
 part_at first None = Spare
 
--- where the bytes that are held for a block of a level differ from the tree's
+-- where the bytes that are stored for a block of a level differ from the tree's
 abbrev pub part_of : Planned → ℕ → ℕ → List ℕ → List ℕ → Part
-part_of p level block held computed = if nat_lt (length held) p.settings.hash_block then Missing
-    else (part_at (block * fan p.settings) (first_slot p level block held computed))
+part_of p level block on_device computed = if nat_lt (length on_device) p.settings.hash_block then Missing
+    else (part_at (block * fan p.settings) (first_slot p level block on_device computed))
 
 -- the block that a device holds is not the tree's
 abbrev pub differs : Planned → List (List ℕ) → List ℕ → ℕ × ℕ → Bool
 differs p blocks device pair =
-    not (bytes_eq (stored p device pair.0 pair.1) (tree_block p.settings blocks pair.0 pair.1))
+    not (bytes_eq (stored_block p device pair.0 pair.1) (tree_block p.settings blocks pair.0 pair.1))
 
 -- the fault at the first block that differs
 abbrev pub difference : Planned → List (List ℕ) → List ℕ → ℕ × ℕ → CompareFault
 difference p blocks device pair =
     Differs pair.0 pair.1
-    (part_of p pair.0 pair.1 (stored p device pair.0 pair.1) (tree_block p.settings blocks pair.0 pair.1))
+    (part_of p pair.0 pair.1 (stored_block p device pair.0 pair.1) (tree_block p.settings blocks pair.0 pair.1))
 
 -- without a difference: short data, another root, or all is right
-abbrev pub judged : Planned → List ℕ → List ℕ → Option (ℕ × ℕ) → List ℕ → Result Unit CompareFault
-judged p device bytes (Some pair) digest = Err (difference p (data_blocks p bytes) device pair)
-judged p device bytes None digest = if nat_lt (whole p bytes) p.blocks then Err (SourceShort (whole p bytes))
+abbrev pub verdict_by : Planned → List ℕ → List ℕ → Option (ℕ × ℕ) → List ℕ → Result Unit CompareFault
+verdict_by p device bytes (Some pair) digest = Err (difference p (data_blocks p bytes) device pair)
+verdict_by p device bytes None digest = if nat_lt (whole_blocks p bytes) p.blocks then Err
+    (SourceShort (whole_blocks p bytes))
     else (if bytes_eq (root p.settings (data_blocks p bytes)) digest then Ok tt
     else Err (RootDiffers (root p.settings (data_blocks p bytes))))
 
@@ -61,12 +56,12 @@ judged p device bytes None digest = if nat_lt (whole p bytes) p.blocks then Err 
 -- the data blocks that are there, then short data, then the root
 abbrev pub verdict : Planned → List ℕ → List ℕ → List ℕ → Result Unit CompareFault
 verdict p device bytes digest =
-    judged p device bytes
-    (find (differs p (data_blocks p bytes) device) (order (fan p.settings) p.blocks (whole p bytes))) digest
+    verdict_by p device bytes
+    (find (differs p (data_blocks p bytes) device) (order (fan p.settings) p.blocks (whole_blocks p bytes))) digest
 
 -- the device holds this block of the tree
 abbrev pub StandsThere : Planned → List (List ℕ) → List ℕ → ℕ × ℕ → Type 0
-StandsThere p blocks device pair = stored p device pair.0 pair.1 ≡ tree_block p.settings blocks pair.0 pair.1
+StandsThere p blocks device pair = stored_block p device pair.0 pair.1 ≡ tree_block p.settings blocks pair.0 pair.1
 
 -- the device holds these blocks of the tree
 abbrev pub NoneDiffers : Planned → List (List ℕ) → List ℕ → List (ℕ × ℕ) → Type 0

@@ -6,8 +6,8 @@ ghost use Rattle.verity_tree.specs.Levels.{data_blocks};
 ghost use Rattle.verity_plan.specs.Plans.{store_length_of};
 ghost use Rattle.verity_plan.specs.Settings.{digest_len};
 
-use crate::closed_block::Task;
-use crate::one_pass::{PassFault, pass};
+use crate::pass::closed_block::Task;
+use crate::pass::one_pass::{PassFault, pass};
 use crate::store::Store;
 use verity_hash::Digest;
 use verity_io::{Device, Nowhere, Source};
@@ -34,7 +34,7 @@ pub enum BuildFault {
 /// is one that `fits` the plan.
 ///
 /// A fault leaves the hash blocks that closed before it; after `DeviceFailed` the failed block's own range is unknown.
-/// How much was read of the source: all that the plan wants where a root is answered; all its bytes after
+/// How much was read of the source: all that the plan wants if a root is answered; all its bytes after
 /// `SourceShort`; the data up to the block with which the hash block closed after `DeviceFailed`; the blocks before the
 /// failed one, and less than one block more, after `SourceFailed`.
 pub fn build<S: Source, D: Device>(
@@ -49,7 +49,7 @@ pub fn build<S: Source, D: Device>(
     ensures source_told { S.tells source.old → S.tells source.new }
     ensures device_told { D.tells device.old → D.tells device.new }
 
-    // A failure is answered only where its count rose.
+    // A failure is answered only if its count rose.
     ensures source_count { Counts (source_failed result) (S.failures source.old) (S.failures source.new) }
     ensures device_count { Counts (device_failed result) (D.failures device.old) (D.failures device.new) }
 
@@ -65,7 +65,7 @@ pub fn build<S: Source, D: Device>(
         Err(PassFault::SourceFailed(i)) => Err(BuildFault::SourceFailed(i)),
         Err(PassFault::Stopped(stop)) => Err(BuildFault::DeviceFailed {
             level: stop.level,
-            block: stop.block,
+            block: stop.index,
         }),
     }
 }

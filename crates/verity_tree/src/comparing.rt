@@ -2,16 +2,16 @@
 ghost use Rattle.std.specs.Prelude.{◌≡◌, length};
 ghost use Rattle.verity_plan.specs.Plans.{store_length_of};
 
-use crate::cascade::Stop;
-use crate::closed_block::{Cause, Task};
-use crate::one_pass::{PassFault, pass};
 use crate::part::Part;
+use crate::pass::cascade::Stop;
+use crate::pass::closed_block::{Cause, Task};
+use crate::pass::one_pass::{PassFault, pass};
 use crate::store::Store;
 use verity_hash::Digest;
 use verity_io::{Device, Source};
 use verity_plan::Plan;
 
-/// Why a stored tree isn't the one above the data; counted from 0, level 0 next to the data.
+/// Why a stored tree isn't the one above the data. All numbers are counted from 0, and level 0 is next to the data.
 #[derive(Clone, Copy, Debug, PartialEq, Eq)]
 pub enum CompareFault {
     /// The source ended before the end of this data block.
@@ -46,8 +46,8 @@ ghost use Rattle.verity_tree.specs.Steps.OnePass.{fault_of};
 /// in closing order, and then the root hash (veritysetup(8), `verify`). It writes nothing and takes no memory. The
 /// store is one that fits the plan.
 ///
-/// The first block that differs is the fault, and short data or a failure only where no block that closed before it
-/// differs; another root only where all blocks are equal.
+/// The fault is the first block that differs; short data or a failure only if no block that closed before it differs;
+/// and another root only if all blocks are equal.
 pub fn compare<S: Source, D: Device>(
     plan: &Plan,
     store: &mut Store,
@@ -61,7 +61,7 @@ pub fn compare<S: Source, D: Device>(
     ensures source_told { S.tells source.old → S.tells source.new }
     ensures device_told { D.tells device.old → D.tells device.new }
 
-    // A failure is answered only where its count rose.
+    // A failure is answered only if its count rose.
     ensures source_count { Counts (source_failed result) (S.failures source.old) (S.failures source.new) }
     ensures device_count { Counts (device_failed result) (D.failures device.old) (D.failures device.new) }
 
@@ -69,28 +69,7 @@ pub fn compare<S: Source, D: Device>(
     ensures verdict { S.tells source.old → D.tells device.old
         → Judges plan.now (D.content device.old) (S.remaining source.old) root.now result }
 {
-    judge(plan, store.lend(), source, device, root)
-}
-
-/// The comparison, in the bytes of a store.
-fn judge<S: Source, D: Device>(
-    plan: &Plan,
-    store: &mut [u8],
-    source: &mut S,
-    device: &mut D,
-    root: &Digest,
-) -> Result<(), CompareFault>
-    requires { length store.old ≡ store_length_of plan.now }
-    ensures stands { D.tells device.old → D.content device.new ≡ D.content device.old }
-    ensures source_told { S.tells source.old → S.tells source.new }
-    ensures device_told { D.tells device.old → D.tells device.new }
-    ensures source_count { Counts (source_failed result) (S.failures source.old) (S.failures source.new) }
-    ensures device_count { Counts (device_failed result) (D.failures device.old) (D.failures device.new) }
-    ensures read { S.tells source.old → CompareReads plan.now result (S.remaining source.old) (S.remaining source.new) }
-    ensures verdict { S.tells source.old → D.tells device.old
-        → Judges plan.now (D.content device.old) (S.remaining source.old) root.now result }
-{
-    match pass(plan, Task::Compare, store, source, device) {
+    match pass(plan, Task::Compare, store.lend(), source, device) {
         Ok(computed) => {
             if computed.as_bytes() == root.as_bytes() {
                 Ok(())
@@ -104,13 +83,13 @@ fn judge<S: Source, D: Device>(
     }
 }
 
-/// The fault where a hash block stops the pass.
+/// The fault if a hash block stops the pass.
 fn fault_of(stop: Stop) -> CompareFault
     ensures { result ≡ fault_of stop }
 {
     let Stop {
         level,
-        block,
+        index: block,
         cause,
     } = stop;
     match cause {

@@ -1,13 +1,12 @@
 //! Laws of the definitions of trees: each holds for all settings and data. Those of slots, counts and places are
 //! `verity_plan`'s, and stand here too.
-ghost use Rattle.std.specs.Prelude.{◌≡◌, ◌⊎◌, ℕ, ◌<◌, ◌≤◌, List, [], length, slice_index_or, Result};
-ghost use Rattle.verity_plan.specs.Counts.{level_count, level_size};
-ghost use Rattle.verity_plan.specs.Plans.{Planned, IsPlanned, levels_of};
+ghost use Rattle.std.specs.Prelude.{◌≡◌, ◌⊎◌, ℕ, ◌<◌, ◌≤◌, List, [], length, slice_index_or, Result, Ok};
+ghost use Rattle.verity_plan.specs.Plans.{level_count, level_size, Planned, IsPlanned, levels_of};
 ghost use Rattle.verity_plan.specs.Settings.{Settings, fan};
-ghost use Rattle.verity_tree.specs.ClosingOrder.{ClosesOnce, order, times};
-ghost use Rattle.verity_tree.specs.Image.{tree_block};
+ghost use Rattle.verity_tree.specs.Image.{ClosesOnce, order, times, tree_block, HoldsTree};
 ghost use Rattle.verity_tree.specs.Levels.{data_blocks, level, height, root};
 ghost use Rattle.verity_tree.specs.Paths.{ChecksBlock, HasCollision, IsAccepted, true_path};
+ghost use Rattle.verity_tree.specs.Verdicts.{verdict};
 ghost use Rattle.verity_tree.specs.declared.path.PathFault.{PathFault};
 
 pub use verity_plan::laws::{
@@ -38,8 +37,14 @@ pub fn closed_blocks_stay()
         → tree_block s xs l j ≡ tree_block s ys l j }
 {}
 
-/// A data block and its path have one answer: accepted exactly where the path holds at every level, else the first
-/// fault.
+/// The verdict is that all is right exactly if the device holds the whole tree and the root hash is the tree's.
+pub fn right_devices_hold_the_tree()
+    ensures { (p : Planned) (device bytes digest : List ℕ) → IsPlanned p
+        → (verdict p device bytes digest ≡ Ok tt → HoldsTree p device bytes digest)
+        × (HoldsTree p device bytes digest → verdict p device bytes digest ≡ Ok tt) }
+{}
+
+/// A data block and its path have one answer: accepted exactly if the path holds at every level, else the first fault.
 pub fn one_answer_is_right()
     ensures { (p : Planned) (i : ℕ) (block path root : List ℕ) (x y : Result Unit PathFault)
         → ChecksBlock p i block path root x → ChecksBlock p i block path root y → x ≡ y }

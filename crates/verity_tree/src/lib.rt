@@ -4,16 +4,12 @@
 #![tactic(auto)]
 
 mod building;
-mod cascade;
-mod closed_block;
 mod comparing;
-mod data_block;
 pub mod laws;
-mod one_pass;
 mod part;
+mod pass;
 mod path;
 mod plain_root;
-mod reading_ahead;
 mod store;
 
 pub use building::{BuildFault, build, root_only};

@@ -19,25 +19,26 @@ ghost use Rattle.verity_tree.specs.Verdicts.{digest_in, first_slot, part_at};
 
 use verity_plan::Plan;
 
-/// Where two whole blocks of a place differ.
+/// Where a whole stored block differs from the computed one.
 pub(crate) fn part_between(
     plan: &Plan,
     level: usize,
-    block: u64,
-    held: &[u8],
+    index: u64,
+    stored: &[u8],
     computed: &[u8],
 ) -> Part
-    requires here { HasBlock plan.now level block }
-    requires held { length held.now ≡ plan.now.settings.hash_block }
+    requires here { HasBlock plan.now level index }
+    requires stored { length stored.now ≡ plan.now.settings.hash_block }
     requires computed { length computed.now ≡ plan.now.settings.hash_block }
-    ensures { result ≡ part_at (block * fan plan.now.settings) (first_slot plan.now level block held.now computed.now) }
+    ensures { result ≡ part_at (index * fan plan.now.settings)
+        (first_slot plan.now level index stored.now computed.now) }
 {
     let fan = plan.fan();
     let below = plan.size_under(level);
-    let first = block * fan as u64;
+    let first = index * fan as u64;
     let used = (below - first).min(fan as u64) as usize;
     for slot in 0..used {
-        if slot_differs(plan, slot, held, computed) {
+        if slot_differs(plan, slot, stored, computed) {
             return Part::Child(first + slot as u64);
         }
     }
@@ -45,14 +46,14 @@ pub(crate) fn part_between(
 }
 
 /// Whether the digests in a slot differ.
-fn slot_differs(plan: &Plan, slot: usize, held: &[u8], computed: &[u8]) -> bool
+fn slot_differs(plan: &Plan, slot: usize, stored: &[u8], computed: &[u8]) -> bool
     requires room { slot * slot_width plan.now.settings + digest_len plan.now.settings ≤ plan.now.settings.hash_block }
-    requires held { length held.now ≡ plan.now.settings.hash_block }
+    requires stored { length stored.now ≡ plan.now.settings.hash_block }
     requires computed { length computed.now ≡ plan.now.settings.hash_block }
     ensures { result
-        ≡ not (bytes_eq (digest_in plan.now.settings held.now slot) (digest_in plan.now.settings computed.now slot)) }
+        ≡ not (bytes_eq (digest_in plan.now.settings stored.now slot) (digest_in plan.now.settings computed.now slot)) }
 {
     let len = plan.digest_len();
     let from = slot * plan.slot_width();
-    held[from..from + len] != computed[from..from + len]
+    stored[from..from + len] != computed[from..from + len]
 }

@@ -1,7 +1,7 @@
 //! The root hash by whole lists, level by level: the plain body that the passes are tested beside.
 ghost use Rattle.std.specs.Prelude.{◌≡◌, ◌+◌, ◌*◌, ◌<◌, ◌≤◌, ◌++◌, length, map, vec_len, IfOk, OnOk};
 ghost use Rattle.std.specs.Int.{div_ceil};
-ghost use Rattle.verity_hash.specs.Bytes.{filled};
+ghost use Rattle.verity_hash.specs.Hashing.{filled};
 ghost use Rattle.verity_tree.specs.Levels.{cut, hash_block_of, pack, root, data_blocks};
 ghost use Rattle.verity_tree.specs.Steps.PlainRoots.{root_of_digests};
 ghost use Rattle.verity_plan.specs.Settings.{hash};
@@ -71,6 +71,7 @@ fn root_above(
     requires { 0 < vec_len digests }
     ensures { IfOk result (λ root. root ≡ root_of_digests settings.now digests.items) }
 {
+    // The call tells the proof that the fan-out is at least 2.
     let _fan = settings.fan();
     let mut level = digests;
     'levels: while level.len() > 1 {
@@ -115,6 +116,7 @@ pub fn root_by_levels(alloc: Global, plan: &Plan, bytes: &[u8]) -> Result<Digest
     requires { length bytes.now ≡ plan.now.wanted }
     ensures { IfOk result (λ digest. digest ≡ root plan.now.settings (data_blocks plan.now bytes.now)) }
 {
+    // The call tells the proof that the plan has data.
     let _wanted = plan.wanted();
     let settings = plan.settings();
     let digests = digests_of(alloc, settings, bytes)?;

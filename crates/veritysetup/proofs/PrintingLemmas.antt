@@ -2,6 +2,6 @@
 use Rattle.std.proofs.Common.{refl, List, ℕ, Option, Some, None}
 use Rattle.std.specs.Io.KnownBytes.{Keeps}
 
-pub kept : (held : Option (List ℕ)) → Keeps held held
-kept None = tt
-kept (Some bytes) = refl
+pub Keeps-refl : (held : Option (List ℕ)) → Keeps held held
+Keeps-refl None = tt
+Keeps-refl (Some bytes) = refl

@@ -3,44 +3,47 @@ use Rattle.std.proofs.Common.{◌≡◌, ◌∙◌, ◌≤◌, ℕ, zero, suc, a
 use Rattle.std.specs.Io.KnownBytes.{Appends, Keeps}
 use Rattle.command_line.specs.Printing.{AppendsFront}
 use Rattle.verity_io.specs.Counting.{Change}
-use Rattle.veritysetup.specs.Chosen.{Chosen}
-use Rattle.veritysetup.specs.FormatRun.{FormatRun, PrintsReport, fault_status, fault_text}
-use Rattle.veritysetup.specs.Outcomes.{Printed, message_of, status_of}
-use Rattle.veritysetup.specs.Programs.{CommandRun, Grows}
-use Rattle.veritysetup.specs.declared.format_run.FormatFault.{FormatFault}
-use Rattle.veritysetup.specs.declared.format_run.FormatFault.TheVariants.{Store, Build, Superblock, Report}
-use Rattle.command_line.specs.declared.print_fault.PrintFault.TheVariants.{Memory, Output}
+use Rattle.veritysetup.specs.Options.VeritySettings.{VeritySettings}
+use Rattle.veritysetup.specs.Runs.Format.{FormatRun, PrintsReport, fault_status, fault_text}
+use Rattle.veritysetup.specs.Runs.Outcomes.{TextChange, message_of, status_of}
+use Rattle.veritysetup.specs.Program.Answers.{CommandRun, Grows}
+use Rattle.veritysetup.specs.declared.runs.format.FormatFault.{FormatFault}
+use Rattle.veritysetup.specs.declared.runs.format.FormatFault.TheVariants.{Store, Build, Superblock, Report}
+use Rattle.command_line.specs.declared.printing.print_fault.PrintFault.TheVariants.{Memory, Output}
 
 -- no byte is added to a writer that nothing was written to
-pub nothing_added : (held : Option (List ℕ)) → Appends held held []
-nothing_added None = tt
-nothing_added (Some bytes) = sym (append-nil bytes)
+pub Appends-nothing : (held : Option (List ℕ)) → Appends held held []
+Appends-nothing None = tt
+Appends-nothing (Some bytes) = sym (append-nil bytes)
 
-kept_grows : (before after : Option (List ℕ)) → Keeps before after → Grows before after
-kept_grows None after kept = ([], tt)
-kept_grows (Some xs) None kept = absurd kept
-kept_grows (Some xs) (Some ys) kept = ([], kept ∙ sym (append-nil xs))
+Keeps-grows : (before after : Option (List ℕ)) → Keeps before after → Grows before after
+Keeps-grows None after kept = ([], tt)
+Keeps-grows (Some xs) None kept = absurd kept
+Keeps-grows (Some xs) (Some ys) kept = ([], kept ∙ sym (append-nil xs))
 
-take_none : (count : ℕ) (xs : List ℕ) → xs ≡ [] → take count xs ≡ []
-take_none zero xs none = refl
-take_none (suc k) xs none = rw none refl
+take-nothing : (count : ℕ) (xs : List ℕ) → xs ≡ [] → take count xs ≡ []
+take-nothing zero xs none = refl
+take-nothing (suc k) xs none = rw none refl
 
-none_kept : (count : ℕ) (before after : Option (List ℕ)) → Appends before after (take count []) → Keeps before after
-none_kept count None after added = tt
-none_kept count (Some xs) None added = absurd added
-none_kept count (Some xs) (Some ys) added = added ∙ ap (λ (zs : List ℕ). xs ++ zs) (take_none count [] refl) ∙ append-nil xs
+Appends-take_nothing : (count : ℕ) (before after : Option (List ℕ)) → Appends before after (take count [])
+    → Keeps before after
+Appends-take_nothing count None after added = tt
+Appends-take_nothing count (Some xs) None added = absurd added
+Appends-take_nothing count (Some xs) (Some ys) added =
+    added ∙ ap (λ (zs : List ℕ). xs ++ zs) (take-nothing count [] refl) ∙ append-nil xs
 
-front_grows : (text : List ℕ) (before after : Option (List ℕ)) → AppendsFront text before after → Grows before after
-front_grows text before after front = (take front.0 text, front.1)
+AppendsFront-grows : (text : List ℕ) (before after : Option (List ℕ)) → AppendsFront text before after
+    → Grows before after
+AppendsFront-grows text before after front = (take front.0 text, front.1)
 
 -- a message is written, and nothing else
-pub told : (status : ℕ) (text : List ℕ) (out before after : Option (List ℕ)) → status ≡ 1
+pub CommandRun-message : (status : ℕ) (text : List ℕ) (out before after : Option (List ℕ)) → status ≡ 1
     → AppendsFront text before after
     → CommandRun status (record { out_before = out; out_after = out; msgs_before = before; msgs_after = after })
-told status text out before after one front = record {
+CommandRun-message status text out before after one front = record {
   status_is = omega arith;
-  out = ([], nothing_added out);
-  msgs = front_grows text before after front;
+  out = ([], Appends-nothing out);
+  msgs = AppendsFront-grows text before after front;
   quiet = λ is_zero. absurd (omega arith);
 }
 
@@ -50,58 +53,58 @@ status_most (Err Store) = omega arith
 status_most (Err (Build fault)) = omega arith
 status_most (Err Superblock) = omega arith
 status_most (Err (Report Memory)) = omega arith
-status_most (Err (Report (Output taken))) = omega arith
+status_most (Err (Report (Output count))) = omega arith
 
-report_grows : (report : List ℕ) (outcome : Result (Unit {0}) FormatFault) (before after : Option (List ℕ))
+PrintsReport-grows : (report : List ℕ) (outcome : Result (Unit {0}) FormatFault) (before after : Option (List ℕ))
     → PrintsReport report outcome before after → Grows before after
-report_grows report (Ok done) before after printed = (report, printed)
-report_grows report (Err Store) before after printed = kept_grows before after printed
-report_grows report (Err (Build fault)) before after printed = kept_grows before after printed
-report_grows report (Err Superblock) before after printed = kept_grows before after printed
-report_grows report (Err (Report Memory)) before after printed = kept_grows before after printed
-report_grows report (Err (Report (Output taken))) before after printed = (take taken report, printed.1)
+PrintsReport-grows report (Ok done) before after printed = (report, printed)
+PrintsReport-grows report (Err Store) before after printed = Keeps-grows before after printed
+PrintsReport-grows report (Err (Build fault)) before after printed = Keeps-grows before after printed
+PrintsReport-grows report (Err Superblock) before after printed = Keeps-grows before after printed
+PrintsReport-grows report (Err (Report Memory)) before after printed = Keeps-grows before after printed
+PrintsReport-grows report (Err (Report (Output count))) before after printed = (take count report, printed.1)
 
 quiet_when_done : (outcome : Result (Unit {0}) FormatFault) (before after : Option (List ℕ))
     → AppendsFront (message_of fault_text outcome) before after → status_of fault_status outcome ≡ 0
     → Keeps before after
-quiet_when_done (Ok done) before after front is_zero = none_kept front.0 before after front.1
+quiet_when_done (Ok done) before after front is_zero = Appends-take_nothing front.0 before after front.1
 quiet_when_done (Err Store) before after front is_zero = absurd (omega arith)
 quiet_when_done (Err (Build fault)) before after front is_zero = absurd (omega arith)
 quiet_when_done (Err Superblock) before after front is_zero = absurd (omega arith)
 quiet_when_done (Err (Report Memory)) before after front is_zero = absurd (omega arith)
-quiet_when_done (Err (Report (Output taken))) before after front is_zero = absurd (omega arith)
+quiet_when_done (Err (Report (Output count))) before after front is_zero = absurd (omega arith)
 
 -- a run of format is a command's run
-pub formatted : (c : Chosen) (path : List ℕ) (status : ℕ) (source device : Change) (texts : Printed)
-    → FormatRun c path status source device texts → CommandRun status texts
-formatted c path status source device texts run =
+pub CommandRun-format : (s : VeritySettings) (path : List ℕ) (status : ℕ) (source device : Change) (texts : TextChange)
+    → FormatRun s path status source device texts → CommandRun status texts
+CommandRun-format s path status source device texts run =
     let least = status_most run.outcome in
     record {
       status_is = omega (arith, run.status_is);
-      out = report_grows _ run.outcome _ _ run.printed;
-      msgs = front_grows _ _ _ run.message;
+      out = PrintsReport-grows _ run.outcome _ _ run.printed;
+      msgs = AppendsFront-grows _ _ _ run.message;
       quiet = λ is_zero. quiet_when_done run.outcome _ _ run.message (sym run.status_is ∙ is_zero);
     }
 
-kept_then : (text : List ℕ) (before middle after : Option (List ℕ)) → Keeps before middle
+Keeps-appends : (text : List ℕ) (before middle after : Option (List ℕ)) → Keeps before middle
     → AppendsFront text middle after → Grows before after
-kept_then text None middle after kept front = ([], tt)
-kept_then text (Some xs) None after kept front = absurd kept
-kept_then text (Some xs) (Some ys) None kept front = absurd front.1
-kept_then text (Some xs) (Some ys) (Some zs) kept front =
+Keeps-appends text None middle after kept front = ([], tt)
+Keeps-appends text (Some xs) None after kept front = absurd kept
+Keeps-appends text (Some xs) (Some ys) None kept front = absurd front.1
+Keeps-appends text (Some xs) (Some ys) (Some zs) kept front =
     (take front.0 text, front.1 ∙ ap (λ (bytes : List ℕ). bytes ++ take front.0 text) kept)
 
 -- a run that ends with status 0
-pub done : (ran : ℕ) (texts : Printed) → CommandRun ran texts → ran ≡ 0 → CommandRun 0 texts
-done ran texts run is_zero = rw is_zero at run
+pub CommandRun-done : (ran : ℕ) (texts : TextChange) → CommandRun ran texts → ran ≡ 0 → CommandRun 0 texts
+CommandRun-done ran texts run is_zero = rw is_zero at run
 
 -- a run that ends with status 0, and after which the file can't be kept
-pub unkept : (ran status : ℕ) (text : List ℕ) (texts : Printed) (after : Option (List ℕ)) → CommandRun ran texts
-    → ran ≡ 0 → status ≡ 4 → AppendsFront text texts.msgs_after after
+pub CommandRun-unwritten : (ran status : ℕ) (text : List ℕ) (texts : TextChange) (after : Option (List ℕ))
+    → CommandRun ran texts → ran ≡ 0 → status ≡ 4 → AppendsFront text texts.msgs_after after
     → CommandRun status (record texts { msgs_after = after })
-unkept ran status text texts after run is_zero four front = record {
+CommandRun-unwritten ran status text texts after run is_zero four front = record {
   status_is = omega arith;
   out = run.out;
-  msgs = kept_then text texts.msgs_before texts.msgs_after after (run.quiet is_zero) front;
+  msgs = Keeps-appends text texts.msgs_before texts.msgs_after after (run.quiet is_zero) front;
   quiet = λ none. absurd (omega arith);
 }

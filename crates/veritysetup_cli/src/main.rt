@@ -2,11 +2,11 @@
 #![tactic(auto)]
 
 use std::process::ExitCode;
-use veritysetup::{Cleared, ProgressLine, run_program};
+use veritysetup::{ErasingWriter, ProgressLine, run_program};
 
 fn main(rt: HostRuntime) -> ExitCode {
     let progress = ProgressLine::new(&rt);
-    let mut out = Cleared::new(&progress, rt.stdout());
-    let mut msgs = Cleared::new(&progress, rt.stderr());
+    let mut out = ErasingWriter::new(&progress, rt.stdout());
+    let mut msgs = ErasingWriter::new(&progress, rt.stderr());
     ExitCode::from(run_program(&rt, &progress, &mut out, &mut msgs))
 }

@@ -34,8 +34,7 @@ fn in_each_lane(words: &[u32; 8]) -> [u32x8; 8]
     ]
 }
 
-/// Takes `state` from the initial hash value to that of each message. What it is in the lanes to spare counts for
-/// nothing.
+/// Takes `state` from the initial hash value to that of each message. In lanes without a message it is meaningless.
 fn hash(state: &mut [u32x8; 8], before: &[u8], parts: &[u8], len: usize, after: &[u8])
     requires { len ≤ length parts.now }
     ensures { (j : ℕ) → j < 8 → j * len + len ≤ length parts.now
@@ -80,7 +79,7 @@ fn leftmost_224(bytes: &[u8; 32]) -> [u8; 28]
 }
 
 /// The SHA-256 digests of `count` messages of one length, one to eight. Message `j` is `before`, then part `j` of
-/// `parts`, which have `len` bytes each, then `after`. The digests after those of the messages count for nothing. Each
+/// `parts`, which have `len` bytes each, then `after`. The digests after those of the messages are meaningless. Any
 /// number of messages takes the same time.
 pub fn sha256(before: &[u8], parts: &[u8], len: usize, count: usize, after: &[u8]) -> [[u8; 32]; 8]
     requires whole { length parts.now ≡ count * len }
@@ -103,7 +102,7 @@ pub fn sha256(before: &[u8], parts: &[u8], len: usize, count: usize, after: &[u8
 }
 
 /// The SHA-224 digests of `count` messages of one length, one to eight. Message `j` is `before`, then part `j` of
-/// `parts`, which have `len` bytes each, then `after`. The digests after those of the messages count for nothing. Each
+/// `parts`, which have `len` bytes each, then `after`. The digests after those of the messages are meaningless. Any
 /// number of messages takes the same time.
 pub fn sha224(before: &[u8], parts: &[u8], len: usize, count: usize, after: &[u8]) -> [[u8; 28]; 8]
     requires whole { length parts.now ≡ count * len }

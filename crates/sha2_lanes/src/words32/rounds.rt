@@ -20,7 +20,7 @@ const K: [u32; 64] = [
     0x748f82ee, 0x78a5636f, 0x84c87814, 0x8cc70208, 0x90befffa, 0xa4506ceb, 0xbef9a3f7, 0xc67178f2,
 ];
 
-/// One round (step 3): d + T₁, and T₁ + T₂. The other variables only change their names.
+/// One round (step 3): d + T₁, and T₁ + T₂. The other variables only take new names.
 #[inline(always)]
 fn round(
     a: u32x8,

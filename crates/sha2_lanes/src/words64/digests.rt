@@ -48,8 +48,7 @@ fn in_each_lane(words: &[u64; 8]) -> [u64x4; 8]
     ]
 }
 
-/// Takes `state` from the initial hash value to that of each message. What it is in the lanes to spare counts for
-/// nothing.
+/// Takes `state` from the initial hash value to that of each message. In lanes without a message it is meaningless.
 fn hash(state: &mut [u64x4; 8], before: &[u8], parts: &[u8], len: usize, after: &[u8])
     requires { len ≤ length parts.now }
     ensures { (j : ℕ) → j < 4 → j * len + len ≤ length parts.now
@@ -140,8 +139,8 @@ fn hashed(
 }
 
 /// The SHA-512 digests of `count` messages of one length, one to eight. Message `j` is `before`, then part `j` of
-/// `parts`, which have `len` bytes each, then `after`. The digests after those of the messages count for nothing. Five
-/// to eight messages take twice as long as one to four.
+/// `parts`, which have `len` bytes each, then `after`. The digests after those of the messages are meaningless. Five to
+/// eight messages take twice as long as one to four.
 pub fn sha512(before: &[u8], parts: &[u8], len: usize, count: usize, after: &[u8]) -> [[u8; 64]; 8]
     requires whole { length parts.now ≡ count * len }
     requires some { 0 < count }
@@ -152,8 +151,8 @@ pub fn sha512(before: &[u8], parts: &[u8], len: usize, count: usize, after: &[u8
 }
 
 /// The SHA-384 digests of `count` messages of one length, one to eight. Message `j` is `before`, then part `j` of
-/// `parts`, which have `len` bytes each, then `after`. The digests after those of the messages count for nothing. Five
-/// to eight messages take twice as long as one to four.
+/// `parts`, which have `len` bytes each, then `after`. The digests after those of the messages are meaningless. Five to
+/// eight messages take twice as long as one to four.
 pub fn sha384(before: &[u8], parts: &[u8], len: usize, count: usize, after: &[u8]) -> [[u8; 48]; 8]
     requires whole { length parts.now ≡ count * len }
     requires some { 0 < count }

@@ -1,7 +1,7 @@
 //! The padded messages (FIPS 180-4, 5.1.2), block by block.
 //!
-//! `before`, a part and `after` may together pass what a `usize` counts, as two of them may be one slice: places in a
-//! message have 128 bits.
+//! `before`, a part and `after` may together be longer than a `usize` can count, because two of them may be the same
+//! slice: offsets in a message have 128 bits.
 ghost use Rattle.std.specs.Prelude.{◌≡◌, ℕ, ◌+◌, ◌*◌, ◌<◌, ◌≤◌, ◌^◌, ◌++◌, length, take, drop};
 ghost use Rattle.sha2_lanes.specs.Lanes.{message_of};
 ghost use Rattle.sha2_lanes.specs.Words64.{BeginsSchedule, block_count, padded_row};
@@ -43,7 +43,8 @@ fn padded_row(before: &[u8], part: &[u8], after: &[u8], at: u128) -> [u8; 128]
     row
 }
 
-/// The 128 bytes from byte `at` on of each padded message, one row after the other. A lane to spare has a row too.
+/// The 128 bytes from byte `at` on of each padded message, one row after the other. A lane without a message has a row
+/// too.
 fn padded_rows(before: &[u8], parts: &[u8], len: usize, after: &[u8], at: u128) -> [u8; 512]
     requires some { len ≤ length parts.now }
     requires inside { at + 128 ≤ 128 * block_count (length before.now + len + length after.now) }
@@ -60,7 +61,7 @@ fn padded_rows(before: &[u8], parts: &[u8], len: usize, after: &[u8], at: u128) 
 }
 
 /// Sets the first 16 words of the schedule to those of block `k` of each padded message. A block inside the parts is
-/// loaded from where it lies, and one that has no byte of them, as the last one often has none, is made once for all
+/// loaded from where it lies, and one that has no byte of them, as the last one often has none, is built once for all
 /// lanes.
 #[inline(always)]
 pub(crate) fn load_block(

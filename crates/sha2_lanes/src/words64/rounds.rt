@@ -92,7 +92,7 @@ const K: [u64; 80] = [
     0x6c44198c4a475817,
 ];
 
-/// One round (step 3): d + T₁, and T₁ + T₂. The other variables only change their names.
+/// One round (step 3): d + T₁, and T₁ + T₂. The other variables only take new names.
 #[inline(always)]
 fn round(
     a: u64x4,

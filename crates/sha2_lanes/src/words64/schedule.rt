@@ -40,8 +40,8 @@ fn words_at(parts: &[u8], places: &[usize; 8], i: usize) -> u64x4
     ])
 }
 
-/// Sets the first 16 words of the schedule to those of the block at byte `from` of each part. What they are in the
-/// lanes to spare counts for nothing.
+/// Sets the first 16 words of the schedule to those of the block at byte `from` of each part. In lanes without a
+/// message they are meaningless.
 #[inline(always)]
 pub(crate) fn load(w: &mut [u64x4; 80], parts: &[u8], len: usize, from: usize)
     requires some { len ≤ length parts.now }

@@ -4,21 +4,20 @@ use Rattle.std.specs.Prelude.{◌≡◌, ◌⊎◌, ℕ, ◌+◌, ◌/◌, ◌%�
 use Rattle.std.specs.List.{range_with_len}
 use Rattle.verity_hash.specs.declared.digest.Digest.{Digest}
 use Rattle.verity_plan.specs.Settings.{Settings, hash, fan}
-use Rattle.verity_tree.specs.ClosingOrder.{closing, closes}
-use Rattle.verity_tree.specs.Image.{tree_block, written}
+use Rattle.verity_tree.specs.Image.{closing, closes, tree_block, device_with, stored_block}
 use Rattle.verity_plan.specs.Plans.{Planned, byte_of, levels_of}
-use Rattle.verity_tree.specs.declared.cascade.Stop.{Stop}
-use Rattle.verity_tree.specs.declared.closed_block.Task.{Task}
+use Rattle.verity_tree.specs.declared.pass.cascade.Stop.{Stop}
+use Rattle.verity_tree.specs.declared.pass.closed_block.Task.{Task}
 use Rattle.verity_tree.specs.Steps.ClosedBlocks.{IsCause, call_failed, closed_block}
-use Rattle.verity_tree.specs.Verdicts.{NoneDiffers, stored}
-use Rattle.verity_tree.specs.Steps.OpenBlocks.{Arrival, IsNext, filling, IsCarriedOn, IsKept, IsClosed}
+use Rattle.verity_tree.specs.Verdicts.{NoneDiffers}
+use Rattle.verity_tree.specs.Steps.OpenBlocks.{Arrival, IsNext, open_block_with, IsCarriedOn, IsKept, IsClosed}
 use Rattle.verity_io.specs.Writing.{put, Spoiled}
-use Rattle.verity_tree.specs.declared.cascade.LevelStep.{LevelStep}
-use Rattle.verity_tree.specs.declared.cascade.LevelStep.TheVariants.{Open, Closed, Stopped}
+use Rattle.verity_tree.specs.declared.pass.cascade.LevelStep.{LevelStep}
+use Rattle.verity_tree.specs.declared.pass.cascade.LevelStep.TheVariants.{Open, Closed, Stopped}
 
--- the blocks of the levels below m that close with data block i, counted from 0, where all of them do
-abbrev pub closed_to : ℕ → ℕ → ℕ → List (ℕ × ℕ)
-closed_to fan i m = map (λ level. (level, i / fan ^ (level + 1))) (range_with_len 0 m)
+-- the blocks of the levels below m that close with data block i, counted from 0, if all of them do
+abbrev pub first_closing : ℕ → ℕ → ℕ → List (ℕ × ℕ)
+first_closing fan i m = map (λ level. (level, i / fan ^ (level + 1))) (range_with_len 0 m)
 
 -- data block i, counted from 0, is the last below a block of level 0
 abbrev pub EndsBlock : ℕ → ℕ → ℕ → Type 0
@@ -35,7 +34,7 @@ abbrev pub StepsDevice : Planned → ℕ → Arrival → LevelStep → List ℕ 
 StepsDevice p level a Open before after = after ≡ before
 StepsDevice p level a (Closed above) before after = (below : List (List ℕ)) → IsNext p.settings below a
     → after ≡ put before (byte_of p level (a.index / fan p.settings))
-    (filling p.settings (map (hash p.settings) below) a.index)
+    (open_block_with p.settings (map (hash p.settings) below) a.index)
 StepsDevice p level a (Stopped cause) before after =
     Spoiled before (byte_of p level (a.index / fan p.settings)) p.settings.hash_block after
 
@@ -44,17 +43,17 @@ abbrev pub StepsCompared : Planned → ℕ → Arrival → LevelStep → List �
 StepsCompared p level a Open before after = after ≡ before
 StepsCompared p level a (Closed above) before after = (after ≡ before)
     × ((below : List (List ℕ)) → IsNext p.settings below a
-    → stored p before level (a.index / fan p.settings) ≡ filling p.settings (map (hash p.settings) below) a.index)
+    → stored_block p before level (a.index / fan p.settings) ≡ open_block_with p.settings
+    (map (hash p.settings) below) a.index)
 StepsCompared p level a (Stopped cause) before after = (after ≡ before)
     × ((below : List (List ℕ)) → IsNext p.settings below a
     → IsCause p (closed_block level (a.index / fan p.settings)
-    (filling p.settings (map (hash p.settings) below) a.index)) before cause)
+    (open_block_with p.settings (map (hash p.settings) below) a.index)) before cause)
 
 -- whether a call of the device failed
 abbrev pub step_failed : Task → LevelStep → Bool
-step_failed task Open = false
-step_failed task (Closed above) = false
 step_failed task (Stopped cause) = call_failed task cause
+step_failed task _ = false
 
 abbrev pub carry_failed : Task → Result Digest Stop → Bool
 carry_failed task (Ok digest) = false
@@ -69,21 +68,21 @@ pub record ClosesWith (p : Planned) (i level block : ℕ) : Type 0 where
 -- data block i has come to all levels that close, or stopped at one whose block could not be written
 abbrev pub Carries : Planned → List (List ℕ) → ℕ → Result Digest Stop → List ℕ → Type 0
 Carries p blocks i (Ok digest) store = IsCarriedOn p.settings blocks i (levels_of p) store digest
-Carries p blocks i (Err stop) store = ClosesWith p i stop.level stop.block
+Carries p blocks i (Err stop) store = ClosesWith p i stop.level stop.index
 
 -- the blocks that close with a data block are put at their places, up to the one that stops the pass
 abbrev pub CarriesDevice : Planned → List (List ℕ) → ℕ → Result Digest Stop → List ℕ → List ℕ → Type 0
 CarriesDevice p blocks i (Ok digest) before after =
-    after ≡ written p.settings blocks p.base (closing (fan p.settings) p.blocks (i + 1)) before
+    after ≡ device_with p.settings blocks p.base (closing (fan p.settings) p.blocks (i + 1)) before
 CarriesDevice p blocks i (Err stop) before after =
-    Spoiled (written p.settings blocks p.base (closed_to (fan p.settings) i stop.level) before)
-    (byte_of p stop.level stop.block) p.settings.hash_block after
+    Spoiled (device_with p.settings blocks p.base (first_closing (fan p.settings) i stop.level) before)
+    (byte_of p stop.level stop.index) p.settings.hash_block after
 
 -- the blocks that close with a data block do not differ from what the device holds, up to the one that stops the pass
 abbrev pub CarriesCompared : Planned → List (List ℕ) → ℕ → Result Digest Stop → List ℕ → List ℕ → Type 0
 CarriesCompared p blocks i (Ok digest) before after =
     (after ≡ before) × NoneDiffers p blocks before (closing (fan p.settings) p.blocks (i + 1))
 CarriesCompared p blocks i (Err stop) before after = (after ≡ before)
-    × NoneDiffers p blocks before (closed_to (fan p.settings) i stop.level)
-    × IsCause p (closed_block stop.level stop.block (tree_block p.settings blocks stop.level stop.block)) before
+    × NoneDiffers p blocks before (first_closing (fan p.settings) i stop.level)
+    × IsCause p (closed_block stop.level stop.index (tree_block p.settings blocks stop.level stop.index)) before
     stop.cause

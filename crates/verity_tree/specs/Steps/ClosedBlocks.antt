@@ -3,50 +3,51 @@
 use Rattle.std.specs.Prelude.{◌≡◌, ◌≢◌, ℕ, Bool, true, false, List, Result, Ok, Err}
 use Rattle.verity_io.specs.Writing.{put, Spoiled}
 use Rattle.verity_plan.specs.Plans.{Planned, byte_of}
-use Rattle.verity_tree.specs.Verdicts.{part_of, stored}
-use Rattle.verity_tree.specs.declared.closed_block.Cause.{Cause}
-use Rattle.verity_tree.specs.declared.closed_block.Cause.TheVariants.{Failed, Differs}
-use Rattle.verity_tree.specs.declared.closed_block.Task.{Task}
-use Rattle.verity_tree.specs.declared.closed_block.Task.TheVariants.{Write, Compare}
+use Rattle.verity_tree.specs.Verdicts.{part_of}
+use Rattle.verity_tree.specs.Image.{stored_block}
+use Rattle.verity_tree.specs.declared.pass.closed_block.Cause.{Cause}
+use Rattle.verity_tree.specs.declared.pass.closed_block.Cause.TheVariants.{Failed, Differs}
+use Rattle.verity_tree.specs.declared.pass.closed_block.Task.{Task}
+use Rattle.verity_tree.specs.declared.pass.closed_block.Task.TheVariants.{Write, Compare}
 
 -- a hash block that has closed: its level, its number in the level, and its bytes
 pub record ClosedBlock : Type 0 where
   pub level : ℕ
-  pub block : ℕ
+  pub index : ℕ
   pub bytes : List ℕ
 
 abbrev pub closed_block : ℕ → ℕ → List ℕ → ClosedBlock
-closed_block level block bytes = record { level = level; block = block; bytes = bytes }
+closed_block level index bytes = record { level = level; index = index; bytes = bytes }
 
 -- what stored bytes say beside the computed block
 abbrev pub ComparesBlock : Planned → ClosedBlock → List ℕ → Result Unit Cause → Type 0
-ComparesBlock p computed held (Ok _) = held ≡ computed.bytes
-ComparesBlock p computed held (Err Failed) = ⊥
-ComparesBlock p computed held (Err (Differs part)) =
-    (held ≢ computed.bytes) × (part ≡ part_of p computed.level computed.block held computed.bytes)
+ComparesBlock p computed on_device (Ok _) = on_device ≡ computed.bytes
+ComparesBlock p computed on_device (Err Failed) = ⊥
+ComparesBlock p computed on_device (Err (Differs part)) =
+    (on_device ≢ computed.bytes) × (part ≡ part_of p computed.level computed.index on_device computed.bytes)
 
 -- why the computed block stops the pass: what the device holds at its place differs, and where, or the device failed
 abbrev pub IsCause : Planned → ClosedBlock → List ℕ → Cause → Type 0
 IsCause p computed device Failed = Unit {0}
-IsCause p computed device (Differs part) = (stored p device computed.level computed.block ≢ computed.bytes)
-    × (part ≡ part_of p computed.level computed.block (stored p device computed.level computed.block) computed.bytes)
+IsCause p computed device (Differs part) = (stored_block p device computed.level computed.index ≢ computed.bytes)
+    × (part ≡ part_of p computed.level computed.index
+    (stored_block p device computed.level computed.index) computed.bytes)
 
 -- the device before and after
 abbrev pub Closes : Planned → Task → ClosedBlock → Result Unit Cause → List ℕ → List ℕ → Type 0
-Closes p Write closed (Ok _) before after = after ≡ put before (byte_of p closed.level closed.block) closed.bytes
+Closes p Write closed (Ok _) before after = after ≡ put before (byte_of p closed.level closed.index) closed.bytes
 Closes p Write closed (Err cause) before after =
-    Spoiled before (byte_of p closed.level closed.block) p.settings.hash_block after
+    Spoiled before (byte_of p closed.level closed.index) p.settings.hash_block after
 Closes p Compare closed (Err Failed) before after = after ≡ before
 Closes p Compare closed (Ok done) before after =
-    (after ≡ before) × ComparesBlock p closed (stored p before closed.level closed.block) (Ok done)
+    (after ≡ before) × ComparesBlock p closed (stored_block p before closed.level closed.index) (Ok done)
 Closes p Compare closed (Err (Differs part)) before after =
-    (after ≡ before) × ComparesBlock p closed (stored p before closed.level closed.block) (Err (Differs part))
+    (after ≡ before) × ComparesBlock p closed (stored_block p before closed.level closed.index) (Err (Differs part))
 
 -- whether a call of the device failed
 abbrev pub call_failed : Task → Cause → Bool
-call_failed Write cause = true
-call_failed Compare Failed = true
 call_failed Compare (Differs part) = false
+call_failed _ _ = true
 
 abbrev pub close_failed : Task → Result Unit Cause → Bool
 close_failed task (Ok _) = false

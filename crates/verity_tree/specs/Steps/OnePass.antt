@@ -2,37 +2,39 @@
 -- For the private steps; not needed to read a public contract.
 use Rattle.std.specs.Prelude.{◌≡◌, ℕ, ◌+◌, ◌<◌, ◌≤◌, Bool, true, false, List, length, Result, Ok, Err}
 use Rattle.verity_hash.specs.declared.digest.Digest.{Digest}
-use Rattle.verity_io.specs.Reading.{HasRead}
-use Rattle.verity_tree.specs.Reading.{EndsWithin, FailsWithin, ReadsUpTo, bytes_of}
-use Rattle.verity_tree.specs.Image.{StopsAt, begun, begun_after, tree_block}
-use Rattle.verity_tree.specs.ClosingOrder.{ComesNext, order}
+use Rattle.verity_tree.specs.Building.{Builds, BuildsImage}
+use Rattle.verity_tree.specs.Reading.{bytes_of}
+use Rattle.verity_tree.specs.Image.{tree_block, ComesNext, order}
 use Rattle.verity_tree.specs.Steps.ClosedBlocks.{IsCause, call_failed, closed_block}
-use Rattle.verity_tree.specs.Levels.{root, data_blocks}
+use Rattle.verity_tree.specs.Levels.{data_blocks}
 use Rattle.verity_plan.specs.Plans.{Planned}
 use Rattle.verity_plan.specs.Settings.{fan}
 use Rattle.verity_tree.specs.Verdicts.{NoneDiffers}
-use Rattle.verity_tree.specs.declared.cascade.Stop.{Stop}
-use Rattle.verity_tree.specs.declared.closed_block.Task.{Task}
-use Rattle.verity_tree.specs.declared.closed_block.Cause.{Cause}
-use Rattle.verity_tree.specs.declared.closed_block.Cause.TheVariants as cause
+use Rattle.verity_tree.specs.declared.pass.cascade.Stop.{Stop}
+use Rattle.verity_tree.specs.declared.pass.closed_block.Task.{Task}
+use Rattle.verity_tree.specs.declared.pass.closed_block.Cause.{Cause}
+use Rattle.verity_tree.specs.declared.pass.closed_block.Cause.TheVariants as cause
+use Rattle.verity_tree.specs.declared.building.BuildFault.{BuildFault}
+use Rattle.verity_tree.specs.declared.building.BuildFault.TheVariants as build
 use Rattle.verity_tree.specs.declared.comparing.CompareFault.{CompareFault}
 use Rattle.verity_tree.specs.declared.comparing.CompareFault.TheVariants as fault
-use Rattle.verity_tree.specs.declared.one_pass.PassFault.{PassFault}
-use Rattle.verity_tree.specs.declared.one_pass.PassFault.TheVariants.{SourceShort, SourceFailed, Stopped}
+use Rattle.verity_tree.specs.declared.pass.one_pass.PassFault.{PassFault}
+use Rattle.verity_tree.specs.declared.pass.one_pass.PassFault.TheVariants.{SourceShort, SourceFailed, Stopped}
+
+-- what a pass answers, as building a tree answers it: the block that stops the pass is one that could not be written
+abbrev pub build_answer : Result Digest PassFault → Result Digest BuildFault
+build_answer (Ok digest) = Ok digest
+build_answer (Err (SourceShort i)) = Err (build.SourceShort i)
+build_answer (Err (SourceFailed i)) = Err (build.SourceFailed i)
+build_answer (Err (Stopped stop)) = Err (build.DeviceFailed stop.level stop.index)
 
 -- the answer, and how much was read
 abbrev pub Passes : Planned → Result Digest PassFault → List ℕ → List ℕ → Type 0
-Passes p (Ok digest) before after = (digest ≡ root p.settings (data_blocks p before)) × HasRead p.wanted before after
-Passes p (Err (SourceShort i)) before after = EndsWithin p i before after
-Passes p (Err (SourceFailed i)) before after = FailsWithin p i before after
-Passes p (Err (Stopped stop)) before after = ReadsUpTo p stop.level stop.block before after
+Passes p result before after = Builds p (build_answer result) before after
 
 -- the device: the blocks that closed are put at their places, or stand there
 abbrev pub PassesImage : Planned → List (List ℕ) → Result Digest PassFault → List ℕ → List ℕ → Type 0
-PassesImage p blocks (Ok digest) before after = after ≡ begun p blocks before
-PassesImage p blocks (Err (SourceShort i)) before after = after ≡ begun_after p blocks i before
-PassesImage p blocks (Err (SourceFailed i)) before after = after ≡ begun_after p blocks i before
-PassesImage p blocks (Err (Stopped stop)) before after = StopsAt p blocks (stop.level, stop.block) before after
+PassesImage p blocks result before after = BuildsImage p blocks (build_answer result) before after
 
 -- the block that stops a comparison: those before it in closing order do not differ from what the device holds
 pub record StopsFor (p : Planned) (bytes device : List ℕ) (stop : Stop) : Type 0 where
@@ -40,13 +42,13 @@ pub record StopsFor (p : Planned) (bytes device : List ℕ) (stop : Stop) : Type
   pub below : i < p.blocks
   pub enough : bytes_of p (i + 1) ≤ length bytes
   pub done : List (ℕ × ℕ)
-  pub next : ComesNext (order (fan p.settings) p.blocks (i + 1)) done (stop.level, stop.block)
+  pub next : ComesNext (order (fan p.settings) p.blocks (i + 1)) done (stop.level, stop.index)
   pub same : NoneDiffers p (data_blocks p bytes) device done
   pub cause_is : IsCause p
-      (closed_block stop.level stop.block (tree_block p.settings (data_blocks p bytes) stop.level stop.block)) device
+      (closed_block stop.level stop.index (tree_block p.settings (data_blocks p bytes) stop.level stop.index)) device
       stop.cause
 
--- a comparison leaves the device, and comes as far as nothing differs
+-- a comparison leaves the device as it is, and goes on as long as nothing differs
 abbrev pub PassesCompared : Planned → List ℕ → Result Digest PassFault → List ℕ → List ℕ → Type 0
 PassesCompared p bytes (Ok digest) before after =
     (after ≡ before) × NoneDiffers p (data_blocks p bytes) before (order (fan p.settings) p.blocks p.blocks)
@@ -58,21 +60,17 @@ PassesCompared p bytes (Err (Stopped stop)) before after = (after ≡ before) ×
 
 -- whether the source failed, or the device
 abbrev pub source_failed : Result Digest PassFault → Bool
-source_failed (Ok digest) = false
-source_failed (Err (SourceShort i)) = false
 source_failed (Err (SourceFailed i)) = true
-source_failed (Err (Stopped stop)) = false
+source_failed _ = false
 
 abbrev pub device_failed : Task → Result Digest PassFault → Bool
-device_failed task (Ok digest) = false
-device_failed task (Err (SourceShort i)) = false
-device_failed task (Err (SourceFailed i)) = false
 device_failed task (Err (Stopped stop)) = call_failed task stop.cause
+device_failed task _ = false
 
--- what a comparison answers where a hash block stops its pass, by the cause
+-- what a comparison answers if a hash block stops its pass, by the cause
 abbrev pub fault_by : ℕ → ℕ → Cause → CompareFault
 fault_by level block cause.Failed = fault.DeviceFailed level block
 fault_by level block (cause.Differs part) = fault.Differs level block part
 
 abbrev pub fault_of : Stop → CompareFault
-fault_of stop = fault_by stop.level stop.block stop.cause
+fault_of stop = fault_by stop.level stop.index stop.cause

@@ -4,11 +4,11 @@ use Rattle.std.specs.Prelude.{◌≡◌, ℕ, ◌+◌, ◌*◌, ◌/◌, ◌%◌
 use Rattle.std.specs.Prelude.{slice_index_or, Bool, true, false, ◌⊎◌}
 use Rattle.std.specs.Fork.{slice_chunk}
 use Rattle.verity_plan.specs.Settings.{Settings, hash, fan, digest_len}
-use Rattle.verity_tree.specs.Levels.{hash_block_of, risen, root}
+use Rattle.verity_tree.specs.Levels.{hash_block_of, blocks_up, root}
 
 -- the digests that the blocks of level l are made of, level 0 next to the data
 abbrev pub digests_under : Settings → List (List ℕ) → ℕ → List (List ℕ)
-digests_under s blocks l = map (hash s) (risen s blocks l)
+digests_under s blocks l = map (hash s) (blocks_up s blocks l)
 
 -- the open block above some digests of which q have come
 abbrev pub open_block : Settings → List (List ℕ) → ℕ → List ℕ
@@ -21,18 +21,18 @@ HasOpenBlocks s blocks from to i store =
     → slice_chunk store s.hash_block l ≡ open_block s (digests_under s blocks l) (i / fan s ^ l)
 
 -- the digest that comes to level m with data block i, counted from 0
-abbrev pub carried : Settings → List (List ℕ) → ℕ → ℕ → List ℕ
-carried s blocks i m = hash s (slice_index_or (risen s blocks m) (i / fan s ^ m) [])
+abbrev pub level_digest : Settings → List (List ℕ) → ℕ → ℕ → List ℕ
+level_digest s blocks i m = hash s (slice_index_or (blocks_up s blocks m) (i / fan s ^ m) [])
 
 -- that block once digest q has come too
-abbrev pub filling : Settings → List (List ℕ) → ℕ → List ℕ
-filling s digests q = hash_block_of s (take (q % fan s + 1) (drop (q / fan s * fan s) digests))
+abbrev pub open_block_with : Settings → List (List ℕ) → ℕ → List ℕ
+open_block_with s digests q = hash_block_of s (take (q % fan s + 1) (drop (q / fan s * fan s) digests))
 
 -- data block i, counted from 0, is the last below a block of level m - 1
 pub record IsReached (f i m : ℕ) : Type 0 where
   pub whole : i + 1 ≡ (i / f ^ m + 1) * f ^ m
 
--- how far a data block's digest has come: the data block, counted from 0, and the level of so many levels
+-- how far a data block's digest has come: the data block, counted from 0, the level, and the number of levels
 pub record Climb : Type 0 where
   pub i : ℕ
   pub level : ℕ
@@ -46,7 +46,7 @@ pub record IsCarrying (s : Settings) (blocks : List (List ℕ)) (c : Climb) (sto
   pub reached : c.i + 1 < length blocks → IsReached (fan s) c.i c.level
   pub above : HasOpenBlocks s blocks c.level c.levels c.i store
   pub below : c.i + 1 < length blocks → HasOpenBlocks s blocks 0 c.level (c.i + 1) store
-  pub digest_is : digest ≡ carried s blocks c.i c.level
+  pub digest_is : digest ≡ level_digest s blocks c.i c.level
 
 -- a digest that comes to an open block: its number among the digests of the level, the open block, and the digest
 pub record Arrival : Type 0 where
@@ -67,14 +67,15 @@ pub record IsNext (s : Settings) (below : List (List ℕ)) (a : Arrival) : Type 
 pub record IsKept (s : Settings) (a : Arrival) (last : Bool) (after : List ℕ) : Type 0 where
   pub room : a.index % fan s + 1 < fan s
   pub more : last ≡ false
-  pub filled : (below : List (List ℕ)) → IsNext s below a → after ≡ filling s (map (hash s) below) a.index
+  pub filled : (below : List (List ℕ)) → IsNext s below a → after ≡ open_block_with s (map (hash s) below) a.index
 
 -- the block closed: it is hashed and zeros are left
 pub record IsClosed (s : Settings) (a : Arrival) (last : Bool) (after above : List ℕ) : Type 0 where
   pub ends : (a.index % fan s + 1 ≡ fan s) ⊎ (last ≡ true)
   pub zeros : after ≡ replicate s.hash_block 0
   pub len : length above ≡ digest_len s
-  pub hashed : (below : List (List ℕ)) → IsNext s below a → above ≡ hash s (filling s (map (hash s) below) a.index)
+  pub hashed : (below : List (List ℕ)) → IsNext s below a
+      → above ≡ hash s (open_block_with s (map (hash s) below) a.index)
 
 -- data block i has come to all levels; the last one gives the root
 pub record IsCarriedOn (s : Settings) (blocks : List (List ℕ)) (i levels : ℕ) (store digest : List ℕ) : Type 0 where

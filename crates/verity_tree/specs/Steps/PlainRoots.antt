@@ -2,7 +2,7 @@
 -- to read a public contract.
 use Rattle.std.specs.Prelude.{ℕ, zero, suc, List, [], length, map, take, slice_index_or}
 use Rattle.std.specs.Fork.{slice_chunk}
-use Rattle.verity_plan.specs.Counts.{level_count}
+use Rattle.verity_plan.specs.Plans.{level_count}
 use Rattle.verity_tree.specs.Levels.{block_at, hash_block_of, pack}
 use Rattle.verity_plan.specs.Settings.{Settings, hash, fan}
 
@@ -14,11 +14,11 @@ digest_of_block s wanted bytes i = hash s (block_at s.data_block (take wanted by
 abbrev pub digest_of_run : Settings → List (List ℕ) → ℕ → List ℕ
 digest_of_run s digests j = hash s (hash_block_of s (slice_chunk digests (fan s) j))
 
--- the digests above these, so many levels up
-unfoldable pub digests_risen : Settings → List (List ℕ) → ℕ → List (List ℕ)
-digests_risen s digests zero = digests
-digests_risen s digests (suc l) = map (hash s) (pack s (digests_risen s digests l))
+-- the digests that stand l levels above these
+unfoldable pub digests_up : Settings → List (List ℕ) → ℕ → List (List ℕ)
+digests_up s digests zero = digests
+digests_up s digests (suc l) = map (hash s) (pack s (digests_up s digests l))
 
 -- the one digest that is left above these
 unfoldable pub root_of_digests : Settings → List (List ℕ) → List ℕ
-root_of_digests s digests = slice_index_or (digests_risen s digests (level_count (fan s) (length digests))) 0 []
+root_of_digests s digests = slice_index_or (digests_up s digests (level_count (fan s) (length digests))) 0 []

@@ -8,46 +8,45 @@ use Rattle.verity_io.specs.Reading.{HasRead}
 use Rattle.verity_plan.specs.Plans.{Planned}
 use Rattle.verity_plan.specs.Settings.{hash, fan, digest_len}
 use Rattle.verity_tree.specs.Levels.{data_blocks}
-use Rattle.verity_tree.specs.Reading.{EndsWithin, FailsWithin, bytes_of}
+use Rattle.verity_tree.specs.Reading.{bytes_of}
 use Rattle.verity_tree.specs.Steps.Cascade.{EndsBlock}
-use Rattle.verity_tree.specs.Steps.OpenBlocks.{carried}
-use Rattle.verity_tree.specs.declared.data_block.BlockFault.{BlockFault}
-use Rattle.verity_tree.specs.declared.data_block.BlockFault.TheVariants.{Short, Failed}
-use Rattle.verity_tree.specs.declared.reading_ahead.Ahead.{Ahead}
+use Rattle.verity_tree.specs.Steps.DataBlocks.{StopsInBlock}
+use Rattle.verity_tree.specs.Steps.OpenBlocks.{level_digest}
+use Rattle.verity_tree.specs.declared.pass.data_block.BlockFault.{BlockFault}
+use Rattle.verity_tree.specs.declared.pass.data_block.BlockFault.TheVariants.{Short, Failed}
+use Rattle.verity_tree.specs.declared.pass.reading_ahead.Ahead.{Ahead}
 
 -- data block i stands in a row, or the source ended or failed within it
 abbrev pub ReadsRow : Planned → ℕ → List ℕ → Result Unit BlockFault → List ℕ → List ℕ → Type 0
 ReadsRow p i bytes (Ok _) row after =
-    HasRead (bytes_of p (i + 1)) bytes after × (hash p.settings row ≡ carried p.settings (data_blocks p bytes) i 0)
-ReadsRow p i bytes (Err Short) row after = EndsWithin p i bytes after
-ReadsRow p i bytes (Err Failed) row after = FailsWithin p i bytes after
+    HasRead (bytes_of p (i + 1)) bytes after × (hash p.settings row ≡ level_digest p.settings (data_blocks p bytes) i 0)
+ReadsRow p i bytes (Err fault) row after = StopsInBlock p i bytes fault after
 
 -- `count` data blocks from i on stand in the rows
 abbrev pub HoldsRows : Planned → ℕ → List ℕ → ℕ → List ℕ → Type 0
 HoldsRows p i bytes count rows = (r : ℕ) → r < count
-    → hash p.settings (slice_chunk rows p.settings.data_block r) ≡ carried p.settings (data_blocks p bytes) (i + r) 0
+    → hash p.settings (slice_chunk rows p.settings.data_block r) ≡ level_digest p.settings (data_blocks p bytes)
+    (i + r) 0
 
--- where the source stands before data block i, or why that is not to be had
+-- where the source stands before data block i, or why that block can't be read
 abbrev pub StandsBy : Planned → ℕ → List ℕ → Option BlockFault → List ℕ → Type 0
 StandsBy p i bytes None after = HasRead (bytes_of p i) bytes after
-StandsBy p i bytes (Some Short) after = EndsWithin p i bytes after
-StandsBy p i bytes (Some Failed) after = FailsWithin p i bytes after
+StandsBy p i bytes (Some fault) after = StopsInBlock p i bytes fault after
 
 -- `count` data blocks from i on are there, and none of them but the last is the last below a hash block
 pub record IsRun (p : Planned) (i count : ℕ) : Type 0 where
   pub below : i + count ≤ p.blocks
   pub quiet : (k : ℕ) → i ≤ k → k + 1 < i + count → ¬ EndsBlock (fan p.settings) p.blocks k
 
--- all of them, or fewer where the source ended or failed
+-- all of them, or fewer if the source ended or failed
 abbrev pub IsReadOf : ℕ → ℕ → Option BlockFault → Type 0
 IsReadOf count n None = n ≡ count
 IsReadOf count n (Some fault) = n < count
 
 -- whether the source failed
 abbrev pub stop_failed : Option BlockFault → Bool
-stop_failed None = false
-stop_failed (Some Short) = false
 stop_failed (Some Failed) = true
+stop_failed _ = false
 
 abbrev pub ahead_failed : Ahead → Bool
 ahead_failed ahead = stop_failed ahead.fault
@@ -58,15 +57,16 @@ next_failed (Err fault) ahead = stop_failed (Some fault)
 
 -- the digests of the blocks ahead have their length
 abbrev pub HasSizes : Planned → Ahead → Type 0
-HasSizes p ahead = (r : ℕ) → ahead.first + r < ahead.end → length (slice_index_or ahead.digests r []) ≡ digest_len p.settings
+HasSizes p ahead = (r : ℕ) → ahead.first + r < ahead.end
+    → length (slice_index_or ahead.digests r []) ≡ digest_len p.settings
 
--- more is known than data block k: blocks after it, or why there are none
+-- the source was read further than data block k: there are more blocks, or a reason why there are none
 abbrev pub IsPending : Ahead → ℕ → Type 0
 IsPending ahead k = (k + 1 < ahead.end) ⊎ ((k + 1 ≡ ahead.end) × (ahead.fault ≢ None))
 
--- what is ahead of data block i: no block of which more is known than it is the last below a hash block
+-- what was read before data block i has its turn: nothing past a data block that is the last below a hash block
 pub record IsQuiet (p : Planned) (i : ℕ) (ahead : Ahead) : Type 0 where
-  pub begun : ahead.first ≤ i
+  pub start : ahead.first ≤ i
   pub room : ahead.end ≤ ahead.first + 8
   pub from : i ≤ ahead.end
   pub to : ahead.end ≤ p.blocks
@@ -74,9 +74,9 @@ pub record IsQuiet (p : Planned) (i : ℕ) (ahead : Ahead) : Type 0 where
   pub quiet : (k : ℕ) → i ≤ k + 1 → IsPending ahead k → ¬ EndsBlock (fan p.settings) p.blocks k
   pub sizes : HasSizes p ahead
 
--- data block i is there, or why it is not
+-- data block i was read, or there is a reason why not
 pub record IsFilled (p : Planned) (i : ℕ) (ahead : Ahead) : Type 0 where
-  pub begun : ahead.first ≤ i
+  pub start : ahead.first ≤ i
   pub room : ahead.end ≤ ahead.first + 8
   pub some : (i < ahead.end) ⊎ ((i ≡ ahead.end) × (ahead.fault ≢ None))
   pub to : ahead.end ≤ p.blocks
@@ -86,12 +86,12 @@ pub record IsFilled (p : Planned) (i : ℕ) (ahead : Ahead) : Type 0 where
 
 -- the digests of the data blocks from i on, and where the source stands
 pub record IsAhead (p : Planned) (i : ℕ) (bytes : List ℕ) (ahead : Ahead) (after : List ℕ) : Type 0 where
-  pub held : (k : ℕ) → i ≤ k → k < ahead.end
-      → slice_index_or ahead.digests (k - ahead.first) [] ≡ carried p.settings (data_blocks p bytes) k 0
+  pub digests_are : (k : ℕ) → i ≤ k → k < ahead.end
+      → slice_index_or ahead.digests (k - ahead.first) [] ≡ level_digest p.settings (data_blocks p bytes) k 0
   pub stands : StandsBy p ahead.end bytes ahead.fault after
 
 -- the next data block's digest, or why there is none
 abbrev pub TakesNext : Planned → ℕ → List ℕ → Result Digest BlockFault → Ahead → List ℕ → Type 0
 TakesNext p i bytes (Ok digest) ahead after =
-    IsAhead p (i + 1) bytes ahead after × (digest ≡ carried p.settings (data_blocks p bytes) i 0)
+    IsAhead p (i + 1) bytes ahead after × (digest ≡ level_digest p.settings (data_blocks p bytes) i 0)
 TakesNext p i bytes (Err fault) ahead after = StandsBy p i bytes (Some fault) after

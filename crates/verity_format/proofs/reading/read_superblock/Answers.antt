@@ -3,8 +3,7 @@ use Rattle.std.proofs.Common.{◌≡◌, ◌*◌, ◌<◌, nat_le, nat_lt, true,
 use Rattle.std.proofs.lemmas.Bool.Decides.{nat_tests}
 use Rattle.std.proofs.lemmas.Result.{err_from_is_err_and}
 use Rattle.verity_io.specs.Writing.{most_bytes}
-use Rattle.verity_format.specs.Fields.{number_at}
-use Rattle.verity_format.specs.Superblocks.{first_failed, header_tests}
+use Rattle.verity_format.specs.Superblocks.{number_at, first_failed, header_tests}
 use Rattle.verity_format.proofs.ReadLemmas.{IsSuperblock-made, cause-blocks, cause-settings, superblock_of-none}
 use Rattle.verity_format.proofs.reading.read_superblock.Goals as goal
 

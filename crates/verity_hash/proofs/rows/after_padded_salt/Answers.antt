@@ -1,13 +1,11 @@
--- The salt fills its input block up with zeros.
+-- The salt is padded with zeros to its input block.
 use Rattle.std.proofs.Common.{◌≡◌, ℕ, ◌<◌, List, [], ◌++◌, length, slice_index_or, Option, Some, None, IfSome, ap, arith}
 use Rattle.std.proofs.Common.{◌≤◌, ◌∙◌, drop, replicate, take}
 use Rattle.std.proofs.lemmas.Grind.{common_steps}
 use Rattle.std.proofs.lemmas.List.{append-nil}
 use Rattle.std.specs.Fork.{slice_chunk}
 use Rattle.std.specs.Int.{next_multiple_of}
-use Rattle.verity_hash.specs.Algorithms.{hash_of, input_block_of}
-use Rattle.verity_hash.specs.Bytes.{filled}
-use Rattle.verity_hash.specs.Salted.{salted_hash}
+use Rattle.verity_hash.specs.Hashing.{hash_of, input_block_of, filled, salted_hash}
 use Rattle.verity_hash.specs.declared.algorithm.Algorithm.{Algorithm}
 use Rattle.verity_hash.specs.declared.digest.Digest.{Digest}
 use Rattle.verity_hash.specs.declared.salting.SaltRule.TheVariants.{PaddedBefore}

@@ -1,5 +1,5 @@
 use Rattle.std.proofs.Common.{◌≡◌, ℕ, ◌-◌, ◌<◌, arith, ◌∙◌, ap}
-use Rattle.verity_plan.specs.Counts.{level_count, blocks_from}
+use Rattle.verity_plan.specs.Plans.{level_count, blocks_from}
 use Rattle.verity_plan.proofs.CountLemmas.{div_ceil-pos, div_ceil-lt}
 use Rattle.verity_plan.proofs.PlaceLemmas.{blocks_from-level}
 use Rattle.verity_plan.proofs.PlanLemmas.{size-more, levels-more, levels-all, div_ceil-half}

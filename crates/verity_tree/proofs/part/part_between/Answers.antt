@@ -16,10 +16,10 @@ overflow_mul-first c =
     let some : 0 < fan p.settings = omega (arith, c.fan-fan.ensures.two, c.fan-fan.ensures.value) in
     omega (
       arith,
-      first-child p some c.args.level c.args.block c.requires.here,
+      first-child p some c.args.level c.args.index c.requires.here,
       c.size_under-below.ensures,
       c.size_under-below.type_inv,
-      ap (λ (n : ℕ). c.args.block * n) c.fan-fan.ensures.value,
+      ap (λ (n : ℕ). c.args.index * n) c.fan-fan.ensures.value,
     )
 
 pub overflow_sub-below : goal.overflow_sub-below
@@ -28,9 +28,9 @@ overflow_sub-below c =
     let some : 0 < fan p.settings = omega (arith, c.fan-fan.ensures.two, c.fan-fan.ensures.value) in
     omega (
       arith,
-      first-child p some c.args.level c.args.block c.requires.here,
+      first-child p some c.args.level c.args.index c.requires.here,
       c.size_under-below.ensures,
-      ap (λ (n : ℕ). c.args.block * n) c.fan-fan.ensures.value,
+      ap (λ (n : ℕ). c.args.index * n) c.fan-fan.ensures.value,
     )
 
 -- the number of used slots
@@ -55,26 +55,26 @@ pub returns-then-slot_differs : goal.returns-then-slot_differs
 returns-then-slot_differs c =
     let p = c.args.plan.now in
     let test = λ (slot : ℕ). not
-    (bytes_eq (digest_in p.settings c.args.held.now slot) (digest_in p.settings c.args.computed.now slot)) in
-    let many = used-is p c.args.level c.args.block c.size_under-below.result
-    (c.args.block * c.fan-fan.result) c.min-used.result c.fan-fan.result
+    (bytes_eq (digest_in p.settings c.args.stored.now slot) (digest_in p.settings c.args.computed.now slot)) in
+    let many = used-is p c.args.level c.args.index c.size_under-below.result
+    (c.args.index * c.fan-fan.result) c.min-used.result c.fan-fan.result
     c.fan-fan.ensures.value refl c.size_under-below.ensures c.min-used.ensures in
     let found = find-range test 0 c.min-used.result c.loop-slot.slot (omega arith)
     (omega (arith, c.loop-slot-test.true))
     (λ j a b. c.loop-slot.invariant j b) (sym c.slot_differs.ensures ∙ c.if-slot_differs.true) in
-    ap (λ (n : ℕ). Child (c.args.block * n + c.loop-slot.slot)) c.fan-fan.ensures.value
-    ∙ sym (ap (part_at (c.args.block * fan p.settings)) (ap (λ (n : ℕ). find test (range_with_len 0 n)) (sym many)
+    ap (λ (n : ℕ). Child (c.args.index * n + c.loop-slot.slot)) c.fan-fan.ensures.value
+    ∙ sym (ap (part_at (c.args.index * fan p.settings)) (ap (λ (n : ℕ). find test (range_with_len 0 n)) (sym many)
     ∙ found))
 
 pub returns : goal.returns
 returns c =
     let p = c.args.plan.now in
     let test = λ (slot : ℕ). not
-    (bytes_eq (digest_in p.settings c.args.held.now slot) (digest_in p.settings c.args.computed.now slot)) in
-    let many = used-is p c.args.level c.args.block c.size_under-below.result
-    (c.args.block * c.fan-fan.result) c.min-used.result c.fan-fan.result
+    (bytes_eq (digest_in p.settings c.args.stored.now slot) (digest_in p.settings c.args.computed.now slot)) in
+    let many = used-is p c.args.level c.args.index c.size_under-below.result
+    (c.args.index * c.fan-fan.result) c.min-used.result c.fan-fan.result
     c.fan-fan.ensures.value refl c.size_under-below.ensures c.min-used.ensures in
     let none = find-range_none test 0 c.min-used.result
     (λ j a b. c.loop-slot.invariant j (omega (arith, b, c.loop-slot-test.false))) in
-    sym (ap (part_at (c.args.block * fan p.settings)) (ap (λ (n : ℕ). find test (range_with_len 0 n)) (sym many)
+    sym (ap (part_at (c.args.index * fan p.settings)) (ap (λ (n : ℕ). find test (range_with_len 0 n)) (sym many)
     ∙ none))

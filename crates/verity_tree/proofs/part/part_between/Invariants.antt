@@ -7,4 +7,4 @@ use Rattle.verity_tree.proofs.part.part_between.Given as goal
 -- no digest before this slot differs
 abbrev pub invariant-loop-slot : goal.invariant-loop-slot
 invariant-loop-slot l = (k : ℕ) → k < l.slot
-    → not (bytes_eq (digest_in l.plan.settings l.held k) (digest_in l.plan.settings l.computed k)) ≡ false
+    → not (bytes_eq (digest_in l.plan.settings l.stored k) (digest_in l.plan.settings l.computed k)) ≡ false

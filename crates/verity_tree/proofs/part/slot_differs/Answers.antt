@@ -19,11 +19,11 @@ returns c =
     let slot = c.args.slot in
     let computed = cut_is s c.args.computed.now slot c.slot_width.result c.digest_len-len.result c.slot_width.ensures
     c.digest_len-len.ensures in
-    let held = cut_is s c.args.held.now slot c.slot_width.result c.digest_len-len.result c.slot_width.ensures
+    let on_device = cut_is s c.args.stored.now slot c.slot_width.result c.digest_len-len.result c.slot_width.ensures
     c.digest_len-len.ensures in
     let cut = λ (bytes : List ℕ). take
     (slot * c.slot_width.result + c.digest_len-len.result - slot * c.slot_width.result)
     (drop (slot * c.slot_width.result) bytes) in
     c.ne.ensures
-    ∙ ap (λ (xs : List ℕ). not (bytes_eq xs (cut c.args.computed.now))) held
-    ∙ ap (λ (xs : List ℕ). not (bytes_eq (digest_in s c.args.held.now slot) xs)) computed
+    ∙ ap (λ (xs : List ℕ). not (bytes_eq xs (cut c.args.computed.now))) on_device
+    ∙ ap (λ (xs : List ℕ). not (bytes_eq (digest_in s c.args.stored.now slot) xs)) computed

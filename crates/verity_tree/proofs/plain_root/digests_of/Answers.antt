@@ -4,7 +4,7 @@ use Rattle.std.proofs.lemmas.List.{take_all}
 use Rattle.std.specs.List.{range_with_len}
 use Rattle.std.specs.Int.{div_ceil}
 use Rattle.std.specs.Fork.{slice_chunk}
-use Rattle.verity_hash.specs.Bytes.{filled}
+use Rattle.verity_hash.specs.Hashing.{filled}
 use Rattle.verity_plan.specs.Settings.{hash}
 use Rattle.verity_tree.specs.Levels.{block_at}
 use Rattle.verity_tree.specs.Steps.PlainRoots.{digest_of_block}

@@ -1,4 +1,4 @@
--- So many whole blocks are so many.
+-- The bytes of n whole blocks make n blocks.
 use Rattle.std.proofs.Common.{◌≡◌, ℕ, ◌+◌, ◌*◌, ◌/◌, ◌%◌, ◌<◌, arith, sym, ◌∙◌, ap}
 use Rattle.std.proofs.lemmas.Nat.{div-mul-add, mod-mul-add}
 use Rattle.std.specs.Int.{div_ceil}
@@ -12,8 +12,8 @@ div_ceil-mul n a some =
     let rest : n * a % a ≡ 0 = ap (λ (x : ℕ). x % a) none ∙ mod-mul-add n a 0 some in
     omega (arith, quotient, rest)
 
-pub checked-requires : goal.checked-requires
-checked-requires c =
+pub try_new-requires : goal.try_new-requires
+try_new-requires c =
     let s = c.args.settings.now in
     let wide : c.from.result ≡ s.data_block = c.from.ensures ∙ c.data_block.ensures.value in
     let told = c.in-Some.ensures in

@@ -1,7 +1,6 @@
 use Rattle.std.proofs.Common.{◌≡◌, ℕ, ◌+◌, ◌-◌, ◌<◌, arith, ◌∙◌, ap, subst}
 use Rattle.std.specs.Int.{div_ceil}
-use Rattle.verity_plan.specs.Counts.{level_size, blocks_from}
-use Rattle.verity_plan.specs.Plans.{IsPlanned, levels_of}
+use Rattle.verity_plan.specs.Plans.{level_size, blocks_from, IsPlanned, levels_of}
 use Rattle.verity_plan.specs.Settings.{fan}
 use Rattle.verity_plan.proofs.PlaceLemmas.{blocks_from-level, PlacesAreOnce-all}
 use Rattle.verity_plan.proofs.PlanLemmas.{size-more, levels_few, end_few}

@@ -1,7 +1,6 @@
 use Rattle.std.proofs.Common.{◌≡◌, ◌+◌, ◌-◌, ◌^◌}
 use Rattle.std.specs.Int.{div_ceil}
-use Rattle.verity_plan.specs.Counts.{blocks_from}
-use Rattle.verity_plan.specs.Plans.{levels_of}
+use Rattle.verity_plan.specs.Plans.{blocks_from, levels_of}
 use Rattle.verity_plan.specs.Settings.{fan}
 use Rattle.verity_plan.proofs.plan.Plan.place.Given as goal
 

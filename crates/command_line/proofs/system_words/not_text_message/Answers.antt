@@ -1,4 +1,0 @@
-use Rattle.command_line.proofs.system_words.not_text_message.Goals as goal
-
-pub returns : goal.returns
-returns c = rw c.in_ok-shown.ensures at c.format.ensures.ok

@@ -1,0 +1,5 @@
+//! The progress of long work, on a terminal.
+
+pub(crate) mod progress_line;
+pub(crate) mod progress_reader;
+pub(crate) mod progress_runtime;

@@ -1,0 +1,93 @@
+//! The line that shows the progress of long work.
+ghost use Rattle.std.specs.Prelude.{◌≡◌};
+ghost use Rattle.command_line.specs.Progress.{inner_writer};
+
+use crate::progress::progress_runtime::ProgressRuntime;
+use std::cell::Cell;
+use std::io;
+use std::io::Write;
+use std::time::Instant;
+
+/// A line on standard error that shows the progress of long work. It is rewritten in place, and whatever else is
+/// written goes through an `ErasingWriter`, which erases it first. No contract can say what the terminal shows.
+#[derive(Drop)]
+pub struct ProgressLine<'a, R> {
+    rt: &'a R,
+    /// After how many bytes the line is written again, and `None` if there is no terminal.
+    step: Option<u64>,
+    /// Whether the terminal shows the line now.
+    is_shown: Cell<bool>,
+}
+
+impl<'a, R: ProgressRuntime> ProgressLine<'a, R> {
+    /// No line is shown yet. The runtime is asked here, and only here, whether there is a terminal.
+    pub fn new(rt: &'a R) -> Self {
+        ProgressLine {
+            rt,
+            step: rt.step(),
+            is_shown: Cell::new(false),
+        }
+    }
+
+    /// Erases the line if it is shown (ECMA-48, "EL").
+    pub fn erase(&self) {
+        if self.is_shown.replace(false) {
+            let _ = eprint!(self.rt; "\r\x1b[K");
+        }
+    }
+
+    /// After how many bytes the line is written again, if there is a terminal.
+    pub(crate) fn step(&self) -> Option<u64> {
+        self.step
+    }
+
+    /// The time now, if the clock can be read.
+    pub(crate) fn now(&self) -> Option<Instant> {
+        Instant::now(self.rt).ok()
+    }
+
+    /// Writes the line over the one that is shown. Without a clock it has no rate.
+    pub(crate) fn draw(&self, done: u64, total: u64, start: Option<Instant>) {
+        self.is_shown.set(true);
+        let (done, total) = (done >> 20, total >> 20);
+        let _ = match self.rate(done, start) {
+            Some(rate) => eprint!(self.rt; "\r{done} of {total} MiB, {rate} MiB/s\x1b[K"),
+            None => eprint!(self.rt; "\r{done} of {total} MiB\x1b[K"),
+        };
+    }
+
+    /// How many MiB were done in a second, on average since the start.
+    fn rate(&self, done: u64, start: Option<Instant>) -> Option<u64> {
+        let millis = start?.elapsed(self.rt).ok()?.as_millis();
+        u64::try_from((done as u128 * 1000).checked_div(millis)?).ok()
+    }
+}
+
+/// A writer that erases the progress line before each write.
+#[derive(Drop)]
+pub struct ErasingWriter<'a, R, W> {
+    line: &'a ProgressLine<'a, R>,
+    inner: W,
+}
+
+impl<'a, R: ProgressRuntime, W: Write> ErasingWriter<'a, R, W> {
+    /// A writer that passes everything on to `inner`.
+    pub fn new(line: &'a ProgressLine<'a, R>, inner: W) -> Self
+        ensures { inner_writer result ≡ inner }
+    {
+        ErasingWriter { line, inner }
+    }
+}
+
+impl<R: ProgressRuntime, W: Write> Write for ErasingWriter<'_, R, W> {
+    ghost contents = { λ w. W.contents w.inner };
+
+    fn write(&mut self, buf: &[u8]) -> io::Result<usize> {
+        self.line.erase();
+        self.inner.write(buf)
+    }
+
+    fn flush(&mut self) -> io::Result<()> {
+        self.inner.flush()
+    }
+}

@@ -1,0 +1,83 @@
+use Rattle.std.proofs.Common.{◌≡◌, ◌+◌, ◌<◌, ℕ, List, Some, length, get_or, ap, refl, ◌∙◌, arith, rules, map, take, option_map}
+use Rattle.std.proofs.lemmas.List.{length-map, take_all}
+use Rattle.std.proofs.lemmas.List.Sums.{prefix_len-le-length}
+use Rattle.std.proofs.lemmas.Option.{get_or_from_slice_get, slice_get-get_or, slice_get-map}
+use Rattle.std.proofs.lemmas.Slice.Zip.{length-zip}
+use Rattle.std.specs.List.{slice_get, zip}
+use Rattle.fsverity.specs.Openers.Opening.{opener_change}
+use Rattle.fsverity.specs.Runs.Digest.{has_digest}
+use Rattle.command_line.proofs.Fronts.{appends_nothing}
+use Rattle.fsverity.proofs.RunLemmas.{line_more, part_more, passes_more, stops_run}
+use Rattle.fsverity.proofs.runs.digest.run_digest.Goals as goal
+
+-- the mapped element of an index
+mapped_at : {A B : Type 0} (f : A → B) (xs : List A) (i : ℕ) (d : A) → i < length xs
+    → slice_get (map f xs) i ≡ Some (f (get_or xs i d))
+mapped_at f xs i d below = slice_get-map f xs i ∙ ap (option_map f) (slice_get-get_or xs i d below)
+
+pub loop-name-init : goal.loop-name-init
+loop-name-init g c = search (rules, c.requires.first, appends_nothing)
+
+pub returns-in-Err-clause-ended : goal.returns-in-Err-clause-ended
+returns-in-Err-clause-ended g c = λ _.
+    let named = mapped_at (λ n. n.now) c.args.names.now c.loop-name.name-index _ c.loop-name-test.true in
+    let change = opener_change g.O.Opener.tells g.O.Opener.files g.O.Opener.next g.O.Opener.failures in
+    record {
+      f = c.loop-name.name-index;
+      fault = c.in-Err.fault;
+      has_name = rw (length-map c.args.names.now (λ n. n.now)) c.loop-name-test.true;
+      is_next = c.digest_next.ensures.next ∙ ap (λ n. n + 1) c.loop-name.invariant.next;
+      within = c.loop-name.invariant.within;
+      reason = stops_run c.args.settings.now (change c.args.opener.now c.digest_next.new.opener)
+          (change c.loop-name.opener c.digest_next.new.opener) c.loop-name.name-index c.in-Err.fault
+          c.loop-name.invariant.same.told c.loop-name.invariant.same.files c.loop-name.invariant.next
+          c.loop-name.invariant.within (omega (arith, c.loop-name.invariant.failures)) refl c.in-Err.ensures.reason;
+      counted = rw c.loop-name.invariant.failures at c.in-Err.ensures.counted;
+      message = rw (get_or_from_slice_get _ _ _ _ named) (rw c.loop-name.invariant.quiet at c.write_message.ensures.front);
+      written = λ t.
+          let part = c.in-Err.ensures.written (c.loop-name.invariant.same.told.0 t) in
+          part_more _ _ _ _ _ _ _ _ named (c.loop-name.invariant.out t)
+          (rw (c.loop-name.invariant.same.files, c.loop-name.invariant.next) at part);
+    }
+
+pub loop-name-preserved : goal.loop-name-preserved
+loop-name-preserved g c =
+    let named = mapped_at (λ n. n.now) c.args.names.now c.loop-name.name-index _ c.loop-name-test.true in
+    record {
+      next = c.digest_next.ensures.next ∙ ap (λ n. n + 1) c.loop-name.invariant.next;
+      same = record {
+        told = (
+          λ t. c.digest_next.ensures.same.told.0 (c.loop-name.invariant.same.told.0 t),
+          λ t. c.loop-name.invariant.same.told.1 (c.digest_next.ensures.same.told.1 t),
+        );
+        files = c.digest_next.ensures.same.files ∙ c.loop-name.invariant.same.files;
+        count = c.digest_next.ensures.same.count ∙ c.loop-name.invariant.same.count;
+      };
+      failures = c.in-Ok.ensures.counted ∙ c.loop-name.invariant.failures;
+      quiet = c.loop-name.invariant.quiet;
+      within = λ t.
+          let written = c.in-Ok.ensures.written (c.loop-name.invariant.same.told.0 t) in
+          let line = rw (c.loop-name.invariant.same.files, c.loop-name.invariant.next) at written in
+          passes_more (has_digest c.args.settings.now) _ _ line.file line.is line.fits (c.loop-name.invariant.within t);
+      out = λ t.
+          let written = c.in-Ok.ensures.written (c.loop-name.invariant.same.told.0 t) in
+          line_more _ _ _ _ _ _ _ named (c.loop-name.invariant.out t)
+          (rw (c.loop-name.invariant.same.files, c.loop-name.invariant.next) at written);
+    }
+
+pub returns-clause-all : goal.returns-clause-all
+returns-clause-all g c = λ t _.
+    let all = g.met.O.Opener.counted c.args.opener.now t in
+    let most = prefix_len-le-length (has_digest c.args.settings.now) (g.O.Opener.files c.args.opener.now) in
+    let least = c.loop-name.invariant.within t in
+    omega (arith, all, most, least, c.requires.names, c.loop-name-test.false)
+
+pub returns-clause-lines : goal.returns-clause-lines
+returns-clause-lines g c = λ t _.
+    let names = map (λ n. n.now) c.args.names.now in
+    let pairs = zip names (g.O.Opener.files c.args.opener.now) in
+    let few = length-zip names (g.O.Opener.files c.args.opener.now) in
+    let len = length-map c.args.names.now (λ n. n.now) in
+    let whole : take c.loop-name.name-index pairs ≡ pairs
+    = take_all c.loop-name.name-index pairs (omega (arith, few, len, c.loop-name-test.false)) in
+    rw whole at (c.loop-name.invariant.out t)

@@ -1,0 +1,41 @@
+-- The settings that the options of `fsverity digest` give (fsverity(1), "fsverity digest"; Linux kernel, fs-verity
+-- page, "FS_IOC_ENABLE_VERITY"). Without options they are SHA-256, blocks of 4096 bytes and no salt.
+use Rattle.std.specs.Prelude.{ℕ, ◌&&◌, Bool, nat_lt, List, [], Option, Some, None, Result, Ok, Err, ok_or, unwrap_or, option_and_then, if◌then◌else◌}
+use Rattle.verity_hash.specs.Hashing.{digest_len_of}
+use Rattle.verity_hash.specs.declared.algorithm.Algorithm.{Algorithm}
+use Rattle.verity_hash.specs.declared.salting.SaltRule.TheVariants.{PaddedBefore}
+use Rattle.verity_plan.specs.Settings.{Settings, is_block_size, is_of_fsverity, least_block, most_salt}
+use Rattle.command_line.specs.Options.{algorithm_or_default, default_block_size, number_of, salt_of, ◌>>=◌}
+use Rattle.fsverity.specs.declared.options.option_fault.FsOptionFault.{FsOptionFault}
+use Rattle.fsverity.specs.declared.options.option_fault.FsOptionFault.TheVariants.{UnknownHash, BadBlockSize, BadSalt, OneFileOnly}
+
+-- the algorithm itself, if fs-verity has it
+abbrev pub algorithm_of_fsverity : Algorithm → Option Algorithm
+algorithm_of_fsverity algorithm = if is_of_fsverity algorithm then Some algorithm else None
+
+-- the algorithm of this name, by default SHA-256; none if fs-verity doesn't have it
+abbrev pub algorithm_of : Option (List ℕ) → Option Algorithm
+algorithm_of name = option_and_then algorithm_of_fsverity (algorithm_or_default name)
+
+-- the block size itself, if it is within the limits
+abbrev pub size_within_limits : Algorithm → ℕ → Option ℕ
+size_within_limits algorithm size =
+    if is_block_size (least_block PaddedBefore (digest_len_of algorithm)) size then Some size else None
+
+-- the block size of these digits, by default 4096; none outside the limits
+abbrev pub block_size_of : Algorithm → Option (List ℕ) → Option ℕ
+block_size_of algorithm None = size_within_limits algorithm default_block_size
+block_size_of algorithm (Some digits) = option_and_then (size_within_limits algorithm) (number_of digits)
+
+-- the salt of these digits, by default empty; none if they are no salt of fs-verity
+abbrev pub salt_bytes_of : Option (List ℕ) → Option (List ℕ)
+salt_bytes_of text = salt_of (most_salt PaddedBefore) (unwrap_or text [])
+
+-- the settings, or the first option that is refused, for so many input files and for an output file or none
+abbrev pub fs_settings : Option (List ℕ) → Option (List ℕ) → Option (List ℕ) → ℕ → Bool → Result Settings FsOptionFault
+fs_settings hash_alg block_size salt files out_files = do
+  algorithm ← ok_or (algorithm_of hash_alg) UnknownHash
+  block ← ok_or (block_size_of algorithm block_size) BadBlockSize
+  bytes ← ok_or (salt_bytes_of salt) BadSalt
+  if out_files && nat_lt 1 files then Err OneFileOnly
+      else Ok (record { algorithm = algorithm; rule = PaddedBefore; salt = bytes; data_block = block; hash_block = block })

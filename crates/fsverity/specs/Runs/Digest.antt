@@ -1,0 +1,100 @@
+-- A run of `fsverity digest` over files, one after another (fsverity(1), "fsverity digest"): a line for each, up to the
+-- first that fails.
+use Rattle.std.specs.Prelude.{◌≡◌, ◌⊎◌, ℕ, ◌+◌, ◌<◌, ◌≤◌, Bool, true, false, not, List, [], ◌∷◌, ◌++◌, length, take, codes, Option, Some, None, slice_get, slice_index_or, if◌then◌else◌}
+use Rattle.std.specs.List.{concat, zip, flat_map, prefix_len}
+use Rattle.std.specs.Io.KnownBytes.{Appends}
+use Rattle.command_line.specs.Printing.{AppendsFront}
+use Rattle.verity_io.specs.Counting.{Counts, Rose}
+use Rattle.verity_plan.specs.Settings.{Settings}
+use Rattle.fsverity.specs.Runs.FileDigest.{fault_of_source, file_digest_of, is_too_large}
+use Rattle.fsverity.specs.Texts.Lines.{line}
+use Rattle.fsverity.specs.Texts.Messages.{fault_text}
+use Rattle.fsverity.specs.Openers.Opening.{OpenerChange}
+use Rattle.fsverity.specs.declared.runs.digest_fault.DigestFault.TheVariants.{TooLarge, SourceShort, SourceFailed, DeviceFailed, Memory}
+use Rattle.fsverity.specs.declared.texts.digest_lines.Form.{Form}
+use Rattle.fsverity.specs.declared.runs.run_fault.RunFault.{RunFault}
+use Rattle.fsverity.specs.declared.runs.run_fault.RunFault.TheVariants.{NotOpened, Digest, NotWritten}
+
+-- the file is there, and not too large
+abbrev pub has_digest : Settings → Option (List ℕ) → Bool
+has_digest s None = false
+has_digest s (Some bytes) = not (is_too_large s (length bytes))
+
+-- the index of the first file that is absent or too large, or the number of files if there is none
+abbrev pub first_refused : Settings → List (Option (List ℕ)) → ℕ
+first_refused s files = prefix_len (has_digest s) files
+
+-- a file's line, and nothing for one that is absent or too large
+abbrev pub file_line : Settings → Form → List ℕ → Option (List ℕ) → List ℕ
+file_line s form name None = []
+file_line s form name (Some bytes) = if is_too_large s (length bytes) then []
+    else line form s.algorithm (file_digest_of s (length bytes) bytes) name
+
+-- the lines of the files, each with its name, in order
+abbrev pub lines : Settings → Form → List (List ℕ × Option (List ℕ)) → List ℕ
+lines s form named_files = flat_map (λ p. file_line s form p.0 p.1) named_files
+
+-- the message for a fault at the file of this name
+abbrev pub run_fault_text : RunFault → List ℕ → List ℕ
+run_fault_text NotOpened name = concat (codes "fsverity: cannot open " ∷ name ∷ codes ".\n" ∷ [])
+run_fault_text (Digest fault) name = fault_text fault name
+run_fault_text NotWritten name = codes "fsverity: cannot write output.\n"
+
+-- the file of this index is there, and too large
+abbrev pub IsLargeAt : Settings → List (Option (List ℕ)) → ℕ → Type 0
+IsLargeAt s files f =
+    (bytes : List ℕ) × (slice_get files f ≡ Some (Some bytes)) × (is_too_large s (length bytes) ≡ true)
+
+-- why a run ends at file f: it is absent and nothing before it was, or a count rose; it is there and too large; it was
+-- short, which a told file isn't; or memory, a read or the writer failed, which happens only at a file that is there
+-- and not too large. There is no device
+abbrev pub HasReason : Settings → OpenerChange → ℕ → RunFault → Type 0
+HasReason s opener f NotOpened =
+    (opener.told × (slice_get opener.files f ≡ Some None) × (first_refused s opener.files ≡ f))
+    ⊎ Rose opener.failures_before opener.failures_after
+HasReason s opener f (Digest TooLarge) = opener.told → IsLargeAt s opener.files f × (first_refused s opener.files ≡ f)
+HasReason s opener f (Digest (SourceShort i)) = opener.told → ⊥
+HasReason s opener f (Digest (SourceFailed i)) =
+    (opener.told → f < first_refused s opener.files) × Rose opener.failures_before opener.failures_after
+HasReason s opener f (Digest (DeviceFailed level block)) = ⊥
+HasReason s opener f (Digest Memory) = opener.told → f < first_refused s opener.files
+HasReason s opener f NotWritten = opener.told → f < first_refused s opener.files
+
+-- what is written of the file's line: its first bytes if it could not be written whole, and otherwise nothing
+abbrev pub StandsOf : List ℕ → List ℕ → RunFault → Type 0
+StandsOf whole part NotWritten = (k : ℕ) × (part ≡ take k whole)
+StandsOf whole part fault = part ≡ []
+
+-- what a run gets beside its files: the settings, the form of the lines, and the files' names
+pub record Run : Type 0 where
+  pub settings : Settings
+  pub form : Form
+  pub names : List (List ℕ)
+
+-- the lines of all files before f, and what is written of f's own
+pub record WritesUpTo (run : Run) (files : List (Option (List ℕ))) (f : ℕ) (fault : RunFault)
+    (old new : Option (List ℕ)) : Type 0 where
+  pub file : Option (List ℕ)
+  pub is : slice_get files f ≡ Some file
+  pub part : List ℕ
+  pub stands : StandsOf (file_line run.settings run.form (slice_index_or run.names f []) file) part fault
+  pub written : Appends old new (lines run.settings run.form (take f (zip run.names files)) ++ part)
+
+-- how the opener's count changes with a fault: a failed read raises it by one, and otherwise only a file that is not
+-- opened may raise it
+abbrev pub CountsFault : RunFault → ℕ → ℕ → Type 0
+CountsFault NotOpened before after = before ≤ after
+CountsFault (Digest fault) before after = Counts (fault_of_source fault) before after
+CountsFault NotWritten before after = Counts false before after
+
+-- a run ended at file f, the next one is after it, and no file before it is absent or too large
+pub record EndsAt (run : Run) (opener : OpenerChange) (out out' msgs msgs' : Option (List ℕ)) : Type 0 where
+  pub f : ℕ
+  pub fault : RunFault
+  pub has_name : f < length run.names
+  pub is_next : opener.next_after ≡ f + 1
+  pub within : opener.told → f ≤ first_refused run.settings opener.files
+  pub reason : HasReason run.settings opener f fault
+  pub counted : CountsFault fault opener.failures_before opener.failures_after
+  pub message : AppendsFront (run_fault_text fault (slice_index_or run.names f [])) msgs msgs'
+  pub written : opener.told → WritesUpTo run opener.files f fault out out'

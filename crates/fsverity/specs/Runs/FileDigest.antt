@@ -1,0 +1,115 @@
+-- The file digest of fs-verity (Linux kernel, fs-verity page, "fs-verity descriptor" and "Merkle tree"), and the answer
+-- of making one of a source's bytes.
+use Rattle.std.specs.Prelude.{◌≡◌, ℕ, ◌+◌, ◌*◌, ◌/◌, ◌<◌, ◌≤◌, ◌==◌, ◌&&◌, min, Bool, true, false, not, List, [], length, replicate, Option, Some, None, IsNone, MatchOption, Result, Ok, Err, MatchResult, is_ok, nat_lt, if◌then◌else◌}
+use Rattle.std.specs.Int.{div_ceil}
+use Rattle.verity_format.specs.Descriptors.{DescriptorFields, descriptor_text, digest_of_file}
+use Rattle.verity_io.specs.Reading.{HasRead}
+use Rattle.verity_tree.specs.Levels.{cut, data_blocks, root}
+use Rattle.verity_tree.specs.Building.{BuildsImage}
+use Rattle.verity_tree.specs.Image.{tree_image}
+use Rattle.verity_tree.specs.Reading.{ReadsUpTo}
+use Rattle.verity_tree.specs.declared.building.BuildFault.{BuildFault}
+use Rattle.verity_tree.specs.declared.building.BuildFault.TheVariants as build
+use Rattle.verity_plan.specs.Plans.{Planned, block_count, plan_for_bytes}
+use Rattle.verity_plan.specs.Settings.{Settings, digest_len}
+use Rattle.fsverity.specs.declared.runs.digest_fault.DigestFault.{DigestFault}
+use Rattle.fsverity.specs.declared.runs.digest_fault.DigestFault.TheVariants.{TooLarge, SourceShort, SourceFailed, DeviceFailed, Memory}
+use Rattle.fsverity.specs.declared.runs.file_digest.FileDigest.{FileDigest}
+
+-- the root hash of the first size bytes: zeros for an empty file
+abbrev pub root_of_file : Settings → ℕ → List ℕ → List ℕ
+root_of_file s size bytes =
+    if size == 0 then replicate (digest_len s) 0 else root s (cut s (div_ceil size s.data_block) size bytes)
+
+-- the descriptor of so many bytes with this root hash
+abbrev pub descriptor_of : Settings → ℕ → List ℕ → DescriptorFields
+descriptor_of s size root = record { tree = s; size = size; root = root }
+
+-- the file digest of the first size bytes
+abbrev pub file_digest_of : Settings → ℕ → List ℕ → List ℕ
+file_digest_of s size bytes = digest_of_file (descriptor_of s size (root_of_file s size bytes))
+
+-- the plan of a file's tree, which has its device to itself
+abbrev pub plan_of_file : Settings → ℕ → Planned
+plan_of_file s size = record { settings = s; blocks = block_count s size; wanted = size; base = 0 }
+
+-- a device with the tree of the first size bytes; an empty file has none
+abbrev pub with_tree : Settings → ℕ → List ℕ → List ℕ → List ℕ
+with_tree s size bytes device = if size == 0 then device
+    else tree_image (plan_of_file s size) (data_blocks (plan_of_file s size) bytes) device
+
+-- the descriptor with this root hash, and its digest
+pub record IsDigestOfRoot (s : Settings) (size : ℕ) (root : List ℕ) (made : FileDigest) : Type 0 where
+  pub digest : made.digest ≡ digest_of_file (descriptor_of s size root)
+  pub descriptor : made.descriptor ≡ descriptor_text (descriptor_of s size root)
+
+-- the descriptor with a root hash, and its digest; it is the file's root hash if the source tells these bytes
+pub record IsDigestOfSource (s : Settings) (size : ℕ) (told : Type 0) (bytes : List ℕ) (made : FileDigest)
+    : Type 0 where
+  pub root : List ℕ
+  pub root_is : told → root ≡ root_of_file s size bytes
+  pub by_root : IsDigestOfRoot s size root made
+
+-- the descriptor of the first size bytes, and the file digest
+abbrev pub IsFileDigest : Settings → ℕ → List ℕ → FileDigest → Type 0
+IsFileDigest s size bytes made = IsDigestOfRoot s size (root_of_file s size bytes) made
+
+-- there is data, and no plan for it
+abbrev pub is_too_large : Settings → ℕ → Bool
+is_too_large s size = nat_lt 0 size && not (is_ok (plan_for_bytes s size 0))
+
+-- the fault of building the tree, if it is one
+abbrev pub build_fault : DigestFault → Option BuildFault
+build_fault TooLarge = None
+build_fault (SourceShort i) = Some (build.SourceShort i)
+build_fault (SourceFailed i) = Some (build.SourceFailed i)
+build_fault (DeviceFailed level block) = Some (build.DeviceFailed level block)
+build_fault Memory = None
+
+-- what a fault says of a source whose first size bytes are wanted, and how much was read
+abbrev pub FaultsIn : Settings → ℕ → List ℕ → List ℕ → DigestFault → Type 0
+FaultsIn s size before after TooLarge = after ≡ before
+FaultsIn s size before after (SourceShort i) =
+    (length before < size) × (i ≡ length before / s.data_block) × (after ≡ [])
+FaultsIn s size before after (SourceFailed i) =
+    (count : ℕ) × (i * s.data_block ≤ count) × (count < min ((i + 1) * s.data_block) size) × HasRead count before after
+FaultsIn s size before after (DeviceFailed level block) = ReadsUpTo (plan_of_file s size) level block before after
+FaultsIn s size before after Memory = after ≡ before
+
+-- the answer for the first size bytes of a source, and how much was read
+abbrev pub GivesDigest : Settings → ℕ → Result FileDigest DigestFault → List ℕ → List ℕ → Type 0
+GivesDigest s size result before after = MatchResult result
+    (λ made. IsFileDigest s size before made × HasRead size before after) (FaultsIn s size before after)
+
+-- what stands on the tree's device after a fault, above the first size of these bytes: the hash blocks that closed
+-- before it
+abbrev pub StandsAfter : Settings → ℕ → List ℕ → List ℕ → List ℕ → DigestFault → Type 0
+StandsAfter s size bytes before after fault = MatchOption (build_fault fault) (after ≡ before)
+    (λ f. BuildsImage (plan_of_file s size) (data_blocks (plan_of_file s size) bytes) (Err f) before after)
+
+-- what stands on the tree's device, by the answer
+abbrev pub Stands : {X : Type 0} → Settings → ℕ → List ℕ → Result X DigestFault → List ℕ → List ℕ → Type 0
+Stands s size bytes result before after =
+    MatchResult result (λ _. after ≡ with_tree s size bytes before) (StandsAfter s size bytes before after)
+
+-- whether a fault is a failure of the source, or of the device
+abbrev pub fault_of_source : DigestFault → Bool
+fault_of_source (SourceFailed i) = true
+fault_of_source fault = false
+
+abbrev pub fault_of_device : DigestFault → Bool
+fault_of_device (DeviceFailed level block) = true
+fault_of_device fault = false
+
+-- whether an answer is such a failure
+abbrev pub source_failed : {X : Type 0} → Result X DigestFault → Bool
+source_failed (Ok made) = false
+source_failed (Err fault) = fault_of_source fault
+
+abbrev pub device_failed : {X : Type 0} → Result X DigestFault → Bool
+device_failed (Ok made) = false
+device_failed (Err fault) = fault_of_device fault
+
+-- a fault that comes before any read
+abbrev pub ComesFirst : DigestFault → Type 0
+ComesFirst fault = IsNone (build_fault fault)

@@ -1,0 +1,18 @@
+-- The steps of a run with output files.
+-- For the private steps; not needed to read a public contract.
+use Rattle.std.specs.Prelude.{ℕ, ◌<◌, Bool, MatchBool, List, length, take, Option, Result, Ok, Err}
+use Rattle.std.specs.Io.KnownBytes.{Appends, Keeps}
+use Rattle.verity_format.specs.Putting.{taken}
+use Rattle.verity_format.specs.declared.putting.PutFault.{PutFault}
+use Rattle.fsverity.specs.Runs.Outputs.{OutputTask, output_task}
+use Rattle.fsverity.specs.declared.runs.outputs.Task.{Task}
+
+-- a task, without the references that it holds
+abbrev pub task_of : Task → OutputTask
+task_of task = output_task task.settings.now task.form task.name.now task.size task.wants_tree task.wants_descriptor
+
+-- a text is added if it is wanted, or only its first bytes if a write fails
+abbrev pub PutsDescriptor : List ℕ → Bool → Result (Unit {0}) PutFault → Option (List ℕ) → Option (List ℕ) → Type 0
+PutsDescriptor text wanted (Ok done) before after = MatchBool wanted (Appends before after text) (Keeps before after)
+PutsDescriptor text wanted (Err fault) before after =
+    MatchBool wanted ((taken fault < length text) × Appends before after (take (taken fault) text)) ⊥

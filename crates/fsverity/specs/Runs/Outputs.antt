@@ -1,0 +1,156 @@
+-- A run of `fsverity digest` over one file with output files (fsverity(1), "--out-merkle-tree", "--out-descriptor"):
+-- the tree, then the descriptor, then the line. Nothing that comes after the first fault is written.
+use Rattle.std.specs.Prelude.{◌≡◌, ◌↔◌, ℕ, ◌<◌, Bool, MatchBool, List, [], length, take, codes, Option, Result, Ok, Err, IsTrue}
+use Rattle.std.specs.Io.KnownBytes.{Appends, Keeps}
+use Rattle.command_line.specs.Printing.{AppendsFront, Prints}
+use Rattle.verity_format.specs.Descriptors.{descriptor_text, digest_of_file}
+use Rattle.verity_io.specs.Counting.{Change, Counts}
+use Rattle.verity_io.specs.Reading.{HasRead}
+use Rattle.verity_plan.specs.Settings.{Settings}
+use Rattle.fsverity.specs.Runs.FileDigest.{FaultsIn, Stands, descriptor_of, device_failed, is_too_large, root_of_file, source_failed, with_tree}
+use Rattle.fsverity.specs.Texts.Lines.{line}
+use Rattle.fsverity.specs.Texts.Messages.{fault_text}
+use Rattle.fsverity.specs.declared.runs.digest_fault.DigestFault.{DigestFault}
+use Rattle.fsverity.specs.declared.runs.digest_fault.DigestFault.TheVariants.{TooLarge}
+use Rattle.fsverity.specs.declared.texts.digest_lines.Form.{Form}
+use Rattle.command_line.specs.declared.printing.print_fault.PrintFault.TheVariants.{Memory, Output}
+use Rattle.fsverity.specs.declared.runs.output_fault.OutputFault.{OutputFault}
+use Rattle.fsverity.specs.declared.runs.output_fault.OutputFault.TheVariants.{Digest, Descriptor, Line}
+
+-- what a run gets beside the file's bytes: the settings, the form of the line, the file's name and its size, and
+-- whether the tree and the descriptor are wanted
+pub record OutputTask : Type 0 where
+  pub settings : Settings
+  pub form : Form
+  pub name : List ℕ
+  pub size : ℕ
+  pub wants_tree : Bool
+  pub wants_descriptor : Bool
+
+-- the task with these parts
+abbrev pub output_task : Settings → Form → List ℕ → ℕ → Bool → Bool → OutputTask
+output_task settings form name size wants_tree wants_descriptor = record {
+  settings = settings;
+  form = form;
+  name = name;
+  size = size;
+  wants_tree = wants_tree;
+  wants_descriptor = wants_descriptor;
+}
+
+-- what the writers of the descriptor and the line hold before and after, if that is known
+pub record OutputChange : Type 0 where
+  pub descriptor_before : Option (List ℕ)
+  pub descriptor_after : Option (List ℕ)
+  pub out_before : Option (List ℕ)
+  pub out_after : Option (List ℕ)
+
+-- what these functions, which read the contents of a writer, say of them before and after
+abbrev pub output_change : {W O : Type 0} → (W → Option (List ℕ)) → (O → Option (List ℕ)) → W → W → O → O → OutputChange
+output_change descriptor_contents out_contents descriptor_old descriptor_new out_old out_new = record {
+  descriptor_before = descriptor_contents descriptor_old;
+  descriptor_after = descriptor_contents descriptor_new;
+  out_before = out_contents out_old;
+  out_after = out_contents out_new;
+}
+
+-- the same, and what the writer of the messages holds
+pub record WriterChange : Type 0 where
+  pub outputs : OutputChange
+  pub msgs_before : Option (List ℕ)
+  pub msgs_after : Option (List ℕ)
+
+-- how a run ends: with all written, or with its first fault
+abbrev pub Outcome : Type 0
+Outcome = Result (Unit {0}) OutputFault
+
+-- the status of an outcome
+abbrev pub status_of : Outcome → ℕ
+status_of (Ok done) = 0
+status_of (Err fault) = 1
+
+-- the message of a fault at the file of this name
+abbrev pub output_fault_text : OutputFault → List ℕ → List ℕ
+output_fault_text (Digest fault) name = fault_text fault name
+output_fault_text (Descriptor count) name = codes "fsverity: cannot write descriptor.\n"
+output_fault_text (Line Memory) name = codes "fsverity: out of memory.\n"
+output_fault_text (Line (Output count)) name = codes "fsverity: cannot write output.\n"
+
+-- the message of an outcome
+abbrev pub message_of : Outcome → List ℕ → List ℕ
+message_of (Ok done) name = []
+message_of (Err fault) name = output_fault_text fault name
+
+-- the digest's part of an outcome
+abbrev pub digest_result : Outcome → Result (Unit {0}) DigestFault
+digest_result (Err (Digest fault)) = Err fault
+digest_result outcome = Ok tt
+
+-- how much was read of the source: once there is a digest, all of the file
+abbrev pub Reads : OutputTask → Result (Unit {0}) DigestFault → List ℕ → List ℕ → Type 0
+Reads task (Ok done) before after = HasRead task.size before after
+Reads task (Err fault) before after = FaultsIn task.settings task.size before after fault
+
+-- what the tree's device holds for these bytes of the source; it stays if no tree is wanted
+abbrev pub WritesTree : {X : Type 0} → OutputTask → List ℕ → Result X DigestFault → List ℕ → List ℕ → Type 0
+WritesTree task bytes result before after =
+    MatchBool task.wants_tree (Stands task.settings task.size bytes result before after) (after ≡ before)
+
+-- the descriptor with this root hash is added if it is wanted
+abbrev pub AddsDescriptor : OutputTask → List ℕ → Option (List ℕ) → Option (List ℕ) → Type 0
+AddsDescriptor task root before after = MatchBool task.wants_descriptor
+    (Appends before after (descriptor_text (descriptor_of task.settings task.size root))) (Keeps before after)
+
+-- only this many of its first bytes are added
+abbrev pub AddsPart : OutputTask → List ℕ → ℕ → Option (List ℕ) → Option (List ℕ) → Type 0
+AddsPart task root count before after = MatchBool task.wants_descriptor
+    ((count < length (descriptor_text (descriptor_of task.settings task.size root)))
+    × Appends before after (take count (descriptor_text (descriptor_of task.settings task.size root)))) ⊥
+
+-- what is added to the descriptor's writer
+abbrev pub WritesDescriptor : OutputTask → List ℕ → Outcome → Option (List ℕ) → Option (List ℕ) → Type 0
+WritesDescriptor task root (Ok done) before after = AddsDescriptor task root before after
+WritesDescriptor task root (Err (Digest fault)) before after = Keeps before after
+WritesDescriptor task root (Err (Descriptor count)) before after = AddsPart task root count before after
+WritesDescriptor task root (Err (Line fault)) before after = AddsDescriptor task root before after
+
+-- the line for this root hash
+abbrev pub line_of_root : OutputTask → List ℕ → List ℕ
+line_of_root task root =
+    line task.form task.settings.algorithm (digest_of_file (descriptor_of task.settings task.size root)) task.name
+
+-- what is added to out: the line, or only its first bytes if a write fails
+abbrev pub PrintsLine : OutputTask → List ℕ → Outcome → Option (List ℕ) → Option (List ℕ) → Type 0
+PrintsLine task root (Ok done) before after = Prints (Ok tt) (line_of_root task root) before after
+PrintsLine task root (Err (Line fault)) before after = Prints (Err fault) (line_of_root task root) before after
+PrintsLine task root outcome before after = Keeps before after
+
+-- the descriptor and the line have one root hash, which is the file's if the source tells its bytes
+pub record WritesTexts (task : OutputTask) (outcome : Outcome) (told : Type 0) (bytes : List ℕ) (texts : OutputChange)
+    : Type 0 where
+  pub root : List ℕ
+  pub root_is : told → root ≡ root_of_file task.settings task.size bytes
+  pub descriptor : WritesDescriptor task root outcome texts.descriptor_before texts.descriptor_after
+  pub printed : PrintsLine task root outcome texts.out_before texts.out_after
+
+-- a run: one outcome says what became of the source, the tree's device and the writers
+pub record OutputRun (task : OutputTask) (status : ℕ) (source tree : Change) (texts : WriterChange) : Type 0 where
+  pub outcome : Outcome
+  pub status_is : status ≡ status_of outcome
+  pub too_large : (digest_result outcome ≡ Err TooLarge) ↔ IsTrue (is_too_large task.settings task.size)
+  pub read : source.told → Reads task (digest_result outcome) source.before source.after
+  pub stands : source.told → tree.told → WritesTree task source.before (digest_result outcome) tree.before tree.after
+  pub texts_written : WritesTexts task outcome source.told source.before texts.outputs
+  pub message : AppendsFront (message_of outcome task.name) texts.msgs_before texts.msgs_after
+  pub source_counted : Counts (source_failed (digest_result outcome)) source.failures_before source.failures_after
+  pub tree_counted : Counts (device_failed (digest_result outcome)) tree.failures_before tree.failures_after
+
+-- what status 0 means: the file was read once, and what is wanted is written
+pub record IsWritten (task : OutputTask) (source tree : Change) (texts : OutputChange) : Type 0 where
+  pub read : HasRead task.size source.before source.after
+  pub stands : tree.told → MatchBool task.wants_tree
+      (tree.after ≡ with_tree task.settings task.size source.before tree.before) (tree.after ≡ tree.before)
+  pub descriptor : AddsDescriptor task (root_of_file task.settings task.size source.before)
+      texts.descriptor_before texts.descriptor_after
+  pub printed : Appends texts.out_before texts.out_after
+      (line_of_root task (root_of_file task.settings task.size source.before))

@@ -1,0 +1,3 @@
+-- What is printed: lines and messages.
+pub mod Lines
+pub mod Messages

@@ -1,0 +1,39 @@
+-- The messages of `fsverity digest`, one line each; this project's own. Numbers are decimal, and names are left as they
+-- are.
+use Rattle.std.specs.Prelude.{ℕ, List, [], ◌∷◌, codes}
+use Rattle.std.specs.List.{concat}
+use Rattle.std.specs.Fmt.{decimal}
+use Rattle.command_line.specs.SystemWords.{not_text}
+use Rattle.command_line.specs.declared.words.system_words.WordsFault.{WordsFault}
+use Rattle.command_line.specs.declared.words.system_words.WordsFault.TheVariants.{NotText, Memory as NoMemory}
+use Rattle.fsverity.specs.declared.runs.digest_fault.DigestFault.{DigestFault}
+use Rattle.fsverity.specs.declared.runs.digest_fault.DigestFault.TheVariants.{TooLarge, SourceShort, SourceFailed, DeviceFailed, Memory}
+use Rattle.fsverity.specs.declared.options.option_fault.FsOptionFault.{FsOptionFault}
+use Rattle.fsverity.specs.declared.options.option_fault.FsOptionFault.TheVariants.{UnknownHash, BadBlockSize, BadSalt, OneFileOnly}
+
+-- why a file of this name has no digest
+abbrev pub fault_text : DigestFault → List ℕ → List ℕ
+fault_text TooLarge name = concat (codes "fsverity: file is too large: " ∷ name ∷ codes ".\n" ∷ [])
+fault_text (SourceShort i) name =
+    concat (codes "fsverity: file ends before the end of block " ∷ decimal i ∷ codes ": " ∷ name ∷ codes ".\n" ∷ [])
+fault_text (SourceFailed i) name =
+    concat (codes "fsverity: cannot read block " ∷ decimal i ∷ codes ": " ∷ name ∷ codes ".\n" ∷ [])
+fault_text (DeviceFailed level block) name = concat
+    (codes "fsverity: cannot write tree block " ∷ decimal block ∷ codes " of level " ∷ decimal level ∷ codes ".\n" ∷ [])
+fault_text Memory name = codes "fsverity: out of memory.\n"
+
+-- why the options are refused
+abbrev pub option_text : FsOptionFault → List ℕ
+option_text UnknownHash = codes "fsverity: unknown hash algorithm.\n"
+option_text BadBlockSize = codes "fsverity: block size is not valid.\n"
+option_text BadSalt = codes "fsverity: salt is not valid.\n"
+option_text OneFileOnly = codes "fsverity: output files need exactly one input file.\n"
+
+-- why the words of the command line can't be read, and the status that goes with it
+abbrev pub words_text : WordsFault → List ℕ
+words_text (NotText number word) = not_text number word.items
+words_text NoMemory = codes "fsverity: out of memory.\n"
+
+abbrev pub words_status : WordsFault → ℕ
+words_status (NotText number word) = 2
+words_status NoMemory = 1

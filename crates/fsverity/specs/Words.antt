@@ -1,0 +1,2 @@
+-- The command line, and how its words are read.
+pub mod CommandLines

@@ -1,0 +1,42 @@
+-- The command line of `fsverity` (fsverity(1)), in the words of clap, and what a line holds.
+use Rattle.std.specs.Prelude.{◌≡◌, ◌||◌, Option, Some, Result, List, [], length, is_some, codes, map, option_map, unwrap_or, string_bytes}
+use Rattle.clap.specs.Words.{App, Row, Text, all_of, first_of, new_app, with_rule, with_subcommand}
+use Rattle.command_line.specs.Arguments.{flag_of, flag_rule, option_rule, program_app, words_rule}
+use Rattle.verity_plan.specs.Settings.{Settings}
+use Rattle.fsverity.specs.Options.Settings.{fs_settings}
+use Rattle.fsverity.specs.declared.options.option_fault.FsOptionFault.{FsOptionFault}
+use Rattle.fsverity.specs.declared.words.line.Line.{Line}
+
+-- the command `digest`
+unfoldable pub digest_app : App
+digest_app = with_rule (with_rule (with_rule (with_rule (with_rule (with_rule (with_rule (with_rule
+    (new_app (codes "digest"))
+    (option_rule (codes "hash-alg"))) (option_rule (codes "block-size"))) (option_rule (codes "salt")))
+    (flag_rule (codes "compact"))) (flag_rule (codes "for-builtin-sig")))
+    (option_rule (codes "out-merkle-tree"))) (option_rule (codes "out-descriptor")))
+    (words_rule (codes "files"))
+
+-- the program
+unfoldable pub fsverity_app : App
+fsverity_app = with_subcommand (program_app (codes "fsverity")) digest_app.top
+
+-- the line holds what the rows hold, name by name
+pub record HoldsRows (rows : List Row) (line : Line) : Type 0 where
+  pub hash_alg : option_map string_bytes line.hash_alg ≡ first_of (codes "hash-alg") rows
+  pub block_size : option_map string_bytes line.block_size ≡ first_of (codes "block-size") rows
+  pub salt : option_map string_bytes line.salt ≡ first_of (codes "salt") rows
+  pub compact : line.compact ≡ flag_of (first_of (codes "compact") rows)
+  pub for_builtin_sig : line.for_builtin_sig ≡ flag_of (first_of (codes "for-builtin-sig") rows)
+  pub out_merkle_tree : option_map string_bytes line.out_merkle_tree ≡ first_of (codes "out-merkle-tree") rows
+  pub out_descriptor : option_map string_bytes line.out_descriptor ≡ first_of (codes "out-descriptor") rows
+  pub files : map string_bytes line.files.items ≡ unwrap_or (all_of (codes "files") rows) []
+
+-- the words name a command, and the line holds its rows
+abbrev pub HoldsCommand : Option (Text × List Row) → Line → Type 0
+HoldsCommand met line = (p : Text × List Row) × (met ≡ Some p) × HoldsRows p.1 line
+
+-- the settings that a line's options give, or the first option that is refused
+abbrev pub settings_of : Line → Result Settings FsOptionFault
+settings_of line = fs_settings (option_map string_bytes line.hash_alg) (option_map string_bytes line.block_size)
+    (option_map string_bytes line.salt) (length line.files.items)
+    (is_some line.out_merkle_tree || is_some line.out_descriptor)

@@ -1,0 +1,169 @@
+//! The program, over any runtime.
+ghost use Rattle.std.specs.Prelude.{◌≡◌, ◌⊎◌, ◌≤◌, IfErr, IfOk, codes};
+ghost use Rattle.command_line.specs.LineFaults.{IsMemory};
+ghost use Rattle.command_line.specs.Printing.{AppendsFront};
+ghost use Rattle.fsverity.specs.Words.CommandLines.{settings_of};
+ghost use Rattle.fsverity.specs.Texts.Messages.{option_text, words_status, words_text};
+ghost use Rattle.fsverity.specs.Runs.Digest.{run_fault_text};
+ghost use Rattle.fsverity.specs.declared.runs.run_fault.RunFault.TheVariants.{NotOpened};
+
+use crate::program::output_files::OutputNames;
+use crate::program::outputs::{OutputRequest, digest_to};
+use crate::words::reading::USAGE;
+use crate::{
+    FileOpener, Line, LineFault, OUT_OF_MEMORY, RunFault, digest_settings, option_message,
+    read_words, run_digest,
+};
+use command_line::{
+    Identities, NULL_DEVICE, NullFiles, ProgressLine, ProgressRuntime, WordsFault, given_words,
+    not_text_message, texts_of, write_message, write_text,
+};
+use std::alloc::Global;
+use std::env::Env;
+use std::io::Write;
+
+/// The status of a file that fails, and of out of memory.
+const FAILED: u8 = 1;
+
+/// The status of a refused command line or option.
+const REFUSED: u8 = 2;
+
+/// Carries out the command line of a runtime (fsverity(1)). Lines go to `out`, and messages go to `msgs` as far as that
+/// takes them; `progress` shows the progress of long work, and is erased in the end. The answer is the status: 0 done,
+/// 1 a file failed, the output could not be written or there was no memory, 2 the command line or an option is refused,
+/// and no file has been opened then.
+pub fn run_program<R: Identities + ProgressRuntime + Env + AllocGlobal, O: Write, M: Write>(
+    rt: &R,
+    progress: &ProgressLine<'_, R>,
+    out: &mut O,
+    msgs: &mut M,
+) -> u8
+    ensures status { result ≤ 2 }
+    ensures quiet { result ≡ 0 → msgs.new ≡ msgs.old }
+{
+    let status = match given_line(rt, msgs) {
+        Ok(line) => run_line(rt, progress, &line, out, msgs),
+        Err(status) => status,
+    };
+    progress.erase();
+    status
+}
+
+/// The command line of a runtime. If it can't be read, the message is written, and the error is the status. The words
+/// that the system gave are dropped here, so that only the line's own copies of many names stay in memory.
+fn given_line<R: Env + AllocGlobal, M: Write>(rt: &R, msgs: &mut M) -> Result<Line, u8>
+    ensures quiet { IfOk result (λ _. msgs.new ≡ msgs.old) }
+    ensures refusal { IfErr result (λ status. (status ≡ 1) ⊎ (status ≡ 2)) }
+{
+    let words = match given_words(rt) {
+        Ok(words) => words,
+        Err(fault) => return Err(refuse_words(rt.alloc(), &fault, msgs)),
+    };
+    let Ok(texts) = texts_of(rt.alloc(), words.as_slice()) else {
+        return Err(stop_with(FAILED, OUT_OF_MEMORY, msgs));
+    };
+    match read_words(rt.alloc(), texts.as_slice()) {
+        Ok(line) => Ok(line),
+        Err(fault) => Err(refuse_line(&fault, msgs)),
+    }
+}
+
+/// Says why the words of the command line can't be read: one is not UTF-8, or there is no memory for them. The answer
+/// is the status.
+fn refuse_words<M: Write>(alloc: Global, fault: &WordsFault, msgs: &mut M) -> u8
+    ensures status { result ≡ words_status fault.now }
+    ensures refusal { (result ≡ 1) ⊎ (result ≡ 2) }
+    ensures message { AppendsFront (words_text fault.now) (M.contents msgs.old) (M.contents msgs.new) }
+{
+    match fault {
+        WordsFault::NotText(number, word) => {
+            write_message(not_text_message(alloc, *number, word.as_slice()), msgs);
+            REFUSED
+        }
+        WordsFault::Memory => stop_with(FAILED, OUT_OF_MEMORY, msgs),
+    }
+}
+
+/// Says why the command line is refused, with `clap`'s text and the usage, or that there is no memory for the copies of
+/// its words. The answer is the status.
+fn refuse_line<M: Write>(fault: &LineFault, msgs: &mut M) -> u8
+    ensures status { (result ≡ 1) ⊎ (result ≡ 2) }
+    ensures memory { IsMemory fault.now → (result ≡ 1)
+        × AppendsFront (codes "fsverity: out of memory.\n") (M.contents msgs.old) (M.contents msgs.new) }
+    ensures refused { (IsMemory fault.now → ⊥) → result ≡ 2 }
+{
+    if fault.is_memory() {
+        return stop_with(FAILED, OUT_OF_MEMORY, msgs);
+    }
+    fault.write_message(USAGE, msgs);
+    REFUSED
+}
+
+/// Carries out `fsverity digest`. The answer is the status; a refused option has its message and status 2.
+fn run_line<R: Identities + ProgressRuntime + AllocGlobal, O: Write, M: Write>(
+    rt: &R,
+    progress: &ProgressLine<'_, R>,
+    line: &Line,
+    out: &mut O,
+    msgs: &mut M,
+) -> u8
+    ensures status { result ≤ 2 }
+    ensures quiet { result ≡ 0 → msgs.new ≡ msgs.old }
+    ensures refused { IfErr (settings_of line.now) (λ fault. (result ≡ 2) × (out.new ≡ out.old)
+        × AppendsFront (option_text fault) (M.contents msgs.old) (M.contents msgs.new)) }
+    ensures accepted { IfOk (settings_of line.now) (λ _. result ≤ 1) }
+{
+    let settings = match digest_settings(&line.options()) {
+        Ok(settings) => settings,
+        Err(fault) => return stop_with(REFUSED, option_message(&fault), msgs),
+    };
+    let Ok(names) = texts_of(rt.alloc(), line.files.as_slice()) else {
+        return stop_with(FAILED, OUT_OF_MEMORY, msgs);
+    };
+    let null_files = NullFiles::open(rt);
+    if !null_files.are_open() {
+        return cannot_open(rt.alloc(), NULL_DEVICE, msgs);
+    }
+    let outputs = OutputNames::of_line(line);
+    match names.as_slice() {
+        [name] if outputs.are_given() => {
+            let request = OutputRequest {
+                settings: &settings,
+                form: line.form(),
+                name,
+                outputs,
+            };
+            digest_to(rt, progress, request, out, msgs)
+        }
+        names => {
+            let mut opener = FileOpener::new(rt, progress, names);
+            run_digest(
+                rt.alloc(),
+                &settings,
+                line.form(),
+                names,
+                &mut opener,
+                out,
+                msgs,
+            )
+        }
+    }
+}
+
+/// Says that a file can't be opened. The answer is the status.
+pub(crate) fn cannot_open<M: Write>(alloc: Global, name: &str, msgs: &mut M) -> u8
+    ensures status { result ≡ 1 }
+    ensures message { AppendsFront (run_fault_text NotOpened name.now) (M.contents msgs.old) (M.contents msgs.new) }
+{
+    RunFault::NotOpened.write_message(alloc, name, msgs);
+    FAILED
+}
+
+/// Writes a message, as far as the writer takes it. The answer is the status.
+fn stop_with<M: Write>(status: u8, message: &str, msgs: &mut M) -> u8
+    ensures status { result ≡ status }
+    ensures message { AppendsFront message.now (M.contents msgs.old) (M.contents msgs.new) }
+{
+    write_text(message, msgs);
+    status
+}

@@ -1,0 +1,135 @@
+//! The output files of a run.
+ghost use Rattle.std.specs.Prelude.{◌≡◌, ◌⊎◌, ◌||◌, None, Some, IfErr, IfOk, IfSome, IsSome, IsTrue, false, is_some};
+ghost use Rattle.std.specs.Prelude.{option_map, option_copied, string_bytes};
+
+use crate::Line;
+use command_line::{FileIdentity, Identities, are_one, is_folder, text_of};
+use std::fs::File;
+use std::rt::Files;
+
+/// The names of the output files; `None` if one is not given.
+#[derive(Clone, Copy)]
+pub(crate) struct OutputNames<'a> {
+    pub tree: Option<&'a str>,
+    pub descriptor: Option<&'a str>,
+}
+
+impl<'a> OutputNames<'a> {
+    /// The names that a command line gives.
+    pub(crate) fn of_line(line: &'a Line) -> OutputNames<'a>
+        ensures tree { option_copied result.tree ≡ option_map string_bytes line.now.out_merkle_tree }
+        ensures descriptor { option_copied result.descriptor ≡ option_map string_bytes line.now.out_descriptor }
+    {
+        OutputNames {
+            tree: text_of(&line.out_merkle_tree),
+            descriptor: text_of(&line.out_descriptor),
+        }
+    }
+
+    /// Whether at least one is given.
+    pub(crate) fn are_given(&self) -> bool
+        ensures { result ≡ (is_some self.now.tree || is_some self.now.descriptor) }
+    {
+        self.tree.is_some() || self.descriptor.is_some()
+    }
+}
+
+/// The opened output files; `None` for one that is not named.
+#[derive(Drop)]
+pub(crate) struct OutputFiles<F> {
+    pub tree: Option<F>,
+    pub descriptor: Option<F>,
+}
+
+impl<F> OutputFiles<F> {
+    /// Opens the output files, the tree's and then the descriptor's: each is created or truncated. The error is the
+    /// name of the first that is refused. Nobody loses a file that is named twice: if the system says that an output
+    /// file is the input file or the other output file, it is refused before anything is truncated. So is a folder.
+    pub(crate) fn open<'a, R: Identities<File = F>>(
+        rt: &R,
+        input: &F,
+        names: OutputNames<'a>,
+    ) -> Result<OutputFiles<F>, &'a str>
+        ensures tree { IfOk result (λ files. is_some files.tree ≡ is_some names.entry.tree) }
+        ensures descriptor { IfOk result (λ files. is_some files.descriptor ≡ is_some names.entry.descriptor) }
+        ensures named { IfErr result (λ name. (names.entry.tree ≡ Some name) ⊎ (names.entry.descriptor ≡ Some name)) }
+    {
+        if let Some(name) = folder_among(rt, names) {
+            return Err(name);
+        }
+        if let Some(name) = file_named_twice(rt, input, names) {
+            return Err(name);
+        }
+        let tree = open_output(rt, names.tree)?;
+        // The file exists now, so the system can say whether the other name leads to it too.
+        if let (Some(file), Some(name)) = (&tree, names.descriptor)
+            && are_one(rt.file_identity(file), rt.path_identity(name))
+        {
+            return Err(name);
+        }
+        let descriptor = open_output(rt, names.descriptor)?;
+        Ok(OutputFiles { tree, descriptor })
+    }
+}
+
+/// The name of the first output file that is a folder, as the system says.
+fn folder_among<'a, R: Files>(rt: &R, names: OutputNames<'a>) -> Option<&'a str>
+    ensures { IfSome result (λ name. (names.entry.tree ≡ Some name) ⊎ (names.entry.descriptor ≡ Some name)) }
+{
+    if leads_to_folder(rt, names.tree) {
+        names.tree
+    } else if leads_to_folder(rt, names.descriptor) {
+        names.descriptor
+    } else {
+        None
+    }
+}
+
+/// Whether a name is given and leads to a folder.
+fn leads_to_folder<R: Files>(rt: &R, name: Option<&str>) -> bool {
+    match name {
+        Some(name) => is_folder(rt, name),
+        None => false,
+    }
+}
+
+/// The name of the first output file that is the input file or the other output file, as the system says.
+fn file_named_twice<'a, R: Identities>(
+    rt: &R,
+    input: &R::File,
+    names: OutputNames<'a>,
+) -> Option<&'a str>
+    ensures { IfSome result (λ name. (names.entry.tree ≡ Some name) ⊎ (names.entry.descriptor ≡ Some name)) }
+{
+    let opened = rt.file_identity(input);
+    let tree = identity_of(rt, names.tree);
+    let descriptor = identity_of(rt, names.descriptor);
+    if are_one(tree, opened) {
+        names.tree
+    } else if are_one(descriptor, opened) || are_one(descriptor, tree) {
+        names.descriptor
+    } else {
+        None
+    }
+}
+
+/// The file that a name leads to; `None` if no name is given or the system doesn't say.
+fn identity_of<R: Identities>(rt: &R, name: Option<&str>) -> Option<FileIdentity>
+    ensures { name.entry ≡ None → result ≡ None }
+{
+    rt.path_identity(name?)
+}
+
+/// The output file of a name, created or truncated. The error is the name.
+fn open_output<'a, R: Files>(rt: &R, name: Option<&'a str>) -> Result<Option<R::File>, &'a str>
+    ensures named { IfOk result (λ file. is_some file ≡ is_some name.entry) }
+    ensures error { IfErr result (λ refused. name.entry ≡ Some refused) }
+{
+    match name {
+        None => Ok(None),
+        Some(name) => match File::create(rt, name) {
+            Ok(file) => Ok(Some(file)),
+            Err(_) => Err(name),
+        },
+    }
+}

@@ -1,0 +1,129 @@
+//! A run over files, one after another.
+ghost use Rattle.std.specs.Prelude.{◌≡◌, ◌⊎◌, ◌+◌, ◌<◌, ◌≤◌, length, map, IfOk, IfErr, MatchResult};
+ghost use Rattle.std.specs.Io.KnownBytes.{Appends};
+ghost use Rattle.std.specs.List.{zip};
+ghost use Rattle.verity_hash.specs.declared.salting.SaltRule.TheVariants.{PaddedBefore};
+ghost use Rattle.verity_plan.specs.Settings.{digest_len};
+ghost use Rattle.fsverity.specs.Openers.Opening.{SameFiles, opener_change};
+ghost use Rattle.fsverity.specs.Runs.Digest.{CountsFault, EndsAt, lines, first_refused};
+ghost use Rattle.fsverity.specs.Runs.DigestSteps.{IsDigestAt, StopsStep, WritesStep};
+
+use crate::texts::line_printing::print_line;
+use crate::{DigestFault, FileDigest, Form, Opener, PrintFault, RunFault, digest_file};
+use std::alloc::Global;
+use std::io::Write;
+use verity_tree::TreeSettings;
+
+/// The digest of the opener's next file.
+fn digest_opened<O: Opener>(
+    alloc: Global,
+    settings: &TreeSettings,
+    opener: &mut O,
+) -> Result<FileDigest, RunFault>
+    requires settings { settings.now.rule ≡ PaddedBefore }
+    requires more { O.next opener.old < O.count opener.old }
+    ensures next { O.next opener.new ≡ O.next opener.old + 1 }
+    ensures same { SameFiles O.tells O.files O.count opener.old opener.new }
+    ensures failures { O.failures opener.old ≤ O.failures opener.new }
+    ensures reason { IfErr result (StopsStep settings.now
+        (opener_change O.tells O.files O.next O.failures opener.old opener.new)) }
+    ensures counted { MatchResult result (λ _. O.failures opener.new ≡ O.failures opener.old)
+        (λ fault. CountsFault fault (O.failures opener.old) (O.failures opener.new)) }
+    ensures length { IfOk result (λ made. length made.digest ≡ digest_len settings.now) }
+    ensures digest { O.tells opener.old
+        → IfOk result (IsDigestAt settings.now (O.files opener.old) (O.next opener.old)) }
+{
+    match opener.start() {
+        Err(_) => Err(RunFault::NotOpened),
+        Ok((length, mut stream)) => {
+            let made = digest_file(alloc, settings, length, &mut stream);
+            opener.end(stream);
+            match made {
+                Ok(made) => Ok(made),
+                Err(fault) => Err(RunFault::Digest(fault)),
+            }
+        }
+    }
+}
+
+/// Writes the line of the opener's next file.
+fn digest_next<O: Opener, W: Write>(
+    alloc: Global,
+    settings: &TreeSettings,
+    form: Form,
+    name: &str,
+    opener: &mut O,
+    out: &mut W,
+) -> Result<(), RunFault>
+    requires settings { settings.now.rule ≡ PaddedBefore }
+    requires more { O.next opener.old < O.count opener.old }
+    ensures next { O.next opener.new ≡ O.next opener.old + 1 }
+    ensures same { SameFiles O.tells O.files O.count opener.old opener.new }
+    ensures failures { O.failures opener.old ≤ O.failures opener.new }
+    ensures reason { IfErr result (StopsStep settings.now
+        (opener_change O.tells O.files O.next O.failures opener.old opener.new)) }
+    ensures counted { MatchResult result (λ _. O.failures opener.new ≡ O.failures opener.old)
+        (λ fault. CountsFault fault (O.failures opener.old) (O.failures opener.new)) }
+    ensures written { O.tells opener.old → WritesStep (record {
+      settings = settings.now;
+      form = form;
+      name = name.now;
+      files = O.files opener.old;
+      index = O.next opener.old;
+    }) result (W.contents out.old) (W.contents out.new) }
+{
+    let made = digest_opened(alloc, settings, opener)?;
+    match print_line(alloc, settings, form, name, &made, out) {
+        Ok(()) => Ok(()),
+        Err(PrintFault::Memory) => Err(RunFault::Digest(DigestFault::Memory)),
+        Err(PrintFault::Output(_)) => Err(RunFault::NotWritten),
+    }
+}
+
+/// Writes the line of each file to `out`, in the order of their names (fsverity(1), "fsverity digest"). The status is 0
+/// if all are written. The first file that fails ends the run with status 1: its message goes to `msgs`, the lines
+/// before it stay, and later files are not opened. A line is made whole before any of it is written. A fault of `msgs`
+/// changes nothing.
+///
+/// The settings must be of fs-verity, and the opener must have as many files as there are names, none of them opened
+/// yet.
+pub fn run_digest<O: Opener, W: Write, M: Write>(
+    alloc: Global,
+    settings: &TreeSettings,
+    form: Form,
+    names: &[&str],
+    opener: &mut O,
+    out: &mut W,
+    msgs: &mut M,
+) -> u8
+    requires settings { settings.now.rule ≡ PaddedBefore }
+    requires names { length names.now ≡ O.count opener.old }
+    requires first { O.next opener.old ≡ 0 }
+    ensures status { (result ≡ 0) ⊎ (result ≡ 1) }
+
+    // Status 0: all files have lines.
+    ensures done { result ≡ 0 → O.next opener.new ≡ length names.now }
+    ensures quiet { result ≡ 0 → msgs.new ≡ msgs.old }
+    ensures calm { result ≡ 0 → O.failures opener.new ≡ O.failures opener.old }
+    ensures all { O.tells opener.old → result ≡ 0 → first_refused settings.now (O.files opener.old) ≡ length names.now }
+    ensures lines { O.tells opener.old → result ≡ 0
+        → Appends (W.contents out.old) (W.contents out.new)
+        (lines settings.now form (zip (map (λ n. n.now) names.now) (O.files opener.old))) }
+
+    // Status 1: the run ended at one file, with its message.
+    ensures ended { result ≡ 1 → EndsAt
+        (record { settings = settings.now; form = form; names = map (λ n. n.now) names.now })
+        (opener_change O.tells O.files O.next O.failures opener.old opener.new)
+        (W.contents out.old) (W.contents out.new) (M.contents msgs.old) (M.contents msgs.new) }
+{
+    for name in names {
+        match digest_next(alloc, settings, form, name, opener, out) {
+            Ok(()) => {}
+            Err(fault) => {
+                fault.write_message(alloc, name, msgs);
+                return 1;
+            }
+        }
+    }
+    0
+}

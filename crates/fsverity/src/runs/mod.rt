@@ -1,0 +1,8 @@
+//! The digest of a file, and the runs: over files, and over one file with output files.
+
+pub(crate) mod digest;
+pub(crate) mod digest_fault;
+pub(crate) mod file_digest;
+pub(crate) mod output_fault;
+pub(crate) mod outputs;
+pub(crate) mod run_fault;

@@ -1,0 +1,180 @@
+//! A run over one file with output files.
+ghost use Rattle.std.specs.Prelude.{◌≡◌, ◌↔◌, ◌⊎◌, length, false, IfOk, IsTrue};
+ghost use Rattle.verity_hash.specs.declared.salting.SaltRule.TheVariants.{PaddedBefore};
+ghost use Rattle.verity_plan.specs.Settings.{digest_len};
+ghost use Rattle.verity_io.specs.Counting.{Counts, change};
+ghost use Rattle.fsverity.specs.Runs.FileDigest.{GivesDigest, IsDigestOfSource, device_failed, is_too_large, source_failed};
+ghost use Rattle.fsverity.specs.Runs.Outputs.{IsWritten, OutputRun, Reads, WritesTexts, WritesTree};
+ghost use Rattle.fsverity.specs.Runs.Outputs.{digest_result, output_change, output_task};
+ghost use Rattle.fsverity.specs.declared.runs.digest_fault.DigestFault.TheVariants.{TooLarge};
+
+use crate::texts::line_printing::print_line;
+use crate::{DigestFault, FileDigest, Form, OutputFault, digest_file, digest_file_with_tree};
+use std::alloc::Global;
+use std::io::Write;
+use verity_format::{PutFault, put_all};
+use verity_tree::{Device, Source, TreeSettings};
+
+/// What a run is asked for: the digest and the line of a file, and its tree and its descriptor if they are wanted.
+#[derive(Drop)]
+struct Task<'a> {
+    settings: &'a TreeSettings,
+    form: Form,
+    name: &'a str,
+    size: u64,
+    wants_tree: bool,
+    wants_descriptor: bool,
+}
+
+ghost use Rattle.fsverity.specs.Runs.OutputSteps.{PutsDescriptor, task_of};
+
+/// The digest of a file. Its tree is written if it is wanted.
+fn digest_for_task<S: Source, D: Device>(
+    alloc: Global,
+    task: &Task<'_>,
+    source: &mut S,
+    tree: &mut D,
+) -> Result<FileDigest, DigestFault>
+    requires { task.now.settings.now.rule ≡ PaddedBefore }
+    ensures source_told { S.tells source.old → S.tells source.new }
+    ensures tree_told { D.tells tree.old → D.tells tree.new }
+    ensures kept { task.now.wants_tree ≡ false → tree.new ≡ tree.old }
+    ensures too_large { (result ≡ Err TooLarge) ↔ IsTrue (is_too_large task.now.settings.now task.now.size) }
+    ensures described { IfOk result
+        (IsDigestOfSource task.now.settings.now task.now.size (S.tells source.old) (S.remaining source.old)) }
+    ensures length { IfOk result (λ made. length made.digest ≡ digest_len task.now.settings.now) }
+    ensures source_count { Counts (source_failed result) (S.failures source.old) (S.failures source.new) }
+    ensures tree_count { Counts (device_failed result) (D.failures tree.old) (D.failures tree.new) }
+    ensures bytes { S.tells source.old
+        → GivesDigest task.now.settings.now task.now.size result (S.remaining source.old) (S.remaining source.new) }
+    ensures stands { S.tells source.old → D.tells tree.old
+        → WritesTree (task_of task.now) (S.remaining source.old) result (D.content tree.old) (D.content tree.new) }
+{
+    if task.wants_tree {
+        digest_file_with_tree(alloc, task.settings, task.size, source, tree)
+    } else {
+        digest_file(alloc, task.settings, task.size, source)
+    }
+}
+
+/// Writes the descriptor if it is wanted. The fault says how many of its bytes were taken.
+fn put_descriptor<W: Write>(
+    made: &FileDigest,
+    wanted: bool,
+    descriptor: &mut W,
+) -> Result<(), PutFault>
+    ensures kept { wanted ≡ false → descriptor.new ≡ descriptor.old }
+    ensures put { PutsDescriptor made.now.descriptor wanted result
+        (W.contents descriptor.old) (W.contents descriptor.new) }
+{
+    if wanted {
+        put_all(descriptor, &made.descriptor)
+    } else {
+        Ok(())
+    }
+}
+
+/// Writes the tree, the descriptor and the line of a file, in this order, up to the first fault.
+fn write_outputs<S: Source, D: Device, W: Write, O: Write>(
+    alloc: Global,
+    task: &Task<'_>,
+    source: &mut S,
+    tree: &mut D,
+    descriptor: &mut W,
+    out: &mut O,
+) -> Result<(), OutputFault>
+    requires { task.now.settings.now.rule ≡ PaddedBefore }
+    ensures source_told { S.tells source.old → S.tells source.new }
+    ensures tree_told { D.tells tree.old → D.tells tree.new }
+    ensures tree_kept { task.now.wants_tree ≡ false → tree.new ≡ tree.old }
+    ensures descriptor_kept { task.now.wants_descriptor ≡ false → descriptor.new ≡ descriptor.old }
+    ensures too_large { (digest_result result ≡ Err TooLarge)
+        ↔ IsTrue (is_too_large task.now.settings.now task.now.size) }
+    ensures read { S.tells source.old
+        → Reads (task_of task.now) (digest_result result) (S.remaining source.old) (S.remaining source.new) }
+    ensures stands { S.tells source.old → D.tells tree.old
+        → WritesTree (task_of task.now) (S.remaining source.old) (digest_result result)
+        (D.content tree.old) (D.content tree.new) }
+    ensures written { WritesTexts (task_of task.now) result (S.tells source.old) (S.remaining source.old)
+        (output_change W.contents O.contents descriptor.old descriptor.new out.old out.new) }
+    ensures source_count { Counts (source_failed (digest_result result))
+        (S.failures source.old) (S.failures source.new) }
+    ensures tree_count { Counts (device_failed (digest_result result)) (D.failures tree.old) (D.failures tree.new) }
+{
+    let made = match digest_for_task(alloc, task, source, tree) {
+        Ok(made) => made,
+        Err(fault) => return Err(OutputFault::Digest(fault)),
+    };
+    match put_descriptor(&made, task.wants_descriptor, descriptor) {
+        Ok(()) => {}
+        Err(PutFault(count)) => return Err(OutputFault::Descriptor(count)),
+    }
+    match print_line(alloc, task.settings, task.form, task.name, &made, out) {
+        Ok(()) => Ok(()),
+        Err(fault) => Err(OutputFault::Line(fault)),
+    }
+}
+
+/// Digests one file of `size` bytes, and writes what is wanted of it: the hash blocks of its tree to `tree`, the top
+/// level first at its start, then the 256 bytes of the descriptor to `descriptor`, then the line to `out` (fsverity(1),
+/// "--out-merkle-tree", "--out-descriptor"). What is not wanted stays.
+///
+/// The status is 0 if all is written. The first fault ends the run with status 1: its message goes to `msgs` as far as
+/// that takes it, and nothing that comes later is written. The settings must be of fs-verity.
+pub fn run_digest_to<S: Source, D: Device, W: Write, O: Write, M: Write>(
+    alloc: Global,
+    settings: &TreeSettings,
+    form: Form,
+    name: &str,
+    size: u64,
+    source: &mut S,
+    want_tree: bool,
+    tree: &mut D,
+    want_descriptor: bool,
+    descriptor: &mut W,
+    out: &mut O,
+    msgs: &mut M,
+) -> u8
+    requires { settings.now.rule ≡ PaddedBefore }
+    ensures status { (result ≡ 0) ⊎ (result ≡ 1) }
+    ensures source_told { S.tells source.old → S.tells source.new }
+    ensures tree_told { D.tells tree.old → D.tells tree.new }
+
+    // What is not wanted stays, and so do the messages if all is written.
+    ensures tree_kept { want_tree ≡ false → tree.new ≡ tree.old }
+    ensures descriptor_kept { want_descriptor ≡ false → descriptor.new ≡ descriptor.old }
+    ensures quiet { result ≡ 0 → msgs.new ≡ msgs.old }
+
+    // Status 0: the file was read once, and what is wanted is written.
+    ensures all { result ≡ 0 → S.tells source.old
+        → IsWritten (output_task settings.now form name.now size want_tree want_descriptor)
+        (change S.tells S.remaining S.failures source.old source.new)
+        (change D.tells D.content D.failures tree.old tree.new)
+        (output_change W.contents O.contents descriptor.old descriptor.new out.old out.new) }
+
+    // Each status: one outcome says what became of source, tree, descriptor, out and msgs, and which count rises.
+    ensures run { OutputRun (output_task settings.now form name.now size want_tree want_descriptor) result
+        (change S.tells S.remaining S.failures source.old source.new)
+        (change D.tells D.content D.failures tree.old tree.new)
+        (record {
+          outputs = output_change W.contents O.contents descriptor.old descriptor.new out.old out.new;
+          msgs_before = M.contents msgs.old;
+          msgs_after = M.contents msgs.new;
+        }) }
+{
+    let task = Task {
+        settings,
+        form,
+        name,
+        size,
+        wants_tree: want_tree,
+        wants_descriptor: want_descriptor,
+    };
+    match write_outputs(alloc, &task, source, tree, descriptor, out) {
+        Ok(()) => 0,
+        Err(fault) => {
+            fault.write_message(alloc, name, msgs);
+            1
+        }
+    }
+}

@@ -1,0 +1,21 @@
+//! Tests of the libraries below the programs, except trees: sources and devices over files, the bytes of the formats,
+//! and what both command lines share; and of the runtime in memory that programs are tested over. Expected bytes come
+//! from the formats' public pages, expected digests from `sha2` over stated bytes.
+#![tactic(auto)]
+
+#[cfg(test)]
+mod devices;
+#[cfg(test)]
+mod file_identity;
+#[cfg(test)]
+mod files;
+#[cfg(test)]
+mod formats;
+#[cfg(test)]
+mod printing;
+#[cfg(test)]
+mod runtime;
+#[cfg(test)]
+mod syncs;
+#[cfg(test)]
+mod words;

@@ -1,0 +1,84 @@
+use Rattle.std.proofs.Common.{◌≡◌, ℕ, ◌+◌, ◌*◌, ◌<◌, arith, sym, ◌∙◌, ap, inl, inr}
+use Rattle.std.proofs.Math.Nat.{mul-le-mul_right}
+use Rattle.verity_io.specs.Writing.{most_bytes}
+use Rattle.verity_plan.specs.Plans.{level_count, blocks_from, Planned, end_of}
+use Rattle.verity_plan.proofs.FanLemmas.{some_data, two_slots, digest_len_of-pos}
+use Rattle.verity_plan.proofs.PlanLemmas.{valid_plan-large, past-quotient, within-quotient, base-le-end, has_room-data}
+use Rattle.verity_plan.proofs.PlanLemmas.{has_room-hash, some_wanted}
+use Rattle.verity_plan.proofs.plan.Plan.try_new.Goals as goal
+
+pub returns-then-blocks-most_blocks : goal.returns-then-blocks-most_blocks
+returns-then-blocks-most_blocks c =
+    let s = c.args.settings.now in
+    let p : Planned = record { settings = s; blocks = c.args.blocks; wanted = c.args.wanted; base = c.args.base } in
+    let some : 0 < c.args.blocks = omega (arith, c.if-blocks-eq0.false) in
+    let data_is : c.from-most_blocks.result ≡ s.data_block = c.from-most_blocks.ensures ∙ c.data_block.ensures.value in
+    let hash_is : c.from-most_end.result ≡ s.hash_block = c.from-most_end.ensures ∙ c.hash_block.ensures.value in
+    let hash_some : 0 < c.from-most_end.result =
+    omega (arith, hash_is, two_slots s c.hash_block.ensures.valid, digest_len_of-pos s.algorithm) in
+    let data_some : 0 < c.from-most_blocks.result = omega (arith, data_is, some_data s c.data_block.ensures.valid) in
+    elim c.then-blocks-most_blocks.either [
+      | inl many ↦ sym (valid_plan-large p some (has_room-data p
+          (omega (
+            arith,
+            past-quotient most_bytes c.from-most_blocks.result c.args.blocks data_some many,
+            ap (λ (n : ℕ). c.args.blocks * n) data_is,
+          ))))
+      | inr far ↦ sym (valid_plan-large p some (has_room-hash p
+          (omega (
+            arith,
+            past-quotient most_bytes c.from-most_end.result c.args.base hash_some far.1,
+            ap (λ (n : ℕ). c.args.base * n) hash_is,
+            mul-le-mul_right s.hash_block (base-le-end p),
+          ))))
+    ]
+
+pub returns-then-end-most_end : goal.returns-then-end-most_end
+returns-then-end-most_end c =
+    let s = c.args.settings.now in
+    let p : Planned = record { settings = s; blocks = c.args.blocks; wanted = c.args.wanted; base = c.args.base } in
+    let some : 0 < c.args.blocks = omega (arith, c.if-blocks-eq0.false) in
+    let hash_is : c.from-most_end.result ≡ s.hash_block = c.from-most_end.ensures ∙ c.hash_block.ensures.value in
+    let hash_some : 0 < c.from-most_end.result =
+    omega (arith, hash_is, two_slots s c.hash_block.ensures.valid, digest_len_of-pos s.algorithm) in
+    let end_is : c.args.base + c.levels_above-above.result.blocks ≡ end_of p =
+    ap (λ (n : ℕ). c.args.base + n) (c.levels_above-above.ensures.blocks
+    ∙ ap (λ (f : ℕ). blocks_from f c.args.blocks 0 (level_count f c.args.blocks)) c.fan.ensures.value) in
+    sym (valid_plan-large p some (has_room-hash p
+    (omega (
+      arith,
+      past-quotient most_bytes c.from-most_end.result _ hash_some c.if-end-most_end.true,
+      ap (λ (n : ℕ). (c.args.base + c.levels_above-above.result.blocks) * n) hash_is,
+      ap (λ (n : ℕ). n * s.hash_block) end_is,
+    ))))
+
+pub invariant_of-result : goal.invariant_of-result
+invariant_of-result c =
+    let s = c.args.settings.now in
+    let p : Planned = record { settings = s; blocks = c.args.blocks; wanted = c.args.wanted; base = c.args.base } in
+    let data_is : c.from-most_blocks.result ≡ s.data_block = c.from-most_blocks.ensures ∙ c.data_block.ensures.value in
+    let hash_is : c.from-most_end.result ≡ s.hash_block = c.from-most_end.ensures ∙ c.hash_block.ensures.value in
+    let end_is : c.args.base + c.levels_above-above.result.blocks ≡ end_of p =
+    ap (λ (n : ℕ). c.args.base + n) (c.levels_above-above.ensures.blocks
+    ∙ ap (λ (f : ℕ). blocks_from f c.args.blocks 0 (level_count f c.args.blocks)) c.fan.ensures.value) in
+    record {
+      planned = record {
+        valid = c.data_block.ensures.valid;
+        some = some_wanted c.args.wanted s.data_block c.args.blocks c.requires (omega (arith, c.if-blocks-eq0.false));
+        blocks_are = c.requires;
+        data_most = omega (
+          arith,
+          within-quotient most_bytes c.from-most_blocks.result c.args.blocks c.if-blocks-most_blocks.false,
+          ap (λ (n : ℕ). c.args.blocks * n) data_is,
+        );
+        hash_most = omega (
+          arith,
+          within-quotient most_bytes c.from-most_end.result _ c.if-end-most_end.false,
+          ap (λ (n : ℕ). (c.args.base + c.levels_above-above.result.blocks) * n) hash_is,
+          ap (λ (n : ℕ). n * s.hash_block) end_is,
+        );
+      };
+      levels_are = c.levels_above-above.ensures.levels
+          ∙ ap (λ (f : ℕ). level_count f c.args.blocks) c.fan.ensures.value;
+      end_is = end_is;
+    }

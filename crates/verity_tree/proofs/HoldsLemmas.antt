@@ -1,0 +1,175 @@
+-- A device that holds the whole tree, and the verdict on it.
+use Rattle.std.proofs.Common.{◌≡◌, ℕ, ◌+◌, ◌*◌, ◌/◌, ◌%◌, ◌<◌, ◌≤◌, Bool, true, false, cond, List, [], ◌∷◌, length}
+use Rattle.std.proofs.Common.{arith, sym, ◌∙◌, ap, refl, inl, inr, Ok, Err, eqb}
+use Rattle.std.proofs.lemmas.Bool.{cases_lt}
+use Rattle.std.proofs.lemmas.Bool.Decides.{nat_tests, eqb_tells}
+use Rattle.std.proofs.lemmas.List.Elements.{All-head, All-tail, All-cons, All-nil}
+use Rattle.std.proofs.lemmas.List.Sums.{sum_by-cons}
+use Rattle.std.proofs.lemmas.Nat.{div-add-mod'}
+use Rattle.std.proofs.lemmas.Option.{none-some}
+use Rattle.std.proofs.lemmas.Slice.Eq.{bytes_eq-Decides}
+use Rattle.std.specs.Prelude.{All, if◌then◌else◌, find, not, nat_lt, nat_le, Some, None, Option, Result, ◌==◌, ◌&&◌, ◌⊎◌}
+use Rattle.std.specs.Int.{div_ceil}
+use Rattle.std.specs.Str.{bytes_eq}
+use Rattle.verity_plan.specs.Plans.{Planned, IsPlanned, HasBlock}
+use Rattle.verity_plan.specs.Settings.{fan}
+use Rattle.verity_plan.proofs.CountLemmas.{le-div_ceil}
+use Rattle.verity_plan.proofs.FanLemmas.{fan-some, some_data}
+use Rattle.verity_tree.specs.Image.{order, times, tree_block, HoldsTree, stored_block}
+use Rattle.verity_tree.specs.Levels.{root, data_blocks, whole_blocks}
+use Rattle.verity_tree.specs.Verdicts.{NoneDiffers, StandsThere, differs, verdict_by, verdict}
+use Rattle.verity_tree.specs.declared.comparing.CompareFault.{CompareFault}
+use Rattle.verity_tree.proofs.DataBlockLemmas.{whole_blocks-all}
+use Rattle.verity_tree.proofs.JudgeLemmas.{judges-right}
+use Rattle.verity_tree.proofs.OrderLemmas.{ClosesOnce-all}
+
+-- one more pair among those that are counted
+times-more : (l j : ℕ) (pair : ℕ × ℕ) (pairs : List (ℕ × ℕ))
+    → times l j (pair ∷ pairs) ≡ cond ((pair.0 == l) && (pair.1 == j)) 1 0 + times l j pairs
+times-more l j pair pairs = sum_by-cons (λ (p : ℕ × ℕ). cond ((p.0 == l) && (p.1 == j)) 1 0) pair pairs
+
+-- a pair that is counted is the first, or counted among the rest
+times-cases : (l j : ℕ) (pair : ℕ × ℕ) (pairs : List (ℕ × ℕ)) → 0 < times l j (pair ∷ pairs)
+    → ((pair.0 ≡ l) × (pair.1 ≡ j)) ⊎ (0 < times l j pairs)
+times-cases l j pair pairs some =
+    let skip : (pair.0 == l) && (pair.1 == j) ≡ false → 0 < times l j pairs = λ miss.
+    let fewer : times l j (pair ∷ pairs) ≡ 0 + times l j pairs =
+    times-more l j pair pairs ∙ ap (λ (b : Bool). cond b 1 0 + times l j pairs) miss in omega (arith, some, fewer) in
+    elim (eqb_tells pair.0 l) [
+      | inl left ↦ elim (eqb_tells pair.1 j) [
+        | inl right ↦ inl (left.1, right.1)
+        | inr other ↦ inr (skip (ap (λ (b : Bool). b && (pair.1 == j)) left.0 ∙ other.0))
+      ]
+      | inr other ↦ inr (skip (ap (λ (b : Bool). b && (pair.1 == j)) other.0))
+    ]
+
+-- a pair that is counted among pairs of which none passes a test doesn't pass it
+times-none : (test : ℕ × ℕ → Bool) (l j : ℕ) (pairs : List (ℕ × ℕ)) → find test pairs ≡ None → 0 < times l j pairs
+    → test (l, j) ≡ false
+times-none test l j [] none some = absurd (omega (arith, some))
+times-none test l j (pair ∷ pairs) none some = go (test pair) refl (times-none test l j pairs)
+  where
+    go : (b : Bool) → test pair ≡ b
+        → (find test pairs ≡ None → 0 < times l j pairs → test (l, j) ≡ false)
+        → test (l, j) ≡ false
+    go true does rest =
+        let found : find test (pair ∷ pairs) ≡ Some pair =
+        ap (λ (b : Bool). cond b (Some pair) (find test pairs)) does in
+        absurd (none-some pair (sym none ∙ found))
+    go false fails rest =
+        let passed : find test (pair ∷ pairs) ≡ find test pairs =
+        ap (λ (b : Bool). cond b (Some pair) (find test pairs)) fails in
+        elim (times-cases l j pair pairs some) [
+          | inl here ↦ ap (λ (k : ℕ). test (k, j)) (sym here.0) ∙ ap (λ (k : ℕ). test (pair.0, k)) (sym here.1) ∙ fails
+          | inr later ↦ rest (sym passed ∙ none) later
+        ]
+
+-- a pair is counted among pairs of which it is the first
+times-first : (pair : ℕ × ℕ) (pairs : List (ℕ × ℕ)) → 0 < times pair.0 pair.1 (pair ∷ pairs)
+times-first pair pairs =
+    let a : eqb pair.0 pair.0 ≡ true = grind (arith, nat_tests) in
+    let b : eqb pair.1 pair.1 ≡ true = grind (arith, nat_tests) in
+    let count : times pair.0 pair.1 (pair ∷ pairs) ≡ 1 + times pair.0 pair.1 pairs =
+    times-more pair.0 pair.1 pair pairs
+    ∙ ap (λ (b : Bool). cond (b && (pair.1 == pair.1)) 1 0 + times pair.0 pair.1 pairs) a
+    ∙ ap (λ (b : Bool). cond b 1 0 + times pair.0 pair.1 pairs) b in
+    omega (arith, count)
+
+-- pairs that all stand there, each that is counted
+stands-counted : (p : Planned) (blocks : List (List ℕ)) (device : List ℕ) (pairs : List (ℕ × ℕ))
+    → ((l j : ℕ) → 0 < times l j pairs → StandsThere p blocks device (l, j))
+    → NoneDiffers p blocks device pairs
+stands-counted p blocks device [] each = All-nil (StandsThere p blocks device)
+stands-counted p blocks device (pair ∷ pairs) each =
+    All-cons (StandsThere p blocks device) pair pairs (each pair.0 pair.1 (times-first pair pairs))
+    (stands-counted p blocks device pairs (λ l j some. each l j (omega (arith, some, times-more l j pair pairs))))
+
+-- data of which no block is short holds all that is wanted
+whole-enough : (p : Planned) → IsPlanned p → (bytes : List ℕ) → p.blocks ≤ whole_blocks p bytes → p.wanted ≤ length bytes
+whole-enough p planned bytes all = elim (cases_lt (length bytes) p.wanted) [
+  | inl less ↦
+      let tested : nat_le p.wanted (length bytes) ≡ false = grind (arith, nat_tests, less) in
+      let count : whole_blocks p bytes ≡ length bytes / p.settings.data_block = rw tested refl in
+      let wide = some_data p.settings planned.valid in
+      omega (
+        arith,
+        less,
+        div-add-mod' (length bytes) p.settings.data_block,
+        le-div_ceil p.wanted p.settings.data_block (length bytes / p.settings.data_block) wide
+            (omega (arith, all, count, planned.blocks_are)),
+      )
+  | inr enough ↦ enough
+]
+
+-- a device that holds the tree has this verdict
+pub holds-right : (p : Planned) (device bytes digest : List ℕ) → HoldsTree p device bytes digest
+    → verdict p device bytes digest ≡ Ok tt
+holds-right p device bytes digest holds =
+    let once = ClosesOnce-all (fan p.settings) p.blocks (fan-some p.settings) in
+    judges-right p device bytes (root p.settings (data_blocks p bytes)) digest holds.enough
+    (stands-counted p (data_blocks p bytes) device (order (fan p.settings) p.blocks p.blocks)
+    (λ l j some. holds.stands l j (once.only l j some)))
+    refl holds.root_is
+
+-- what the last two tests of a verdict say if all is right
+tests-right : (short same : Bool) (x y : CompareFault)
+    → ◌≡◌ {A = Result Unit CompareFault} (if short then Err x else (if same then Ok tt else Err y)) (Ok tt)
+    → (short ≡ false) × (same ≡ true)
+tests-right true same x y right = cc
+tests-right false true x y right = (refl, refl)
+tests-right false false x y right = cc
+
+-- a verdict that all is right: nothing differs, no block is missing, and the root hash is the tree's
+all-right : (p : Planned) (device bytes digest : List ℕ) (met : Option (ℕ × ℕ))
+    → verdict_by p device bytes met digest ≡ Ok tt
+    → (met ≡ None) × (p.blocks ≤ whole_blocks p bytes) × (root p.settings (data_blocks p bytes) ≡ digest)
+all-right p device bytes digest (Some pair) right = cc
+all-right p device bytes digest None right =
+    let tests = tests-right (nat_lt (whole_blocks p bytes) p.blocks) (bytes_eq (root p.settings (data_blocks p bytes)) digest)
+    _ _ right in
+    let long : nat_lt (whole_blocks p bytes) p.blocks ≡ false = tests.0 in (
+      refl,
+      grind (arith, nat_tests, long),
+      (bytes_eq-Decides (root p.settings (data_blocks p bytes)) digest).0 tests.1,
+    )
+
+not-false : (b : Bool) → not b ≡ false → b ≡ true
+not-false true e = refl
+not-false false e = cc
+
+-- a block that doesn't differ stands there
+same-stands : (p : Planned) (blocks : List (List ℕ)) (device : List ℕ) (pair : ℕ × ℕ)
+    → differs p blocks device pair ≡ false
+    → StandsThere p blocks device pair
+same-stands p blocks device pair same =
+    (bytes_eq-Decides (stored_block p device pair.0 pair.1) (tree_block p.settings blocks pair.0 pair.1)).0
+    (not-false _ same)
+
+-- a device with this verdict holds the tree, if the data is long enough
+pub right-holds_enough : (p : Planned) (device bytes digest : List ℕ) → p.wanted ≤ length bytes
+    → verdict p device bytes digest ≡ Ok tt
+    → HoldsTree p device bytes digest
+right-holds_enough p device bytes digest enough right =
+    let blocks = data_blocks p bytes in
+    let f = fan p.settings in
+    let tests =
+    all-right p device bytes digest (find (differs p blocks device) (order f p.blocks (whole_blocks p bytes))) right in
+    let none : find (differs p blocks device) (order f p.blocks p.blocks) ≡ None =
+    ap (λ (m : ℕ). find (differs p blocks device) (order f p.blocks m)) (sym (whole_blocks-all p bytes enough)) ∙ tests.0 in
+    record {
+      enough = enough;
+      stands = λ l j here.
+          same-stands p blocks device (l, j)
+          (times-none (differs p blocks device) l j (order f p.blocks p.blocks) none
+          (let one = (ClosesOnce-all f p.blocks (fan-some p.settings)).once l j here in omega (arith, one)));
+      root_is = tests.2;
+    }
+
+-- it is, if all is right
+pub right-holds : (p : Planned) (device bytes digest : List ℕ) → IsPlanned p → verdict p device bytes digest ≡ Ok tt
+    → HoldsTree p device bytes digest
+right-holds p device bytes digest planned right =
+    let met =
+    find (differs p (data_blocks p bytes) device) (order (fan p.settings) p.blocks (whole_blocks p bytes)) in
+    right-holds_enough p device bytes digest
+    (whole-enough p planned bytes (all-right p device bytes digest met right).1) right

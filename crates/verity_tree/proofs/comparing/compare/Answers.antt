@@ -1,0 +1,37 @@
+use Rattle.std.proofs.Common.{◌≡◌, sym, ◌∙◌, true, false, refl}
+use Rattle.std.proofs.lemmas.Slice.Eq.{bytes_eq-Decides}
+use Rattle.verity_tree.proofs.JudgeLemmas.{judges-right, judges-root, judges-short, judges-stop}
+use Rattle.verity_tree.proofs.comparing.compare.Goals as goal
+
+pub returns-then-eq-clause-verdict : goal.returns-then-eq-clause-verdict
+returns-then-eq-clause-verdict g c = λ tells told.
+    let h = c.in-Ok.ensures.compared refl tells told in
+    let r = c.in-Ok.ensures.read tells in
+    judges-right c.args.plan.now _ _ c.in-Ok.computed c.args.root.now r.1.enough h.1 r.0
+    (sym c.as_bytes.ensures.bytes
+    ∙ (bytes_eq-Decides c.as_bytes.result.now c.as_bytes-in-Ok.result.now).0 (sym c.eq.ensures ∙ c.if-eq.true)
+    ∙ c.as_bytes-in-Ok.ensures.bytes)
+
+pub returns-else-eq-clause-verdict : goal.returns-else-eq-clause-verdict
+returns-else-eq-clause-verdict g c = λ tells told.
+    let h = c.in-Ok.ensures.compared refl tells told in
+    let r = c.in-Ok.ensures.read tells in
+    judges-root c.args.plan.now _ _ c.in-Ok.computed c.args.root.now r.1.enough h.1 r.0
+    (λ same.
+    let equal = (bytes_eq-Decides c.as_bytes.result.now c.as_bytes-in-Ok.result.now).1 (c.as_bytes.ensures.bytes ∙ same
+    ∙ sym c.as_bytes-in-Ok.ensures.bytes) in
+    let bad : true ≡ false = sym equal ∙ sym c.eq.ensures ∙ c.if-eq.false in cc)
+
+pub returns-in-Err-SourceShort-clause-verdict : goal.returns-in-Err-SourceShort-clause-verdict
+returns-in-Err-SourceShort-clause-verdict g c = λ tells told.
+    let h = c.in-Err-SourceShort.ensures.compared refl tells told in
+    let r = c.in-Err-SourceShort.ensures.read tells in
+    judges-short c.args.plan.now _ _ _ c.args.root.now c.in-Err-SourceShort.i (rw c.in-Err-SourceShort.field-0-is at r)
+    (rw c.in-Err-SourceShort.field-0-is at h).1
+
+pub returns-in-Err-Stopped-clause-verdict : goal.returns-in-Err-Stopped-clause-verdict
+returns-in-Err-Stopped-clause-verdict g c = λ tells told.
+    let h = c.in-Err-Stopped.ensures.compared refl tells told in
+    let stops = rw c.in-Err-Stopped.field-0-is at h in
+    rw c.fault_of.ensures
+    (judges-stop c.args.plan.now c.pass.ensures.planned _ _ c.args.root.now c.in-Err-Stopped.stop stops.1)

@@ -1,0 +1,291 @@
+use Rattle.std.proofs.Common.{List, ap, arith, eqb, length, refl, subst, sym, true, ℕ, ◌*◌, ◌+◌, ◌-◌, ◌/◌, ◌<◌, ◌^◌}
+use Rattle.std.proofs.Common.{◌∙◌}
+use Rattle.std.proofs.Common.{◌≡◌, ◌≤◌}
+use Rattle.verity_tree.specs.Image.{closing, closes, tree_block, device_with, stored_block}
+use Rattle.verity_tree.specs.Steps.Cascade.{first_closing}
+use Rattle.verity_plan.specs.Plans.{level_count, byte_at, byte_of, levels_of}
+use Rattle.verity_tree.specs.Steps.OpenBlocks.{IsCarrying, digests_under, open_block_with, climb}
+use Rattle.verity_plan.specs.Settings.{fan}
+use Rattle.verity_io.specs.Writing.{Spoiled}
+use Rattle.std.proofs.lemmas.List.Elements.{All-nil}
+use Rattle.verity_tree.specs.Steps.ClosedBlocks.{IsCause, closed_block}
+use Rattle.verity_tree.specs.Verdicts.{NoneDiffers}
+use Rattle.verity_tree.proofs.OpenBlockSteps.{carry-closed, carry-kept, carry-all, IsCarrying-first, place-first}
+use Rattle.verity_tree.proofs.CascadeLemmas.{level_digest-is_next, closed-block, closes-stopped_all, closing-below}
+use Rattle.verity_tree.proofs.CascadeLemmas.{closing-done, closing-kept, closing-place, device-closed}
+use Rattle.verity_tree.proofs.CascadeLemmas.{ends-here, none-differs-more}
+use Rattle.verity_tree.proofs.pass.cascade.carry.Goals as goal
+
+pub overflow_add-last : goal.overflow_add-last
+overflow_add-last g c = omega (arith, c.requires.below, c.blocks-blocks.ensures.value, c.blocks-blocks.type_inv)
+
+pub loop-level-init : goal.loop-level-init
+unfolding device_with
+loop-level-init g c = record {
+  size = c.requires.digest;
+  place = place-first c.args.i (fan c.args.job.now.plan.settings);
+  ends = λ none. absurd (omega (arith, none));
+  told = λ t. t;
+  failures = refl;
+  carries = λ blocks many first stands. IsCarrying-first c.args.job.now.plan.settings blocks c.args.i
+      (levels_of c.args.job.now.plan) c.args.opened.now c.args.digest first stands;
+  image = λ _ blocks many first stands. refl;
+  stays = λ _ _. refl;
+  compared = λ _ _ blocks many first stands. (refl, All-nil _);
+}
+
+pub step_level-requires-clause-here : goal.step_level-requires-clause-here
+step_level-requires-clause-here g c =
+    let p = c.args.job.now.plan in
+    let m = c.loop-level.level in
+    let some : 0 < fan p.settings = omega (arith, c.fan-fan.ensures.two, c.fan-fan.ensures.value) in
+    let here = closing-place (fan p.settings) c.args.i m c.loop-level.index
+    (fan p.settings) c.loop-level.invariant.place refl in
+    record {
+      level_below = omega (arith, c.loop-level-test.true, c.levels-level-end.ensures);
+      block_below = omega (arith, here, closing-below (fan p.settings) p.blocks m c.args.i some c.requires.below);
+    }
+
+pub loop-level-preserved : goal.loop-level-preserved
+loop-level-preserved g c =
+    let p = c.args.job.now.plan in
+    let s = p.settings in
+    let m = c.loop-level.level in
+    let levels = levels_of p in
+    let size : c.hash_block-size.result ≡ s.hash_block = c.hash_block-size.ensures in
+    let inv = c.loop-level.invariant in
+    let two : 2 ≤ fan s = omega (arith, c.fan-fan.ensures.two, c.fan-fan.ensures.value) in
+    let within : m < levels = omega (arith, c.loop-level-test.true, c.levels-level-end.ensures) in
+    let from : m * c.hash_block-size.result ≡ m * s.hash_block = ap (λ (n : ℕ). m * n) size in
+    let wide : m * c.hash_block-size.result + c.hash_block-size.result - m * c.hash_block-size.result ≡ s.hash_block =
+    omega (arith, size) in
+    let last = c.blocks-blocks.ensures.value in
+    record {
+      size = c.in-Closed.ensures.level.len;
+      place = closing-place (fan s) c.args.i m c.loop-level.index c.fan-fan.result inv.place c.fan-fan.ensures.value;
+      ends = λ _. ends-here (fan s) p.blocks c.args.i m c.loop-level.index _ inv.place
+          (ap (λ (n : ℕ). eqb (c.args.i + 1) n) last) inv.ends c.in-Closed.ensures.level.ends;
+      told = λ t. c.in-Closed.ensures.told (inv.told t);
+      failures = c.in-Closed.ensures.count ∙ inv.failures;
+      carries = λ blocks many first stands.
+          carry-closed s blocks c.args.i m levels c.blocks-blocks.result c.loop-level.index _ _ _ c.loop-level.opened _
+          _ c.loop-level.current _
+          two (omega (arith, last, c.requires.below)) within refl inv.place
+          (omega (arith, c.requires.room, c.loop-level.auto.opened)) from wide refl c.in-Closed.ensures.level
+          (last ∙ many)
+          (inv.carries blocks many first stands);
+      image = λ tells blocks many first stands.
+          let next = level_digest-is_next s blocks c.args.i m levels c.blocks-blocks.result c.loop-level.index _ _
+          c.loop-level.opened _ c.loop-level.current
+          two (omega (arith, last, c.requires.below)) within inv.place from wide refl (last ∙ many)
+          (inv.carries blocks many first stands) in
+          let here = closing-place (fan s) c.args.i m c.loop-level.index (fan s) inv.place refl in
+          let to : byte_of p m (c.loop-level.index / fan s) ≡ byte_at s (length blocks) p.base m
+          (c.args.i / fan s ^ (m + 1)) =
+          ap (byte_of p m) here ∙ ap (λ (n : ℕ). byte_at s n p.base m (c.args.i / fan s ^ (m + 1))) many in
+          device-closed s blocks p.base c.args.i m c.loop-level.index _ _ _ _
+          (closed-block s blocks c.args.i m c.blocks-blocks.result c.loop-level.index _ (omega (arith, two))
+          (omega (arith, last, c.requires.below)) refl inv.place (last ∙ many)
+          c.in-Closed.ensures.level.ends)
+          to (inv.image tells blocks many first stands) (c.in-Closed.ensures.device (inv.told tells) _ next);
+      stays = λ compare tells. (c.in-Closed.ensures.compared compare (inv.told tells)).0 ∙ inv.stays compare tells;
+      compared = λ compare tells blocks many first stands.
+          let next = level_digest-is_next s blocks c.args.i m levels c.blocks-blocks.result c.loop-level.index _ _
+          c.loop-level.opened _ c.loop-level.current
+          two (omega (arith, last, c.requires.below)) within inv.place from wide refl (last ∙ many)
+          (inv.carries blocks many first stands) in
+          let before = inv.compared compare tells blocks many first stands in
+          let step = c.in-Closed.ensures.compared compare (inv.told tells) in
+          let here = closing-place (fan s) c.args.i m c.loop-level.index (fan s) inv.place refl in (
+            step.0 ∙ before.0,
+            none-differs-more p blocks c.args.i m (g.D.Device.content c.args.device.now) before.1
+                (ap (λ (xs : List ℕ). stored_block p xs m (c.args.i / fan s ^ (m + 1))) (sym before.0)
+                ∙ ap (stored_block p (g.D.Device.content c.loop-level.device) m) (sym here)
+                ∙ step.1 _ next
+                ∙ closed-block s blocks c.args.i m c.blocks-blocks.result c.loop-level.index _ (omega (arith, two))
+                (omega (arith, last, c.requires.below)) refl inv.place (last ∙ many)
+                c.in-Closed.ensures.level.ends),
+          );
+    }
+
+pub returns-in-Open-clause-carries : goal.returns-in-Open-clause-carries
+returns-in-Open-clause-carries g c = λ blocks many first stands.
+    let p = c.args.job.now.plan in
+    let s = p.settings in
+    let m = c.loop-level.level in
+    let size : c.hash_block-size.result ≡ s.hash_block = c.hash_block-size.ensures in
+    let inv = c.loop-level.invariant in
+    let last = c.blocks-blocks.ensures.value in
+    carry-kept s blocks c.args.i m (levels_of p) c.blocks-blocks.result c.loop-level.index _ _ _ c.loop-level.opened _ _
+    c.loop-level.current
+    (omega (arith, c.fan-fan.ensures.two, c.fan-fan.ensures.value)) (omega (arith, last, c.requires.below))
+    (omega (arith, c.loop-level-test.true, c.levels-level-end.ensures)) refl inv.place
+    (omega (arith, c.requires.room, c.loop-level.auto.opened)) (ap (λ (n : ℕ). m * n) size)
+    (omega (arith, size)) refl c.step_level.auto.bytes
+    c.in-Open.ensures.level (last ∙ many) (inv.carries blocks many first stands)
+
+pub returns-in-Open-clause-device : goal.returns-in-Open-clause-device
+returns-in-Open-clause-device g c = λ tells blocks many first stands.
+    let p = c.args.job.now.plan in
+    let s = p.settings in
+    let inv = c.loop-level.invariant in
+    let last = c.blocks-blocks.ensures.value in
+    let kept = closing-kept s blocks c.args.i c.loop-level.level (levels_of p) c.blocks-blocks.result c.loop-level.index
+    _ _ _ c.loop-level.opened c.loop-level.current
+    (omega (arith, c.fan-fan.ensures.two, c.fan-fan.ensures.value)) (omega (arith, last, c.requires.below))
+    (omega (arith, c.loop-level-test.true, c.levels-level-end.ensures))
+    (ap (λ (n : ℕ). level_count (fan s) n) (sym last)) refl inv.place (last ∙ many)
+    c.in-Open.ensures.level (inv.carries blocks many first stands) in
+    c.in-Open.ensures.device (inv.told tells) ∙ inv.image tells blocks many first stands
+    ∙ ap (λ (ps : List (ℕ × ℕ)). device_with s blocks p.base ps (g.D.Device.content c.args.device.now))
+    (sym kept ∙ ap (λ (n : ℕ). closing (fan s) n (c.args.i + 1)) last)
+
+pub returns-in-Open-clause-compared : goal.returns-in-Open-clause-compared
+returns-in-Open-clause-compared g c = λ compare tells blocks many first stands.
+    let p = c.args.job.now.plan in
+    let s = p.settings in
+    let inv = c.loop-level.invariant in
+    let last = c.blocks-blocks.ensures.value in
+    let before = inv.compared compare tells blocks many first stands in
+    let kept = closing-kept s blocks c.args.i c.loop-level.level (levels_of p) c.blocks-blocks.result c.loop-level.index
+    _ _ _ c.loop-level.opened c.loop-level.current
+    (omega (arith, c.fan-fan.ensures.two, c.fan-fan.ensures.value)) (omega (arith, last, c.requires.below))
+    (omega (arith, c.loop-level-test.true, c.levels-level-end.ensures))
+    (ap (λ (n : ℕ). level_count (fan s) n) (sym last)) refl inv.place (last ∙ many)
+    c.in-Open.ensures.level (inv.carries blocks many first stands) in (
+      c.in-Open.ensures.compared compare (inv.told tells) ∙ before.0,
+      subst (NoneDiffers p blocks (g.D.Device.content c.args.device.now))
+          (sym kept ∙ ap (λ (n : ℕ). closing (fan s) n (c.args.i + 1)) last) before.1,
+    )
+
+pub returns-in-Stopped-clause-compared : goal.returns-in-Stopped-clause-compared
+returns-in-Stopped-clause-compared g c = λ compare tells blocks many first stands.
+    let p = c.args.job.now.plan in
+    let s = p.settings in
+    let m = c.loop-level.level in
+    let inv = c.loop-level.invariant in
+    let last = c.blocks-blocks.ensures.value in
+    let two : 2 ≤ fan s = omega (arith, c.fan-fan.ensures.two, c.fan-fan.ensures.value) in
+    let size : c.hash_block-size.result ≡ s.hash_block = c.hash_block-size.ensures in
+    let from : m * c.hash_block-size.result ≡ m * s.hash_block = ap (λ (n : ℕ). m * n) size in
+    let wide : m * c.hash_block-size.result + c.hash_block-size.result - m * c.hash_block-size.result ≡ s.hash_block =
+    omega (arith, size) in
+    let next = level_digest-is_next s blocks c.args.i m (levels_of p) c.blocks-blocks.result c.loop-level.index _ _
+    c.loop-level.opened _ c.loop-level.current
+    two (omega (arith, last, c.requires.below)) (omega (arith, c.loop-level-test.true, c.levels-level-end.ensures))
+    inv.place from wide refl (last ∙ many) (inv.carries blocks many first stands) in
+    let before = inv.compared compare tells blocks many first stands in
+    let step = c.in-Stopped.ensures.compared compare (inv.told tells) in
+    let place = closing-place (fan s) c.args.i m c.loop-level.index c.fan-fan.result inv.place
+    c.fan-fan.ensures.value in
+    let block = closed-block s blocks c.args.i m c.blocks-blocks.result c.loop-level.index _ (omega (arith, two))
+    (omega (arith, last, c.requires.below)) refl inv.place (last ∙ many)
+    c.in-Stopped.ensures.level ∙ ap (tree_block s blocks m) (sym place) in (
+      step.0 ∙ before.0,
+      before.1,
+      subst (λ (xs : List ℕ). IsCause p
+          (closed_block m (c.loop-level.index / c.fan-fan.result)
+          (tree_block s blocks m (c.loop-level.index / c.fan-fan.result))) xs c.in-Stopped.cause) before.0
+          (subst (λ (xs : List ℕ). IsCause p (closed_block m (c.loop-level.index / c.fan-fan.result) xs)
+          (g.D.Device.content c.loop-level.device) c.in-Stopped.cause) block
+          (subst (λ (f : ℕ). IsCause p
+          (closed_block m (c.loop-level.index / f) (open_block_with s (digests_under s blocks m) c.loop-level.index))
+          (g.D.Device.content c.loop-level.device) c.in-Stopped.cause) (sym c.fan-fan.ensures.value)
+          (step.1 _ next))),
+    )
+
+pub returns-in-Stopped-clause-carries : goal.returns-in-Stopped-clause-carries
+returns-in-Stopped-clause-carries g c = λ blocks many first stands.
+    let p = c.args.job.now.plan in
+    let s = p.settings in
+    let m = c.loop-level.level in
+    let inv = c.loop-level.invariant in
+    let last = c.blocks-blocks.ensures.value in
+    let some : 0 < fan s = omega (arith, c.fan-fan.ensures.two, c.fan-fan.ensures.value) in
+    record {
+      level_below = omega (arith, c.loop-level-test.true, c.levels-level-end.ensures);
+      block_is = closing-place (fan s) c.args.i m c.loop-level.index c.fan-fan.result inv.place c.fan-fan.ensures.value;
+      all = λ k low. subst (λ (n : ℕ). closes (fan s) n (c.args.i + 1) k ≡ true) (sym many)
+          (closes-stopped_all s blocks c.args.i m (levels_of p) c.blocks-blocks.result c.loop-level.index _ _ _ some
+          (omega (arith, last, c.requires.below)) refl inv.place (last ∙ many)
+          c.in-Stopped.ensures.level (inv.carries blocks many first stands) k low);
+    }
+
+pub returns-in-Stopped-clause-device : goal.returns-in-Stopped-clause-device
+returns-in-Stopped-clause-device g c = λ tells blocks many first stands.
+    let p = c.args.job.now.plan in
+    let s = p.settings in
+    let m = c.loop-level.level in
+    let inv = c.loop-level.invariant in
+    let same : byte_of p m (c.loop-level.index / fan s) ≡ byte_of p m (c.loop-level.index / c.fan-fan.result) =
+    ap (λ (f : ℕ). byte_of p m (c.loop-level.index / f)) (sym c.fan-fan.ensures.value) in
+    subst (λ (n : ℕ). Spoiled
+    (device_with s blocks p.base (first_closing (fan s) c.args.i m) (g.D.Device.content c.args.device.now)) n
+    s.hash_block
+    (g.D.Device.content c.step_level.new.device)) same
+    (subst (λ (xs : List ℕ). Spoiled xs (byte_of p m (c.loop-level.index / fan s)) s.hash_block
+    (g.D.Device.content c.step_level.new.device)) (inv.image tells blocks many first stands)
+    (c.in-Stopped.ensures.device (inv.told tells)))
+
+pub returns-clause-carries : goal.returns-clause-carries
+returns-clause-carries g c = λ blocks many first stands.
+    let p = c.args.job.now.plan in
+    let s = p.settings in
+    let inv = c.loop-level.invariant in
+    let all : c.loop-level.level ≡ levels_of p =
+    omega (arith, c.loop-level.auto.level-end, c.loop-level-test.false, c.levels-level-end.ensures) in
+    carry-all s blocks c.args.i (levels_of p) c.loop-level.opened c.loop-level.current
+    (omega (arith, c.fan-fan.ensures.two, c.fan-fan.ensures.value))
+    (omega (arith, c.requires.below, many)) (ap (λ (n : ℕ). level_count (fan s) n) many)
+    (subst (λ (m : ℕ). IsCarrying s blocks (climb c.args.i m (levels_of p)) c.loop-level.opened c.loop-level.current)
+    all (inv.carries blocks many first stands))
+
+pub returns-clause-device : goal.returns-clause-device
+returns-clause-device g c = λ tells blocks many first stands.
+    let p = c.args.job.now.plan in
+    let s = p.settings in
+    let inv = c.loop-level.invariant in
+    let all : c.loop-level.level ≡ levels_of p =
+    omega (arith, c.loop-level.auto.level-end, c.loop-level-test.false, c.levels-level-end.ensures) in
+    let done = closing-done s blocks c.args.i (levels_of p) p.blocks c.loop-level.opened c.loop-level.current
+    (omega (arith, c.fan-fan.ensures.two, c.fan-fan.ensures.value))
+    c.requires.below refl many
+    (subst (λ (m : ℕ). IsCarrying s blocks (climb c.args.i m (levels_of p)) c.loop-level.opened c.loop-level.current)
+    all (inv.carries blocks many first stands)) in
+    inv.image tells blocks many first stands
+    ∙ ap (λ (ps : List (ℕ × ℕ)). device_with s blocks p.base ps (g.D.Device.content c.args.device.now))
+    (ap (first_closing (fan s) c.args.i) all ∙ sym done)
+
+pub returns-clause-compared : goal.returns-clause-compared
+returns-clause-compared g c = λ compare tells blocks many first stands.
+    let p = c.args.job.now.plan in
+    let s = p.settings in
+    let inv = c.loop-level.invariant in
+    let all : c.loop-level.level ≡ levels_of p =
+    omega (arith, c.loop-level.auto.level-end, c.loop-level-test.false, c.levels-level-end.ensures) in
+    let done = closing-done s blocks c.args.i (levels_of p) p.blocks c.loop-level.opened c.loop-level.current
+    (omega (arith, c.fan-fan.ensures.two, c.fan-fan.ensures.value))
+    c.requires.below refl many
+    (subst (λ (m : ℕ). IsCarrying s blocks (climb c.args.i m (levels_of p)) c.loop-level.opened c.loop-level.current)
+    all (inv.carries blocks many first stands)) in
+    let before = inv.compared compare tells blocks many first stands in (
+      before.0,
+      subst (NoneDiffers p blocks (g.D.Device.content c.args.device.now)) (ap (first_closing (fan s) c.args.i) all
+          ∙ sym done) before.1,
+    )
+
+pub returns-in-Open-clause-stays : goal.returns-in-Open-clause-stays
+returns-in-Open-clause-stays g c = λ compare tells.
+    c.in-Open.ensures.compared compare (c.loop-level.invariant.told tells) ∙ c.loop-level.invariant.stays compare tells
+
+pub returns-in-Stopped-clause-stays : goal.returns-in-Stopped-clause-stays
+returns-in-Stopped-clause-stays g c = λ compare tells.
+    (c.in-Stopped.ensures.compared compare (c.loop-level.invariant.told tells)).0
+    ∙ c.loop-level.invariant.stays compare tells
+
+pub returns-in-Stopped-clause-ends : goal.returns-in-Stopped-clause-ends
+returns-in-Stopped-clause-ends g c =
+    let p = c.args.job.now.plan in
+    ends-here (fan p.settings) p.blocks c.args.i c.loop-level.level c.loop-level.index _ c.loop-level.invariant.place
+    (ap (λ (n : ℕ). eqb (c.args.i + 1) n) c.blocks-blocks.ensures.value) c.loop-level.invariant.ends
+    c.in-Stopped.ensures.level

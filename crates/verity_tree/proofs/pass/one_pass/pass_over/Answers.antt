@@ -1,0 +1,145 @@
+use Rattle.std.proofs.Common.{List, arith, length, refl, rules, subst, sym, ℕ, ◌+◌, ◌<◌, ◌∙◌, ◌≡◌}
+use Rattle.verity_tree.specs.Image.{closing, order, tree_block, device_with}
+use Rattle.verity_tree.specs.Steps.Cascade.{first_closing}
+use Rattle.verity_tree.specs.Levels.{data_blocks}
+use Rattle.verity_plan.specs.Plans.{levels_of}
+use Rattle.verity_tree.proofs.OnePassLemmas.{HasOpenBlocks-zeros, reads-up-to, image-next, image-stopped}
+use Rattle.verity_tree.proofs.OnePassLemmas.{none-differs-order, stops-for}
+use Rattle.verity_plan.proofs.FitLemmas.{fan-pos}
+use Rattle.verity_tree.proofs.LevelLemmas.{length-cut}
+use Rattle.verity_tree.proofs.DataBlockLemmas.{blocks-some}
+use Rattle.verity_tree.specs.Steps.ClosedBlocks.{IsCause, closed_block}
+use Rattle.verity_tree.specs.Verdicts.{NoneDiffers}
+use Rattle.verity_plan.specs.Settings.{fan}
+use Rattle.verity_tree.proofs.ReadingAheadLemmas.{read-to, settled}
+use Rattle.std.proofs.lemmas.List.Elements.{All-nil}
+use Rattle.std.proofs.lemmas.List.{length-replicate}
+use Rattle.verity_tree.proofs.pass.one_pass.pass_over.Goals as goal
+
+pub loop-i-init : goal.loop-i-init
+unfolding device_with order
+loop-i-init g c =
+    let p = c.args.job.now.plan in
+    let planned = c.blocks-i-end.ensures.planned in
+    record {
+      size = c.fill.ensures.len;
+      source_told = λ t. t;
+      device_told = λ t. t;
+      source_failures = c.none-ahead.ensures.count _;
+      quiet = c.none-ahead.ensures.quiet;
+      device_failures = refl;
+      read = λ _. c.none-ahead.ensures.ahead _;
+      opened = λ _ _. HasOpenBlocks-zeros p.settings _ (levels_of p) (length c.args.work.now) c.fill.new.self
+          (fan-pos p.settings planned.valid)
+          (c.fill.ensures.after (λ y e. e)) (omega (arith, c.requires.room));
+      answer = λ _ none. absurd (omega (arith, none, blocks-some p planned));
+      stands = λ _ _. refl;
+      root_size = search (rules, length-replicate);
+      stays = λ _ _. refl;
+      compared = λ _ _ _. (refl, All-nil _);
+    }
+
+pub loop-i-preserved : goal.loop-i-preserved
+loop-i-preserved g c =
+    let p = c.args.job.now.plan in
+    let s = p.settings in
+    let bytes = g.S.Source.remaining c.args.source.now in
+    let blocks = data_blocks p bytes in
+    let inv = c.loop-i.invariant in
+    let many : p.blocks ≡ length blocks = sym (length-cut s p.blocks p.wanted bytes) in
+    let below : c.loop-i.i < p.blocks = omega (arith, c.loop-i-test.true, c.blocks-i-end.ensures.value) in
+    record {
+      size = c.carry.auto.opened ∙ c.take_next.auto.work ∙ inv.size;
+      source_told = λ t. c.in-Ok.ensures.told (inv.source_told t);
+      device_told = λ t. c.in-Ok-carry.ensures.told (inv.device_told t);
+      source_failures = c.in-Ok.ensures.count _ inv.source_failures;
+      quiet = c.in-Ok.ensures.quiet;
+      device_failures = c.in-Ok-carry.ensures.count ∙ inv.device_failures;
+      read = λ tells. (c.in-Ok.ensures.read (inv.source_told tells) bytes (inv.read tells)).0;
+      opened = λ tells more.
+          (c.in-Ok-carry.ensures.carries blocks many
+          (c.in-Ok.ensures.read (inv.source_told tells) bytes (inv.read tells)).1
+          (c.in-Ok.ensures.opened blocks (inv.opened tells below))).stands (omega (arith, more, many));
+      answer = λ tells last.
+          (c.in-Ok-carry.ensures.carries blocks many
+          (c.in-Ok.ensures.read (inv.source_told tells) bytes (inv.read tells)).1
+          (c.in-Ok.ensures.opened blocks (inv.opened tells below))).root_is (last ∙ many);
+      stands = λ tells told.
+          image-next s blocks p.base p.blocks c.loop-i.i _ _ _ (inv.stands tells told)
+          (c.in-Ok-carry.ensures.device (inv.device_told told) blocks many
+          (c.in-Ok.ensures.read (inv.source_told tells) bytes (inv.read tells)).1
+          (c.in-Ok.ensures.opened blocks (inv.opened tells below)));
+      root_size = c.in-Ok-carry.ensures.size;
+      stays = λ compare told. c.in-Ok-carry.ensures.stays compare (inv.device_told told) ∙ inv.stays compare told;
+      compared = λ compare tells told.
+          let before = inv.compared compare tells told in
+          let step = c.in-Ok-carry.ensures.compared compare (inv.device_told told) blocks many
+          (c.in-Ok.ensures.read (inv.source_told tells) bytes (inv.read tells)).1
+          (c.in-Ok.ensures.opened blocks (inv.opened tells below)) in (
+            step.0 ∙ before.0,
+            none-differs-order p blocks c.loop-i.i (g.D.Device.content c.args.device.now) before.1
+                (subst (λ (xs : List ℕ). NoneDiffers p blocks xs (closing (fan s) p.blocks (c.loop-i.i + 1))) before.0
+                step.1),
+          );
+    }
+
+pub returns-in-Err-clause-read : goal.returns-in-Err-clause-read
+returns-in-Err-clause-read g c = λ tells.
+    let p = c.args.job.now.plan in
+    let bytes = g.S.Source.remaining c.args.source.now in
+    let blocks = data_blocks p bytes in
+    let inv = c.loop-i.invariant in
+    let below : c.loop-i.i < p.blocks = omega (arith, c.loop-i-test.true, c.blocks-i-end.ensures.value) in
+    let next = c.in-Ok.ensures.read (inv.source_told tells) bytes (inv.read tells) in
+    let still = settled p c.loop-i.i c.take_next.new.ahead c.in-Ok.ensures.quiet c.in-Err.ensures.ends in
+    reads-up-to p c.loop-i.i c.in-Err.stop.level c.in-Err.stop.index bytes _
+    (fan-pos p.settings c.blocks-i-end.ensures.planned.valid) below
+    (c.in-Err.ensures.carries blocks (sym (length-cut p.settings p.blocks p.wanted bytes)) next.1
+    (c.in-Ok.ensures.opened blocks (inv.opened tells below)))
+    (read-to p (c.loop-i.i + 1) (c.loop-i.i + 1) bytes c.take_next.new.ahead _ still.0 still.1 next.0)
+
+pub returns-in-Err-clause-stands : goal.returns-in-Err-clause-stands
+returns-in-Err-clause-stands g c = λ tells told.
+    let p = c.args.job.now.plan in
+    let bytes = g.S.Source.remaining c.args.source.now in
+    let blocks = data_blocks p bytes in
+    let inv = c.loop-i.invariant in
+    let many : p.blocks ≡ length blocks = sym (length-cut p.settings p.blocks p.wanted bytes) in
+    let below : c.loop-i.i < p.blocks = omega (arith, c.loop-i-test.true, c.blocks-i-end.ensures.value) in
+    let next = c.in-Ok.ensures.read (inv.source_told tells) bytes (inv.read tells) in
+    let opened = c.in-Ok.ensures.opened blocks (inv.opened tells below) in
+    image-stopped p blocks c.loop-i.i c.in-Err.stop.level c.in-Err.stop.index _ _ _
+    (fan-pos p.settings c.blocks-i-end.ensures.planned.valid) below
+    (c.in-Err.ensures.carries blocks many next.1 opened) (inv.stands tells told)
+    (c.in-Err.ensures.device (inv.device_told told) blocks many next.1 opened)
+
+pub returns-in-Err-clause-compared : goal.returns-in-Err-clause-compared
+returns-in-Err-clause-compared g c = λ compare tells told.
+    let p = c.args.job.now.plan in
+    let bytes = g.S.Source.remaining c.args.source.now in
+    let blocks = data_blocks p bytes in
+    let inv = c.loop-i.invariant in
+    let many : p.blocks ≡ length blocks = sym (length-cut p.settings p.blocks p.wanted bytes) in
+    let below : c.loop-i.i < p.blocks = omega (arith, c.loop-i-test.true, c.blocks-i-end.ensures.value) in
+    let next = c.in-Ok.ensures.read (inv.source_told tells) bytes (inv.read tells) in
+    let opened = c.in-Ok.ensures.opened blocks (inv.opened tells below) in
+    let before = inv.compared compare tells told in
+    let still = settled p c.loop-i.i c.take_next.new.ahead c.in-Ok.ensures.quiet c.in-Err.ensures.ends in
+    let read = read-to p (c.loop-i.i + 1) (c.loop-i.i + 1) bytes c.take_next.new.ahead _ still.0 still.1 next.0 in
+    let step = c.in-Err.ensures.compared compare (inv.device_told told) blocks many next.1 opened in (
+      step.0 ∙ before.0,
+      stops-for p bytes c.loop-i.i (g.D.Device.content c.args.device.now) c.in-Err.stop
+          (fan-pos p.settings c.blocks-i-end.ensures.planned.valid) below
+          (c.in-Err.ensures.carries blocks many next.1 opened) read.enough before.1
+          (subst (λ (xs : List ℕ). NoneDiffers p blocks xs
+          (first_closing (fan p.settings) c.loop-i.i c.in-Err.stop.level))
+          before.0 step.1)
+          (subst (λ (xs : List ℕ). IsCause p
+          (closed_block c.in-Err.stop.level c.in-Err.stop.index
+          (tree_block p.settings blocks c.in-Err.stop.level c.in-Err.stop.index)) xs c.in-Err.stop.cause) before.0
+          step.2),
+    )
+
+pub returns-in-Err-clause-stays : goal.returns-in-Err-clause-stays
+returns-in-Err-clause-stays g c = λ compare told.
+    c.in-Err.ensures.stays compare (c.loop-i.invariant.device_told told) ∙ c.loop-i.invariant.stays compare told

@@ -1,0 +1,89 @@
+//! What is done with a hash block when it has closed.
+ghost use Rattle.std.specs.Prelude.{◌≡◌, ◌+◌, ◌*◌, ◌≤◌, length, take};
+ghost use Rattle.verity_io.specs.Counting.{Counts};
+ghost use Rattle.verity_tree.specs.Steps.ClosedBlocks.{Closes, ComparesBlock, close_failed, closed_block};
+ghost use Rattle.verity_plan.specs.Plans.{HasBlock};
+
+use crate::part::{Part, part_between};
+use verity_io::Device;
+use verity_plan::Plan;
+
+/// What is done with a hash block when it has closed.
+#[derive(Clone, Copy, Debug, PartialEq, Eq)]
+pub(crate) enum Task {
+    /// It is written at its place.
+    Write,
+    /// It is compared with what stands at its place.
+    Compare,
+}
+
+/// What a pass over the data has to do: for which plan, and what with each hash block.
+#[derive(Clone, Copy, Debug, PartialEq, Eq)]
+pub(crate) struct Job {
+    pub plan: Plan,
+    pub task: Task,
+}
+
+/// Why a pass stops at a hash block.
+#[derive(Clone, Copy, Debug, PartialEq, Eq)]
+pub(crate) enum Cause {
+    /// The device failed.
+    Failed,
+    /// What stands at the block's place differs.
+    Differs(Part),
+}
+
+/// Writes a closed hash block, or compares it, by way of a buffer for the stored one, with what stands at its place.
+pub(crate) fn close<D: Device>(
+    job: &Job,
+    level: usize,
+    index: u64,
+    bytes: &[u8],
+    stored: &mut [u8],
+    device: &mut D,
+) -> Result<(), Cause>
+    requires here { HasBlock job.now.plan level index }
+    requires size { length bytes.now ≡ job.now.plan.settings.hash_block }
+    requires stored { length stored.old ≡ job.now.plan.settings.hash_block }
+    ensures told { D.tells device.old → D.tells device.new }
+    ensures count { Counts (close_failed job.now.task result) (D.failures device.old) (D.failures device.new) }
+    ensures device { D.tells device.old
+        → Closes job.now.plan job.now.task (closed_block level index bytes.now)
+        result (D.content device.old) (D.content device.new) }
+{
+    let at = job.plan.byte(level, index);
+    match job.task {
+        Task::Write => match device.write_at(at, bytes) {
+            Ok(()) => Ok(()),
+            Err(_) => Err(Cause::Failed),
+        },
+        Task::Compare => match device.read_at(at, stored) {
+            Ok(count) => compare_block(&job.plan, level, index, bytes, stored, count),
+            Err(_) => Err(Cause::Failed),
+        },
+    }
+}
+
+/// Compares the stored block, of which the first `count` bytes were read, with the computed one.
+fn compare_block(
+    plan: &Plan,
+    level: usize,
+    index: u64,
+    bytes: &[u8],
+    stored: &[u8],
+    count: usize,
+) -> Result<(), Cause>
+    requires here { HasBlock plan.now level index }
+    requires size { length bytes.now ≡ plan.now.settings.hash_block }
+    requires stored { length stored.now ≡ plan.now.settings.hash_block }
+    requires count { count ≤ plan.now.settings.hash_block }
+    ensures { ComparesBlock plan.now (closed_block level index bytes.now) (take count stored.now) result }
+{
+    if count < stored.len() {
+        return Err(Cause::Differs(Part::Missing));
+    }
+    if stored == bytes {
+        return Ok(());
+    }
+    Err(Cause::Differs(part_between(plan, level, index, stored, bytes)))
+}

@@ -1,0 +1,7 @@
+//! The one pass over the data, which building and comparing share.
+
+pub(crate) mod cascade;
+pub(crate) mod closed_block;
+pub(crate) mod data_block;
+pub(crate) mod one_pass;
+pub(crate) mod reading_ahead;

@@ -1,0 +1,107 @@
+//! One pass over the data, with one open block a level.
+ghost use Rattle.std.specs.Prelude.{◌≡◌, ℕ, ◌+◌, ◌*◌, ◌^◌, ◌<◌, ◌≤◌, List, length, IfOk};
+ghost use Rattle.verity_io.specs.Counting.{Counts};
+ghost use Rattle.verity_tree.specs.Steps.OnePass.{Passes, PassesCompared, PassesImage, device_failed};
+ghost use Rattle.verity_tree.specs.Steps.OnePass.{source_failed};
+ghost use Rattle.verity_plan.specs.Plans.{IsPlanned, Planned, levels_of, store_length_of};
+ghost use Rattle.verity_tree.specs.Levels.{data_blocks};
+ghost use Rattle.verity_plan.specs.Settings.{digest_len};
+ghost use Rattle.verity_tree.specs.declared.pass.closed_block.Task.TheVariants.{Compare};
+
+use crate::pass::cascade::{Stop, carry};
+use crate::pass::closed_block::{Job, Task};
+use crate::pass::data_block::BlockFault;
+use crate::pass::reading_ahead::{Ahead, WINDOW, needs_window, take_next};
+use verity_hash::Digest;
+use verity_io::{Device, Source};
+use verity_plan::Plan;
+
+/// Why a pass ends early; data blocks are counted from 0.
+#[derive(Clone, Copy, Debug, PartialEq, Eq)]
+pub(crate) enum PassFault {
+    /// The source ended before the end of this data block.
+    SourceShort(u64),
+    /// The source failed while this data block was read.
+    SourceFailed(u64),
+    /// A hash block stopped it.
+    Stopped(Stop),
+}
+
+/// Passes over the data once, with a store to work in, and does what the task says with each hash block that closes.
+pub(crate) fn pass<S: Source, D: Device>(
+    plan: &Plan,
+    task: Task,
+    store: &mut [u8],
+    source: &mut S,
+    device: &mut D,
+) -> Result<Digest, PassFault>
+    requires { length store.old ≡ store_length_of plan.now }
+    ensures planned { IsPlanned plan.now }
+    ensures size { IfOk result (λ root. length root ≡ digest_len plan.now.settings) }
+    ensures source_told { S.tells source.old → S.tells source.new }
+    ensures device_told { D.tells device.old → D.tells device.new }
+    ensures source_count { Counts (source_failed result) (S.failures source.old) (S.failures source.new) }
+    ensures device_count { Counts (device_failed task result) (D.failures device.old) (D.failures device.new) }
+    ensures stays { task ≡ Compare → D.tells device.old → D.content device.new ≡ D.content device.old }
+    ensures read { S.tells source.old → Passes plan.now result (S.remaining source.old) (S.remaining source.new) }
+    ensures stands { S.tells source.old → D.tells device.old
+        → PassesImage plan.now (data_blocks plan.now (S.remaining source.old))
+        result (D.content device.old) (D.content device.new) }
+    ensures compared { task ≡ Compare → S.tells source.old → D.tells device.old
+        → PassesCompared plan.now (S.remaining source.old) result (D.content device.old) (D.content device.new) }
+{
+    let (work, stored) = store.split_at_mut(store.len() - plan.hash_block());
+    let job = Job { plan: *plan, task };
+    if needs_window(plan) {
+        return pass_over::<S, D, WINDOW>(&job, work, stored, source, device);
+    }
+    pass_over::<S, D, 0>(&job, work, stored, source, device)
+}
+
+/// The pass, with a window of `N` bytes, into which data blocks that are hashed side by side are read as far as it has
+/// room. The open blocks and the data block are in `work`, and a hash block to compare with in `stored`. It isn't
+/// inlined, since its caller would then pay for the larger window even if it makes none.
+#[inline(never)]
+fn pass_over<S: Source, D: Device, const N: usize>(
+    job: &Job,
+    work: &mut [u8],
+    stored: &mut [u8],
+    source: &mut S,
+    device: &mut D,
+) -> Result<Digest, PassFault>
+    requires room { levels_of job.now.plan * job.now.plan.settings.hash_block + job.now.plan.settings.data_block ≤
+        length work.old }
+    requires window { N < 2 ^ 63 }
+    requires stored { length stored.old ≡ job.now.plan.settings.hash_block }
+    ensures planned { IsPlanned job.now.plan }
+    ensures size { IfOk result (λ root. length root ≡ digest_len job.now.plan.settings) }
+    ensures source_told { S.tells source.old → S.tells source.new }
+    ensures device_told { D.tells device.old → D.tells device.new }
+    ensures source_count { Counts (source_failed result) (S.failures source.old) (S.failures source.new) }
+    ensures device_count { Counts (device_failed job.now.task result) (D.failures device.old) (D.failures device.new) }
+    ensures stays { job.now.task ≡ Compare → D.tells device.old → D.content device.new ≡ D.content device.old }
+    ensures read { S.tells source.old → Passes job.now.plan result (S.remaining source.old) (S.remaining source.new) }
+    ensures stands { S.tells source.old → D.tells device.old
+        → PassesImage job.now.plan (data_blocks job.now.plan (S.remaining source.old))
+        result (D.content device.old) (D.content device.new) }
+    ensures compared { job.now.task ≡ Compare → S.tells source.old → D.tells device.old
+        → PassesCompared job.now.plan (S.remaining source.old) result (D.content device.old) (D.content device.new) }
+{
+    let plan = &job.plan;
+    work.fill(0);
+    let mut window = [0; N];
+    let mut root = Digest::zeros(plan.settings().algorithm());
+    let mut ahead = Ahead::none(plan);
+    for i in 0..plan.blocks() {
+        let digest = match take_next(plan, work, &mut window, i, source, &mut ahead) {
+            Ok(digest) => digest,
+            Err(BlockFault::Short) => return Err(PassFault::SourceShort(i)),
+            Err(BlockFault::Failed) => return Err(PassFault::SourceFailed(i)),
+        };
+        root = match carry(job, work, stored, i, digest, device) {
+            Ok(above) => above,
+            Err(stop) => return Err(PassFault::Stopped(stop)),
+        };
+    }
+    Ok(root)
+}

@@ -1,0 +1,241 @@
+//! Data blocks that are read and hashed before their turn, up to eight side by side.
+ghost use Rattle.std.specs.Prelude.{◌≡◌, ℕ, ◌+◌, ◌*◌, ◌<◌, ◌≤◌, List, length, IfOk};
+ghost use Rattle.std.specs.Fork.{slice_chunk};
+ghost use Rattle.verity_io.specs.Counting.{Counts};
+ghost use Rattle.verity_io.specs.Reading.{HasRead};
+ghost use Rattle.verity_plan.specs.Plans.{levels_of};
+ghost use Rattle.verity_plan.specs.Settings.{digest_len};
+ghost use Rattle.verity_tree.specs.Reading.{bytes_of};
+ghost use Rattle.verity_tree.specs.Steps.DataBlocks.{read_failed};
+ghost use Rattle.verity_tree.specs.Steps.OpenBlocks.{HasOpenBlocks};
+ghost use Rattle.verity_tree.specs.Steps.ReadingAhead.{HoldsRows, IsAhead, IsFilled, IsQuiet, IsReadOf, IsRun};
+ghost use Rattle.verity_tree.specs.Steps.ReadingAhead.{ReadsRow, StandsBy, TakesNext, ahead_failed, next_failed};
+ghost use Rattle.verity_tree.specs.Steps.ReadingAhead.{stop_failed};
+
+use crate::pass::data_block::{BlockFault, read_data_block, take_data_block};
+use verity_hash::{Algorithm, Digest};
+use verity_io::Source;
+use verity_plan::Plan;
+
+/// How many data blocks are hashed side by side at most, each in a row of its own.
+const ROWS: usize = 8;
+
+/// How many at least: fewer are hashed faster one after another.
+const LEAST_ROWS: usize = 3;
+
+/// The length of the window that they are read into, in bytes: eight data blocks of 16384, or four of 32768.
+pub(crate) const WINDOW: usize = 131_072;
+
+/// Data blocks that were read and hashed before their turn.
+#[derive(Clone, Copy, Debug, PartialEq, Eq)]
+pub(crate) struct Ahead {
+    /// The digest of each block from `first` on and below `end`; those after them count for nothing.
+    digests: [Digest; ROWS],
+    /// The number of the first of them.
+    first: u64,
+    /// The number of the first block after them.
+    end: u64,
+    /// Why the block at `end` can't be read, if the source ended or failed within it.
+    fault: Option<BlockFault>,
+}
+
+impl Ahead {
+    ghost use Rattle.std.specs.Prelude.{ℕ, List};
+    ghost use Rattle.verity_io.specs.Counting.{Counts};
+    ghost use Rattle.verity_tree.specs.Steps.ReadingAhead.{IsAhead, IsQuiet, ahead_failed};
+
+    /// Before the first data block nothing is ahead.
+    pub(crate) fn none(plan: &Plan) -> Ahead
+        ensures quiet { IsQuiet plan.now 0 result }
+        ensures count { (start : ℕ) → Counts (ahead_failed result) start start }
+        ensures ahead { (bytes : List ℕ) → IsAhead plan.now 0 bytes result bytes }
+    {
+        Ahead {
+            digests: [Digest::zeros(plan.settings().algorithm()); ROWS],
+            first: 0,
+            end: 0,
+            fault: None,
+        }
+    }
+}
+
+/// The digest of data block `i`, which is read now or was read ahead.
+pub(crate) fn take_next<S: Source>(
+    plan: &Plan,
+    work: &mut [u8],
+    window: &mut [u8],
+    i: u64,
+    source: &mut S,
+    ahead: &mut Ahead,
+) -> Result<Digest, BlockFault>
+    requires room { levels_of plan.now * plan.now.settings.hash_block + plan.now.settings.data_block ≤ length work.old }
+    requires below { i < plan.now.blocks }
+    requires quiet { IsQuiet plan.now i ahead.old }
+    ensures size { IfOk result (λ digest. length digest ≡ digest_len plan.now.settings) }
+    ensures told { S.tells source.old → S.tells source.new }
+    ensures quiet { IfOk result (λ digest. IsQuiet plan.now (i + 1) ahead.new) }
+    ensures count { (start : ℕ) → Counts (ahead_failed ahead.old) start (S.failures source.old)
+        → Counts (next_failed result ahead.new) start (S.failures source.new) }
+    ensures opened { (blocks : List (List ℕ)) → HasOpenBlocks plan.now.settings blocks 0 (levels_of plan.now) i work.old
+        → HasOpenBlocks plan.now.settings blocks 0 (levels_of plan.now) i work.new }
+    ensures read { S.tells source.old → (bytes : List ℕ) → IsAhead plan.now i bytes ahead.old (S.remaining source.old)
+        → TakesNext plan.now i bytes result ahead.new (S.remaining source.new) }
+{
+    if i >= ahead.end && ahead.fault.is_none() {
+        *ahead = read_ahead(plan, work, window, i, source);
+    }
+    match ahead.fault {
+        Some(fault) if i >= ahead.end => Err(fault),
+        _ => Ok(ahead.digests[(i - ahead.first) as usize]),
+    }
+}
+
+/// How many data blocks from `i` on are read together into a window of this length: as many as it has room for, and
+/// none past the last data block below a hash block. It is 1 if they are hashed one by one.
+fn rows_from(plan: &Plan, window: usize, i: u64) -> usize
+    requires { i < plan.now.blocks }
+    ensures some { 0 < result }
+    ensures most { result ≤ 8 }
+    ensures run { IsRun plan.now i result }
+    ensures fits { 1 < result → result * plan.now.settings.data_block ≤ window }
+{
+    let fan = plan.fan() as u64;
+    let left = plan.blocks() - i;
+    let room = ROWS.min(window / plan.data_block());
+    let rows = left.min(fan - i % fan).min(room as u64) as usize;
+    let alone = plan.settings().algorithm() == Algorithm::Sha1;
+    if alone || rows < LEAST_ROWS {
+        return 1;
+    }
+    rows
+}
+
+/// Whether data blocks are read together, in a window.
+pub(crate) fn needs_window(plan: &Plan) -> bool {
+    // The call tells the proof that a plan has a data block.
+    let _blocks = plan.blocks();
+    rows_from(plan, WINDOW, 0) > 1
+}
+
+/// Reads and hashes data blocks from `i` on, as many as are read together.
+fn read_ahead<S: Source>(
+    plan: &Plan,
+    work: &mut [u8],
+    window: &mut [u8],
+    i: u64,
+    source: &mut S,
+) -> Ahead
+    requires room { levels_of plan.now * plan.now.settings.hash_block + plan.now.settings.data_block ≤ length work.old }
+    requires below { i < plan.now.blocks }
+    ensures told { S.tells source.old → S.tells source.new }
+    ensures quiet { IsFilled plan.now i result }
+    ensures count { Counts (ahead_failed result) (S.failures source.old) (S.failures source.new) }
+    ensures opened { (blocks : List (List ℕ)) → HasOpenBlocks plan.now.settings blocks 0 (levels_of plan.now) i work.old
+        → HasOpenBlocks plan.now.settings blocks 0 (levels_of plan.now) i work.new }
+    ensures ahead { S.tells source.old → (bytes : List ℕ) → HasRead (bytes_of plan.now i) bytes (S.remaining source.old)
+        → IsAhead plan.now i bytes result (S.remaining source.new) }
+{
+    // The call tells the proof that the number of data blocks is a `u64`.
+    let _blocks = plan.blocks();
+    let count = rows_from(plan, window.len(), i);
+    if count > 1 {
+        return read_run(
+            plan,
+            &mut window[..count * plan.data_block()],
+            i,
+            count,
+            source,
+        );
+    }
+    match take_data_block(plan, work, i, source) {
+        Ok(digest) => Ahead {
+            digests: [digest; ROWS],
+            first: i,
+            end: i + 1,
+            fault: None,
+        },
+        Err(fault) => Ahead {
+            digests: [Digest::zeros(plan.settings().algorithm()); ROWS],
+            first: i,
+            end: i,
+            fault: Some(fault),
+        },
+    }
+}
+
+/// Reads `count` data blocks from `i` on and hashes them side by side. If the source ends or fails within one, the
+/// digests of its row and of those after it count for nothing.
+fn read_run<S: Source>(plan: &Plan, rows: &mut [u8], i: u64, count: usize, source: &mut S) -> Ahead
+    requires room { length rows.old ≡ count * plan.now.settings.data_block }
+    requires some { 0 < count }
+    requires most { count ≤ 8 }
+    requires run { IsRun plan.now i count }
+    ensures told { S.tells source.old → S.tells source.new }
+    ensures quiet { IsFilled plan.now i result }
+    ensures count { Counts (ahead_failed result) (S.failures source.old) (S.failures source.new) }
+    ensures ahead { S.tells source.old → (bytes : List ℕ) → HasRead (bytes_of plan.now i) bytes (S.remaining source.old)
+        → IsAhead plan.now i bytes result (S.remaining source.new) }
+{
+    // The call tells the proof that the number of data blocks is a `u64`.
+    let _blocks = plan.blocks();
+    let (read, fault) = read_rows(plan, rows, i, count, source);
+    Ahead {
+        digests: plan.hash_rows(rows, plan.data_block(), count),
+        first: i,
+        end: i + read as u64,
+        fault,
+    }
+}
+
+/// Reads `count` data blocks from `i` on into the rows, one after another: how many it could read, and why no more.
+fn read_rows<S: Source>(
+    plan: &Plan,
+    rows: &mut [u8],
+    i: u64,
+    count: usize,
+    source: &mut S,
+) -> (usize, Option<BlockFault>)
+    requires room { length rows.old ≡ count * plan.now.settings.data_block }
+    requires below { i + count ≤ plan.now.blocks }
+    ensures told { S.tells source.old → S.tells source.new }
+    ensures count { Counts (stop_failed result.1) (S.failures source.old) (S.failures source.new) }
+    ensures many { IsReadOf count result.0 result.1 }
+    ensures rows { S.tells source.old → (bytes : List ℕ) → HasRead (bytes_of plan.now i) bytes (S.remaining source.old)
+        → HoldsRows plan.now i bytes result.0 rows.new }
+    ensures read { S.tells source.old → (bytes : List ℕ) → HasRead (bytes_of plan.now i) bytes (S.remaining source.old)
+        → StandsBy plan.now (i + result.0) bytes result.1 (S.remaining source.new) }
+{
+    // The call tells the proof that the number of data blocks is a `u64`.
+    let _blocks = plan.blocks();
+    for row in 0..count {
+        match read_row(plan, rows, i + row as u64, row, source) {
+            Ok(()) => {}
+            Err(fault) => return (row, Some(fault)),
+        }
+    }
+    (count, None)
+}
+
+/// Reads data block `i` into a row.
+fn read_row<S: Source>(
+    plan: &Plan,
+    rows: &mut [u8],
+    i: u64,
+    row: usize,
+    source: &mut S,
+) -> Result<(), BlockFault>
+    requires room { row * plan.now.settings.data_block + plan.now.settings.data_block ≤ length rows.old }
+    requires below { i < plan.now.blocks }
+    ensures told { S.tells source.old → S.tells source.new }
+    ensures count { Counts (read_failed result) (S.failures source.old) (S.failures source.new) }
+    ensures kept { (r : ℕ) → r < row → slice_chunk rows.new plan.now.settings.data_block r
+        ≡ slice_chunk rows.old plan.now.settings.data_block r }
+    ensures read { S.tells source.old → (bytes : List ℕ) → HasRead (bytes_of plan.now i) bytes (S.remaining source.old)
+        → ReadsRow plan.now i bytes result (slice_chunk rows.new plan.now.settings.data_block row)
+        (S.remaining source.new) }
+{
+    let size = plan.data_block();
+    let from = row * size;
+    let data_len = (size as u64).min(plan.wanted() - i * size as u64) as usize;
+    read_data_block(source, &mut rows[from..from + size], data_len)
+}

@@ -1,5 +1,0 @@
-use Rattle.veritysetup.proofs.ProgramLemmas.{told}
-use Rattle.veritysetup.proofs.formatting.format_by.Goals as goal
-
-pub returns-in-Err-clause-run : goal.returns-in-Err-clause-run
-returns-in-Err-clause-run g c = told _ _ _ _ _ c.refused_option.ensures.status c.refused_option.ensures.message

@@ -1,0 +1,14 @@
+use Rattle.veritysetup.proofs.ProgramLemmas.{CommandRun-done, CommandRun-format, CommandRun-unwritten}
+use Rattle.veritysetup.proofs.program.format.make.Goals as goal
+
+pub returns-then-status-ne0 : goal.returns-then-status-ne0
+returns-then-status-ne0 g c = CommandRun-format _ _ _ _ _ _ c.run_format-status.ensures.run
+
+pub returns-in-Ok-keep : goal.returns-in-Ok-keep
+returns-in-Ok-keep g c =
+    CommandRun-done _ _ (CommandRun-format _ _ _ _ _ _ c.run_format-status.ensures.run) c.if-status-ne0.false
+
+pub returns : goal.returns
+returns g c =
+    CommandRun-unwritten _ _ _ _ _ (CommandRun-format _ _ _ _ _ _ c.run_format-status.ensures.run) c.if-status-ne0.false
+    c.cannot_write.ensures.status c.cannot_write.ensures.message

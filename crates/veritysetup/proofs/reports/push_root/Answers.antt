@@ -1,9 +1,0 @@
-use Rattle.std.proofs.Common.{◌∙◌, ap}
-use Rattle.std.proofs.lemmas.Result.{on_ok_weaker}
-use Rattle.hex.specs.Hex.{encode_lower}
-use Rattle.veritysetup.proofs.reports.push_root.Goals as goal
-
-pub returns-in_ok-digits-in-Some : goal.returns-in_ok-digits-in-Some
-returns-in_ok-digits-in-Some c =
-    let digits = c.in_ok-digits-in-Some.ensures ∙ ap encode_lower c.as_bytes.ensures.bytes in
-    on_ok_weaker c.write.result (λ written. rw (c.in-Some.is, ← digits) written) c.write.ensures.bytes

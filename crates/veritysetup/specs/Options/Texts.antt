@@ -1,0 +1,85 @@
+-- What the texts of options stand for, one by one, with the defaults of veritysetup(8).
+use Rattle.std.specs.Prelude.{ℕ, ◌%◌, ◌==◌, Bool, true, false, List, [], replicate, take, drop, codes, Option, Some, None, option_map, if◌then◌else◌}
+use Rattle.std.specs.Str.{bytes_eq}
+use Rattle.uuid.specs.Text.{parsed}
+use Rattle.verity_hash.specs.declared.algorithm.Algorithm.{Algorithm}
+use Rattle.verity_hash.specs.declared.salting.SaltRule.TheVariants.{Before}
+use Rattle.verity_plan.specs.Plans.{superblock_size}
+use Rattle.verity_plan.specs.Settings.{is_verity_block_size, most_salt}
+use Rattle.command_line.specs.Options.{number_of, salt_of}
+use Rattle.veritysetup.specs.Options.VeritySettings.{root_of}
+use Rattle.veritysetup.specs.Options.Uuids.{random_uuid}
+use Rattle.veritysetup.specs.declared.options.raw_options.RawOptions.{RawOptions}
+
+-- the texts of the options, each None if it is not given
+pub record Texts : Type 0 where
+  pub hash : Option (List ℕ)
+  pub format : Option (List ℕ)
+  pub data_block_size : Option (List ℕ)
+  pub hash_block_size : Option (List ℕ)
+  pub data_blocks : Option (List ℕ)
+  pub salt : Option (List ℕ)
+  pub uuid : Option (List ℕ)
+  pub hash_offset : Option (List ℕ)
+  pub root : Option (List ℕ)
+  pub no_superblock : Bool
+  pub same_file : Bool
+
+abbrev pub texts_of : RawOptions → Texts
+texts_of raw = record {
+  hash = option_map (λ t. t.now) raw.hash;
+  format = option_map (λ t. t.now) raw.format;
+  data_block_size = option_map (λ t. t.now) raw.data_block_size;
+  hash_block_size = option_map (λ t. t.now) raw.hash_block_size;
+  data_blocks = option_map (λ t. t.now) raw.data_blocks;
+  salt = option_map (λ t. t.now) raw.salt;
+  uuid = option_map (λ t. t.now) raw.uuid;
+  hash_offset = option_map (λ t. t.now) raw.hash_offset;
+  root = option_map (λ t. t.now) raw.root;
+  no_superblock = raw.no_superblock;
+  same_file = raw.same_file;
+}
+
+-- a number that may be missing; none if the text is no number
+abbrev pub number_if_given : Option (List ℕ) → Option (Option ℕ)
+number_if_given None = Some None
+number_if_given (Some text) = option_map (λ number. Some number) (number_of text)
+
+-- a block size of dm-verity
+abbrev pub block_size_of : ℕ → Option ℕ
+block_size_of number = if is_verity_block_size number then Some number else None
+
+-- what a hash offset is a multiple of: a superblock's length, and without a superblock the size of a hash block
+abbrev pub offset_unit : Bool → ℕ → ℕ
+offset_unit true hash_block = superblock_size
+offset_unit false hash_block = hash_block
+
+-- this number of bytes, if it is a multiple of a unit
+abbrev pub multiple_of : ℕ → ℕ → Option ℕ
+multiple_of unit bytes = if bytes % unit == 0 then Some bytes else None
+
+-- a salt, in which `-` means the empty one; by default the first 32 random bytes
+abbrev pub salt_or_random : Option (List ℕ) → Option (List ℕ) → Option (List ℕ)
+salt_or_random (Some text) random = if bytes_eq text (codes "-") then Some [] else salt_of (most_salt Before) text
+salt_or_random None (Some random) = Some (take 32 random)
+salt_or_random None None = None
+
+-- what stands for a UUID if there is none
+abbrev pub no_uuid : List ℕ
+no_uuid = replicate 16 0
+
+-- a UUID; by default that of the 16 random bytes after those, and zeros if there are no random bytes
+abbrev pub uuid_or_random : Option (List ℕ) → Option (List ℕ) → Option (List ℕ)
+uuid_or_random (Some text) random = parsed text
+uuid_or_random None (Some random) = Some (random_uuid (take 16 (drop 32 random)))
+uuid_or_random None None = Some no_uuid
+
+-- the UUID of a hash area with a superblock; without one it has none, which is all zeros
+abbrev pub area_uuid : Bool → List ℕ → List ℕ
+area_uuid true uuid = uuid
+area_uuid false uuid = no_uuid
+
+-- a root hash that may be missing; none if the text is no digest of the algorithm
+abbrev pub root_if_given : Algorithm → Option (List ℕ) → Option (Option (List ℕ))
+root_if_given algorithm None = Some None
+root_if_given algorithm (Some text) = option_map (λ root. Some root) (root_of algorithm text)

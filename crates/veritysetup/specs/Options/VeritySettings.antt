@@ -1,0 +1,41 @@
+-- The settings of a hash device, which the options choose (veritysetup(8), "format", "root_hash"; cryptsetup's on-disk
+-- format page). A root hash is written in hexadecimal digits of either case, two for each byte of a digest.
+use Rattle.std.specs.Prelude.{ℕ, ◌*◌, ◌==◌, List, length, Option, None, if◌then◌else◌, ◌≡◌, Bool, Some, Result, Err}
+use Rattle.std.specs.Result.{result_ok}
+use Rattle.hex.specs.Hex.{decode_of}
+use Rattle.verity_hash.specs.Hashing.{digest_len_of}
+use Rattle.verity_hash.specs.declared.algorithm.Algorithm.{Algorithm}
+use Rattle.verity_plan.specs.Settings.{Settings, rule_of}
+use Rattle.verity_plan.specs.Plans.{Planned, base_of, plan_for_blocks}
+use Rattle.verity_plan.specs.declared.hash_type.HashType.{HashType}
+use Rattle.verity_plan.specs.declared.plan_fault.PlanFault.{PlanFault}
+use Rattle.verity_plan.specs.declared.plan_fault.PlanFault.TheVariants.{NoData, TooLarge}
+
+-- the bytes of a root hash
+abbrev pub root_of : Algorithm → List ℕ → Option (List ℕ)
+root_of algorithm text = if length text == 2 * digest_len_of algorithm then result_ok (decode_of text) else None
+
+-- the settings of a hash device: the hash type, the UUID's bytes, the hash offset in bytes, whether a superblock stands
+-- there, the tree's plan, and the root hash if one was given
+pub record VeritySettings : Type 0 where
+  pub hash_type : HashType
+  pub uuid : List ℕ
+  pub offset : ℕ
+  pub superblock : Bool
+  pub plan : Planned
+  pub root : Option (List ℕ)
+
+-- the plan for this number of data blocks if the tree begins at this hash block; without one the hash area is too large
+abbrev pub plan_from : Settings → ℕ → Option ℕ → Result Planned PlanFault
+plan_from tree blocks (Some base) = plan_for_blocks tree blocks base
+plan_from tree blocks None = if blocks == 0 then Err NoData else Err TooLarge
+
+-- the plan for this number of data blocks with this hash offset, after a superblock if there is one
+abbrev pub plan_at : Settings → ℕ → ℕ → Bool → Result Planned PlanFault
+plan_at tree blocks offset superblock = plan_from tree blocks (base_of offset superblock tree.hash_block)
+
+-- the tree is of the hash type, over whole data blocks, and begins at the offset, or after the superblock there
+pub record PartsAgree (s : VeritySettings) : Type 0 where
+  pub of_type : s.plan.settings.rule ≡ rule_of s.hash_type
+  pub whole : s.plan.wanted ≡ s.plan.blocks * s.plan.settings.data_block
+  pub based : base_of s.offset s.superblock s.plan.settings.hash_block ≡ Some s.plan.base

@@ -1,0 +1,7 @@
+-- The runs of format, dump and verify, over any source and device.
+pub mod Dump
+pub mod Format
+pub mod Verify
+pub mod VerifySteps
+pub mod HashDevice
+pub mod Outcomes

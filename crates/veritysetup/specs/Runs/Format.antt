@@ -1,0 +1,100 @@
+-- How a run of format ends (veritysetup(8), "format"; statuses and messages are this project's own). If it stops at a
+-- fault, nothing that comes later has been done: the superblock is written after all hash blocks, the report last.
+use Rattle.std.specs.Prelude.{◌≡◌, ℕ, Bool, true, false, List, Option, Some, Result, Ok, Err, if◌then◌else◌}
+use Rattle.std.specs.Io.KnownBytes.{Appends, Keeps}
+use Rattle.verity_io.specs.Counting.{Change, Counts}
+use Rattle.verity_io.specs.Writing.{Spoiled}
+use Rattle.verity_plan.specs.Plans.{superblock_size}
+use Rattle.verity_tree.specs.Building.{Builds, BuildsImage}
+use Rattle.verity_io.specs.Reading.{HasRead}
+use Rattle.verity_tree.specs.Image.{tree_image}
+use Rattle.verity_tree.specs.Building as building
+use Rattle.verity_tree.specs.Levels.{root, data_blocks}
+use Rattle.veritysetup.specs.Options.VeritySettings.{VeritySettings}
+use Rattle.veritysetup.specs.Runs.HashDevice.{image, superblock_for}
+use Rattle.veritysetup.specs.Texts.Messages.{build_text, memory_text, unwritten_output_text, unwritten_superblock_text}
+use Rattle.veritysetup.specs.Runs.Outcomes.{TextChange, status_of, message_of}
+use Rattle.command_line.specs.Printing.{AppendsFront, Prints}
+use Rattle.veritysetup.specs.Texts.Reports.{bare_text, report_text, uuid_text}
+use Rattle.veritysetup.specs.declared.runs.format.FormatFault.{FormatFault}
+use Rattle.veritysetup.specs.declared.runs.format.FormatFault.TheVariants.{Store, Build, Superblock, Report}
+use Rattle.command_line.specs.declared.printing.print_fault.PrintFault.TheVariants.{Memory, Output}
+
+-- the status of a fault
+abbrev pub fault_status : FormatFault → ℕ
+fault_status Store = 3
+fault_status (Build fault) = 4
+fault_status Superblock = 4
+fault_status (Report Memory) = 3
+fault_status (Report (Output count)) = 4
+
+-- its message
+abbrev pub fault_text : FormatFault → List ℕ
+fault_text Store = memory_text
+fault_text (Build fault) = build_text fault
+fault_text Superblock = unwritten_superblock_text
+fault_text (Report Memory) = memory_text
+fault_text (Report (Output count)) = unwritten_output_text
+
+-- the root hash of the tree above some data
+abbrev pub root_above : VeritySettings → List ℕ → List ℕ
+root_above s bytes = root s.plan.settings (data_blocks s.plan bytes)
+
+-- the text in the report's line of the UUID
+abbrev pub report_uuid : VeritySettings → List ℕ
+report_uuid s = if s.superblock then uuid_text s.uuid else bare_text
+
+-- the report of format, with this root hash
+abbrev pub format_report : VeritySettings → List ℕ → List ℕ → List ℕ
+format_report s path root = report_text path (report_uuid s) (superblock_for s) (Some root)
+
+-- how much was read of the source: once the tree is built, the bytes of all data blocks
+abbrev pub Reads : VeritySettings → Result (Unit {0}) FormatFault → List ℕ → List ℕ → Type 0
+Reads s (Err Store) before after = after ≡ before
+Reads s (Err (Build fault)) before after = Builds s.plan (Err fault) before after
+Reads s outcome before after = HasRead s.plan.wanted before after
+
+-- what stands on the device: once the superblock is written, the whole image
+abbrev pub Writes : VeritySettings → List (List ℕ) → Result (Unit {0}) FormatFault → List ℕ → List ℕ → Type 0
+Writes s blocks (Err Store) before after = after ≡ before
+Writes s blocks (Err (Build fault)) before after = BuildsImage s.plan blocks (Err fault) before after
+Writes s blocks (Err Superblock) before after = Spoiled (tree_image s.plan blocks before) s.offset superblock_size after
+Writes s blocks outcome before after = after ≡ image s blocks before
+
+-- what is added to out: the report, or its first bytes if a write fails
+abbrev pub PrintsReport : List ℕ → Result (Unit {0}) FormatFault → Option (List ℕ) → Option (List ℕ) → Type 0
+PrintsReport report (Ok done) before after = Appends before after report
+PrintsReport report (Err (Report fault)) before after = Prints (Err fault) report before after
+PrintsReport report (Err fault) before after = Keeps before after
+
+-- the source failed
+abbrev pub source_failed : Result (Unit {0}) FormatFault → Bool
+source_failed (Err (Build fault)) = building.source_failed (Err fault)
+source_failed outcome = false
+
+-- the device failed
+abbrev pub device_failed : Result (Unit {0}) FormatFault → Bool
+device_failed (Err (Build fault)) = building.device_failed (Err fault)
+device_failed (Err Superblock) = true
+device_failed outcome = false
+
+-- a run: one outcome says what became of the source, the device and the writers
+pub record FormatRun (s : VeritySettings) (path : List ℕ) (status : ℕ) (source device : Change) (texts : TextChange)
+    : Type 0 where
+  pub outcome : Result (Unit {0}) FormatFault
+  pub status_is : status ≡ status_of fault_status outcome
+  pub read : source.told → Reads s outcome source.before source.after
+  pub stands : source.told → device.told
+      → Writes s (data_blocks s.plan source.before) outcome device.before device.after
+  pub root_hash : List ℕ
+  pub root_is : source.told → root_hash ≡ root_above s source.before
+  pub printed : PrintsReport (format_report s path root_hash) outcome texts.out_before texts.out_after
+  pub message : AppendsFront (message_of fault_text outcome) texts.msgs_before texts.msgs_after
+  pub source_counted : Counts (source_failed outcome) source.failures_before source.failures_after
+  pub device_counted : Counts (device_failed outcome) device.failures_before device.failures_after
+
+-- what status 0 stands for: the data was read once, the image is on the device, and the report with the root is printed
+pub record IsFormatted (s : VeritySettings) (path : List ℕ) (source device : Change) (texts : TextChange) : Type 0 where
+  pub read : HasRead s.plan.wanted source.before source.after
+  pub stands : device.after ≡ image s (data_blocks s.plan source.before) device.before
+  pub printed : Appends texts.out_before texts.out_after (format_report s path (root_above s source.before))

@@ -1,0 +1,22 @@
+-- What a step of verify answers before the comparison.
+-- For the private steps; not needed to read a public contract.
+use Rattle.std.specs.Prelude.{ℕ, Bool, false, List, Result, Ok, Err}
+use Rattle.veritysetup.specs.Runs.Verify.{Trusts, Refuses, Describes, RefusesStored, input_unread}
+use Rattle.veritysetup.specs.declared.runs.trusted_tree.TrustedTree.{TrustedTree}
+use Rattle.veritysetup.specs.declared.runs.verify_fault.InputFault.{InputFault}
+use Rattle.veritysetup.specs.declared.runs.verify_input.VerifyInput.{VerifyInput}
+
+-- what the tree is compared by for an input, or why it is not
+abbrev pub IsTrustedTree : VerifyInput → List ℕ → Result TrustedTree InputFault → Type 0
+IsTrustedTree input device (Ok tree) = Trusts input device tree.plan tree.root
+IsTrustedTree input device (Err fault) = Refuses input device fault
+
+-- the same for a superblock at an offset and the text of a root hash
+abbrev pub IsStoredTree : ℕ → List ℕ → List ℕ → Result TrustedTree InputFault → Type 0
+IsStoredTree offset text device (Ok tree) = Describes offset text device tree.plan tree.root
+IsStoredTree offset text device (Err fault) = RefusesStored offset text device fault
+
+-- the device could not be read
+abbrev pub device_unread : Result TrustedTree InputFault → Bool
+device_unread (Ok tree) = false
+device_unread (Err fault) = input_unread fault

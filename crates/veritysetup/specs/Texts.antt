@@ -1,0 +1,4 @@
+-- What is printed: reports and messages.
+pub mod Messages
+pub mod Reports
+pub mod ReportSteps

@@ -1,0 +1,46 @@
+//! Asking the system to keep a written HASH on the disk.
+ghost use Rattle.std.specs.Prelude.{◌≡◌};
+ghost use Rattle.veritysetup.specs.Program.Folders.{folder_of};
+
+use std::fs::File;
+use std::path::Path;
+use std::rt::Files;
+use verity_tree::{Failed, FileDevice};
+
+/// Whether the system knows of nothing at this path, so that a file made there is new.
+pub(crate) fn is_missing<R: Files>(rt: &R, path: &str) -> bool {
+    rt.metadata(path).is_err()
+}
+
+/// Asks the system to keep what was written to the file at this path (fsync(2)) and, if the file is new, its name in
+/// its folder. It fails if the system refuses.
+pub(crate) fn keep<R: Files>(
+    rt: &R,
+    device: &FileDevice<R::File>,
+    path: &str,
+    is_new: bool,
+) -> Result<(), Failed> {
+    device.sync()?;
+    if is_new {
+        keep_names(rt, folder_of(path))?;
+    }
+    Ok(())
+}
+
+/// Asks the system to keep the names of a folder's files. It succeeds too if the folder may not be opened for reading.
+fn keep_names<R: Files>(rt: &R, folder: &str) -> Result<(), Failed> {
+    match File::open(rt, folder) {
+        Ok(opened) => FileDevice::new(opened).sync(),
+        Err(_) => Ok(()),
+    }
+}
+
+/// The folder of a path's last name; for a name alone it is the current one.
+fn folder_of(path: &str) -> &str
+    ensures { result.now ≡ folder_of path.now }
+{
+    match Path::new(path).parent() {
+        Some(folder) if !folder.as_str().is_empty() => folder.as_str(),
+        _ => ".",
+    }
+}

@@ -1,0 +1,9 @@
+//! The runs of format, dump and verify, over any source and device.
+
+pub(crate) mod dump;
+pub(crate) mod format;
+pub(crate) mod stored_superblock;
+pub(crate) mod trusted_tree;
+pub(crate) mod verify;
+pub(crate) mod verify_fault;
+pub(crate) mod verify_input;

@@ -1,0 +1,69 @@
+//! What a stored tree is compared by.
+ghost use Rattle.std.specs.Prelude.{◌≡◌};
+ghost use Rattle.verity_io.specs.Counting.{Counts};
+ghost use Rattle.veritysetup.specs.Runs.VerifySteps.{IsTrustedTree, IsStoredTree, device_unread};
+
+use crate::options::hash_area::plan_at;
+use crate::options::root_hash::read_root;
+use crate::runs::stored_superblock::stored_superblock;
+use crate::runs::verify_fault::InputFault;
+use crate::runs::verify_input::VerifyInput;
+use verity_hash::Digest;
+use verity_tree::{Device, Plan};
+
+/// What a stored tree is compared by.
+#[derive(Clone, Copy)]
+pub struct TrustedTree {
+    /// Where each hash block stands.
+    pub plan: Plan,
+    /// The root hash that was given.
+    pub root: Digest,
+}
+
+/// What the tree of a hash device is compared by, for this input.
+pub fn read_trusted_tree<D: Device>(
+    device: &mut D,
+    input: &VerifyInput,
+) -> Result<TrustedTree, InputFault>
+    ensures told { D.tells device.old → D.tells device.new }
+    ensures stands { D.tells device.old → D.content device.new ≡ D.content device.old }
+    ensures trusted { D.tells device.old → IsTrustedTree input.now (D.content device.old) result }
+    ensures count { Counts (device_unread result) (D.failures device.old) (D.failures device.new) }
+{
+    match *input {
+        VerifyInput::Stored { offset, root } => read_stored_tree(device, offset, root),
+        VerifyInput::Given(settings) => match settings.root() {
+            Some(root) => Ok(TrustedTree {
+                plan: *settings.plan(),
+                root,
+            }),
+            None => Err(InputFault::BadRoot),
+        },
+    }
+}
+
+/// Reads the superblock at an offset of a hash device, plans its tree, and reads the text of the root hash.
+fn read_stored_tree<D: Device>(
+    device: &mut D,
+    offset: u64,
+    root: &str,
+) -> Result<TrustedTree, InputFault>
+    ensures told { D.tells device.old → D.tells device.new }
+    ensures stands { D.tells device.old → D.content device.new ≡ D.content device.old }
+    ensures trusted { D.tells device.old → IsStoredTree offset root.now (D.content device.old) result }
+    ensures count { Counts (device_unread result) (D.failures device.old) (D.failures device.new) }
+{
+    let superblock = match stored_superblock(device, offset) {
+        Ok(superblock) => superblock,
+        Err(fault) => return Err(InputFault::Superblock(fault)),
+    };
+    let tree = superblock.tree();
+    let plan = match plan_at(tree, superblock.blocks(), offset, true) {
+        Ok(plan) => plan,
+        Err(_) => return Err(InputFault::TooLarge),
+    };
+    match read_root(tree.algorithm(), root) {
+        Some(root) => Ok(TrustedTree { plan, root }),
+        None => Err(InputFault::BadRoot),
+    }
+}

@@ -1,0 +1,74 @@
+//! The run of verify.
+ghost use Rattle.std.specs.Prelude.{◌≡◌};
+ghost use Rattle.verity_io.specs.Counting.{Counts, change};
+ghost use Rattle.veritysetup.specs.Runs.Verify.{IsVerified, Verifies, VerifyRun, device_failed, source_failed};
+
+use crate::runs::trusted_tree::{TrustedTree, read_trusted_tree};
+use crate::runs::verify_fault::VerifyFault;
+use crate::runs::verify_input::VerifyInput;
+use std::alloc::Global;
+use std::io::Write;
+use verity_tree::{Device, Source, Store, compare};
+
+/// Compares the stored tree with the one above the data.
+fn verify<S: Source, D: Device>(
+    alloc: Global,
+    input: &VerifyInput,
+    source: &mut S,
+    device: &mut D,
+) -> Result<(), VerifyFault>
+    ensures source_told { S.tells source.old → S.tells source.new }
+    ensures device_told { D.tells device.old → D.tells device.new }
+    ensures stands { D.tells device.old → D.content device.new ≡ D.content device.old }
+    ensures verdict { S.tells source.old → D.tells device.old →
+        Verifies input.now (D.content device.old) (S.remaining source.old) (S.remaining source.new) result }
+    ensures source_count { Counts (source_failed result) (S.failures source.old) (S.failures source.new) }
+    ensures device_count { Counts (device_failed result) (D.failures device.old) (D.failures device.new) }
+{
+    let TrustedTree { plan, root } = match read_trusted_tree(device, input) {
+        Ok(tree) => tree,
+        Err(fault) => return Err(VerifyFault::Input(fault)),
+    };
+    let mut store = match Store::new(alloc, &plan) {
+        Ok(store) => store,
+        Err(_) => return Err(VerifyFault::Store),
+    };
+    match compare(&plan, &mut store, source, device, &root) {
+        Ok(()) => Ok(()),
+        Err(fault) => Err(VerifyFault::Compare(fault)),
+    }
+}
+
+/// Verifies a hash device against the data of a source and a root hash (veritysetup(8), "verify"). The answer is the
+/// status: 0 all is right, 1 the superblock or the root hash is refused, 2 the tree or the root hash differs, 3 out
+/// of memory, 4 the source or the device failed or the data is too short. A fault's message goes to `msgs` as far as
+/// that takes it. The device is not changed.
+pub fn run_verify<S: Source, D: Device, M: Write>(
+    alloc: Global,
+    input: &VerifyInput,
+    source: &mut S,
+    device: &mut D,
+    msgs: &mut M,
+) -> u8
+    ensures source_told { S.tells source.old → S.tells source.new }
+    ensures device_told { D.tells device.old → D.tells device.new }
+    ensures stands { D.tells device.old → D.content device.new ≡ D.content device.old }
+
+    // Status 0: superblock and root are accepted, and every byte of every hash block and the root are the tree's.
+    ensures verified { result ≡ 0 → S.tells source.old → D.tells device.old →
+        IsVerified input.now (D.content device.old) (S.remaining source.old) (S.remaining source.new) }
+
+    // Each status: one outcome gives the verdict, the message and which count of failures rose.
+    ensures run { VerifyRun input.now result
+        (change S.tells S.remaining S.failures source.old source.new)
+        (change D.tells D.content D.failures device.old device.new)
+        (M.contents msgs.old) (M.contents msgs.new) }
+{
+    match verify(alloc, input, source, device) {
+        Ok(()) => 0,
+        Err(fault) => {
+            fault.write_message(alloc, msgs);
+            fault.status()
+        }
+    }
+}

@@ -1,0 +1,5 @@
+//! From the words of a command line to a line.
+
+pub(crate) mod command_name;
+pub(crate) mod line;
+pub(crate) mod reading;

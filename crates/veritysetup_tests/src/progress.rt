@@ -1,0 +1,210 @@
+//! The progress line of long work: it is shown only on a terminal, and erased before anything else is written there.
+use crate::program_runs::disk_of;
+use command_line::ProgressReader;
+use fixtures::{Shape, shown_before};
+use memory_runtime::{Disk, MemoryRuntime, StandardError};
+use std::alloc::{AllocError, Global};
+use std::io;
+use std::io::{Read, Write};
+use std::process::Abort;
+use std::test::Fail;
+use verity_hash::Algorithm;
+use veritysetup::{ErasingWriter, ProgressLine, run_program};
+
+/// A quarter of a MiB.
+const QUARTER: usize = 1 << 18;
+
+/// How many bytes of work pass before the line is written again.
+const STEP: u64 = 1 << 16;
+
+/// The status of a run, and what it writes when its report and its messages go to one terminal, or, without a step, to
+/// one pipe.
+fn written(
+    alloc: Global,
+    disk: &Disk,
+    words: &str,
+    step: Option<u64>,
+) -> io::Result<(u8, Vec<u8>)> {
+    let words = format!(in alloc; "veritysetup {words}")?;
+    let mut runtime = MemoryRuntime::new(alloc, disk, words.as_str());
+    runtime.step = step;
+    let before = disk.standard_error()?.len();
+    let progress = ProgressLine::new(&runtime);
+    let mut out = ErasingWriter::new(&progress, StandardError::new(disk));
+    let mut msgs = ErasingWriter::new(&progress, StandardError::new(disk));
+    let status = run_program(&runtime, &progress, &mut out, &mut msgs);
+    let all = disk.standard_error()?;
+    Ok((status, all.iter().copied().skip(before).collect(alloc)?))
+}
+
+/// How a report begins.
+const REPORT: &str = "VERITY header information for ";
+
+/// Words of runs, their status, how many lines they show of how many MiB, and how their other output begins. The files
+/// are those of `disk_of_files`; `ROOT` stands for the root hash of `data`.
+const SHORT: [(&str, u8, (u64, u64), &str); 6] = [
+    ("format data new", 0, (4, 0), REPORT),
+    ("format small new", 0, (0, 0), REPORT),
+    ("format tailed new", 0, (0, 0), REPORT),
+    ("verify data hash ROOT", 0, (4, 0), ""),
+    (
+        "verify data hash 00",
+        1,
+        (0, 0),
+        "Root hash is not valid.\n",
+    ),
+    (
+        "verify --no-superblock --salt=- changed bare ROOT",
+        2,
+        (4, 0),
+        "Verification failed: level 0 block 0, child 50.\n",
+    ),
+];
+
+/// The same of longer data; `ROOT` stands for the root hash of the first 256 blocks of `long`. The number of MiB is
+/// that of the covered data, or, if a superblock says how much is covered, the length of DATA.
+const LONG: [(&str, u8, (u64, u64), &str); 3] = [
+    ("format --data-blocks 256 long new", 0, (16, 1), REPORT),
+    (
+        "verify --no-superblock --salt=- --data-blocks 256 long bare_long ROOT",
+        0,
+        (16, 1),
+        "",
+    ),
+    ("verify long hash_long ROOT", 0, (16, 2), ""),
+];
+
+/// The root hash of these blocks of 4096 bytes, by SHA-256 and without a salt, in hexadecimal.
+fn root_of(alloc: Global, data: &[u8], levels: usize) -> Result<String, AllocError> {
+    let shape = Shape::new(alloc, Algorithm::Sha256, (4096, 4096), (128, 32));
+    hex::encode(alloc, shape.tree(alloc, data, levels)?.root.as_slice())
+}
+
+/// A disk with data of a quarter of a MiB and a block, of a quarter, of a quarter and a tail, and of 2 MiB and a tail,
+/// and the images made by these commands.
+fn disk_of_files(alloc: Global, images: &[&str]) -> io::Result<Disk> {
+    let mut data = vec![in alloc; 5u8; QUARTER + 4096]?;
+    let disk = disk_of(alloc, data.as_slice())?;
+    disk.make("small", vec![in alloc; 5u8; QUARTER]?)?;
+    disk.make("tailed", vec![in alloc; 5u8; QUARTER + 100]?)?;
+    disk.make("long", vec![in alloc; 5u8; 8 * QUARTER + 100]?)?;
+    if let Some(byte) = data.get_mut(50 * 4096) {
+        *byte = 0;
+    }
+    disk.make("changed", data)?;
+    for words in images {
+        written(alloc, &disk, words, None)?;
+    }
+    Ok(disk)
+}
+
+/// A run writes the same to a terminal as to a pipe, after the progress lines.
+fn check<R: Abort + AllocGlobal>(
+    rt: &R,
+    disk: &Disk,
+    words: &str,
+    row: (u8, (u64, u64), &str),
+) -> Result<(), Fail> {
+    let alloc = rt.alloc();
+    let (status, (count, total), start) = row;
+    let (ended, plain) = written(alloc, disk, words, None)?;
+    assert_eq!(rt; ended, status, "at {words}");
+    assert!(rt; plain.starts_with(start.as_bytes()), "at {words}");
+    assert_eq!(rt; plain.is_empty(), start.is_empty(), "at {words}");
+    assert!(rt; !plain.contains(&b'\r'), "at {words}");
+    let (ended, shown) = written(alloc, disk, words, Some(STEP))?;
+    let expected = shown_before(alloc, count, total, plain.as_slice())?;
+    assert_eq!(rt; ended, status, "at {words}");
+    assert_eq!(rt; shown.as_slice(), expected.as_slice(), "at {words}");
+    Ok(())
+}
+
+#[test]
+fn a_terminal_is_told_how_far_it_is(rt: HostRuntime) -> Result<(), Fail> {
+    let alloc = rt.alloc();
+    let images = [
+        "format --salt=- data hash",
+        "format --no-superblock --salt=- data bare",
+    ];
+    let disk = disk_of_files(alloc, &images)?;
+    let root = root_of(alloc, vec![in alloc; 5u8; QUARTER + 4096]?.as_slice(), 1)?;
+    for (words, status, lines, start) in SHORT {
+        let words = words.replace(alloc, "ROOT", root.as_str())?;
+        check(&rt, &disk, words.as_str(), (status, lines, start))?;
+    }
+    Ok(())
+}
+
+#[test]
+fn a_terminal_is_told_what_is_covered(rt: HostRuntime) -> Result<(), Fail> {
+    let alloc = rt.alloc();
+    let images = [
+        "format --salt=- --data-blocks 256 long hash_long",
+        "format --no-superblock --salt=- --data-blocks 256 long bare_long",
+    ];
+    let disk = disk_of_files(alloc, &images)?;
+    let root = root_of(alloc, vec![in alloc; 5u8; 4 * QUARTER]?.as_slice(), 2)?;
+    for (words, status, lines, start) in LONG {
+        let words = words.replace(alloc, "ROOT", root.as_str())?;
+        check(&rt, &disk, words.as_str(), (status, lines, start))?;
+    }
+    Ok(())
+}
+
+#[test]
+fn whether_somebody_looks_on_is_asked_once(rt: HostRuntime) -> Result<(), Fail> {
+    let alloc = rt.alloc();
+    let disk = disk_of(alloc, &[5; 8192])?;
+    for (number, words) in [
+        "format --salt=- data hash",
+        "verify data hash 00",
+        "dump hash",
+    ]
+    .iter()
+    .enumerate()
+    {
+        written(alloc, &disk, words, None)?;
+        assert_eq!(rt;
+            disk.looks()?,
+            (number as u64).saturating_add(1),
+            "at {words}"
+        );
+    }
+    Ok(())
+}
+
+/// A reader that never ends, and leaves the buffer as it is.
+#[derive(Drop)]
+struct Endless;
+
+impl Read for Endless {
+    fn read(&mut self, buf: &mut [u8]) -> io::Result<usize> {
+        Ok(buf.len())
+    }
+}
+
+/// 5000 MiB, which are stored nowhere: the line after each 64 MiB.
+#[test]
+fn more_than_four_gib_are_shown_in_mib(rt: HostRuntime) -> Result<(), Fail> {
+    let alloc = rt.alloc();
+    let disk = disk_of(alloc, &[])?;
+    let mut runtime = MemoryRuntime::new(alloc, &disk, "");
+    runtime.step = Some(64 << 20);
+    let progress = ProgressLine::new(&runtime);
+    let total = 5000u64 << 20;
+    let mut shown = ProgressReader::new(Endless, total, &progress);
+    let mut buffer = vec![in alloc; 0u8; 8 << 20]?;
+    for _ in 0..625 {
+        assert_eq!(rt; shown.read(buffer.as_mut_slice())?, 8 << 20);
+    }
+    let mut expected = Vec::new(alloc);
+    for step in 1..79u64 {
+        write!(
+            expected,
+            "\r{} of 5000 MiB, 128 MiB/s\x1b[K",
+            step.saturating_mul(64)
+        )?;
+    }
+    assert_eq!(rt; disk.standard_error()?.as_slice(), expected.as_slice());
+    Ok(())
+}
