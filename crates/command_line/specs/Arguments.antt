@@ -21,12 +21,12 @@ flag_of None = false
 flag_of (Some text) = bytes_eq text (codes "true")
 
 -- a word that has to be given
-abbrev pub word_rule : Text → Rule
-word_rule name = record (new_rule name) { action = Some Set; required = true }
+abbrev pub positional_rule : Text → Rule
+positional_rule name = record (new_rule name) { action = Some Set; required = true }
 
 -- one or more words that aren't options
-abbrev pub words_rule : Text → Rule
-words_rule name = record (new_rule name) { action = Some Append; required = true }
+abbrev pub positionals_rule : Text → Rule
+positionals_rule name = record (new_rule name) { action = Some Append; required = true }
 
 -- a command has to be given, and there is no help flag and no command `help`
 abbrev pub without_help : Shape → Shape

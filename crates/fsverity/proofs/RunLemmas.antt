@@ -9,7 +9,7 @@ use Rattle.verity_format.proofs.KnownLemmas.{appends_twice}
 use Rattle.verity_plan.specs.Settings.{Settings}
 use Rattle.fsverity.specs.Texts.Lines.{line}
 use Rattle.fsverity.specs.Openers.Opening.{OpenerChange}
-use Rattle.fsverity.specs.Runs.Digest.{HasReason, IsLargeAt, Run, StandsOf, WritesUpTo, file_line, has_digest, lines, first_refused}
+use Rattle.fsverity.specs.Runs.Digest.{HasReason, IsLargeAt, Run, StandsOf, WritesUpTo, file_line, has_digest, lines, first_without_digest}
 use Rattle.fsverity.specs.Runs.DigestSteps.{HasDigestAt, Step, StopsStep, WritesLine, WritesPart, WritesStep}
 use Rattle.fsverity.specs.declared.runs.digest_fault.DigestFault.TheVariants.{TooLarge, SourceShort, SourceFailed, DeviceFailed, Memory}
 use Rattle.fsverity.specs.declared.runs.run_fault.RunFault.{RunFault}
@@ -114,15 +114,15 @@ part_more run files i fault name old mid new named so_far part = record {
 }
 
 -- a file that has a digest is before the first that has none, if no file before it is absent or too large
-before_first_refused : (s : Settings) (files : List (Option (List ℕ))) (f : ℕ) → HasDigestAt s files f → f ≤ first_refused s files →
-    f < first_refused s files
-before_first_refused s files f one within =
-    let more : f + 1 ≤ first_refused s files = passes_more (has_digest s) files f (Some one.0) one.1 one.2 within in
+before_first_without_digest : (s : Settings) (files : List (Option (List ℕ))) (f : ℕ) → HasDigestAt s files f → f ≤ first_without_digest s files →
+    f < first_without_digest s files
+before_first_without_digest s files f one within =
+    let more : f + 1 ≤ first_without_digest s files = passes_more (has_digest s) files f (Some one.0) one.1 one.2 within in
     omega (arith, more)
 
 -- a step that stops ends the run, if no file before its own is absent or too large
 pub stops_run : (s : Settings) (run step : OpenerChange) (f : ℕ) (fault : RunFault) →
-    (run.told ↔ step.told) → step.files ≡ run.files → step.next_before ≡ f → (run.told → f ≤ first_refused s run.files) →
+    (run.told ↔ step.told) → step.files ≡ run.files → step.next_before ≡ f → (run.told → f ≤ first_without_digest s run.files) →
     run.failures_before ≤ step.failures_before → run.failures_after ≡ step.failures_after →
     StopsStep s step fault → HasReason s run f fault
 stops_run s run step f NotOpened told same index within le after (inl absent) =
@@ -134,11 +134,11 @@ stops_run s run step f (Digest TooLarge) told same index within le after large =
     (large', passes_to (has_digest s) run.files f (Some large'.0) large'.1 (ap not large'.2) (within t))
 stops_run s run step f (Digest (SourceShort i)) told same index within le after reason = λ t. reason (told.0 t)
 stops_run s run step f (Digest (SourceFailed i)) told same index within le after reason = (
-  λ t. before_first_refused s run.files f (rw (same, index) at (reason.0 (told.0 t))) (within t),
+  λ t. before_first_without_digest s run.files f (rw (same, index) at (reason.0 (told.0 t))) (within t),
   omega (arith, le, after, reason.1),
 )
 stops_run s run step f (Digest (DeviceFailed level block)) told same index within le after reason = reason
 stops_run s run step f (Digest Memory) told same index within le after one =
-    λ t. before_first_refused s run.files f (rw (same, index) at (one (told.0 t))) (within t)
+    λ t. before_first_without_digest s run.files f (rw (same, index) at (one (told.0 t))) (within t)
 stops_run s run step f NotWritten told same index within le after one =
-    λ t. before_first_refused s run.files f (rw (same, index) at (one (told.0 t))) (within t)
+    λ t. before_first_without_digest s run.files f (rw (same, index) at (one (told.0 t))) (within t)

@@ -54,7 +54,7 @@ impl OpenFile for Unsynced {
 }
 
 /// The kinds of errors that say that a file can't be synced.
-const LET_PASS: [ErrorKind; 3] = [
+const PASSED_OVER: [ErrorKind; 3] = [
     ErrorKind::ReadOnlyFilesystem,
     ErrorKind::InvalidInput,
     ErrorKind::Unsupported,
@@ -75,7 +75,7 @@ const FAILURES: [ErrorKind; 8] = [
 #[test]
 fn a_refused_sync_is_a_failure(rt: HostRuntime) {
     assert!(rt; FileDevice::new(Unsynced { error: None }).sync().is_ok());
-    for kind in LET_PASS {
+    for kind in PASSED_OVER {
         let device = FileDevice::new(Unsynced { error: Some(kind) });
         assert!(rt; device.sync().is_ok(), "at {kind:?}");
     }

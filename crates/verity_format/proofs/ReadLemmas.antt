@@ -8,7 +8,7 @@ use Rattle.verity_plan.specs.Settings.{Settings, IsValid, is_verity_block_size, 
 use Rattle.verity_plan.specs.Settings.{type_of_number}
 use Rattle.verity_plan.specs.declared.hash_type.HashType.{HashType}
 use Rattle.verity_plan.specs.declared.hash_type.HashType.TheVariants.{Original, Current}
-use Rattle.verity_format.specs.Superblocks.{SuperblockFields, superblock_of, superblock_of_type, type_of}
+use Rattle.verity_format.specs.Superblocks.{SuperblockFields, superblock_of, superblock_of_type, hash_type_of}
 use Rattle.verity_format.specs.Superblocks.{field, number_at}
 use Rattle.verity_format.specs.Superblocks.{AreSettings, IsSuperblock, blocks_tests, cause, first_failed, header_tests}
 use Rattle.verity_format.specs.Superblocks.{settings_tests, signature}
@@ -77,9 +77,9 @@ IsValid-verity algorithm Current salt data_block hash_block sized hash_sized sho
     record { data_size = sized; hash_size = hash_sized; salt_most = short; one_size = λ other. cc; known = λ other. cc }
 
 -- the type of a type's rule
-type_of-rule_of : (hash_type : HashType) → type_of (rule_of hash_type) ≡ Some hash_type
-type_of-rule_of Original = refl
-type_of-rule_of Current = refl
+hash_type_of-rule_of : (hash_type : HashType) → hash_type_of (rule_of hash_type) ≡ Some hash_type
+hash_type_of-rule_of Original = refl
+hash_type_of-rule_of Current = refl
 
 choice-some : {A : Type 0} (test : Bool) (x y : A) → (if test then Some x else None) ≡ Some y → (test ≡ true) × (x ≡ y)
 choice-some true x y h = (refl, cc)
@@ -92,7 +92,7 @@ choice-none false x h = refl
 typed : (hash_type : HashType) (tree : Settings) (uuid : List ℕ) (blocks : ℕ) → tree.rule ≡ rule_of hash_type
     → superblock_of tree uuid blocks ≡ superblock_of_type (Some hash_type) tree uuid blocks
 typed hash_type tree uuid blocks rule =
-    ap (λ (t : Option HashType). superblock_of_type t tree uuid blocks) (ap type_of rule ∙ type_of-rule_of hash_type)
+    ap (λ (t : Option HashType). superblock_of_type t tree uuid blocks) (ap hash_type_of rule ∙ hash_type_of-rule_of hash_type)
 
 -- what a new superblock is
 pub superblock_of-some : (hash_type : HashType) (tree : Settings) (uuid : List ℕ) (blocks : ℕ) (v : SuperblockFields)

@@ -16,7 +16,7 @@ use Rattle.verity_plan.specs.declared.hash_type.HashType.{HashType}
 use Rattle.verity_plan.specs.declared.hash_type.HashType.TheVariants.{Original, Current}
 use Rattle.verity_plan.proofs.FanLemmas.{data_most, hash_most, some_data}
 use Rattle.verity_format.specs.Superblocks.{number_at, until_zero, SuperblockFields, IsValidSuperblock}
-use Rattle.verity_format.specs.Superblocks.{IsSuperblock, signature, superblock_text}
+use Rattle.verity_format.specs.Superblocks.{IsSuperblock, signature, superblock_bytes}
 
 -- what follows the name
 tail : SuperblockFields → List ℕ → List ℕ
@@ -33,8 +33,8 @@ grouped : (a b c d e f g h i j k z : List ℕ)
     ≡ a ++ (b ++ (c ++ (d ++ (e ++ (f ++ (g ++ (h ++ (i ++ (j ++ (k ++ z))))))))))
 grouped a b c d e f g h i j k z = simp append_assoc
 
-text_is : (v : SuperblockFields) → (z : List ℕ) × (superblock_text v ≡ fields v z) × (512 ≤ length (superblock_text v))
-unfolding superblock_text fields tail
+text_is : (v : SuperblockFields) → (z : List ℕ) × (superblock_bytes v ≡ fields v z) × (512 ≤ length (superblock_bytes v))
+unfolding superblock_bytes fields tail
 text_is v =
     let all = signature ++ little_bytes 4 1 ++ little_bytes 4 (type_number v.hash_type) ++ v.uuid
     ++ filled 32 (name_of v.tree.algorithm)
@@ -127,7 +127,7 @@ fields_say v z valid long =
       valid = valid;
     }
 
-pub text_says : (v : SuperblockFields) → IsValidSuperblock v → IsSuperblock (superblock_text v) v
+pub text_says : (v : SuperblockFields) → IsValidSuperblock v → IsSuperblock (superblock_bytes v) v
 text_says v valid =
     let all = text_is v in
     rw (all.1) (fields_say v all.0 valid (rw (all.1) at all.2))

@@ -34,8 +34,8 @@ algorithm_number Sha384 = 0
 
 -- the 256 bytes of a descriptor: version, algorithm, logarithm of the block size, salt size, four zeros, the file's
 -- size, 64 bytes of root hash, the salt as it was given, and zeros
-unfoldable pub descriptor_text : DescriptorFields → List ℕ
-descriptor_text v = filled 256 (1 ∷ algorithm_number v.tree.algorithm ∷ log2 v.tree.data_block ∷ length v.tree.salt ∷ []
+unfoldable pub descriptor_bytes : DescriptorFields → List ℕ
+descriptor_bytes v = filled 256 (1 ∷ algorithm_number v.tree.algorithm ∷ log2 v.tree.data_block ∷ length v.tree.salt ∷ []
     ++ replicate 4 0
     ++ little_bytes 8 v.size
     ++ filled 64 v.root
@@ -43,7 +43,7 @@ descriptor_text v = filled 256 (1 ∷ algorithm_number v.tree.algorithm ∷ log2
 
 -- the digest of a file
 abbrev pub digest_of_file : DescriptorFields → List ℕ
-digest_of_file v = hash_of v.tree.algorithm (descriptor_text v)
+digest_of_file v = hash_of v.tree.algorithm (descriptor_bytes v)
 
 -- the eight letters, the algorithm's number, the digest's length, the digest
 abbrev pub formatted : Algorithm → List ℕ → List ℕ

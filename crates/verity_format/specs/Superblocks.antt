@@ -57,10 +57,10 @@ pub record IsValidSuperblock (v : SuperblockFields) : Type 0 where
   pub within : v.blocks * v.tree.data_block ≤ most_bytes
 
 -- the hash type that puts its salt there; fs-verity's settings have none
-abbrev pub type_of : SaltRule → Option HashType
-type_of Before = Some Current
-type_of After = Some Original
-type_of PaddedBefore = None
+abbrev pub hash_type_of : SaltRule → Option HashType
+hash_type_of Before = Some Current
+hash_type_of After = Some Original
+hash_type_of PaddedBefore = None
 
 -- the superblock of a tree over this many data blocks, if there is one
 abbrev pub superblock_of_type : Option HashType → Settings → List ℕ → ℕ → Option SuperblockFields
@@ -70,14 +70,14 @@ superblock_of_type (Some hash_type) tree uuid blocks =
     then Some (record { hash_type = hash_type; tree = tree; uuid = uuid; blocks = blocks }) else None
 
 abbrev pub superblock_of : Settings → List ℕ → ℕ → Option SuperblockFields
-superblock_of tree uuid blocks = superblock_of_type (type_of tree.rule) tree uuid blocks
+superblock_of tree uuid blocks = superblock_of_type (hash_type_of tree.rule) tree uuid blocks
 
 abbrev pub signature : List ℕ
 signature = codes "verity" ++ 0 ∷ 0 ∷ []
 
 -- the 512 bytes of a superblock
-unfoldable pub superblock_text : SuperblockFields → List ℕ
-superblock_text v = filled superblock_size (signature
+unfoldable pub superblock_bytes : SuperblockFields → List ℕ
+superblock_bytes v = filled superblock_size (signature
     ++ little_bytes 4 1
     ++ little_bytes 4 (type_number v.hash_type)
     ++ v.uuid

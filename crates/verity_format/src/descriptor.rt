@@ -1,6 +1,6 @@
 //! The fs-verity descriptor and the file digest.
 ghost use Rattle.std.specs.Prelude.{◌≡◌, ◌≤◌, ◌<◌, SomeIff};
-ghost use Rattle.verity_format.specs.Descriptors.{IsDescribed, IsValidDescriptor, algorithm_number, descriptor_text};
+ghost use Rattle.verity_format.specs.Descriptors.{IsDescribed, IsValidDescriptor, algorithm_number, descriptor_bytes};
 ghost use Rattle.verity_format.specs.Descriptors.{digest_of_file};
 ghost use Rattle.verity_plan.specs.Settings.{log2};
 
@@ -81,7 +81,7 @@ fn log2_of(size: u32) -> u8
 /// The 256 bytes of a descriptor (Linux kernel, fs-verity page, struct fsverity_descriptor): numbers are little-endian,
 /// the salt stands as it was given, and what no field covers is zero.
 pub fn write_descriptor(descriptor: &Descriptor) -> [u8; 256]
-    ensures { result ≡ descriptor_text descriptor.now }
+    ensures { result ≡ descriptor_bytes descriptor.now }
 {
     let tree = &descriptor.tree;
     let salt = tree.salt();

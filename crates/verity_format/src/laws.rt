@@ -1,13 +1,13 @@
 //! Laws of superblocks, on the bytes that are written and on what bytes say, for authors of other tools for the format.
 ghost use Rattle.std.specs.Prelude.{◌≡◌, ◌↔◌, ℕ, List, None, Ok};
 ghost use Rattle.verity_format.specs.Superblocks.{SuperblockFields, IsValidSuperblock};
-ghost use Rattle.verity_format.specs.Superblocks.{IsSuperblock, cause, superblock_text};
+ghost use Rattle.verity_format.specs.Superblocks.{IsSuperblock, cause, superblock_bytes};
 
 use crate::{SuperFault, Superblock, read_superblock, write_superblock};
 
 /// The bytes of a superblock say that superblock.
 pub fn text_says_its_superblock()
-    ensures { (v : SuperblockFields) → IsValidSuperblock v → IsSuperblock (superblock_text v) v }
+    ensures { (v : SuperblockFields) → IsValidSuperblock v → IsSuperblock (superblock_bytes v) v }
 {}
 
 /// Bytes say at most one superblock.

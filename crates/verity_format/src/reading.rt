@@ -63,7 +63,7 @@ fn read_settings(bytes: &[u8], hash_type: HashType) -> Result<TreeSettings, Supe
     if !is_verity_block_size(u64::from(hash_block)) {
         return Err(SuperFault::HashBlockSize(hash_block));
     }
-    let Some(algorithm) = Algorithm::from_name(before_zero(&bytes[32..64])) else {
+    let Some(algorithm) = Algorithm::from_name(until_zero(&bytes[32..64])) else {
         return Err(SuperFault::Algorithm);
     };
     let salt_size = u16_at(bytes, 80);
@@ -131,7 +131,7 @@ fn first_zero(text: &[u8]) -> Option<usize>
 }
 
 /// The bytes before the first zero, or all of them.
-fn before_zero(text: &[u8]) -> &[u8]
+fn until_zero(text: &[u8]) -> &[u8]
     ensures { result.now ≡ until_zero text.now }
 {
     match first_zero(text) {

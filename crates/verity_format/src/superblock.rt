@@ -1,6 +1,6 @@
 //! The value of a superblock.
 ghost use Rattle.std.specs.Prelude.{◌≡◌};
-ghost use Rattle.verity_format.specs.Superblocks.{IsValidSuperblock, superblock_of, type_of};
+ghost use Rattle.verity_format.specs.Superblocks.{IsValidSuperblock, superblock_of, hash_type_of};
 
 use std::marker::Model;
 use verity_hash::SaltRule;
@@ -32,7 +32,7 @@ impl Model for Superblock {
 
 /// dm-verity's hash type that puts its salt there.
 fn hash_type_of(rule: SaltRule) -> Option<HashType>
-    ensures { result ≡ type_of rule }
+    ensures { result ≡ hash_type_of rule }
 {
     match rule {
         SaltRule::Before => Some(HashType::Current),

@@ -1,6 +1,6 @@
 //! A superblock's bytes.
 ghost use Rattle.std.specs.Prelude.{◌≡◌};
-ghost use Rattle.verity_format.specs.Superblocks.{superblock_text};
+ghost use Rattle.verity_format.specs.Superblocks.{superblock_bytes};
 
 use crate::Superblock;
 use crate::field_writer::FieldWriter;
@@ -12,7 +12,7 @@ pub(crate) const VERSION: u32 = 1;
 /// The 512 bytes of a superblock (cryptsetup's on-disk format page, "dm-verity header"): numbers are little-endian, and
 /// what no field covers is zero.
 pub fn write_superblock(superblock: &Superblock) -> [u8; SUPERBLOCK_SIZE]
-    ensures { result ≡ superblock_text superblock.now }
+    ensures { result ≡ superblock_bytes superblock.now }
 {
     let tree = superblock.tree();
     let salt = tree.salt();

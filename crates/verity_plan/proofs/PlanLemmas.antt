@@ -9,7 +9,7 @@ use Rattle.std.proofs.lemmas.Bool.Decides.{nat_tests}
 use Rattle.std.proofs.lemmas.Nat.{div-add-mod', mod_below}
 use Rattle.std.specs.Prelude.{◌==◌, Bool, nat_le, nat_eq, true, false, Ok, Err}
 use Rattle.verity_io.specs.Writing.{most_bytes}
-use Rattle.verity_plan.specs.Plans.{valid_plan, Planned, IsPlanned, HasBlock, byte_of, place_of, levels_of, end_of}
+use Rattle.verity_plan.specs.Plans.{checked_plan, Planned, IsPlanned, HasBlock, byte_of, place_of, levels_of, end_of}
 use Rattle.verity_plan.specs.Plans.{store_length_of, has_room, level_count, level_size}
 use Rattle.verity_plan.specs.declared.plan_fault.PlanFault.TheVariants.{NoData, TooLarge}
 use Rattle.std.specs.Int.{div_ceil}
@@ -95,8 +95,8 @@ pub base-le-end : (p : Planned) → p.base ≤ end_of p
 base-le-end p = omega arith
 
 -- no plan for areas past the limit
-pub valid_plan-large : (p : Planned) → 0 < p.blocks → has_room p ≡ false → valid_plan p ≡ Err TooLarge
-valid_plan-large p some none =
+pub checked_plan-large : (p : Planned) → 0 < p.blocks → has_room p ≡ false → checked_plan p ≡ Err TooLarge
+checked_plan-large p some none =
     let tested : nat_eq p.blocks 0 ≡ false = grind (arith, nat_tests, some) in
     rw (tested, none) refl
 
@@ -140,7 +140,7 @@ byte-room p h l j here =
     omega (arith, mul-le-mul_right p.settings.hash_block step, h.hash_most)
 
 -- a plan that is made is the one that was asked for
-pub planned_is : (asked plan : Planned) → Ok plan ≡ valid_plan asked → plan ≡ asked
+pub planned_is : (asked plan : Planned) → Ok plan ≡ checked_plan asked → plan ≡ asked
 planned_is asked plan is = by_tests (asked.blocks == 0) (has_room asked) is
   where
     by_tests : (none room : Bool) → Ok plan ≡ cond none (Err NoData) (cond room (Ok asked) (Err TooLarge))

@@ -124,15 +124,15 @@ pub record IsPlanned (p : Planned) : Type 0 where
   pub hash_most : end_of p * p.settings.hash_block ≤ most_bytes
 
 -- the plan, or why there is none
-abbrev pub valid_plan : Planned → Result Planned PlanFault
-valid_plan p = if p.blocks == 0 then Err NoData else (if has_room p then Ok p else Err TooLarge)
+abbrev pub checked_plan : Planned → Result Planned PlanFault
+checked_plan p = if p.blocks == 0 then Err NoData else (if has_room p then Ok p else Err TooLarge)
 
 -- a plan for whole data blocks
 abbrev pub plan_for_blocks : Settings → ℕ → ℕ → Result Planned PlanFault
 plan_for_blocks s blocks base =
-    valid_plan (record { settings = s; blocks = blocks; wanted = blocks * s.data_block; base = base })
+    checked_plan (record { settings = s; blocks = blocks; wanted = blocks * s.data_block; base = base })
 
 -- a plan for a size in bytes, the last block perhaps not whole
 abbrev pub plan_for_bytes : Settings → ℕ → ℕ → Result Planned PlanFault
-plan_for_bytes s size base = valid_plan
+plan_for_bytes s size base = checked_plan
     (record { settings = s; blocks = block_count s size; wanted = size; base = base })

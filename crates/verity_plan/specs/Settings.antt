@@ -131,15 +131,15 @@ type_of_number number = if number == 0 then Some Original else (if number == 1 t
 -- 256 bytes; cryptsetup's on-disk format page) and of fs-verity (block sizes are powers of two that hold at least two
 -- digests, fsverity(1), `--block-size`, and Linux kernel, fs-verity page, "FS_IOC_ENABLE_VERITY"; salts of up to 32
 -- bytes, the same page). That fs-verity's blocks have at most 524288 bytes is this project's own limit.
-abbrev pub valid_settings : Settings → Result Settings SettingFault
-valid_settings s = if not
-    (is_block_size (least_block s.rule (digest_len_of s.algorithm)) s.data_block) then Err DataBlockSize
+abbrev pub checked_settings : Settings → Result Settings SettingFault
+checked_settings s =
+    if not (is_block_size (least_block s.rule (digest_len_of s.algorithm)) s.data_block) then Err DataBlockSize
     else (if not (is_block_size (least_block s.rule (digest_len_of s.algorithm)) s.hash_block) then Err HashBlockSize
     else (if nat_lt (most_salt s.rule) (length s.salt) then Err SaltSize else Ok s))
 
 -- settings of dm-verity
 abbrev pub verity_settings : Algorithm → HashType → List ℕ → ℕ → ℕ → Result Settings SettingFault
-verity_settings algorithm hash_type salt data_block hash_block = valid_settings (record {
+verity_settings algorithm hash_type salt data_block hash_block = checked_settings (record {
   algorithm = algorithm;
   rule = rule_of hash_type;
   salt = salt;
@@ -149,8 +149,9 @@ verity_settings algorithm hash_type salt data_block hash_block = valid_settings 
 
 -- settings of fs-verity: data and tree blocks have one size, and the algorithm is one that fs-verity knows
 abbrev pub fsverity_settings : Algorithm → List ℕ → ℕ → Result Settings SettingFault
-fsverity_settings algorithm salt block = if not (is_of_fsverity algorithm) then Err OtherAlgorithm
-    else (valid_settings (record {
+fsverity_settings algorithm salt block =
+    if not (is_of_fsverity algorithm) then Err OtherAlgorithm
+    else (checked_settings (record {
       algorithm = algorithm;
       rule = PaddedBefore;
       salt = salt;

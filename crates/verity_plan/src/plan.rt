@@ -3,7 +3,7 @@ ghost use Rattle.std.specs.Prelude.{◌≡◌, ℕ, ◌+◌, ◌-◌, ◌*◌, �
 ghost use Rattle.std.specs.Fork.{slice_chunk};
 ghost use Rattle.verity_io.specs.Writing.{most_bytes};
 ghost use Rattle.verity_plan.specs.Plans.{Planned, IsPlanned, byte_of, levels_of, size_of_level, place_of, end_of};
-ghost use Rattle.verity_plan.specs.Plans.{store_length_of, size_under, HasBlock, valid_plan, plan_for_blocks};
+ghost use Rattle.verity_plan.specs.Plans.{store_length_of, size_under, HasBlock, checked_plan, plan_for_blocks};
 ghost use Rattle.verity_plan.specs.Plans.{plan_for_bytes, level_count, blocks_from};
 ghost use Rattle.verity_plan.specs.Settings.{digest_len, fan, hash, slot_width};
 
@@ -77,7 +77,7 @@ impl Plan {
         base: u64,
     ) -> Result<Plan, PlanFault>
         requires { blocks ≡ div_ceil wanted settings.now.data_block }
-        ensures { result ≡ valid_plan
+        ensures { result ≡ checked_plan
             (record { settings = settings.now; blocks = blocks; wanted = wanted; base = base }) }
     {
         if blocks == 0 {

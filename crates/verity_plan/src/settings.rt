@@ -3,7 +3,7 @@ ghost use Rattle.std.specs.Prelude.{true, ◌≡◌, ℕ, ◌*◌, ◌≤◌, �
 ghost use Rattle.std.specs.Fork.{slice_chunk};
 ghost use Rattle.verity_plan.specs.Settings.{Settings, IsValid, hash, fan, slot_width, digest_len, least_block};
 ghost use Rattle.verity_plan.specs.Settings.{is_block_size, is_verity_block_size, is_of_fsverity, most_block};
-ghost use Rattle.verity_plan.specs.Settings.{most_salt, least_power, rule_of, valid_settings, verity_settings};
+ghost use Rattle.verity_plan.specs.Settings.{most_salt, least_power, rule_of, checked_settings, verity_settings};
 ghost use Rattle.verity_plan.specs.Settings.{fsverity_settings};
 ghost use Rattle.verity_hash.specs.Hashing.{digest_len_of};
 
@@ -97,7 +97,7 @@ impl TreeSettings {
         requires one_size { rule ≡ PaddedBefore → data_block ≡ hash_block }
         requires known { rule ≡ PaddedBefore → is_of_fsverity algorithm ≡ true }
         ensures { result
-            ≡ valid_settings (record {
+            ≡ checked_settings (record {
               algorithm = algorithm;
               rule = rule;
               salt = salt.now;

@@ -34,5 +34,6 @@ device_failed _ = false
 
 -- a fault of the source
 abbrev pub IsOfSource : BuildFault → Type 0
+IsOfSource (SourceShort i) = Unit {0}
+IsOfSource (SourceFailed i) = Unit {0}
 IsOfSource (DeviceFailed level block) = ⊥
-IsOfSource _ = Unit {0}

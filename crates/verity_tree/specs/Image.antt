@@ -72,5 +72,4 @@ pub record StopsAt (p : Planned) (blocks : List (List ℕ)) (pair : ℕ × ℕ) 
   pub done : List (ℕ × ℕ)
   pub next : ComesNext (order (fan p.settings) p.blocks p.blocks) done pair
   pub spoiled : Spoiled (device_with p.settings blocks p.base done before)
-      (byte_of p pair.0 pair.1) p.settings.hash_block
-      after
+      (byte_of p pair.0 pair.1) p.settings.hash_block after

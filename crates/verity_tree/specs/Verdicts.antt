@@ -47,8 +47,8 @@ difference p blocks device pair =
 -- without a difference: short data, another root, or all is right
 abbrev pub verdict_by : Planned → List ℕ → List ℕ → Option (ℕ × ℕ) → List ℕ → Result Unit CompareFault
 verdict_by p device bytes (Some pair) digest = Err (difference p (data_blocks p bytes) device pair)
-verdict_by p device bytes None digest = if nat_lt (whole_blocks p bytes) p.blocks then Err
-    (SourceShort (whole_blocks p bytes))
+verdict_by p device bytes None digest =
+    if nat_lt (whole_blocks p bytes) p.blocks then Err (SourceShort (whole_blocks p bytes))
     else (if bytes_eq (root p.settings (data_blocks p bytes)) digest then Ok tt
     else Err (RootDiffers (root p.settings (data_blocks p bytes))))
 

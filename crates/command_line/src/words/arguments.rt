@@ -1,7 +1,7 @@
 //! The arguments that clap reads for both programs, and the programs as clap sees them.
 ghost use Rattle.std.specs.Prelude.{◌≡◌, false};
 ghost use Rattle.clap.specs.Words.{rule_of};
-ghost use Rattle.command_line.specs.Arguments.{Defines, flag_rule, option_rule, program_app, word_rule, words_rule};
+ghost use Rattle.command_line.specs.Arguments.{Defines, flag_rule, option_rule, program_app, positional_rule, positionals_rule};
 
 use clap::{Arg, ArgAction, Command};
 use std::alloc::Global;
@@ -24,7 +24,7 @@ pub fn flag<'a>(alloc: Global, name: &'a str) -> Arg<'a>
 
 /// A positional argument that has to be given.
 pub fn positional<'a>(alloc: Global, name: &'a str) -> Arg<'a>
-    ensures rule { rule_of result ≡ word_rule name.entry.now }
+    ensures rule { rule_of result ≡ positional_rule name.entry.now }
     ensures local { result.global ≡ false }
 {
     Arg::new(alloc, name).action(ArgAction::Set).required(true)
@@ -32,7 +32,7 @@ pub fn positional<'a>(alloc: Global, name: &'a str) -> Arg<'a>
 
 /// One or more positional arguments.
 pub fn positionals<'a>(alloc: Global, name: &'a str) -> Arg<'a>
-    ensures rule { rule_of result ≡ words_rule name.entry.now }
+    ensures rule { rule_of result ≡ positionals_rule name.entry.now }
     ensures local { result.global ≡ false }
 {
     Arg::new(alloc, name)

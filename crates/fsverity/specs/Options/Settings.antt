@@ -18,22 +18,22 @@ abbrev pub algorithm_of : Option (List ℕ) → Option Algorithm
 algorithm_of name = option_and_then algorithm_of_fsverity (algorithm_or_default name)
 
 -- the block size itself, if it is within the limits
-abbrev pub size_within_limits : Algorithm → ℕ → Option ℕ
-size_within_limits algorithm size =
+abbrev pub checked_block_size : Algorithm → ℕ → Option ℕ
+checked_block_size algorithm size =
     if is_block_size (least_block PaddedBefore (digest_len_of algorithm)) size then Some size else None
 
 -- the block size of these digits, by default 4096; none outside the limits
 abbrev pub block_size_of : Algorithm → Option (List ℕ) → Option ℕ
-block_size_of algorithm None = size_within_limits algorithm default_block_size
-block_size_of algorithm (Some digits) = option_and_then (size_within_limits algorithm) (number_of digits)
+block_size_of algorithm None = checked_block_size algorithm default_block_size
+block_size_of algorithm (Some digits) = option_and_then (checked_block_size algorithm) (number_of digits)
 
 -- the salt of these digits, by default empty; none if they are no salt of fs-verity
 abbrev pub salt_bytes_of : Option (List ℕ) → Option (List ℕ)
 salt_bytes_of text = salt_of (most_salt PaddedBefore) (unwrap_or text [])
 
 -- the settings, or the first option that is refused, for so many input files and for an output file or none
-abbrev pub fs_settings : Option (List ℕ) → Option (List ℕ) → Option (List ℕ) → ℕ → Bool → Result Settings FsOptionFault
-fs_settings hash_alg block_size salt files out_files = do
+abbrev pub digest_settings : Option (List ℕ) → Option (List ℕ) → Option (List ℕ) → ℕ → Bool → Result Settings FsOptionFault
+digest_settings hash_alg block_size salt files out_files = do
   algorithm ← ok_or (algorithm_of hash_alg) UnknownHash
   block ← ok_or (block_size_of algorithm block_size) BadBlockSize
   bytes ← ok_or (salt_bytes_of salt) BadSalt

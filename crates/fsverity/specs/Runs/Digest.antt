@@ -21,8 +21,8 @@ has_digest s None = false
 has_digest s (Some bytes) = not (is_too_large s (length bytes))
 
 -- the index of the first file that is absent or too large, or the number of files if there is none
-abbrev pub first_refused : Settings → List (Option (List ℕ)) → ℕ
-first_refused s files = prefix_len (has_digest s) files
+abbrev pub first_without_digest : Settings → List (Option (List ℕ)) → ℕ
+first_without_digest s files = prefix_len (has_digest s) files
 
 -- a file's line, and nothing for one that is absent or too large
 abbrev pub file_line : Settings → Form → List ℕ → Option (List ℕ) → List ℕ
@@ -50,15 +50,15 @@ IsLargeAt s files f =
 -- and not too large. There is no device
 abbrev pub HasReason : Settings → OpenerChange → ℕ → RunFault → Type 0
 HasReason s opener f NotOpened =
-    (opener.told × (slice_get opener.files f ≡ Some None) × (first_refused s opener.files ≡ f))
+    (opener.told × (slice_get opener.files f ≡ Some None) × (first_without_digest s opener.files ≡ f))
     ⊎ Rose opener.failures_before opener.failures_after
-HasReason s opener f (Digest TooLarge) = opener.told → IsLargeAt s opener.files f × (first_refused s opener.files ≡ f)
+HasReason s opener f (Digest TooLarge) = opener.told → IsLargeAt s opener.files f × (first_without_digest s opener.files ≡ f)
 HasReason s opener f (Digest (SourceShort i)) = opener.told → ⊥
 HasReason s opener f (Digest (SourceFailed i)) =
-    (opener.told → f < first_refused s opener.files) × Rose opener.failures_before opener.failures_after
+    (opener.told → f < first_without_digest s opener.files) × Rose opener.failures_before opener.failures_after
 HasReason s opener f (Digest (DeviceFailed level block)) = ⊥
-HasReason s opener f (Digest Memory) = opener.told → f < first_refused s opener.files
-HasReason s opener f NotWritten = opener.told → f < first_refused s opener.files
+HasReason s opener f (Digest Memory) = opener.told → f < first_without_digest s opener.files
+HasReason s opener f NotWritten = opener.told → f < first_without_digest s opener.files
 
 -- what is written of the file's line: its first bytes if it could not be written whole, and otherwise nothing
 abbrev pub StandsOf : List ℕ → List ℕ → RunFault → Type 0
@@ -93,7 +93,7 @@ pub record EndsAt (run : Run) (opener : OpenerChange) (out out' msgs msgs' : Opt
   pub fault : RunFault
   pub has_name : f < length run.names
   pub is_next : opener.next_after ≡ f + 1
-  pub within : opener.told → f ≤ first_refused run.settings opener.files
+  pub within : opener.told → f ≤ first_without_digest run.settings opener.files
   pub reason : HasReason run.settings opener f fault
   pub counted : CountsFault fault opener.failures_before opener.failures_after
   pub message : AppendsFront (run_fault_text fault (slice_index_or run.names f [])) msgs msgs'

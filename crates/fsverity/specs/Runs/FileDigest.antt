@@ -2,7 +2,7 @@
 -- of making one of a source's bytes.
 use Rattle.std.specs.Prelude.{◌≡◌, ℕ, ◌+◌, ◌*◌, ◌/◌, ◌<◌, ◌≤◌, ◌==◌, ◌&&◌, min, Bool, true, false, not, List, [], length, replicate, Option, Some, None, IsNone, MatchOption, Result, Ok, Err, MatchResult, is_ok, nat_lt, if◌then◌else◌}
 use Rattle.std.specs.Int.{div_ceil}
-use Rattle.verity_format.specs.Descriptors.{DescriptorFields, descriptor_text, digest_of_file}
+use Rattle.verity_format.specs.Descriptors.{DescriptorFields, descriptor_bytes, digest_of_file}
 use Rattle.verity_io.specs.Reading.{HasRead}
 use Rattle.verity_tree.specs.Levels.{cut, data_blocks, root}
 use Rattle.verity_tree.specs.Building.{BuildsImage}
@@ -41,7 +41,7 @@ with_tree s size bytes device = if size == 0 then device
 -- the descriptor with this root hash, and its digest
 pub record IsDigestOfRoot (s : Settings) (size : ℕ) (root : List ℕ) (made : FileDigest) : Type 0 where
   pub digest : made.digest ≡ digest_of_file (descriptor_of s size root)
-  pub descriptor : made.descriptor ≡ descriptor_text (descriptor_of s size root)
+  pub descriptor : made.descriptor ≡ descriptor_bytes (descriptor_of s size root)
 
 -- the descriptor with a root hash, and its digest; it is the file's root hash if the source tells these bytes
 pub record IsDigestOfSource (s : Settings) (size : ℕ) (told : Type 0) (bytes : List ℕ) (made : FileDigest)

@@ -3,7 +3,7 @@
 use Rattle.std.specs.Prelude.{◌≡◌, ◌↔◌, ℕ, ◌<◌, Bool, MatchBool, List, [], length, take, codes, Option, Result, Ok, Err, IsTrue}
 use Rattle.std.specs.Io.KnownBytes.{Appends, Keeps}
 use Rattle.command_line.specs.Printing.{AppendsFront, Prints}
-use Rattle.verity_format.specs.Descriptors.{descriptor_text, digest_of_file}
+use Rattle.verity_format.specs.Descriptors.{descriptor_bytes, digest_of_file}
 use Rattle.verity_io.specs.Counting.{Change, Counts}
 use Rattle.verity_io.specs.Reading.{HasRead}
 use Rattle.verity_plan.specs.Settings.{Settings}
@@ -99,13 +99,13 @@ WritesTree task bytes result before after =
 -- the descriptor with this root hash is added if it is wanted
 abbrev pub AddsDescriptor : OutputTask → List ℕ → Option (List ℕ) → Option (List ℕ) → Type 0
 AddsDescriptor task root before after = MatchBool task.wants_descriptor
-    (Appends before after (descriptor_text (descriptor_of task.settings task.size root))) (Keeps before after)
+    (Appends before after (descriptor_bytes (descriptor_of task.settings task.size root))) (Keeps before after)
 
 -- only this many of its first bytes are added
 abbrev pub AddsPart : OutputTask → List ℕ → ℕ → Option (List ℕ) → Option (List ℕ) → Type 0
 AddsPart task root count before after = MatchBool task.wants_descriptor
-    ((count < length (descriptor_text (descriptor_of task.settings task.size root)))
-    × Appends before after (take count (descriptor_text (descriptor_of task.settings task.size root)))) ⊥
+    ((count < length (descriptor_bytes (descriptor_of task.settings task.size root)))
+    × Appends before after (take count (descriptor_bytes (descriptor_of task.settings task.size root)))) ⊥
 
 -- what is added to the descriptor's writer
 abbrev pub WritesDescriptor : OutputTask → List ℕ → Outcome → Option (List ℕ) → Option (List ℕ) → Type 0

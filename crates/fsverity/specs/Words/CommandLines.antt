@@ -1,9 +1,9 @@
 -- The command line of `fsverity` (fsverity(1)), in the words of clap, and what a line holds.
 use Rattle.std.specs.Prelude.{◌≡◌, ◌||◌, Option, Some, Result, List, [], length, is_some, codes, map, option_map, unwrap_or, string_bytes}
 use Rattle.clap.specs.Words.{App, Row, Text, all_of, first_of, new_app, with_rule, with_subcommand}
-use Rattle.command_line.specs.Arguments.{flag_of, flag_rule, option_rule, program_app, words_rule}
+use Rattle.command_line.specs.Arguments.{flag_of, flag_rule, option_rule, program_app, positionals_rule}
 use Rattle.verity_plan.specs.Settings.{Settings}
-use Rattle.fsverity.specs.Options.Settings.{fs_settings}
+use Rattle.fsverity.specs.Options.Settings.{digest_settings}
 use Rattle.fsverity.specs.declared.options.option_fault.FsOptionFault.{FsOptionFault}
 use Rattle.fsverity.specs.declared.words.line.Line.{Line}
 
@@ -14,7 +14,7 @@ digest_app = with_rule (with_rule (with_rule (with_rule (with_rule (with_rule (w
     (option_rule (codes "hash-alg"))) (option_rule (codes "block-size"))) (option_rule (codes "salt")))
     (flag_rule (codes "compact"))) (flag_rule (codes "for-builtin-sig")))
     (option_rule (codes "out-merkle-tree"))) (option_rule (codes "out-descriptor")))
-    (words_rule (codes "files"))
+    (positionals_rule (codes "files"))
 
 -- the program
 unfoldable pub fsverity_app : App
@@ -37,6 +37,6 @@ HoldsCommand met line = (p : Text × List Row) × (met ≡ Some p) × HoldsRows 
 
 -- the settings that a line's options give, or the first option that is refused
 abbrev pub settings_of : Line → Result Settings FsOptionFault
-settings_of line = fs_settings (option_map string_bytes line.hash_alg) (option_map string_bytes line.block_size)
+settings_of line = digest_settings (option_map string_bytes line.hash_alg) (option_map string_bytes line.block_size)
     (option_map string_bytes line.salt) (length line.files.items)
     (is_some line.out_merkle_tree || is_some line.out_descriptor)

@@ -2,7 +2,7 @@
 ghost use Rattle.std.specs.Prelude.{◌≡◌, IfOk, IfSome, option_copied, true};
 ghost use Rattle.verity_hash.specs.declared.salting.SaltRule.TheVariants.{PaddedBefore};
 ghost use Rattle.verity_plan.specs.Settings.{is_of_fsverity};
-ghost use Rattle.fsverity.specs.Options.Settings.{algorithm_of, block_size_of, salt_bytes_of, fs_settings};
+ghost use Rattle.fsverity.specs.Options.Settings.{algorithm_of, block_size_of, salt_bytes_of, digest_settings};
 
 use crate::FsOptionFault;
 use command_line::{DEFAULT_BLOCK_SIZE, algorithm_or_default, read_number, read_salt};
@@ -28,7 +28,7 @@ pub struct DigestOptions<'a> {
 /// The settings that the options give, or the first option that is refused: the algorithm, then the block size,
 /// then the salt (Linux kernel, fs-verity page, "FS_IOC_ENABLE_VERITY"), then an output file with more than one input.
 pub fn digest_settings(options: &DigestOptions<'_>) -> Result<TreeSettings, FsOptionFault>
-    ensures value { result ≡ fs_settings (option_copied options.now.hash_alg)
+    ensures value { result ≡ digest_settings (option_copied options.now.hash_alg)
         (option_copied options.now.block_size) (option_copied options.now.salt)
         options.now.files options.now.out_files }
     ensures rule { IfOk result (λ settings. settings.rule ≡ PaddedBefore) }

@@ -5,7 +5,7 @@ ghost use Rattle.std.specs.List.{zip};
 ghost use Rattle.verity_hash.specs.declared.salting.SaltRule.TheVariants.{PaddedBefore};
 ghost use Rattle.verity_plan.specs.Settings.{digest_len};
 ghost use Rattle.fsverity.specs.Openers.Opening.{SameFiles, opener_change};
-ghost use Rattle.fsverity.specs.Runs.Digest.{CountsFault, EndsAt, lines, first_refused};
+ghost use Rattle.fsverity.specs.Runs.Digest.{CountsFault, EndsAt, lines, first_without_digest};
 ghost use Rattle.fsverity.specs.Runs.DigestSteps.{IsDigestAt, StopsStep, WritesStep};
 
 use crate::texts::line_printing::print_line;
@@ -105,7 +105,7 @@ pub fn run_digest<O: Opener, W: Write, M: Write>(
     ensures done { result ≡ 0 → O.next opener.new ≡ length names.now }
     ensures quiet { result ≡ 0 → msgs.new ≡ msgs.old }
     ensures calm { result ≡ 0 → O.failures opener.new ≡ O.failures opener.old }
-    ensures all { O.tells opener.old → result ≡ 0 → first_refused settings.now (O.files opener.old) ≡ length names.now }
+    ensures all { O.tells opener.old → result ≡ 0 → first_without_digest settings.now (O.files opener.old) ≡ length names.now }
     ensures lines { O.tells opener.old → result ≡ 0
         → Appends (W.contents out.old) (W.contents out.new)
         (lines settings.now form (zip (map (λ n. n.now) names.now) (O.files opener.old))) }

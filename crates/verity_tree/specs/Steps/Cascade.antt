@@ -43,8 +43,8 @@ abbrev pub StepsCompared : Planned → ℕ → Arrival → LevelStep → List �
 StepsCompared p level a Open before after = after ≡ before
 StepsCompared p level a (Closed above) before after = (after ≡ before)
     × ((below : List (List ℕ)) → IsNext p.settings below a
-    → stored_block p before level (a.index / fan p.settings) ≡ open_block_with p.settings
-    (map (hash p.settings) below) a.index)
+    → stored_block p before level (a.index / fan p.settings)
+    ≡ open_block_with p.settings (map (hash p.settings) below) a.index)
 StepsCompared p level a (Stopped cause) before after = (after ≡ before)
     × ((below : List (List ℕ)) → IsNext p.settings below a
     → IsCause p (closed_block level (a.index / fan p.settings)

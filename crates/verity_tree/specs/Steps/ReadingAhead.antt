@@ -23,8 +23,8 @@ ReadsRow p i bytes (Ok _) row after =
 ReadsRow p i bytes (Err fault) row after = StopsInBlock p i bytes fault after
 
 -- `count` data blocks from i on stand in the rows
-abbrev pub HoldsRows : Planned → ℕ → List ℕ → ℕ → List ℕ → Type 0
-HoldsRows p i bytes count rows = (r : ℕ) → r < count
+abbrev pub HoldsDataBlocks : Planned → ℕ → List ℕ → ℕ → List ℕ → Type 0
+HoldsDataBlocks p i bytes count rows = (r : ℕ) → r < count
     → hash p.settings (slice_chunk rows p.settings.data_block r) ≡ level_digest p.settings (data_blocks p bytes)
     (i + r) 0
 
@@ -91,7 +91,7 @@ pub record IsAhead (p : Planned) (i : ℕ) (bytes : List ℕ) (ahead : Ahead) (a
   pub stands : StandsBy p ahead.end bytes ahead.fault after
 
 -- the next data block's digest, or why there is none
-abbrev pub TakesNext : Planned → ℕ → List ℕ → Result Digest BlockFault → Ahead → List ℕ → Type 0
-TakesNext p i bytes (Ok digest) ahead after =
+abbrev pub TakesDigest : Planned → ℕ → List ℕ → Result Digest BlockFault → Ahead → List ℕ → Type 0
+TakesDigest p i bytes (Ok digest) ahead after =
     IsAhead p (i + 1) bytes ahead after × (digest ≡ level_digest p.settings (data_blocks p bytes) i 0)
-TakesNext p i bytes (Err fault) ahead after = StandsBy p i bytes (Some fault) after
+TakesDigest p i bytes (Err fault) ahead after = StandsBy p i bytes (Some fault) after

@@ -1,5 +1,5 @@
 //! One pass over the data, with one open block a level.
-ghost use Rattle.std.specs.Prelude.{◌≡◌, ℕ, ◌+◌, ◌*◌, ◌^◌, ◌<◌, ◌≤◌, List, length, IfOk};
+ghost use Rattle.std.specs.Prelude.{◌≡◌, ℕ, ◌+◌, ◌*◌, ◌<◌, ◌≤◌, List, length, IfOk};
 ghost use Rattle.verity_io.specs.Counting.{Counts};
 ghost use Rattle.verity_tree.specs.Steps.OnePass.{Passes, PassesCompared, PassesImage, device_failed};
 ghost use Rattle.verity_tree.specs.Steps.OnePass.{source_failed};
@@ -53,25 +53,23 @@ pub(crate) fn pass<S: Source, D: Device>(
     let (work, stored) = store.split_at_mut(store.len() - plan.hash_block());
     let job = Job { plan: *plan, task };
     if needs_window(plan) {
-        return pass_over::<S, D, WINDOW>(&job, work, stored, source, device);
+        return pass_over(&job, work, stored, &mut [0; WINDOW], source, device);
     }
-    pass_over::<S, D, 0>(&job, work, stored, source, device)
+    pass_over(&job, work, stored, &mut [], source, device)
 }
 
-/// The pass, with a window of `N` bytes, into which data blocks that are hashed side by side are read as far as it has
-/// room. The open blocks and the data block are in `work`, and a hash block to compare with in `stored`. It isn't
-/// inlined, since its caller would then pay for the larger window even if it makes none.
-#[inline(never)]
-fn pass_over<S: Source, D: Device, const N: usize>(
+/// The pass, with a window into which data blocks that are hashed side by side are read as far as it has room. The open
+/// blocks and the data block are in `work`, and a hash block to compare with in `stored`.
+fn pass_over<S: Source, D: Device>(
     job: &Job,
     work: &mut [u8],
     stored: &mut [u8],
+    window: &mut [u8],
     source: &mut S,
     device: &mut D,
 ) -> Result<Digest, PassFault>
     requires room { levels_of job.now.plan * job.now.plan.settings.hash_block + job.now.plan.settings.data_block ≤
         length work.old }
-    requires window { N < 2 ^ 63 }
     requires stored { length stored.old ≡ job.now.plan.settings.hash_block }
     ensures planned { IsPlanned job.now.plan }
     ensures size { IfOk result (λ root. length root ≡ digest_len job.now.plan.settings) }
@@ -89,11 +87,10 @@ fn pass_over<S: Source, D: Device, const N: usize>(
 {
     let plan = &job.plan;
     work.fill(0);
-    let mut window = [0; N];
     let mut root = Digest::zeros(plan.settings().algorithm());
     let mut ahead = Ahead::none(plan);
     for i in 0..plan.blocks() {
-        let digest = match take_next(plan, work, &mut window, i, source, &mut ahead) {
+        let digest = match take_next(plan, work, window, i, source, &mut ahead) {
             Ok(digest) => digest,
             Err(BlockFault::Short) => return Err(PassFault::SourceShort(i)),
             Err(BlockFault::Failed) => return Err(PassFault::SourceFailed(i)),

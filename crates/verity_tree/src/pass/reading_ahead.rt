@@ -8,8 +8,8 @@ ghost use Rattle.verity_plan.specs.Settings.{digest_len};
 ghost use Rattle.verity_tree.specs.Reading.{bytes_of};
 ghost use Rattle.verity_tree.specs.Steps.DataBlocks.{read_failed};
 ghost use Rattle.verity_tree.specs.Steps.OpenBlocks.{HasOpenBlocks};
-ghost use Rattle.verity_tree.specs.Steps.ReadingAhead.{HoldsRows, IsAhead, IsFilled, IsQuiet, IsReadOf, IsRun};
-ghost use Rattle.verity_tree.specs.Steps.ReadingAhead.{ReadsRow, StandsBy, TakesNext, ahead_failed, next_failed};
+ghost use Rattle.verity_tree.specs.Steps.ReadingAhead.{HoldsDataBlocks, IsAhead, IsFilled, IsQuiet, IsReadOf, IsRun};
+ghost use Rattle.verity_tree.specs.Steps.ReadingAhead.{ReadsRow, StandsBy, TakesDigest, ahead_failed, next_failed};
 ghost use Rattle.verity_tree.specs.Steps.ReadingAhead.{stop_failed};
 
 use crate::pass::data_block::{BlockFault, read_data_block, take_data_block};
@@ -79,7 +79,7 @@ pub(crate) fn take_next<S: Source>(
     ensures opened { (blocks : List (List ℕ)) → HasOpenBlocks plan.now.settings blocks 0 (levels_of plan.now) i work.old
         → HasOpenBlocks plan.now.settings blocks 0 (levels_of plan.now) i work.new }
     ensures read { S.tells source.old → (bytes : List ℕ) → IsAhead plan.now i bytes ahead.old (S.remaining source.old)
-        → TakesNext plan.now i bytes result ahead.new (S.remaining source.new) }
+        → TakesDigest plan.now i bytes result ahead.new (S.remaining source.new) }
 {
     if i >= ahead.end && ahead.fault.is_none() {
         *ahead = read_ahead(plan, work, window, i, source);
@@ -201,7 +201,7 @@ fn read_rows<S: Source>(
     ensures count { Counts (stop_failed result.1) (S.failures source.old) (S.failures source.new) }
     ensures many { IsReadOf count result.0 result.1 }
     ensures rows { S.tells source.old → (bytes : List ℕ) → HasRead (bytes_of plan.now i) bytes (S.remaining source.old)
-        → HoldsRows plan.now i bytes result.0 rows.new }
+        → HoldsDataBlocks plan.now i bytes result.0 rows.new }
     ensures read { S.tells source.old → (bytes : List ℕ) → HasRead (bytes_of plan.now i) bytes (S.remaining source.old)
         → StandsBy plan.now (i + result.0) bytes result.1 (S.remaining source.new) }
 {

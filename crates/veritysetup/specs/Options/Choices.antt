@@ -82,7 +82,7 @@ settings texts length random = do
 
 -- the byte at which the superblock stands that a command reads, by the option's text; by default the first byte of the
 -- hash device
-abbrev pub superblock_offset : Option (List ℕ) → Result ℕ OptionFault
-superblock_offset text = do
+abbrev pub offset_of : Option (List ℕ) → Result ℕ OptionFault
+offset_of text = do
   offset ← ok_or (number_or 0 text) (BadNumber HashOffset)
   ok_or (multiple_of superblock_size offset) BadHashOffset

@@ -2,14 +2,14 @@
 -- For the private steps; not needed to read a public contract.
 use Rattle.std.specs.Prelude.{◌≡◌, ℕ, List, Option, Result, option_map, string_bytes}
 use Rattle.command_line.specs.Printing.{AppendsFront}
-use Rattle.veritysetup.specs.Options.Choices.{superblock_offset}
+use Rattle.veritysetup.specs.Options.Choices.{offset_of}
 use Rattle.veritysetup.specs.Texts.Messages.{option_text}
 use Rattle.veritysetup.specs.declared.options.raw_options.OptionFault.{OptionFault}
 use Rattle.veritysetup.specs.declared.words.line.Line.{Line}
 
 -- the byte at which dump or verify reads the superblock by a line, or why the line's offset is refused
 abbrev pub line_offset : Line → Result ℕ OptionFault
-line_offset line = superblock_offset (option_map string_bytes line.hash_offset)
+line_offset line = offset_of (option_map string_bytes line.hash_offset)
 
 -- with status 1, and the option's message or its first bytes
 abbrev pub EndsRefused : ℕ → Option (List ℕ) → Option (List ℕ) → OptionFault → Type 0

@@ -2,7 +2,7 @@
 -- block at its place and then that superblock (cryptsetup's on-disk format page, "dm-verity header"; Linux kernel,
 -- dm-verity page, "On-disk format").
 use Rattle.std.specs.Prelude.{◌≡◌, ℕ, Bool, true, false, List, take, drop, Some, Result, Ok, Err, if◌then◌else◌}
-use Rattle.verity_format.specs.Superblocks.{IsSuperblock, cause, superblock_text, SuperblockFields}
+use Rattle.verity_format.specs.Superblocks.{IsSuperblock, cause, superblock_bytes, SuperblockFields}
 use Rattle.verity_format.specs.declared.superblock.Superblock.{Superblock}
 use Rattle.verity_plan.specs.Plans.{superblock_size}
 use Rattle.veritysetup.specs.declared.runs.stored_superblock.StoredFault.{StoredFault}
@@ -36,7 +36,7 @@ superblock_for s = record { hash_type = s.hash_type; tree = s.plan.settings; uui
 
 -- a device with the superblock at the hash offset, if there is one
 abbrev pub with_superblock : VeritySettings → List ℕ → List ℕ
-with_superblock s device = if s.superblock then put device s.offset (superblock_text (superblock_for s)) else device
+with_superblock s device = if s.superblock then put device s.offset (superblock_bytes (superblock_for s)) else device
 
 -- the device with the whole tree above these data blocks, and the superblock
 abbrev pub image : VeritySettings → List (List ℕ) → List ℕ → List ℕ

@@ -1,6 +1,6 @@
 //! Where the hash area begins on a hash device, in bytes.
 ghost use Rattle.std.specs.Prelude.{◌≡◌, ◌<◌, option_copied};
-ghost use Rattle.veritysetup.specs.Options.Choices.{superblock_offset};
+ghost use Rattle.veritysetup.specs.Options.Choices.{offset_of};
 ghost use Rattle.veritysetup.specs.Options.Texts.{multiple_of, offset_unit};
 
 use crate::options::raw_options::{OptionFault, OptionName, RawOptions};
@@ -11,7 +11,7 @@ use verity_tree::TreeSettings;
 /// The byte at which the superblock stands that dump or verify reads, by default 0 (veritysetup(8), `--hash-offset`).
 /// `BadNumber` if the text is no number, `BadHashOffset` if it is no multiple of 512.
 pub fn offset_of(raw: &RawOptions) -> Result<u64, OptionFault>
-    ensures { result ≡ superblock_offset (option_copied raw.now.hash_offset) }
+    ensures { result ≡ offset_of (option_copied raw.now.hash_offset) }
 {
     let offset = number_or(0, raw.hash_offset).ok_or(OptionFault::BadNumber(
         OptionName::HashOffset,

@@ -1,12 +1,12 @@
 //! Root hashes as the command line writes them.
 ghost use Rattle.std.specs.Prelude.{◌≡◌, option_map};
 ghost use Rattle.veritysetup.specs.Options.Texts.{root_if_given};
-ghost use Rattle.veritysetup.specs.Options.VeritySettings.{root_of};
+ghost use Rattle.veritysetup.specs.Options.Texts.{root_of};
 
 use verity_hash::{Algorithm, Digest};
 
 /// The digest of exactly as many hexadecimal digits of either case as the algorithm's digests have, or `None`.
-pub fn read_root(algorithm: Algorithm, text: &str) -> Option<Digest>
+pub fn root_of(algorithm: Algorithm, text: &str) -> Option<Digest>
     ensures { result ≡ root_of algorithm text.now }
 {
     let mut bytes = [0; 64];
@@ -22,7 +22,7 @@ pub fn root_if_given(algorithm: Algorithm, text: Option<&str>) -> Option<Option<
     ensures { result ≡ root_if_given algorithm (option_map (λ t. t.now) text.entry) }
 {
     match text {
-        Some(text) => match read_root(algorithm, text) {
+        Some(text) => match root_of(algorithm, text) {
             Some(root) => Some(Some(root)),
             None => None,
         },

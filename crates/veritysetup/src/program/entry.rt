@@ -9,7 +9,7 @@ use crate::program::file_paths::FilePaths;
 use crate::program::format::format_files;
 use crate::program::verify::verify_files;
 use crate::texts::program_messages::{
-    cannot_open, lacks_memory, refuse_incomplete_line, refuse_line, refuse_words,
+    cannot_open, refuse_incomplete_line, refuse_line, refuse_words, stop_without_memory,
 };
 use crate::words::reading::{read_words, usage_of};
 use crate::{CommandName, Line};
@@ -40,7 +40,7 @@ where
     };
     let status = match texts_of(rt.alloc(), words.as_slice()) {
         Ok(texts) => run_words(rt, progress, texts.as_slice(), out, msgs),
-        Err(_) => lacks_memory(msgs),
+        Err(_) => stop_without_memory(msgs),
     };
     progress.erase();
     status

@@ -18,7 +18,7 @@ use crate::program::random_bytes::draw;
 use crate::program::syncing::{is_missing, keep};
 use crate::runs::format::run_format;
 use crate::texts::program_messages::{
-    cannot_open, cannot_write, lacks_data, lacks_random_bytes, refuse_option,
+    cannot_open, cannot_write, refuse_option, stop_for_short_data, stop_without_random_bytes,
 };
 use command_line::{Identities, ProgressLine, ProgressRuntime, lead_to_one, open_writable};
 use rand::rngs::StdRng;
@@ -62,7 +62,7 @@ where
     let raw = line.raw(lead_to_one(paths.data, paths.hash, opened, rt.path_identity(paths.hash)));
     let random = match random_bytes(rt, &raw) {
         Ok(random) => random,
-        Err(_) => return lacks_random_bytes(msgs),
+        Err(_) => return stop_without_random_bytes(msgs),
     };
     let options = FormatOptions { raw, random };
     format_by(rt, &options, data_file, paths.hash, out, msgs)
@@ -122,10 +122,10 @@ where
         × AppendsFront (short_text (whole_blocks settings.now.plan bytes)) (M.contents msgs.old) (M.contents msgs.new) }
 {
     if let Some(block) = missing_block(settings.plan(), data_file.length) {
-        return lacks_data(rt.alloc(), block, msgs);
+        return stop_for_short_data(rt.alloc(), block, msgs);
     }
     let source = data_file.source(settings.plan().wanted());
-    make(rt, settings, source, hash, out, msgs)
+    make_hash_device(rt, settings, source, hash, out, msgs)
 }
 
 /// The first data block that is not whole in data of this size, if the plan wants more.
@@ -142,7 +142,7 @@ fn missing_block(plan: &Plan, size: u64) -> Option<u64>
 }
 
 /// Opens HASH, makes it, and asks the system to keep it, with its name if it is a new file.
-fn make<R, S, O, M>(
+fn make_hash_device<R, S, O, M>(
     rt: &R,
     settings: &Settings,
     source: S,

@@ -102,7 +102,7 @@ fn settings_report(
 }
 
 /// Builds the tree, writes the superblock after it, and prints the report.
-fn format<S: Source, D: Device, O: Write>(
+fn build_and_report<S: Source, D: Device, O: Write>(
     alloc: Global,
     settings: &Settings,
     hash_path: &str,
@@ -169,7 +169,7 @@ pub fn run_format<S: Source, D: Device, O: Write, M: Write>(
         (change D.tells D.content D.failures device.old device.new)
         (text_change O.contents M.contents out.old out.new msgs.old msgs.new) }
 {
-    match format(alloc, settings, hash_path, source, device, out) {
+    match build_and_report(alloc, settings, hash_path, source, device, out) {
         Ok(()) => 0,
         Err(fault) => {
             fault.write_message(alloc, msgs);

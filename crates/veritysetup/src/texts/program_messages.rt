@@ -34,7 +34,7 @@ pub fn cannot_write<M: Write>(path: &str, msgs: &mut M) -> u8
 }
 
 /// The data ends before the end of a block that is wanted.
-pub fn lacks_data<M: Write>(alloc: Global, block: u64, msgs: &mut M) -> u8
+pub fn stop_for_short_data<M: Write>(alloc: Global, block: u64, msgs: &mut M) -> u8
     ensures status { result ≡ 4 }
     ensures message { AppendsFront (short_text block) (M.contents msgs.old) (M.contents msgs.new) }
 {
@@ -43,7 +43,7 @@ pub fn lacks_data<M: Write>(alloc: Global, block: u64, msgs: &mut M) -> u8
 }
 
 /// There are no random bytes.
-pub fn lacks_random_bytes<M: Write>(msgs: &mut M) -> u8
+pub fn stop_without_random_bytes<M: Write>(msgs: &mut M) -> u8
     ensures status { result ≡ 4 }
     ensures message { AppendsFront no_random_text (M.contents msgs.old) (M.contents msgs.new) }
 {
@@ -52,7 +52,7 @@ pub fn lacks_random_bytes<M: Write>(msgs: &mut M) -> u8
 }
 
 /// There is no memory for the command line.
-pub fn lacks_memory<M: Write>(msgs: &mut M) -> u8
+pub fn stop_without_memory<M: Write>(msgs: &mut M) -> u8
     ensures status { result ≡ 3 }
     ensures message { AppendsFront memory_text (M.contents msgs.old) (M.contents msgs.new) }
 {
@@ -89,7 +89,7 @@ pub fn refuse_words<M: Write>(alloc: Global, fault: &WordsFault, msgs: &mut M) -
             write_message(not_text_message(alloc, *number, word.as_slice()), msgs);
             1
         }
-        WordsFault::Memory => lacks_memory(msgs),
+        WordsFault::Memory => stop_without_memory(msgs),
     }
 }
 
@@ -101,7 +101,7 @@ pub fn refuse_line<M: Write>(fault: &LineFault, usage: &str, msgs: &mut M) -> u8
     ensures refused { (IsMemory fault.now → ⊥) → result ≡ 1 }
 {
     if fault.is_memory() {
-        return lacks_memory(msgs);
+        return stop_without_memory(msgs);
     }
     fault.write_message(usage, msgs);
     1

@@ -1,10 +1,10 @@
 -- Each field is put after those before it.
 use Rattle.std.proofs.Common.{refl}
-use Rattle.verity_format.specs.Descriptors.{descriptor_text}
+use Rattle.verity_format.specs.Descriptors.{descriptor_bytes}
 use Rattle.verity_format.proofs.descriptor.write_descriptor.Goals as goal
 
 pub returns : goal.returns
-unfolding descriptor_text
+unfolding descriptor_bytes
 returns c =
     rw (
       ← c.descriptor.view_is,

@@ -1,10 +1,10 @@
 -- Each field is put after those before it.
 use Rattle.std.proofs.Common.{refl}
-use Rattle.verity_format.specs.Superblocks.{superblock_text}
+use Rattle.verity_format.specs.Superblocks.{superblock_bytes}
 use Rattle.verity_format.proofs.writing.write_superblock.Goals as goal
 
 pub returns : goal.returns
-unfolding superblock_text
+unfolding superblock_bytes
 returns c =
     rw (
       c.finish.ensures,

@@ -3,7 +3,7 @@ use Rattle.std.proofs.Math.Nat.{mul-le-mul_right}
 use Rattle.verity_io.specs.Writing.{most_bytes}
 use Rattle.verity_plan.specs.Plans.{level_count, blocks_from, Planned, end_of}
 use Rattle.verity_plan.proofs.FanLemmas.{some_data, two_slots, digest_len_of-pos}
-use Rattle.verity_plan.proofs.PlanLemmas.{valid_plan-large, past-quotient, within-quotient, base-le-end, has_room-data}
+use Rattle.verity_plan.proofs.PlanLemmas.{checked_plan-large, past-quotient, within-quotient, base-le-end, has_room-data}
 use Rattle.verity_plan.proofs.PlanLemmas.{has_room-hash, some_wanted}
 use Rattle.verity_plan.proofs.plan.Plan.try_new.Goals as goal
 
@@ -18,13 +18,13 @@ returns-then-blocks-most_blocks c =
     omega (arith, hash_is, two_slots s c.hash_block.ensures.valid, digest_len_of-pos s.algorithm) in
     let data_some : 0 < c.from-most_blocks.result = omega (arith, data_is, some_data s c.data_block.ensures.valid) in
     elim c.then-blocks-most_blocks.either [
-      | inl many ↦ sym (valid_plan-large p some (has_room-data p
+      | inl many ↦ sym (checked_plan-large p some (has_room-data p
           (omega (
             arith,
             past-quotient most_bytes c.from-most_blocks.result c.args.blocks data_some many,
             ap (λ (n : ℕ). c.args.blocks * n) data_is,
           ))))
-      | inr far ↦ sym (valid_plan-large p some (has_room-hash p
+      | inr far ↦ sym (checked_plan-large p some (has_room-hash p
           (omega (
             arith,
             past-quotient most_bytes c.from-most_end.result c.args.base hash_some far.1,
@@ -44,7 +44,7 @@ returns-then-end-most_end c =
     let end_is : c.args.base + c.levels_above-above.result.blocks ≡ end_of p =
     ap (λ (n : ℕ). c.args.base + n) (c.levels_above-above.ensures.blocks
     ∙ ap (λ (f : ℕ). blocks_from f c.args.blocks 0 (level_count f c.args.blocks)) c.fan.ensures.value) in
-    sym (valid_plan-large p some (has_room-hash p
+    sym (checked_plan-large p some (has_room-hash p
     (omega (
       arith,
       past-quotient most_bytes c.from-most_end.result _ hash_some c.if-end-most_end.true,

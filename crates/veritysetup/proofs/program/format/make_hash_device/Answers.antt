@@ -1,5 +1,5 @@
 use Rattle.veritysetup.proofs.ProgramLemmas.{CommandRun-done, CommandRun-format, CommandRun-unwritten}
-use Rattle.veritysetup.proofs.program.format.make.Goals as goal
+use Rattle.veritysetup.proofs.program.format.make_hash_device.Goals as goal
 
 pub returns-then-status-ne0 : goal.returns-then-status-ne0
 returns-then-status-ne0 g c = CommandRun-format _ _ _ _ _ _ c.run_format-status.ensures.run

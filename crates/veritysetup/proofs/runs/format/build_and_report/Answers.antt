@@ -3,7 +3,7 @@ use Rattle.verity_tree.specs.Levels.{root, data_blocks}
 use Rattle.verity_plan.specs.Plans.{Planned}
 use Rattle.veritysetup.specs.Runs.Format.{root_above}
 use Rattle.veritysetup.proofs.PrintingLemmas.{Keeps-refl}
-use Rattle.veritysetup.proofs.runs.format.format.Goals as goal
+use Rattle.veritysetup.proofs.runs.format.build_and_report.Goals as goal
 
 -- equal plans give equal root hashes
 by_plan : (p q : Planned) (bytes found : List ℕ) → found ≡ root p.settings (data_blocks p bytes) → p ≡ q
