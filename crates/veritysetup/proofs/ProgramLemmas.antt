@@ -6,7 +6,7 @@ use Rattle.verity_io.specs.Counting.{Change}
 use Rattle.veritysetup.specs.Options.VeritySettings.{VeritySettings}
 use Rattle.veritysetup.specs.Runs.Format.{FormatRun, PrintsReport, fault_status, fault_text}
 use Rattle.veritysetup.specs.Runs.Outcomes.{TextChange, message_of, status_of}
-use Rattle.veritysetup.specs.Program.Answers.{CommandRun, Grows}
+use Rattle.veritysetup.specs.Program.CommandRuns.{CommandRun, Grows}
 use Rattle.veritysetup.specs.declared.runs.format.FormatFault.{FormatFault}
 use Rattle.veritysetup.specs.declared.runs.format.FormatFault.TheVariants.{Store, Build, Superblock, Report}
 use Rattle.command_line.specs.declared.printing.print_fault.PrintFault.TheVariants.{Memory, Output}

@@ -1,5 +1,5 @@
 -- From the texts of a line's options to settings.
-pub mod Texts
+pub mod OptionTexts
 pub mod Choices
 pub mod VeritySettings
 pub mod Uuids

@@ -4,7 +4,7 @@
 use Rattle.std.specs.Prelude.{ℕ, ◌/◌, ◌&&◌, Bool, not, nat_lt, List, Option, Result, Ok, Err, ok_or, unwrap_or, if◌then◌else◌}
 use Rattle.verity_plan.specs.Settings.{rule_of, type_of_number}
 use Rattle.command_line.specs.Options.{algorithm_or_default, default_block_size, number_or, ◌>>=◌}
-use Rattle.veritysetup.specs.Options.Texts.{Texts, area_uuid, block_size_of, multiple_of, number_if_given, offset_unit, root_if_given, salt_or_random, uuid_or_random}
+use Rattle.veritysetup.specs.Options.OptionTexts.{OptionTexts, area_uuid, block_size_of, multiple_of, number_if_given, offset_unit, root_if_given, salt_or_random, uuid_or_random}
 use Rattle.veritysetup.specs.declared.options.raw_options.OptionName.TheVariants.{Format, DataBlockSize, HashBlockSize, DataBlocks, HashOffset}
 use Rattle.veritysetup.specs.declared.options.raw_options.OptionFault.{OptionFault}
 use Rattle.veritysetup.specs.declared.options.raw_options.OptionFault.TheVariants.{BadNumber, UnknownHash, BadHashType, BadBlockSize, BadSalt, BadUuid, BadHashOffset, NoData, TooLarge, Overlap, BadRoot}
@@ -16,7 +16,7 @@ use Rattle.veritysetup.specs.declared.options.numbers.OptionNumbers.{OptionNumbe
 use Rattle.veritysetup.specs.declared.options.parameters.Parameters.{Parameters}
 
 -- the numbers that the texts stand for; by default hash type 1, blocks of 4096 and offset 0
-abbrev pub numbers : Texts → Result OptionNumbers OptionFault
+abbrev pub numbers : OptionTexts → Result OptionNumbers OptionFault
 numbers texts = do
   format ← ok_or (number_or 1 texts.format) (BadNumber Format)
   data_block ← ok_or (number_or default_block_size texts.data_block_size) (BadNumber DataBlockSize)
@@ -27,7 +27,7 @@ numbers texts = do
 
 -- what the texts choose for tree and superblock; without a superblock a hash offset is a multiple of the hash block
 -- size, and there is no UUID
-abbrev pub parameters : Texts → Option (List ℕ) → Result Parameters OptionFault
+abbrev pub parameters : OptionTexts → Option (List ℕ) → Result Parameters OptionFault
 parameters texts random = do
   n ← numbers texts
   algorithm ← ok_or (algorithm_or_default texts.hash) UnknownHash
@@ -57,7 +57,7 @@ abbrev pub overlaps : Bool → ℕ → Planned → Bool
 overlaps same_file offset planned = same_file && nat_lt offset planned.wanted
 
 -- the settings of a plan, or why there are none
-abbrev pub settings_with : Texts → Parameters → Result Planned PlanFault → Result VeritySettings OptionFault
+abbrev pub settings_with : OptionTexts → Parameters → Result Planned PlanFault → Result VeritySettings OptionFault
 settings_with texts p (Err plan.NoData) = Err NoData
 settings_with texts p (Err plan.TooLarge) = Err TooLarge
 settings_with texts p (Ok planned) = if overlaps texts.same_file p.offset planned then Err Overlap
@@ -74,7 +74,7 @@ settings_with texts p (Ok planned) = if overlaps texts.same_file p.offset planne
 
 -- what the options choose for data of this length in bytes, or the first fault: there are as many data blocks as are
 -- wanted, by default all whole ones
-abbrev pub settings : Texts → ℕ → Option (List ℕ) → Result VeritySettings OptionFault
+abbrev pub settings : OptionTexts → ℕ → Option (List ℕ) → Result VeritySettings OptionFault
 settings texts length random = do
   p ← parameters texts random
   let blocks = unwrap_or p.blocks (length / p.tree.data_block)

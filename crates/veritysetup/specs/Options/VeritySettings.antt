@@ -1,11 +1,19 @@
 -- The settings of a hash device, which the options choose (veritysetup(8), "format", "root_hash"; cryptsetup's on-disk
--- format page).
-use Rattle.std.specs.Prelude.{ℕ, ◌*◌, ◌==◌, List, Option, None, if◌then◌else◌, ◌≡◌, Bool, Some, Result, Err}
+-- format page). A root hash is written in hexadecimal digits of either case, two for each byte of a digest.
+use Rattle.std.specs.Prelude.{ℕ, ◌*◌, ◌==◌, List, length, Option, None, if◌then◌else◌, ◌≡◌, Bool, Some, Result, Err}
+use Rattle.std.specs.Result.{result_ok}
+use Rattle.hex.specs.Hex.{decode_of}
+use Rattle.verity_hash.specs.Hashing.{digest_len_of}
+use Rattle.verity_hash.specs.declared.algorithm.Algorithm.{Algorithm}
 use Rattle.verity_plan.specs.Settings.{Settings, rule_of}
 use Rattle.verity_plan.specs.Plans.{Planned, base_of, plan_for_blocks}
 use Rattle.verity_plan.specs.declared.hash_type.HashType.{HashType}
 use Rattle.verity_plan.specs.declared.plan_fault.PlanFault.{PlanFault}
 use Rattle.verity_plan.specs.declared.plan_fault.PlanFault.TheVariants.{NoData, TooLarge}
+
+-- the bytes of a root hash
+abbrev pub root_of : Algorithm → List ℕ → Option (List ℕ)
+root_of algorithm text = if length text == 2 * digest_len_of algorithm then result_ok (decode_of text) else None
 
 -- the settings of a hash device: the hash type, the UUID's bytes, the hash offset in bytes, whether a superblock stands
 -- there, the tree's plan, and the root hash if one was given

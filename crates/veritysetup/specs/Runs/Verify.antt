@@ -10,8 +10,7 @@ use Rattle.verity_tree.specs.Comparing as comparing
 use Rattle.verity_tree.specs.Image.{HoldsTree}
 use Rattle.verity_tree.specs.declared.comparing.CompareFault.{CompareFault}
 use Rattle.verity_tree.specs.declared.comparing.CompareFault.TheVariants as fault
-use Rattle.veritysetup.specs.Options.VeritySettings.{plan_at}
-use Rattle.veritysetup.specs.Options.Texts.{root_of}
+use Rattle.veritysetup.specs.Options.VeritySettings.{plan_at, root_of}
 use Rattle.veritysetup.specs.Texts.Messages.{compare_text, memory_text, option_text, super_text, too_large_text, unread_superblock_text}
 use Rattle.veritysetup.specs.Runs.Outcomes.{status_of, message_of}
 use Rattle.command_line.specs.Printing.{AppendsFront}

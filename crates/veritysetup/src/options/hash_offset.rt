@@ -1,7 +1,7 @@
 //! Where the hash area begins on a hash device, in bytes.
 ghost use Rattle.std.specs.Prelude.{◌≡◌, ◌<◌, option_copied};
 ghost use Rattle.veritysetup.specs.Options.Choices.{offset_of};
-ghost use Rattle.veritysetup.specs.Options.Texts.{multiple_of, offset_unit};
+ghost use Rattle.veritysetup.specs.Options.OptionTexts.{multiple_of, offset_unit};
 
 use crate::options::raw_options::{OptionFault, OptionName, RawOptions};
 use command_line::number_or;

@@ -1,7 +1,7 @@
 //! The options that are numbers.
 ghost use Rattle.std.specs.Prelude.{◌≡◌, option_map};
 ghost use Rattle.veritysetup.specs.Options.Choices.{numbers};
-ghost use Rattle.veritysetup.specs.Options.Texts.{number_if_given, texts_of};
+ghost use Rattle.veritysetup.specs.Options.OptionTexts.{number_if_given, texts_of};
 
 use crate::options::raw_options::{OptionFault, OptionName, RawOptions};
 use command_line::{DEFAULT_BLOCK_SIZE, number_or, read_number};

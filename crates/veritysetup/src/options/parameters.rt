@@ -1,6 +1,6 @@
 //! What the texts of options choose, before the data is looked at.
 ghost use Rattle.std.specs.Prelude.{◌≡◌, IfOk, option_map};
-ghost use Rattle.veritysetup.specs.Options.Texts.{texts_of, block_size_of, salt_or_random, uuid_or_random, area_uuid};
+ghost use Rattle.veritysetup.specs.Options.OptionTexts.{texts_of, block_size_of, salt_or_random, uuid_or_random, area_uuid};
 ghost use Rattle.verity_plan.specs.Settings.{rule_of};
 ghost use Rattle.veritysetup.specs.Options.Choices.{parameters};
 

@@ -4,7 +4,7 @@ ghost use Rattle.std.specs.Prelude.{◌≡◌, option_map};
 ghost use Rattle.veritysetup.specs.Options.VeritySettings.{PartsAgree};
 ghost use Rattle.veritysetup.specs.Options.Choices.{settings};
 ghost use Rattle.veritysetup.specs.Runs.HashDevice.{superblock_for};
-ghost use Rattle.veritysetup.specs.Options.Texts.{texts_of};
+ghost use Rattle.veritysetup.specs.Options.OptionTexts.{texts_of};
 
 use crate::options::hash_area::plan_at;
 use crate::options::parameters::Parameters;

@@ -1,7 +1,7 @@
 //! `veritysetup dump` over the files of a runtime.
 ghost use Rattle.std.specs.Prelude.{◌≡◌, IfErr};
 ghost use Rattle.veritysetup.specs.Runs.Outcomes.{text_change};
-ghost use Rattle.veritysetup.specs.Program.Answers.{CommandRun};
+ghost use Rattle.veritysetup.specs.Program.CommandRuns.{CommandRun};
 ghost use Rattle.veritysetup.specs.Program.Refusals.{EndsRefused, line_offset};
 
 use crate::Line;

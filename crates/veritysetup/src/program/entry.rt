@@ -1,7 +1,7 @@
 //! The program veritysetup, over any runtime.
 ghost use Rattle.std.specs.Prelude.{◌≡◌};
 ghost use Rattle.std.specs.Io.KnownBytes.{Keeps};
-ghost use Rattle.veritysetup.specs.Program.Answers.{CommandRun, IsStatus};
+ghost use Rattle.veritysetup.specs.Program.CommandRuns.{CommandRun, IsStatus};
 ghost use Rattle.veritysetup.specs.Runs.Outcomes.{text_change};
 
 use crate::program::dump::dump_file;

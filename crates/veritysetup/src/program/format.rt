@@ -4,9 +4,9 @@ ghost use Rattle.command_line.specs.Printing.{AppendsFront};
 ghost use Rattle.verity_tree.specs.Levels.{whole_blocks};
 ghost use Rattle.veritysetup.specs.Options.Choices.{settings};
 ghost use Rattle.veritysetup.specs.Texts.Messages.{short_text};
-ghost use Rattle.veritysetup.specs.Options.Texts.{texts_of};
+ghost use Rattle.veritysetup.specs.Options.OptionTexts.{texts_of};
 ghost use Rattle.veritysetup.specs.Runs.Outcomes.{text_change};
-ghost use Rattle.veritysetup.specs.Program.Answers.{CommandRun};
+ghost use Rattle.veritysetup.specs.Program.CommandRuns.{CommandRun};
 ghost use Rattle.veritysetup.specs.Program.Refusals.{EndsRefused};
 
 use crate::Line;

@@ -2,8 +2,8 @@
 ghost use Rattle.std.specs.Prelude.{◌≡◌, IfErr, None, false};
 ghost use Rattle.std.specs.Io.KnownBytes.{Keeps};
 ghost use Rattle.veritysetup.specs.Options.Choices.{settings};
-ghost use Rattle.veritysetup.specs.Options.Texts.{texts_of};
-ghost use Rattle.veritysetup.specs.Program.Answers.{Grows, IsStatus};
+ghost use Rattle.veritysetup.specs.Options.OptionTexts.{texts_of};
+ghost use Rattle.veritysetup.specs.Program.CommandRuns.{Grows, IsStatus};
 ghost use Rattle.veritysetup.specs.Program.Refusals.{EndsRefused, line_offset};
 
 use crate::Line;

@@ -3,8 +3,8 @@ ghost use Rattle.std.specs.Prelude.{◌≡◌};
 ghost use Rattle.command_line.specs.LineFaults.{IsMemory};
 ghost use Rattle.command_line.specs.Printing.{AppendsFront};
 ghost use Rattle.veritysetup.specs.Texts.Messages.{memory_text, option_text, short_text};
-ghost use Rattle.veritysetup.specs.Program.Answers.{IsRefusal, words_status, words_text};
-ghost use Rattle.veritysetup.specs.Program.Answers.{incomplete_text, no_random_text, unopened_text, unwritten_text};
+ghost use Rattle.veritysetup.specs.Texts.ProgramMessages.{IsRefusal, incomplete_text, no_random_text, unopened_text};
+ghost use Rattle.veritysetup.specs.Texts.ProgramMessages.{unwritten_text, words_status, words_text};
 
 use crate::options::raw_options::OptionFault;
 use crate::texts::messages::{OUT_OF_MEMORY, build_message, option_message};

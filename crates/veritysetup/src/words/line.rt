@@ -33,8 +33,8 @@ pub struct Line {
 }
 
 impl Line {
-    /// The texts of the options as they are given, the ROOT of verify, and whether data and hash area are in one file,
-    /// which the caller says.
+    /// The texts of the options as they are given, with the ROOT of verify; `same_file` says whether data and hash area
+    /// are in one file.
     pub fn raw(&self, same_file: bool) -> RawOptions<'_>
         ensures hash { option_copied result.hash ≡ option_map string_bytes self.now.hash }
         ensures format { option_copied result.format ≡ option_map string_bytes self.now.format }

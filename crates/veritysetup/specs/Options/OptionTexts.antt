@@ -1,21 +1,19 @@
 -- What the texts of options stand for, one by one, with the defaults of veritysetup(8).
-use Rattle.std.specs.Prelude.{ℕ, ◌*◌, ◌%◌, ◌==◌, Bool, true, false, List, [], length, replicate, take, drop, codes}
+use Rattle.std.specs.Prelude.{ℕ, ◌%◌, ◌==◌, Bool, true, false, List, [], replicate, take, drop, codes}
 use Rattle.std.specs.Prelude.{Option, Some, None, option_map, if◌then◌else◌}
-use Rattle.std.specs.Result.{result_ok}
 use Rattle.std.specs.Str.{bytes_eq}
-use Rattle.hex.specs.Hex.{decode_of}
 use Rattle.uuid.specs.Text.{parsed}
-use Rattle.verity_hash.specs.Hashing.{digest_len_of}
 use Rattle.verity_hash.specs.declared.algorithm.Algorithm.{Algorithm}
 use Rattle.verity_hash.specs.declared.salting.SaltRule.TheVariants.{Before}
 use Rattle.verity_plan.specs.Plans.{superblock_size}
 use Rattle.verity_plan.specs.Settings.{is_verity_block_size, most_salt}
 use Rattle.command_line.specs.Options.{number_of, salt_of}
 use Rattle.veritysetup.specs.Options.Uuids.{random_uuid}
+use Rattle.veritysetup.specs.Options.VeritySettings.{root_of}
 use Rattle.veritysetup.specs.declared.options.raw_options.RawOptions.{RawOptions}
 
 -- the texts of the options, each None if it is not given
-pub record Texts : Type 0 where
+pub record OptionTexts : Type 0 where
   pub hash : Option (List ℕ)
   pub format : Option (List ℕ)
   pub data_block_size : Option (List ℕ)
@@ -28,7 +26,7 @@ pub record Texts : Type 0 where
   pub no_superblock : Bool
   pub same_file : Bool
 
-abbrev pub texts_of : RawOptions → Texts
+abbrev pub texts_of : RawOptions → OptionTexts
 texts_of raw = record {
   hash = option_map (λ t. t.now) raw.hash;
   format = option_map (λ t. t.now) raw.format;
@@ -81,10 +79,6 @@ uuid_or_random None None = Some no_uuid
 abbrev pub area_uuid : Bool → List ℕ → List ℕ
 area_uuid true uuid = uuid
 area_uuid false uuid = no_uuid
-
--- the bytes of a root hash, which is written in hexadecimal digits of either case, two for each byte of a digest
-abbrev pub root_of : Algorithm → List ℕ → Option (List ℕ)
-root_of algorithm text = if length text == 2 * digest_len_of algorithm then result_ok (decode_of text) else None
 
 -- a root hash that may be missing; none if the text is no digest of the algorithm
 abbrev pub root_if_given : Algorithm → Option (List ℕ) → Option (Option (List ℕ))
