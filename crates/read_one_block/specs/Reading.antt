@@ -7,7 +7,7 @@ use Rattle.verity_plan.specs.Settings.{fan}
 use Rattle.verity_hash.specs.Hashing.{filled}
 use Rattle.verity_tree.specs.Levels.{data_blocks}
 use Rattle.verity_tree.specs.Paths.{ChecksBlock, HasCollision, IsAccepted}
-use Rattle.verity_tree.specs.Image.{stored_block}
+use Rattle.verity_tree.specs.TreeOnDevice.{stored_block}
 use Rattle.read_one_block.specs.declared.image.ReadFault.{ReadFault}
 use Rattle.read_one_block.specs.declared.image.ReadFault.TheVariants.{DataFailed, TreeFailed, Refused}
 

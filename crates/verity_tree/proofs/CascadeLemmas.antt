@@ -8,7 +8,7 @@ use Rattle.std.proofs.Math.Nat.{one-le-pow, pow-suc}
 use Rattle.verity_plan.specs.Settings.{Settings, hash, fan}
 use Rattle.verity_tree.specs.Levels.{blocks_up}
 use Rattle.verity_plan.specs.Plans.{level_count, level_size, place, byte_at, Planned}
-use Rattle.verity_tree.specs.Image.{closing, closes, stored_block, tree_block, device_with}
+use Rattle.verity_tree.specs.TreeOnDevice.{closing, closes, stored_block, tree_block, device_with}
 use Rattle.verity_tree.specs.Steps.Cascade.{EndsBlock, first_closing}
 use Rattle.verity_tree.specs.Steps.OpenBlocks.{digests_under, open_block, open_block_with, IsReached, IsCarrying}
 use Rattle.verity_tree.specs.Steps.OpenBlocks.{IsNext}

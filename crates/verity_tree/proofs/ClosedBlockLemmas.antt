@@ -4,7 +4,7 @@ use Rattle.std.proofs.Common.{arith, sym, ◌∙◌, ap, subst, refl, append_ass
 use Rattle.std.proofs.lemmas.List.{append-nil, length-take, take-append-drop, drop-drop}
 use Rattle.verity_tree.specs.Steps.ClosedBlocks.{Closes, IsCause, closed_block}
 use Rattle.verity_plan.specs.Plans.{Planned, byte_of}
-use Rattle.verity_tree.specs.Image.{stored_block}
+use Rattle.verity_tree.specs.TreeOnDevice.{stored_block}
 use Rattle.verity_io.specs.Writing.{put, Spoiled}
 use Rattle.verity_tree.specs.declared.pass.closed_block.Cause.{Cause}
 use Rattle.verity_tree.specs.declared.pass.closed_block.Cause.TheVariants.{Failed, Differs}

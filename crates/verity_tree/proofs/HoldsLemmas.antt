@@ -15,7 +15,7 @@ use Rattle.verity_plan.specs.Plans.{Planned, IsPlanned, HasBlock}
 use Rattle.verity_plan.specs.Settings.{fan}
 use Rattle.verity_plan.proofs.CountLemmas.{le-div_ceil}
 use Rattle.verity_plan.proofs.FanLemmas.{fan-some, some_data}
-use Rattle.verity_tree.specs.Image.{order, times, tree_block, HoldsTree, stored_block}
+use Rattle.verity_tree.specs.TreeOnDevice.{order, times, tree_block, HoldsTree, stored_block}
 use Rattle.verity_tree.specs.Levels.{root, data_blocks, whole_blocks}
 use Rattle.verity_tree.specs.Verdicts.{NoneDiffers, StandsThere, differs, verdict_by, verdict}
 use Rattle.verity_tree.specs.declared.comparing.CompareFault.{CompareFault}

@@ -8,7 +8,7 @@ use Rattle.std.specs.Prelude.{find, not, nat_lt, Some, None, Option}
 use Rattle.std.proofs.lemmas.Bool.{not-true}
 use Rattle.std.specs.Str.{bytes_eq}
 use Rattle.verity_tree.specs.Reading.{EndsWithin}
-use Rattle.verity_tree.specs.Image.{order, tree_block, stored_block}
+use Rattle.verity_tree.specs.TreeOnDevice.{order, tree_block, stored_block}
 use Rattle.verity_tree.specs.Comparing.{ComesTo, Judges}
 use Rattle.verity_tree.specs.Steps.OnePass.{fault_by, fault_of, StopsFor}
 use Rattle.verity_tree.specs.Levels.{root, data_blocks, whole_blocks}

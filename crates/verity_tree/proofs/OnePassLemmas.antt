@@ -11,7 +11,7 @@ use Rattle.std.specs.Prelude.{Contains}
 use Rattle.verity_plan.proofs.CountLemmas.{mul_le}
 use Rattle.verity_plan.specs.Settings.{Settings, fan}
 use Rattle.verity_tree.specs.Levels.{hash_block_of, data_blocks}
-use Rattle.verity_tree.specs.Image.{closing, order, tree_block, device_with, tree_image_after, StopsAt}
+use Rattle.verity_tree.specs.TreeOnDevice.{closing, order, tree_block, device_with, tree_on_device_after, StopsAt}
 use Rattle.verity_io.specs.Writing.{Spoiled}
 use Rattle.verity_tree.proofs.OrderSplit.{closing-front, order-front, order-more, device_with-append, device_with-order}
 use Rattle.verity_tree.specs.Reading.{ReadsUpTo, bytes_of}
@@ -67,7 +67,7 @@ HasOpenBlocks-after s blocks levels i a k store new place within h = λ l from t
 -- a data block that stopped at a level
 pub image-stopped : (p : Planned) (blocks : List (List ℕ)) (i l j : ℕ) (start device new : List ℕ) → 0 < fan p.settings
     → i < p.blocks
-    → ClosesWith p i l j → device ≡ tree_image_after p blocks i start
+    → ClosesWith p i l j → device ≡ tree_on_device_after p blocks i start
     → Spoiled (device_with p.settings blocks p.base (first_closing (fan p.settings) i l) device)
     (byte_of p l j) p.settings.hash_block new
     → StopsAt p blocks (l, j) start new

@@ -11,7 +11,7 @@ use Rattle.std.specs.Int.{div_ceil}
 use Rattle.std.specs.List.{filter, range_with_len}
 use Rattle.std.specs.Prelude.{◌==◌, ◌&&◌, ◌⊎◌}
 use Rattle.verity_plan.specs.Plans.{level_count, level_size, IsTreeBlock}
-use Rattle.verity_tree.specs.Image.{closes, closing, order, times, ClosesOnce}
+use Rattle.verity_tree.specs.TreeOnDevice.{closes, closing, order, times, ClosesOnce}
 use Rattle.verity_plan.proofs.CountLemmas.{le-div_ceil, div_ceil-le, div_ceil-pos}
 
 -- the levels that pass a test, each with a block

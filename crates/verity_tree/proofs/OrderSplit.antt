@@ -10,7 +10,7 @@ use Rattle.std.specs.Int.{div_ceil}
 use Rattle.std.specs.List.{filter, range_with_len}
 use Rattle.std.specs.Prelude.{◌==◌, ◌||◌, slice_index_or}
 use Rattle.verity_plan.specs.Plans.{level_count, byte_at}
-use Rattle.verity_tree.specs.Image.{closes, closing, order, device_with}
+use Rattle.verity_tree.specs.TreeOnDevice.{closes, closing, order, device_with}
 use Rattle.verity_tree.specs.Steps.Cascade.{first_closing}
 use Rattle.verity_plan.specs.Settings.{Settings, fan}
 use Rattle.verity_tree.specs.Steps.OpenBlocks.{IsReached}

@@ -2,7 +2,7 @@
 use Rattle.std.proofs.Common.{◌≡◌, [], ◌∷◌, refl}
 use Rattle.verity_plan.specs.Settings.{least_from}
 use Rattle.verity_plan.specs.Plans.{level_count}
-use Rattle.verity_tree.specs.Image.{order}
+use Rattle.verity_tree.specs.TreeOnDevice.{order}
 
 order_17 : order 16 17 17 ≡ (0, 0) ∷ (0, 1) ∷ (1, 0) ∷ []
 unfolding least_from level_count order

@@ -3,7 +3,7 @@ use Rattle.std.specs.Prelude.{◌≡◌, ℕ, Bool, true, false, List, Result, O
 use Rattle.verity_hash.specs.declared.digest.Digest.{Digest}
 use Rattle.verity_io.specs.Reading.{HasRead}
 use Rattle.verity_plan.specs.Plans.{Planned}
-use Rattle.verity_tree.specs.Image.{tree_image, tree_image_after, StopsAt}
+use Rattle.verity_tree.specs.TreeOnDevice.{tree_on_device, tree_on_device_after, StopsAt}
 use Rattle.verity_tree.specs.Levels.{data_blocks, root}
 use Rattle.verity_tree.specs.Reading.{EndsWithin, FailsWithin, ReadsUpTo}
 use Rattle.verity_tree.specs.declared.building.BuildFault.{BuildFault}
@@ -17,11 +17,11 @@ Builds p (Err (SourceFailed i)) before after = FailsWithin p i before after
 Builds p (Err (DeviceFailed level block)) before after = ReadsUpTo p level block before after
 
 -- what stands on the device, by the answer
-abbrev pub BuildsImage : Planned → List (List ℕ) → Result Digest BuildFault → List ℕ → List ℕ → Type 0
-BuildsImage p blocks (Ok digest) before after = after ≡ tree_image p blocks before
-BuildsImage p blocks (Err (SourceShort i)) before after = after ≡ tree_image_after p blocks i before
-BuildsImage p blocks (Err (SourceFailed i)) before after = after ≡ tree_image_after p blocks i before
-BuildsImage p blocks (Err (DeviceFailed level block)) before after = StopsAt p blocks (level, block) before after
+abbrev pub BuildsOnDevice : Planned → List (List ℕ) → Result Digest BuildFault → List ℕ → List ℕ → Type 0
+BuildsOnDevice p blocks (Ok digest) before after = after ≡ tree_on_device p blocks before
+BuildsOnDevice p blocks (Err (SourceShort i)) before after = after ≡ tree_on_device_after p blocks i before
+BuildsOnDevice p blocks (Err (SourceFailed i)) before after = after ≡ tree_on_device_after p blocks i before
+BuildsOnDevice p blocks (Err (DeviceFailed level block)) before after = StopsAt p blocks (level, block) before after
 
 -- whether the answer is a failure of the source, or of the device
 abbrev pub source_failed : Result Digest BuildFault → Bool

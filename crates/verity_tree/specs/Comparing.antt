@@ -3,7 +3,7 @@ use Rattle.std.specs.Prelude.{◌≡◌, ℕ, Bool, true, false, List, Result, O
 use Rattle.verity_io.specs.Reading.{HasRead}
 use Rattle.verity_plan.specs.Plans.{Planned}
 use Rattle.verity_plan.specs.Settings.{fan}
-use Rattle.verity_tree.specs.Image.{ComesNext, order}
+use Rattle.verity_tree.specs.TreeOnDevice.{ComesNext, order}
 use Rattle.verity_tree.specs.Levels.{data_blocks}
 use Rattle.verity_tree.specs.Reading.{EndsWithin, FailsWithin, ReadsUpTo}
 use Rattle.verity_tree.specs.Verdicts.{NoneDiffers, verdict}

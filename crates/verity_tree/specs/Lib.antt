@@ -1,5 +1,5 @@
 pub mod Levels
-pub mod Image
+pub mod TreeOnDevice
 pub mod Reading
 pub mod Building
 pub mod Verdicts

@@ -4,7 +4,7 @@ use Rattle.std.specs.Prelude.{◌≡◌, ◌≢◌, ◌<◌, ◌≤◌, ℕ, zer
 use Rattle.std.specs.Prelude.{slice_index_or, if◌then◌else◌, Result, Ok, Err}
 use Rattle.std.specs.Fork.{slice_chunk}
 use Rattle.std.specs.List.{flat_map, range_with_len}
-use Rattle.verity_tree.specs.Image.{tree_block}
+use Rattle.verity_tree.specs.TreeOnDevice.{tree_block}
 use Rattle.verity_plan.specs.Plans.{Planned, levels_of}
 use Rattle.verity_plan.specs.Settings.{Settings, fan, hash}
 use Rattle.verity_tree.specs.Verdicts.{digest_in}

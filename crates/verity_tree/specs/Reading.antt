@@ -3,7 +3,7 @@ use Rattle.std.specs.Prelude.{◌≡◌, ℕ, ◌+◌, ◌*◌, ◌<◌, ◌≤�
 use Rattle.verity_io.specs.Reading.{HasRead}
 use Rattle.verity_plan.specs.Plans.{Planned}
 use Rattle.verity_plan.specs.Settings.{fan}
-use Rattle.verity_tree.specs.Image.{closing}
+use Rattle.verity_tree.specs.TreeOnDevice.{closing}
 use Rattle.verity_tree.specs.Levels.{whole_blocks}
 
 -- the bytes of i data blocks, or all that are wanted

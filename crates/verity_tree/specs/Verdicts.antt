@@ -4,7 +4,7 @@ use Rattle.std.specs.Prelude.{◌≡◌, ◌≤◌, ℕ, ◌+◌, ◌-◌, ◌*�
 use Rattle.std.specs.Prelude.{Option, Some, None, Result, Ok, Err, if◌then◌else◌}
 use Rattle.std.specs.List.{range_with_len}
 use Rattle.std.specs.Str.{bytes_eq}
-use Rattle.verity_tree.specs.Image.{order, tree_block, stored_block}
+use Rattle.verity_tree.specs.TreeOnDevice.{order, tree_block, stored_block}
 use Rattle.verity_tree.specs.Levels.{root, data_blocks, whole_blocks}
 use Rattle.verity_plan.specs.Plans.{Planned, HasBlock, byte_of, size_under}
 use Rattle.verity_plan.specs.Settings.{Settings, digest_len, fan, slot_width}

@@ -1,7 +1,7 @@
 //! A tree that is built in one pass, as its data blocks come.
 ghost use Rattle.std.specs.Prelude.{◌≡◌, length, IfErr, IfOk};
 ghost use Rattle.verity_io.specs.Counting.{Counts};
-ghost use Rattle.verity_tree.specs.Building.{Builds, BuildsImage, IsOfSource, device_failed, source_failed};
+ghost use Rattle.verity_tree.specs.Building.{Builds, BuildsOnDevice, IsOfSource, device_failed, source_failed};
 ghost use Rattle.verity_tree.specs.Levels.{data_blocks};
 ghost use Rattle.verity_plan.specs.Plans.{store_length_of};
 ghost use Rattle.verity_plan.specs.Settings.{digest_len};
@@ -56,7 +56,7 @@ pub fn build<S: Source, D: Device>(
     // The root is that of the levels over whole lists.
     ensures read { S.tells source.old → Builds plan.now result (S.remaining source.old) (S.remaining source.new) }
     ensures stands { S.tells source.old → D.tells device.old
-        → BuildsImage plan.now (data_blocks plan.now (S.remaining source.old))
+        → BuildsOnDevice plan.now (data_blocks plan.now (S.remaining source.old))
         result (D.content device.old) (D.content device.new) }
 {
     match pass(plan, Task::Write, store.lend(), source, device) {

@@ -3,7 +3,7 @@
 ghost use Rattle.std.specs.Prelude.{◌≡◌, ◌⊎◌, ℕ, ◌<◌, ◌≤◌, List, [], length, slice_index_or, Result, Ok};
 ghost use Rattle.verity_plan.specs.Plans.{level_count, level_size, Planned, IsPlanned, levels_of};
 ghost use Rattle.verity_plan.specs.Settings.{Settings, fan};
-ghost use Rattle.verity_tree.specs.Image.{ClosesOnce, order, times, tree_block, HoldsTree};
+ghost use Rattle.verity_tree.specs.TreeOnDevice.{ClosesOnce, order, times, tree_block, HoldsTree};
 ghost use Rattle.verity_tree.specs.Levels.{data_blocks, level, height, root};
 ghost use Rattle.verity_tree.specs.Paths.{ChecksBlock, HasCollision, IsAccepted, true_path};
 ghost use Rattle.verity_tree.specs.Verdicts.{verdict};

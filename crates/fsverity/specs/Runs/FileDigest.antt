@@ -5,8 +5,8 @@ use Rattle.std.specs.Int.{div_ceil}
 use Rattle.verity_format.specs.Descriptors.{DescriptorFields, descriptor_bytes, digest_of_file}
 use Rattle.verity_io.specs.Reading.{HasRead}
 use Rattle.verity_tree.specs.Levels.{cut, data_blocks, root}
-use Rattle.verity_tree.specs.Building.{BuildsImage}
-use Rattle.verity_tree.specs.Image.{tree_image}
+use Rattle.verity_tree.specs.Building.{BuildsOnDevice}
+use Rattle.verity_tree.specs.TreeOnDevice.{tree_on_device}
 use Rattle.verity_tree.specs.Reading.{ReadsUpTo}
 use Rattle.verity_tree.specs.declared.building.BuildFault.{BuildFault}
 use Rattle.verity_tree.specs.declared.building.BuildFault.TheVariants as build
@@ -36,7 +36,7 @@ plan_of_file s size = record { settings = s; blocks = block_count s size; wanted
 -- a device with the tree of the first size bytes; an empty file has none
 abbrev pub with_tree : Settings → ℕ → List ℕ → List ℕ → List ℕ
 with_tree s size bytes device = if size == 0 then device
-    else tree_image (plan_of_file s size) (data_blocks (plan_of_file s size) bytes) device
+    else tree_on_device (plan_of_file s size) (data_blocks (plan_of_file s size) bytes) device
 
 -- the descriptor with this root hash, and its digest
 pub record IsDigestOfRoot (s : Settings) (size : ℕ) (root : List ℕ) (made : FileDigest) : Type 0 where
@@ -85,7 +85,7 @@ GivesDigest s size result before after = MatchResult result
 -- before it
 abbrev pub StandsAfter : Settings → ℕ → List ℕ → List ℕ → List ℕ → DigestFault → Type 0
 StandsAfter s size bytes before after fault = MatchOption (build_fault fault) (after ≡ before)
-    (λ f. BuildsImage (plan_of_file s size) (data_blocks (plan_of_file s size) bytes) (Err f) before after)
+    (λ f. BuildsOnDevice (plan_of_file s size) (data_blocks (plan_of_file s size) bytes) (Err f) before after)
 
 -- what stands on the tree's device, by the answer
 abbrev pub Stands : {X : Type 0} → Settings → ℕ → List ℕ → Result X DigestFault → List ℕ → List ℕ → Type 0

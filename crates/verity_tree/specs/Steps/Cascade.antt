@@ -4,7 +4,7 @@ use Rattle.std.specs.Prelude.{◌≡◌, ◌⊎◌, ℕ, ◌+◌, ◌/◌, ◌%�
 use Rattle.std.specs.List.{range_with_len}
 use Rattle.verity_hash.specs.declared.digest.Digest.{Digest}
 use Rattle.verity_plan.specs.Settings.{Settings, hash, fan}
-use Rattle.verity_tree.specs.Image.{closing, closes, tree_block, device_with, stored_block}
+use Rattle.verity_tree.specs.TreeOnDevice.{closing, closes, tree_block, device_with, stored_block}
 use Rattle.verity_plan.specs.Plans.{Planned, byte_of, levels_of}
 use Rattle.verity_tree.specs.declared.pass.cascade.Stop.{Stop}
 use Rattle.verity_tree.specs.declared.pass.closed_block.Task.{Task}

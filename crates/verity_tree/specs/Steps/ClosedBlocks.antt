@@ -4,7 +4,7 @@ use Rattle.std.specs.Prelude.{◌≡◌, ◌≢◌, ℕ, Bool, true, false, List
 use Rattle.verity_io.specs.Writing.{put, Spoiled}
 use Rattle.verity_plan.specs.Plans.{Planned, byte_of}
 use Rattle.verity_tree.specs.Verdicts.{part_of}
-use Rattle.verity_tree.specs.Image.{stored_block}
+use Rattle.verity_tree.specs.TreeOnDevice.{stored_block}
 use Rattle.verity_tree.specs.declared.pass.closed_block.Cause.{Cause}
 use Rattle.verity_tree.specs.declared.pass.closed_block.Cause.TheVariants.{Failed, Differs}
 use Rattle.verity_tree.specs.declared.pass.closed_block.Task.{Task}

@@ -2,9 +2,9 @@
 -- For the private steps; not needed to read a public contract.
 use Rattle.std.specs.Prelude.{◌≡◌, ℕ, ◌+◌, ◌<◌, ◌≤◌, Bool, true, false, List, length, Result, Ok, Err}
 use Rattle.verity_hash.specs.declared.digest.Digest.{Digest}
-use Rattle.verity_tree.specs.Building.{Builds, BuildsImage}
+use Rattle.verity_tree.specs.Building.{Builds, BuildsOnDevice}
 use Rattle.verity_tree.specs.Reading.{bytes_of}
-use Rattle.verity_tree.specs.Image.{tree_block, ComesNext, order}
+use Rattle.verity_tree.specs.TreeOnDevice.{tree_block, ComesNext, order}
 use Rattle.verity_tree.specs.Steps.ClosedBlocks.{IsCause, call_failed, closed_block}
 use Rattle.verity_tree.specs.Levels.{data_blocks}
 use Rattle.verity_plan.specs.Plans.{Planned}
@@ -33,8 +33,8 @@ abbrev pub Passes : Planned → Result Digest PassFault → List ℕ → List �
 Passes p result before after = Builds p (build_answer result) before after
 
 -- the device: the blocks that closed are put at their places, or stand there
-abbrev pub PassesImage : Planned → List (List ℕ) → Result Digest PassFault → List ℕ → List ℕ → Type 0
-PassesImage p blocks result before after = BuildsImage p blocks (build_answer result) before after
+abbrev pub PassesOnDevice : Planned → List (List ℕ) → Result Digest PassFault → List ℕ → List ℕ → Type 0
+PassesOnDevice p blocks result before after = BuildsOnDevice p blocks (build_answer result) before after
 
 -- the block that stops a comparison: those before it in closing order do not differ from what the device holds
 pub record StopsFor (p : Planned) (bytes device : List ℕ) (stop : Stop) : Type 0 where

@@ -1,7 +1,7 @@
 //! One pass over the data, with one open block a level.
 ghost use Rattle.std.specs.Prelude.{◌≡◌, ℕ, ◌+◌, ◌*◌, ◌<◌, ◌≤◌, List, length, IfOk};
 ghost use Rattle.verity_io.specs.Counting.{Counts};
-ghost use Rattle.verity_tree.specs.Steps.OnePass.{Passes, PassesCompared, PassesImage, device_failed};
+ghost use Rattle.verity_tree.specs.Steps.OnePass.{Passes, PassesCompared, PassesOnDevice, device_failed};
 ghost use Rattle.verity_tree.specs.Steps.OnePass.{source_failed};
 ghost use Rattle.verity_plan.specs.Plans.{IsPlanned, Planned, levels_of, store_length_of};
 ghost use Rattle.verity_tree.specs.Levels.{data_blocks};
@@ -45,7 +45,7 @@ pub(crate) fn pass<S: Source, D: Device>(
     ensures stays { task ≡ Compare → D.tells device.old → D.content device.new ≡ D.content device.old }
     ensures read { S.tells source.old → Passes plan.now result (S.remaining source.old) (S.remaining source.new) }
     ensures stands { S.tells source.old → D.tells device.old
-        → PassesImage plan.now (data_blocks plan.now (S.remaining source.old))
+        → PassesOnDevice plan.now (data_blocks plan.now (S.remaining source.old))
         result (D.content device.old) (D.content device.new) }
     ensures compared { task ≡ Compare → S.tells source.old → D.tells device.old
         → PassesCompared plan.now (S.remaining source.old) result (D.content device.old) (D.content device.new) }
@@ -80,7 +80,7 @@ fn pass_over<S: Source, D: Device>(
     ensures stays { job.now.task ≡ Compare → D.tells device.old → D.content device.new ≡ D.content device.old }
     ensures read { S.tells source.old → Passes job.now.plan result (S.remaining source.old) (S.remaining source.new) }
     ensures stands { S.tells source.old → D.tells device.old
-        → PassesImage job.now.plan (data_blocks job.now.plan (S.remaining source.old))
+        → PassesOnDevice job.now.plan (data_blocks job.now.plan (S.remaining source.old))
         result (D.content device.old) (D.content device.new) }
     ensures compared { job.now.task ≡ Compare → S.tells source.old → D.tells device.old
         → PassesCompared job.now.plan (S.remaining source.old) result (D.content device.old) (D.content device.new) }

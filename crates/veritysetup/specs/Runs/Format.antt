@@ -5,13 +5,13 @@ use Rattle.std.specs.Io.KnownBytes.{Appends, Keeps}
 use Rattle.verity_io.specs.Counting.{Change, Counts}
 use Rattle.verity_io.specs.Writing.{Spoiled}
 use Rattle.verity_plan.specs.Plans.{superblock_size}
-use Rattle.verity_tree.specs.Building.{Builds, BuildsImage}
+use Rattle.verity_tree.specs.Building.{Builds, BuildsOnDevice}
 use Rattle.verity_io.specs.Reading.{HasRead}
-use Rattle.verity_tree.specs.Image.{tree_image}
+use Rattle.verity_tree.specs.TreeOnDevice.{tree_on_device}
 use Rattle.verity_tree.specs.Building as building
 use Rattle.verity_tree.specs.Levels.{root, data_blocks}
 use Rattle.veritysetup.specs.Options.VeritySettings.{VeritySettings}
-use Rattle.veritysetup.specs.Runs.HashDevice.{image, superblock_for}
+use Rattle.veritysetup.specs.Runs.HashDevice.{formatted_device, superblock_for}
 use Rattle.veritysetup.specs.Texts.Messages.{build_text, memory_text, unwritten_output_text, unwritten_superblock_text}
 use Rattle.veritysetup.specs.Runs.Outcomes.{TextChange, status_of, message_of}
 use Rattle.command_line.specs.Printing.{AppendsFront, Prints}
@@ -54,12 +54,12 @@ Reads s (Err Store) before after = after ≡ before
 Reads s (Err (Build fault)) before after = Builds s.plan (Err fault) before after
 Reads s outcome before after = HasRead s.plan.wanted before after
 
--- what stands on the device: once the superblock is written, the whole image
+-- what stands on the device: once the superblock is written, all that format leaves
 abbrev pub Writes : VeritySettings → List (List ℕ) → Result (Unit {0}) FormatFault → List ℕ → List ℕ → Type 0
 Writes s blocks (Err Store) before after = after ≡ before
-Writes s blocks (Err (Build fault)) before after = BuildsImage s.plan blocks (Err fault) before after
-Writes s blocks (Err Superblock) before after = Spoiled (tree_image s.plan blocks before) s.offset superblock_size after
-Writes s blocks outcome before after = after ≡ image s blocks before
+Writes s blocks (Err (Build fault)) before after = BuildsOnDevice s.plan blocks (Err fault) before after
+Writes s blocks (Err Superblock) before after = Spoiled (tree_on_device s.plan blocks before) s.offset superblock_size after
+Writes s blocks outcome before after = after ≡ formatted_device s blocks before
 
 -- what is added to out: the report, or its first bytes if a write fails
 abbrev pub PrintsReport : List ℕ → Result (Unit {0}) FormatFault → Option (List ℕ) → Option (List ℕ) → Type 0
@@ -93,8 +93,8 @@ pub record FormatRun (s : VeritySettings) (path : List ℕ) (status : ℕ) (sour
   pub source_counted : Counts (source_failed outcome) source.failures_before source.failures_after
   pub device_counted : Counts (device_failed outcome) device.failures_before device.failures_after
 
--- what status 0 stands for: the data was read once, the image is on the device, and the report with the root is printed
+-- what status 0 stands for: the data was read once, the device is formatted, and the report with the root is printed
 pub record IsFormatted (s : VeritySettings) (path : List ℕ) (source device : Change) (texts : TextChange) : Type 0 where
   pub read : HasRead s.plan.wanted source.before source.after
-  pub stands : device.after ≡ image s (data_blocks s.plan source.before) device.before
+  pub stands : device.after ≡ formatted_device s (data_blocks s.plan source.before) device.before
   pub printed : Appends texts.out_before texts.out_after (format_report s path (root_above s source.before))

@@ -7,7 +7,7 @@ use Rattle.verity_format.specs.declared.superblock.Superblock.{Superblock}
 use Rattle.verity_plan.specs.Plans.{superblock_size}
 use Rattle.veritysetup.specs.declared.runs.stored_superblock.StoredFault.{StoredFault}
 use Rattle.veritysetup.specs.declared.runs.stored_superblock.StoredFault.TheVariants.{Unread, Refused}
-use Rattle.verity_tree.specs.Image.{tree_image}
+use Rattle.verity_tree.specs.TreeOnDevice.{tree_on_device}
 use Rattle.verity_io.specs.Writing.{put}
 use Rattle.veritysetup.specs.Options.VeritySettings.{VeritySettings}
 
@@ -39,5 +39,5 @@ abbrev pub with_superblock : VeritySettings → List ℕ → List ℕ
 with_superblock s device = if s.superblock then put device s.offset (superblock_bytes (superblock_for s)) else device
 
 -- the device with the whole tree above these data blocks, and the superblock
-abbrev pub image : VeritySettings → List (List ℕ) → List ℕ → List ℕ
-image s blocks before = with_superblock s (tree_image s.plan blocks before)
+abbrev pub formatted_device : VeritySettings → List (List ℕ) → List ℕ → List ℕ
+formatted_device s blocks before = with_superblock s (tree_on_device s.plan blocks before)

@@ -7,7 +7,7 @@ use Rattle.verity_plan.specs.Plans.{Planned}
 use Rattle.verity_plan.specs.declared.plan_fault.PlanFault.{PlanFault}
 use Rattle.verity_tree.specs.Comparing.{CompareReads, Judges}
 use Rattle.verity_tree.specs.Comparing as comparing
-use Rattle.verity_tree.specs.Image.{HoldsTree}
+use Rattle.verity_tree.specs.TreeOnDevice.{HoldsTree}
 use Rattle.verity_tree.specs.declared.comparing.CompareFault.{CompareFault}
 use Rattle.verity_tree.specs.declared.comparing.CompareFault.TheVariants as fault
 use Rattle.veritysetup.specs.Options.VeritySettings.{plan_at, root_of}

@@ -157,7 +157,7 @@ pub fn run_format<S: Source, D: Device, O: Write, M: Write>(
     ensures source_told { S.tells source.old → S.tells source.new }
     ensures device_told { D.tells device.old → D.tells device.new }
 
-    // Status 0: the image is on the device, the data was read once, the report is printed.
+    // Status 0: the device is formatted, the data was read once, the report is printed.
     ensures formatted { result ≡ 0 → S.tells source.old → D.tells device.old → IsFormatted settings.now hash_path.now
         (change S.tells S.remaining S.failures source.old source.new)
         (change D.tells D.content D.failures device.old device.new)

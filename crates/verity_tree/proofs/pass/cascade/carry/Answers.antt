@@ -1,7 +1,7 @@
 use Rattle.std.proofs.Common.{List, ap, arith, eqb, length, refl, subst, sym, true, ℕ, ◌*◌, ◌+◌, ◌-◌, ◌/◌, ◌<◌, ◌^◌}
 use Rattle.std.proofs.Common.{◌∙◌}
 use Rattle.std.proofs.Common.{◌≡◌, ◌≤◌}
-use Rattle.verity_tree.specs.Image.{closing, closes, tree_block, device_with, stored_block}
+use Rattle.verity_tree.specs.TreeOnDevice.{closing, closes, tree_block, device_with, stored_block}
 use Rattle.verity_tree.specs.Steps.Cascade.{first_closing}
 use Rattle.verity_plan.specs.Plans.{level_count, byte_at, byte_of, levels_of}
 use Rattle.verity_tree.specs.Steps.OpenBlocks.{IsCarrying, digests_under, open_block_with, climb}

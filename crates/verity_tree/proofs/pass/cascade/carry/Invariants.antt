@@ -2,7 +2,7 @@ use Rattle.std.proofs.Common.{◌≡◌, ◌<◌, ℕ, ◌/◌, ◌^◌, List, l
 use Rattle.verity_plan.specs.Settings.{fan, digest_len}
 use Rattle.verity_tree.specs.Steps.OpenBlocks.{HasOpenBlocks, level_digest, IsCarrying, climb}
 use Rattle.verity_tree.specs.Steps.Cascade.{EndsBlock, first_closing}
-use Rattle.verity_tree.specs.Image.{device_with}
+use Rattle.verity_tree.specs.TreeOnDevice.{device_with}
 use Rattle.verity_plan.specs.Plans.{levels_of}
 use Rattle.verity_tree.specs.Verdicts.{NoneDiffers}
 use Rattle.verity_tree.specs.declared.pass.closed_block.Task.TheVariants.{Compare}

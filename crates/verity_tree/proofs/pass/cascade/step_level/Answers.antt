@@ -6,7 +6,7 @@ use Rattle.verity_tree.proofs.OpenBlockLemmas.{length-hash}
 use Rattle.verity_tree.proofs.OpenBlockSteps.{slot-room, open_block_with-put, slots-all, slots-left}
 use Rattle.verity_tree.specs.Steps.ClosedBlocks.{IsCause, closed_block}
 use Rattle.verity_plan.specs.Plans.{byte_of}
-use Rattle.verity_tree.specs.Image.{stored_block}
+use Rattle.verity_tree.specs.TreeOnDevice.{stored_block}
 use Rattle.verity_tree.proofs.ClosedBlockLemmas.{Closes-cause, Closes-put, Closes-same, Closes-spoiled}
 use Rattle.verity_tree.proofs.pass.cascade.step_level.Goals.{else-slot-fan-via-then-slot-fan+else-not-next}
 use Rattle.verity_tree.proofs.pass.cascade.step_level.Goals.{else-slot-fan-via-else-slot-fan}

@@ -1,5 +1,5 @@
 use Rattle.std.proofs.Common.{List, arith, length, refl, rules, subst, sym, ℕ, ◌+◌, ◌<◌, ◌∙◌, ◌≡◌}
-use Rattle.verity_tree.specs.Image.{closing, order, tree_block, device_with}
+use Rattle.verity_tree.specs.TreeOnDevice.{closing, order, tree_block, device_with}
 use Rattle.verity_tree.specs.Steps.Cascade.{first_closing}
 use Rattle.verity_tree.specs.Levels.{data_blocks}
 use Rattle.verity_plan.specs.Plans.{levels_of}

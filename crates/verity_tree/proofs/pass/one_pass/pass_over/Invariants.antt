@@ -1,6 +1,6 @@
 use Rattle.std.proofs.Common.{◌≡◌, ◌<◌, length}
 use Rattle.verity_io.specs.Counting.{Counts}
-use Rattle.verity_tree.specs.Image.{tree_image_after, order}
+use Rattle.verity_tree.specs.TreeOnDevice.{tree_on_device_after, order}
 use Rattle.verity_tree.specs.Levels.{root, data_blocks}
 use Rattle.verity_tree.specs.Steps.OpenBlocks.{HasOpenBlocks}
 use Rattle.verity_tree.specs.Steps.ReadingAhead.{IsAhead, IsQuiet, ahead_failed}
@@ -27,7 +27,7 @@ invariant-loop-i g l = record {
   answer : g.S.Source.tells l.fn.source → l.i ≡ l.job.plan.blocks
       → l.root ≡ root l.job.plan.settings (data_blocks l.job.plan (g.S.Source.remaining l.fn.source));
   stands : g.S.Source.tells l.fn.source → g.D.Device.tells l.fn.device
-      → g.D.Device.content l.device ≡ tree_image_after l.job.plan
+      → g.D.Device.content l.device ≡ tree_on_device_after l.job.plan
       (data_blocks l.job.plan (g.S.Source.remaining l.fn.source)) l.i
       (g.D.Device.content l.fn.device);
   root_size : length l.root ≡ digest_len l.job.plan.settings;

@@ -60,12 +60,12 @@ device_with s blocks base (p ∷ pairs) device =
     device_with s blocks base pairs (put device (byte_at s (length blocks) base p.0 p.1) (tree_block s blocks p.0 p.1))
 
 -- a device with the tree's blocks that closed after i data blocks put at their places
-abbrev pub tree_image_after : Planned → List (List ℕ) → ℕ → List ℕ → List ℕ
-tree_image_after p blocks i before = device_with p.settings blocks p.base (order (fan p.settings) p.blocks i) before
+abbrev pub tree_on_device_after : Planned → List (List ℕ) → ℕ → List ℕ → List ℕ
+tree_on_device_after p blocks i before = device_with p.settings blocks p.base (order (fan p.settings) p.blocks i) before
 
 -- a device with all of the tree's blocks put at their places
-abbrev pub tree_image : Planned → List (List ℕ) → List ℕ → List ℕ
-tree_image p blocks before = tree_image_after p blocks p.blocks before
+abbrev pub tree_on_device : Planned → List (List ℕ) → List ℕ → List ℕ
+tree_on_device p blocks before = tree_on_device_after p blocks p.blocks before
 
 -- a device with the blocks before this one in closing order put at their places, and this one's range spoiled
 pub record StopsAt (p : Planned) (blocks : List (List ℕ)) (pair : ℕ × ℕ) (before after : List ℕ) : Type 0 where
