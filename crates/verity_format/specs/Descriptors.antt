@@ -1,7 +1,7 @@
 -- The fs-verity descriptor and the file digest (Linux kernel, fs-verity page, "fs-verity descriptor" and "File digest
 -- computation"), and what is signed of a file digest (the same page, "Built-in signature verification", struct
 -- fsverity_formatted_digest).
-use Rattle.std.specs.Prelude.{◌≡◌, ℕ, ◌+◌, ◌^◌, ◌<◌, List, [], ◌∷◌, ◌++◌, length, replicate, nat_lt, codes}
+use Rattle.std.specs.Prelude.{◌≡◌, ℕ, ◌^◌, ◌<◌, List, [], ◌∷◌, ◌++◌, length, replicate, codes}
 use Rattle.byteorder.specs.Endian.{little_bytes}
 use Rattle.verity_hash.specs.Hashing.{hash_of, filled}
 use Rattle.verity_hash.specs.declared.algorithm.Algorithm.{Algorithm}

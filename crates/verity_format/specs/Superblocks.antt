@@ -15,17 +15,17 @@
 --      344     168  pad                    zeros                   ignored
 use Rattle.std.specs.Prelude.{ℕ, ◌==◌, List, length, take, drop, position, unwrap_or, ◌≡◌, ◌*◌, ◌<◌, ◌≤◌, ◌&&◌, nat_le}
 use Rattle.std.specs.Prelude.{nat_lt, Option, Some, None, if◌then◌else◌, Bool, [], ◌∷◌, ◌++◌, replicate, codes, is_some}
+use Rattle.std.specs.Str.{bytes_eq}
 use Rattle.byteorder.specs.Endian.{little_number, little_bytes}
+use Rattle.verity_hash.specs.Hashing.{name_of, named, filled}
 use Rattle.verity_hash.specs.declared.salting.SaltRule.{SaltRule}
 use Rattle.verity_hash.specs.declared.salting.SaltRule.TheVariants.{Before, After, PaddedBefore}
 use Rattle.verity_io.specs.Writing.{most_bytes}
 use Rattle.verity_plan.specs.Settings.{Settings, IsValid, rule_of, is_verity_block_size, most_salt, type_number}
 use Rattle.verity_plan.specs.Settings.{type_of_number}
+use Rattle.verity_plan.specs.Plans.{superblock_size}
 use Rattle.verity_plan.specs.declared.hash_type.HashType.{HashType}
 use Rattle.verity_plan.specs.declared.hash_type.HashType.TheVariants.{Original, Current}
-use Rattle.std.specs.Str.{bytes_eq}
-use Rattle.verity_hash.specs.Hashing.{name_of, named, filled}
-use Rattle.verity_plan.specs.Plans.{superblock_size}
 use Rattle.verity_format.specs.declared.super_fault.SuperFault.{SuperFault}
 use Rattle.verity_format.specs.declared.super_fault.SuperFault.TheVariants as fault
 

@@ -6,7 +6,7 @@ use Rattle.std.specs.Prelude.{length, Option, Some, None, Result, Ok, Err, if◌
 use Rattle.std.specs.Int.{is_power_of_two}
 use Rattle.verity_hash.specs.Hashing.{digest_len_of, filled, salted_hash}
 use Rattle.verity_hash.specs.declared.algorithm.Algorithm.{Algorithm}
-use Rattle.verity_hash.specs.declared.algorithm.Algorithm.TheVariants.{Sha256, Sha512, Sha1, Sha224, Sha384}
+use Rattle.verity_hash.specs.declared.algorithm.Algorithm.TheVariants.{Sha256, Sha512}
 use Rattle.verity_hash.specs.declared.salting.SaltRule.{SaltRule}
 use Rattle.verity_hash.specs.declared.salting.SaltRule.TheVariants.{Before, After, PaddedBefore}
 use Rattle.verity_plan.specs.declared.hash_type.HashType.{HashType}

@@ -1,17 +1,16 @@
 -- A device that holds the whole tree, and the verdict on it.
-use Rattle.std.proofs.Common.{◌≡◌, ℕ, ◌+◌, ◌*◌, ◌/◌, ◌%◌, ◌<◌, ◌≤◌, Bool, true, false, cond, List, [], ◌∷◌, length}
+use Rattle.std.proofs.Common.{◌≡◌, ℕ, ◌+◌, ◌/◌, ◌<◌, ◌≤◌, Bool, true, false, cond, List, [], ◌∷◌, length}
 use Rattle.std.proofs.Common.{arith, sym, ◌∙◌, ap, refl, inl, inr, Ok, Err, eqb}
 use Rattle.std.proofs.lemmas.Bool.{cases_lt}
 use Rattle.std.proofs.lemmas.Bool.Decides.{nat_tests, eqb_tells}
-use Rattle.std.proofs.lemmas.List.Elements.{All-head, All-tail, All-cons, All-nil}
+use Rattle.std.proofs.lemmas.List.Elements.{All-cons, All-nil}
 use Rattle.std.proofs.lemmas.List.Sums.{sum_by-cons}
 use Rattle.std.proofs.lemmas.Nat.{div-add-mod'}
 use Rattle.std.proofs.lemmas.Option.{none-some}
 use Rattle.std.proofs.lemmas.Slice.Eq.{bytes_eq-Decides}
-use Rattle.std.specs.Prelude.{All, if◌then◌else◌, find, not, nat_lt, nat_le, Some, None, Option, Result, ◌==◌, ◌&&◌, ◌⊎◌}
-use Rattle.std.specs.Int.{div_ceil}
+use Rattle.std.specs.Prelude.{if◌then◌else◌, find, not, nat_lt, nat_le, Some, None, Option, Result, ◌==◌, ◌&&◌, ◌⊎◌}
 use Rattle.std.specs.Str.{bytes_eq}
-use Rattle.verity_plan.specs.Plans.{Planned, IsPlanned, HasBlock}
+use Rattle.verity_plan.specs.Plans.{Planned, IsPlanned}
 use Rattle.verity_plan.specs.Settings.{fan}
 use Rattle.verity_plan.proofs.CountLemmas.{le-div_ceil}
 use Rattle.verity_plan.proofs.FanLemmas.{fan-some, some_data}

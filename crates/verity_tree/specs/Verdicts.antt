@@ -1,12 +1,12 @@
 -- Whether the hash blocks that a device holds are the tree's, and which is the first in closing order that is not
 -- (veritysetup(8), `verify`; the order and the parts are this project's own).
-use Rattle.std.specs.Prelude.{◌≡◌, ◌≤◌, ℕ, ◌+◌, ◌-◌, ◌*◌, Bool, not, min, List, length, take, drop, find, All, nat_lt}
+use Rattle.std.specs.Prelude.{◌≡◌, ℕ, ◌+◌, ◌-◌, ◌*◌, Bool, not, min, List, length, take, drop, find, All, nat_lt}
 use Rattle.std.specs.Prelude.{Option, Some, None, Result, Ok, Err, if◌then◌else◌}
 use Rattle.std.specs.List.{range_with_len}
 use Rattle.std.specs.Str.{bytes_eq}
 use Rattle.verity_tree.specs.TreeOnDevice.{order, tree_block, stored_block}
 use Rattle.verity_tree.specs.Levels.{root, data_blocks, whole_blocks}
-use Rattle.verity_plan.specs.Plans.{Planned, HasBlock, byte_of, size_under}
+use Rattle.verity_plan.specs.Plans.{Planned, size_under}
 use Rattle.verity_plan.specs.Settings.{Settings, digest_len, fan, slot_width}
 use Rattle.verity_tree.specs.declared.comparing.CompareFault.{CompareFault}
 use Rattle.verity_tree.specs.declared.comparing.CompareFault.TheVariants.{SourceShort, Differs, RootDiffers}

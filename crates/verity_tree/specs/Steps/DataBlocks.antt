@@ -1,6 +1,6 @@
 -- How one data block is read from a source and hashed.
 -- For the private steps; not needed to read a public contract.
-use Rattle.std.specs.Prelude.{◌≡◌, ℕ, ◌+◌, ◌<◌, ◌≤◌, Bool, true, false, List, [], ◌++◌, length, take, drop, Result, Ok}
+use Rattle.std.specs.Prelude.{◌≡◌, ℕ, ◌+◌, ◌<◌, ◌≤◌, Bool, true, false, List, [], length, take, drop, Result, Ok}
 use Rattle.std.specs.Prelude.{Err}
 use Rattle.verity_hash.specs.Hashing.{filled}
 use Rattle.verity_hash.specs.declared.digest.Digest.{Digest}

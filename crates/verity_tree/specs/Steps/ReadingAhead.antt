@@ -13,7 +13,7 @@ use Rattle.verity_tree.specs.Steps.Cascade.{EndsBlock}
 use Rattle.verity_tree.specs.Steps.DataBlocks.{StopsInBlock}
 use Rattle.verity_tree.specs.Steps.OpenBlocks.{level_digest}
 use Rattle.verity_tree.specs.declared.pass.data_block.BlockFault.{BlockFault}
-use Rattle.verity_tree.specs.declared.pass.data_block.BlockFault.TheVariants.{Short, Failed}
+use Rattle.verity_tree.specs.declared.pass.data_block.BlockFault.TheVariants.{Failed}
 use Rattle.verity_tree.specs.declared.pass.reading_ahead.Ahead.{Ahead}
 
 -- data block i stands in a row, or the source ended or failed within it
