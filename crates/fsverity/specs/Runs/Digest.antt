@@ -1,14 +1,14 @@
 -- A run of `fsverity digest` over files, one after another (fsverity(1), "fsverity digest"): a line for each, up to the
 -- first that fails.
-use Rattle.std.specs.Prelude.{◌≡◌, ◌⊎◌, ℕ, ◌+◌, ◌<◌, ◌≤◌, Bool, true, false, not, List, [], ◌∷◌, ◌++◌, length, take, codes, Option, Some, None, slice_get, slice_index_or, if◌then◌else◌}
-use Rattle.std.specs.List.{concat, zip, flat_map, prefix_len}
+use Rattle.std.specs.Prelude.{◌≡◌, ◌⊎◌, ℕ, ◌+◌, ◌<◌, ◌≤◌, Bool, true, false, not, List, [], ◌++◌, length, take, Option, Some, None, slice_get, slice_index_or, if◌then◌else◌}
+use Rattle.std.specs.List.{zip, flat_map, prefix_len}
 use Rattle.std.specs.Io.KnownBytes.{Appends}
 use Rattle.command_line.specs.Printing.{AppendsFront}
 use Rattle.verity_io.specs.Counting.{Counts, Rose}
 use Rattle.verity_plan.specs.Settings.{Settings}
 use Rattle.fsverity.specs.Runs.FileDigest.{fault_of_source, file_digest_of, is_too_large}
 use Rattle.fsverity.specs.Texts.Lines.{line}
-use Rattle.fsverity.specs.Texts.Messages.{fault_text}
+use Rattle.fsverity.specs.Texts.Messages.{run_fault_text}
 use Rattle.fsverity.specs.Openers.Opening.{OpenerChange}
 use Rattle.fsverity.specs.declared.runs.digest_fault.DigestFault.TheVariants.{TooLarge, SourceShort, SourceFailed, DeviceFailed, Memory}
 use Rattle.fsverity.specs.declared.texts.digest_lines.Form.{Form}
@@ -33,12 +33,6 @@ file_line s form name (Some bytes) = if is_too_large s (length bytes) then []
 -- the lines of the files, each with its name, in order
 abbrev pub lines : Settings → Form → List (List ℕ × Option (List ℕ)) → List ℕ
 lines s form named_files = flat_map (λ p. file_line s form p.0 p.1) named_files
-
--- the message for a fault at the file of this name
-abbrev pub run_fault_text : RunFault → List ℕ → List ℕ
-run_fault_text NotOpened name = concat (codes "fsverity: cannot open " ∷ name ∷ codes ".\n" ∷ [])
-run_fault_text (Digest fault) name = fault_text fault name
-run_fault_text NotWritten name = codes "fsverity: cannot write output.\n"
 
 -- the file of this index is there, and too large
 abbrev pub IsLargeAt : Settings → List (Option (List ℕ)) → ℕ → Type 0

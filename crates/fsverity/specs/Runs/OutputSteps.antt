@@ -5,10 +5,10 @@ use Rattle.std.specs.Io.KnownBytes.{Appends, Keeps}
 use Rattle.verity_format.specs.Putting.{taken}
 use Rattle.verity_format.specs.declared.putting.PutFault.{PutFault}
 use Rattle.fsverity.specs.Runs.Outputs.{OutputTask, output_task}
-use Rattle.fsverity.specs.declared.runs.outputs.Task.{Task}
+use Rattle.fsverity.specs.declared.runs.outputs.OutputTask.{OutputTask as Given}
 
 -- a task, without the references that it holds
-abbrev pub task_of : Task → OutputTask
+abbrev pub task_of : Given → OutputTask
 task_of task = output_task task.settings.now task.form task.name.now task.size task.wants_tree task.wants_descriptor
 
 -- a text is added if it is wanted, or only its first bytes if a write fails

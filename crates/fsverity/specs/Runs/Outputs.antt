@@ -1,6 +1,6 @@
 -- A run of `fsverity digest` over one file with output files (fsverity(1), "--out-merkle-tree", "--out-descriptor"):
 -- the tree, then the descriptor, then the line. Nothing that comes after the first fault is written.
-use Rattle.std.specs.Prelude.{◌≡◌, ◌↔◌, ℕ, ◌<◌, Bool, MatchBool, List, [], length, take, codes, Option, Result, Ok, Err, IsTrue}
+use Rattle.std.specs.Prelude.{◌≡◌, ◌↔◌, ℕ, ◌<◌, Bool, MatchBool, List, [], length, take, Option, Result, Ok, Err, IsTrue}
 use Rattle.std.specs.Io.KnownBytes.{Appends, Keeps}
 use Rattle.command_line.specs.Printing.{AppendsFront, Prints}
 use Rattle.verity_format.specs.Descriptors.{descriptor_bytes, digest_of_file}
@@ -9,11 +9,10 @@ use Rattle.verity_io.specs.Reading.{HasRead}
 use Rattle.verity_plan.specs.Settings.{Settings}
 use Rattle.fsverity.specs.Runs.FileDigest.{FaultsIn, Stands, descriptor_of, device_failed, is_too_large, root_of_file, source_failed, with_tree}
 use Rattle.fsverity.specs.Texts.Lines.{line}
-use Rattle.fsverity.specs.Texts.Messages.{fault_text}
+use Rattle.fsverity.specs.Texts.Messages.{output_fault_text}
 use Rattle.fsverity.specs.declared.runs.digest_fault.DigestFault.{DigestFault}
 use Rattle.fsverity.specs.declared.runs.digest_fault.DigestFault.TheVariants.{TooLarge}
 use Rattle.fsverity.specs.declared.texts.digest_lines.Form.{Form}
-use Rattle.command_line.specs.declared.printing.print_fault.PrintFault.TheVariants.{Memory, Output}
 use Rattle.fsverity.specs.declared.runs.output_fault.OutputFault.{OutputFault}
 use Rattle.fsverity.specs.declared.runs.output_fault.OutputFault.TheVariants.{Digest, Descriptor, Line}
 
@@ -68,13 +67,6 @@ Outcome = Result (Unit {0}) OutputFault
 abbrev pub status_of : Outcome → ℕ
 status_of (Ok done) = 0
 status_of (Err fault) = 1
-
--- the message of a fault at the file of this name
-abbrev pub output_fault_text : OutputFault → List ℕ → List ℕ
-output_fault_text (Digest fault) name = fault_text fault name
-output_fault_text (Descriptor count) name = codes "fsverity: cannot write descriptor.\n"
-output_fault_text (Line Memory) name = codes "fsverity: out of memory.\n"
-output_fault_text (Line (Output count)) name = codes "fsverity: cannot write output.\n"
 
 -- the message of an outcome
 abbrev pub message_of : Outcome → List ℕ → List ℕ

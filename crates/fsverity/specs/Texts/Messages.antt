@@ -8,6 +8,11 @@ use Rattle.command_line.specs.declared.words.system_words.WordsFault.{WordsFault
 use Rattle.command_line.specs.declared.words.system_words.WordsFault.TheVariants.{NotText, Memory as NoMemory}
 use Rattle.fsverity.specs.declared.runs.digest_fault.DigestFault.{DigestFault}
 use Rattle.fsverity.specs.declared.runs.digest_fault.DigestFault.TheVariants.{TooLarge, SourceShort, SourceFailed, DeviceFailed, Memory}
+use Rattle.fsverity.specs.declared.runs.run_fault.RunFault.{RunFault}
+use Rattle.fsverity.specs.declared.runs.run_fault.RunFault.TheVariants as run
+use Rattle.fsverity.specs.declared.runs.output_fault.OutputFault.{OutputFault}
+use Rattle.fsverity.specs.declared.runs.output_fault.OutputFault.TheVariants as output
+use Rattle.command_line.specs.declared.printing.print_fault.PrintFault.TheVariants as print
 use Rattle.fsverity.specs.declared.options.option_fault.FsOptionFault.{FsOptionFault}
 use Rattle.fsverity.specs.declared.options.option_fault.FsOptionFault.TheVariants.{UnknownHash, BadBlockSize, BadSalt, OneFileOnly}
 
@@ -21,6 +26,19 @@ fault_text (SourceFailed i) name =
 fault_text (DeviceFailed level block) name = concat
     (codes "fsverity: cannot write tree block " ∷ decimal block ∷ codes " of level " ∷ decimal level ∷ codes ".\n" ∷ [])
 fault_text Memory name = codes "fsverity: out of memory.\n"
+
+-- why a run over files ended at the file of this name
+abbrev pub run_fault_text : RunFault → List ℕ → List ℕ
+run_fault_text run.NotOpened name = concat (codes "fsverity: cannot open " ∷ name ∷ codes ".\n" ∷ [])
+run_fault_text (run.Digest fault) name = fault_text fault name
+run_fault_text run.NotWritten name = codes "fsverity: cannot write output.\n"
+
+-- why a run with output files stopped at the file of this name
+abbrev pub output_fault_text : OutputFault → List ℕ → List ℕ
+output_fault_text (output.Digest fault) name = fault_text fault name
+output_fault_text (output.Descriptor count) name = codes "fsverity: cannot write descriptor.\n"
+output_fault_text (output.Line print.Memory) name = codes "fsverity: out of memory.\n"
+output_fault_text (output.Line (print.Output count)) name = codes "fsverity: cannot write output.\n"
 
 -- why the options are refused
 abbrev pub option_text : FsOptionFault → List ℕ

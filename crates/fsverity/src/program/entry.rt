@@ -3,8 +3,7 @@ ghost use Rattle.std.specs.Prelude.{◌≡◌, ◌⊎◌, ◌≤◌, IfErr, IfOk
 ghost use Rattle.command_line.specs.LineFaults.{IsMemory};
 ghost use Rattle.command_line.specs.Printing.{AppendsFront};
 ghost use Rattle.fsverity.specs.Words.CommandLines.{settings_of};
-ghost use Rattle.fsverity.specs.Texts.Messages.{option_text, words_status, words_text};
-ghost use Rattle.fsverity.specs.Runs.Digest.{run_fault_text};
+ghost use Rattle.fsverity.specs.Texts.Messages.{option_text, run_fault_text, words_status, words_text};
 ghost use Rattle.fsverity.specs.declared.runs.run_fault.RunFault.TheVariants.{NotOpened};
 
 use crate::program::output_files::OutputNames;

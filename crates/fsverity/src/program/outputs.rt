@@ -9,7 +9,7 @@ use command_line::{Identities, ProgressLine, ProgressReader, ProgressRuntime, op
 use std::alloc::Global;
 use std::io;
 use std::io::{Read, Seek, Write};
-use verity_tree::{FileDevice, FileSource, Nowhere, Source, TreeSettings};
+use verity_tree::{Device, FileDevice, FileSource, Nowhere, Source, TreeSettings};
 
 /// What a command line with output files asks for.
 #[derive(Clone, Copy)]
@@ -26,6 +26,15 @@ pub(crate) struct OutputRequest<'a> {
 struct Input<S> {
     size: u64,
     source: S,
+}
+
+/// What the input file's tree and descriptor are written to. A tree that is not wanted is not written to its device.
+#[derive(Drop)]
+struct Outputs<D, F> {
+    wants_tree: bool,
+    tree: D,
+    /// The descriptor's file, if it is wanted.
+    descriptor: Option<F>,
 }
 
 /// `fsverity digest` of one file, with output files: the input file is opened and its length is found, and then the
@@ -67,6 +76,40 @@ fn write_to<S: Source + Drop, F: Read + Write + Seek + Drop, O: Write, M: Write>
     ensures status { result ≤ 1 }
     ensures quiet { result ≡ 0 → msgs.new ≡ msgs.old }
 {
+    let OutputFiles { tree, descriptor } = files;
+    match tree {
+        Some(file) => {
+            let outputs = Outputs {
+                wants_tree: true,
+                tree: FileDevice::new(file),
+                descriptor,
+            };
+            write_outputs(alloc, request, input, outputs, out, msgs)
+        }
+        None => {
+            let outputs = Outputs {
+                wants_tree: false,
+                tree: Nowhere,
+                descriptor,
+            };
+            write_outputs(alloc, request, input, outputs, out, msgs)
+        }
+    }
+}
+
+/// Digests the input file, and writes its tree if it is wanted, and its descriptor if there is a file for it.
+fn write_outputs<S: Source + Drop, D: Device + Drop, F: Write + Drop, O: Write, M: Write>(
+    alloc: Global,
+    request: OutputRequest<'_>,
+    input: Input<S>,
+    outputs: Outputs<D, F>,
+    out: &mut O,
+    msgs: &mut M,
+) -> u8
+    requires { request.settings.now.rule ≡ PaddedBefore }
+    ensures status { result ≤ 1 }
+    ensures quiet { result ≡ 0 → msgs.new ≡ msgs.old }
+{
     let OutputRequest {
         settings,
         form,
@@ -74,70 +117,39 @@ fn write_to<S: Source + Drop, F: Read + Write + Seek + Drop, O: Write, M: Write>
         ..
     } = request;
     let Input { size, mut source } = input;
-    let OutputFiles { tree, descriptor } = files;
-    match tree {
-        Some(tree) => {
-            let mut tree = FileDevice::new(tree);
-            match descriptor {
-                Some(mut descriptor) => run_digest_to(
-                    alloc,
-                    settings,
-                    form,
-                    name,
-                    size,
-                    &mut source,
-                    true,
-                    &mut tree,
-                    true,
-                    &mut descriptor,
-                    out,
-                    msgs,
-                ),
-                None => run_digest_to(
-                    alloc,
-                    settings,
-                    form,
-                    name,
-                    size,
-                    &mut source,
-                    true,
-                    &mut tree,
-                    false,
-                    &mut io::sink(),
-                    out,
-                    msgs,
-                ),
-            }
-        }
-        None => match descriptor {
-            Some(mut descriptor) => run_digest_to(
-                alloc,
-                settings,
-                form,
-                name,
-                size,
-                &mut source,
-                false,
-                &mut Nowhere,
-                true,
-                &mut descriptor,
-                out,
-                msgs,
-            ),
-            None => run_digest_to(
-                alloc,
-                settings,
-                form,
-                name,
-                size,
-                &mut source,
-                false,
-                &mut Nowhere,
-                false,
-                &mut io::sink(),
-                out,
-                msgs,
-            ),
-        },
+    let Outputs {
+        wants_tree,
+        mut tree,
+        descriptor,
+    } = outputs;
+    match descriptor {
+        Some(mut file) => run_digest_to(
+            alloc,
+            settings,
+            form,
+            name,
+            size,
+            &mut source,
+            wants_tree,
+            &mut tree,
+            true,
+            &mut file,
+            out,
+            msgs,
+        ),
+        None => run_digest_to(
+            alloc,
+            settings,
+            form,
+            name,
+            size,
+            &mut source,
+            wants_tree,
+            &mut tree,
+            false,
+            &mut io::sink(),
+            out,
+            msgs,
+        ),
     }
 }

@@ -17,7 +17,7 @@ use verity_tree::{Device, Source, TreeSettings};
 
 /// What a run is asked for: the digest and the line of a file, and its tree and its descriptor if they are wanted.
 #[derive(Drop)]
-struct Task<'a> {
+struct OutputTask<'a> {
     settings: &'a TreeSettings,
     form: Form,
     name: &'a str,
@@ -31,7 +31,7 @@ ghost use Rattle.fsverity.specs.Runs.OutputSteps.{PutsDescriptor, task_of};
 /// The digest of a file. Its tree is written if it is wanted.
 fn digest_for_task<S: Source, D: Device>(
     alloc: Global,
-    task: &Task<'_>,
+    task: &OutputTask<'_>,
     source: &mut S,
     tree: &mut D,
 ) -> Result<FileDigest, DigestFault>
@@ -77,7 +77,7 @@ fn put_descriptor<W: Write>(
 /// Writes the tree, the descriptor and the line of a file, in this order, up to the first fault.
 fn write_outputs<S: Source, D: Device, W: Write, O: Write>(
     alloc: Global,
-    task: &Task<'_>,
+    task: &OutputTask<'_>,
     source: &mut S,
     tree: &mut D,
     descriptor: &mut W,
@@ -162,7 +162,7 @@ pub fn run_digest_to<S: Source, D: Device, W: Write, O: Write, M: Write>(
           msgs_after = M.contents msgs.new;
         }) }
 {
-    let task = Task {
+    let task = OutputTask {
         settings,
         form,
         name,

@@ -1,4 +1,5 @@
-//! The lines of digests, and how they are printed.
+//! What is printed: lines and messages.
 
 pub(crate) mod digest_lines;
 pub(crate) mod line_printing;
+pub(crate) mod messages;

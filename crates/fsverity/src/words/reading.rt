@@ -66,7 +66,7 @@ pub fn read_words(alloc: Global, words: &[&str]) -> Result<Line, LineFault>
     ensures holds { IfOk result (HoldsCommand (subcommand_of fsverity_app (map (λ w. w.now) words.now))) }
     ensures only { IfOk result (λ _. fault_of fsverity_app (map (λ w. w.now) words.now) ≡ []) }
     ensures cause { IfErr result (HasCause (fault_of fsverity_app (map (λ w. w.now) words.now))) }
-    ensures taken { takes fsverity_app (map (λ w. w.now) words.now) ≡ true → IfErr result LacksMemory }
+    ensures memory { takes fsverity_app (map (λ w. w.now) words.now) ≡ true → IfErr result LacksMemory }
 {
     let command = match command(alloc) {
         Ok(command) => command,
