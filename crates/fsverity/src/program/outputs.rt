@@ -84,7 +84,7 @@ fn write_to<S: Source + Drop, F: Read + Write + Seek + Drop, O: Write, M: Write>
                 tree: FileDevice::new(file),
                 descriptor,
             };
-            write_outputs(alloc, request, input, outputs, out, msgs)
+            digest_into(alloc, request, input, outputs, out, msgs)
         }
         None => {
             let outputs = Outputs {
@@ -92,13 +92,13 @@ fn write_to<S: Source + Drop, F: Read + Write + Seek + Drop, O: Write, M: Write>
                 tree: Nowhere,
                 descriptor,
             };
-            write_outputs(alloc, request, input, outputs, out, msgs)
+            digest_into(alloc, request, input, outputs, out, msgs)
         }
     }
 }
 
 /// Digests the input file, and writes its tree if it is wanted, and its descriptor if there is a file for it.
-fn write_outputs<S: Source + Drop, D: Device + Drop, F: Write + Drop, O: Write, M: Write>(
+fn digest_into<S: Source + Drop, D: Device + Drop, F: Write + Drop, O: Write, M: Write>(
     alloc: Global,
     request: OutputRequest<'_>,
     input: Input<S>,
