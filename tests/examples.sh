@@ -1,7 +1,8 @@
 # Runs the examples of documents word for word. Sourced after tests/checks.sh, at the repository's root.
 
-# The programs' messages as docs/DEFINITIONS.md has them, each after its status and with `_` for each name or number.
-stated_messages=$(sed -nE 's/^\|.*\| `(.*)` \| ([0-9]) \|$/\2 \1/p' docs/DEFINITIONS.md | sed -E 's/\b[A-Z]+\b/_/g')
+# The programs' messages as the manual pages have them, each after its status and with `_` for each name or number.
+stated_messages=$(awk '/^\.Ss Status [0-9]$/ { status = $3 } sub(/^\.It /, "") && status { print status, $0 }
+    /^\.Sh / { status = "" }' man/veritysetup.8 man/fsverity.1 | sed -E 's/\b[A-Z]+\b/_/g')
 
 # stated_status TEXT: the status of an example that shows this text: that of the message at its end, and 0 if no
 # message stands there.

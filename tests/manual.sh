@@ -1,6 +1,6 @@
 #!/bin/bash
-# Checks the manual pages: mandoc has nothing to say of them, their examples run, and their lists of messages are those
-# of the programs' sources, each under the status that docs/DEFINITIONS.md gives it, and their options are those of the
+# Checks the manual pages: mandoc has nothing to say of them, their examples run, their lists of messages are those of
+# the programs' sources, each under the status that the soak expects with it, and their options are those of the
 # programs' usages.
 set -u
 cd "$(dirname "$0")/.."
@@ -28,28 +28,9 @@ blanked() {
     sed -E 's/\b(DATA|HASH|NAME|PATH|ROOT|WORD|[A-Z])\b/_/g' | sort -u
 }
 
-# told PAGE: the messages that a page lists and that end with a full stop.
-told() {
+# listed PAGE: the messages that a page lists and that end with a full stop.
+listed() {
     section "$1" DIAGNOSTICS | sed -n 's/^\.It \(.*\.\)$/\1/p' | blanked
-}
-
-# told_statuses PAGE: each message of a page after the status under which it stands.
-told_statuses() {
-    section "$1" DIAGNOSTICS | awk '
-        /^\.Ss Status [0-9]$/ { status = $3 }
-        sub(/^\.It /, "") { print status, $0 }
-    ' | blanked
-}
-
-# defined_statuses PROGRAM: each message of a program after its status, as the tables of docs/DEFINITIONS.md have them.
-# A table is that of the command that the text before it names.
-defined_statuses() {
-    awk -F '|' -v program="$1" '
-        /^## / { inside = $0 == "## Messages and statuses" }
-        !inside { next }
-        /^[^|]/ && match($0, /`[a-z]+ [a-z]+`/) { name = substr($0, RSTART + 1); sub(/ .*/, "", name) }
-        name == program && $3 ~ /^ `.*` $/ { gsub(/[ `]*$|^[ `]*/, "", $3); print $4 + 0, $3 }
-    ' docs/DEFINITIONS.md | blanked
 }
 
 # meant CRATE: the messages in a crate's sources: texts that end with a full stop and a new line, alone or in pieces.
@@ -59,12 +40,19 @@ meant() {
         sed -E 's/\{[^}]*\}/_/g' | grep '\.$' | sort -u
 }
 
+# expected_statuses PROGRAM: messages of a program after their statuses, as the soak expects them.
+expected_statuses() {
+    sed -nE 's/.*Refused\(([0-9]), f?"([^"]*)"\).*/\1 \2/p' "tests/soak/$1_expected.py" |
+        sed -E 's/\{[^}]*\}/_/g; s/--[a-z-]+/--_/' | sort -u
+}
+
 # messages PAGE CRATE: the two lists are one.
 messages() {
-    same "$1: messages that $2 doesn't have" '' "$(comm -23 <(told "$1") <(meant "$2"))"
-    same "$1: messages of $2 that it lacks" '' "$(comm -13 <(told "$1") <(meant "$2"))"
-    if [ "$(told "$1" | wc -l)" -ge 10 ]; then pass; else fail "$1: its messages" "found: $(told "$1")"; fi
-    same "$1: messages with their statuses" "$(defined_statuses "$2")" "$(told_statuses "$1")"
+    same "$1: messages that $2 doesn't have" '' "$(comm -23 <(listed "$1") <(meant "$2"))"
+    same "$1: messages of $2 that it lacks" '' "$(comm -13 <(listed "$1") <(meant "$2"))"
+    same "$1: statuses that the soak expects otherwise" '' \
+        "$(comm -23 <(expected_statuses "$2") <(sort -u <<<"$stated_messages"))"
+    if [ "$(expected_statuses "$2" | wc -l)" -ge 4 ] && [ "$(listed "$1" | wc -l)" -ge 10 ]; then pass; else fail "$1: its messages" "found: $(listed "$1")"; fi
 }
 
 # page_options PAGE: the options that a page describes, each with the word that stands for its value.

@@ -40,7 +40,7 @@ for option in --block-size=32 "--salt=$(printf '%066d' 0)"; do
     refused "$fsverity" digest "$option" "$input"
 done
 
-row 'a block size with a sign, as `+4096`'
+row 'a block size with a sign, such as `+4096`'
 theirs 0 any '' fsverity digest --block-size=+4096 "$input"
 refused "$fsverity" digest --block-size=+4096 "$input"
 
@@ -48,7 +48,7 @@ row '`fsverity`: the report can'\''t be written, as on a full device'
 theirs 0 '' '' bash -c 'fsverity digest "$1" >/dev/full' - "$input"
 ours 1 '' 'fsverity: cannot write output.' bash -c '"$2" digest "$1" >/dev/full' - "$input" "$fsverity"
 
-row '`fsverity`: the report goes to a pipe that nobody reads, as that of `head -0`'
+row '`fsverity`: the report goes to a pipe that nobody reads, such as that of `head -0`'
 theirs 141 '' '' unread fsverity digest "$input"
 ours 1 '' 'fsverity: cannot write output.' unread "$fsverity" digest "$input"
 
@@ -98,11 +98,11 @@ ours 1 '' "fsverity: cannot open $scratch/folder." \
     "$fsverity" digest --out-merkle-tree "$scratch/first_unmade" --out-descriptor "$scratch/folder" "$input"
 absent "$row: here" "$scratch/first_unmade"
 
-row 'a shortened option, as `--hash-al`'
+row 'a shortened option, such as `--hash-al`'
 theirs 0 any '' fsverity digest --hash-al=sha512 "$input"
 refused "$fsverity" digest --hash-al=sha512 "$input"
 
-row 'a flag given twice, as `--compact --compact`'
+row 'a flag given twice, such as `--compact --compact`'
 theirs 0 any '' fsverity digest --compact --compact "$input"
 refused "$fsverity" digest --compact --compact "$input"
 

@@ -77,7 +77,7 @@ both 4 '' veritysetup verify "$data" "$scratch/folder" "$root"
 row '`fsverity digest` of a folder'
 both 1 '' fsverity digest "$scratch/folder"
 
-row '`fsverity digest` of a character device, as `/dev/zero`'
+row '`fsverity digest` of a character device, such as `/dev/zero`'
 for file in /dev/zero /dev/full /dev/null; do
     both 0 "sha256:$none $file" fsverity digest "$file"
 done

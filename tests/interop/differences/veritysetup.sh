@@ -37,7 +37,7 @@ makes_none() {
     absent "$row: HASH" "$hash"
 }
 
-row 'a single data block, on a fresh hash file'
+row 'a single data block, on a fresh hash device'
 for pair in '512 512' '1024 1024' '4096 4096' '8192 4096'; do
     rm -f "$hash" "$their_hash"
     theirs 0 any '' veritysetup format "${fixed[@]}" --hash-block-size "${pair% *}" "$one" "$their_hash"
@@ -46,7 +46,7 @@ for pair in '512 512' '1024 1024' '4096 4096' '8192 4096'; do
     size 512 "$hash"
 done
 
-row 'a single data block, on a fresh hash file, at an offset of 512'
+row 'a single data block, on a fresh hash device, at an offset of 512'
 theirs 1 '' any veritysetup format "${fixed[@]}" --hash-offset 512 "$one" "$their_hash"
 size 0 "$their_hash"
 ours 0 any '' "$veritysetup" format "${fixed[@]}" --hash-offset 512 "$one" "$hash"
