@@ -9,7 +9,7 @@ use Rattle.std.proofs.Math.Seq.{take-append-add}
 use Rattle.std.proofs.lemmas.Bool.{cases_lt}
 use Rattle.std.specs.Io.KnownBytes.{Appends}
 use Rattle.verity_format.proofs.KnownLemmas.{appends_twice}
-use Rattle.verity_format.specs.Putting.{taken}
+use Rattle.verity_format.specs.Putting.{bytes_taken}
 use Rattle.verity_format.specs.declared.putting.PutFault.{PutFault}
 use Rattle.command_line.specs.Printing.{AppendsFront}
 
@@ -28,9 +28,9 @@ front_whole text before after whole =
 -- all of the text or its first bytes were written
 pub front_of : (r : Result (Unit {0}) PutFault) (text : List ℕ) (before after : Option (List ℕ))
     → OnOk r (Appends before after text) →
-    IfErr r (λ fault. Appends before after (take (taken fault) text)) → AppendsFront text before after
+    IfErr r (λ fault. Appends before after (take (bytes_taken fault) text)) → AppendsFront text before after
 front_of (Ok done) text before after whole part = front_whole text before after whole
-front_of (Err fault) text before after whole part = (taken fault, part)
+front_of (Err fault) text before after whole part = (bytes_taken fault, part)
 
 -- a front of the first piece
 pub front_less : (xs ys : List ℕ) (a b : Option (List ℕ)) → AppendsFront xs a b → AppendsFront (xs ++ ys) a b

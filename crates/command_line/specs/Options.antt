@@ -4,7 +4,7 @@ use Rattle.std.specs.Prelude.{ℕ, ◌+◌, ◌-◌, ◌*◌, ◌/◌, ◌^◌, 
 use Rattle.std.specs.Result.{result_ok}
 use Rattle.std.specs.Str.{all_ascii_digits}
 use Rattle.hex.specs.Hex.{decode_of}
-use Rattle.verity_hash.specs.Hashing.{named}
+use Rattle.verity_hash.specs.Hashing.{algorithm_named}
 use Rattle.verity_hash.specs.declared.algorithm.Algorithm.{Algorithm}
 use Rattle.verity_hash.specs.declared.algorithm.Algorithm.TheVariants.{Sha256}
 
@@ -35,7 +35,7 @@ salt_of most text = if nat_le (length text / 2) most then result_ok (decode_of t
 -- the algorithm of this name, by default SHA-256
 abbrev pub algorithm_or_default : Option (List ℕ) → Option Algorithm
 algorithm_or_default None = Some Sha256
-algorithm_or_default (Some name) = named name
+algorithm_or_default (Some name) = algorithm_named name
 
 -- one step after another, up to the first that fails
 infixl 10 ◌>>=◌

@@ -6,7 +6,7 @@ use Rattle.std.specs.declared.alloc.Global.{Global}
 use Rattle.std.specs.Fmt.{decimal}
 use Rattle.hex.specs.Hex.{encode_lower}
 use Rattle.command_line.specs.declared.words.system_words.WordsFault.{WordsFault}
-use Rattle.command_line.specs.declared.words.system_words.WordsFault.TheVariants.{NotText, Memory}
+use Rattle.command_line.specs.declared.words.system_words.WordsFault.TheVariants.{NotUtf8, Memory}
 
 -- a byte, escaped: a backslash twice, printable ASCII as it is, any other as two hexadecimal digits
 abbrev pub escaped_byte : ℕ → List ℕ
@@ -16,17 +16,17 @@ escaped_byte byte =
     else codes "\\x" ++ encode_lower (byte ∷ [])
 
 -- the message for the word of this number, which is not UTF-8; the program's name has number 0
-abbrev pub not_text : ℕ → List ℕ → List ℕ
-not_text number word = concat
+abbrev pub not_utf8_text : ℕ → List ℕ → List ℕ
+not_utf8_text number word = concat
     (codes "error: argument " ∷ decimal number ∷ codes " is not UTF-8: " ∷ flat_map escaped_byte word ∷ codes "\n" ∷ [])
 
 -- a word that is refused is not UTF-8
-abbrev pub IsNoText : WordsFault → Type 0
-IsNoText (NotText number word) = IsUtf8 word.items → ⊥
-IsNoText Memory = ⊤
+abbrev pub IsNotUtf8 : WordsFault → Type 0
+IsNotUtf8 (NotUtf8 number word) = IsUtf8 word.items → ⊥
+IsNotUtf8 Memory = ⊤
 
 -- a word that is refused is the one of its number in the list, and those before it are UTF-8
 abbrev pub IsRefusedIn : List (List ℕ) → WordsFault → Type 0
-IsRefusedIn words (NotText number word) = (slice_get words number ≡ Some word.items)
+IsRefusedIn words (NotUtf8 number word) = (slice_get words number ≡ Some word.items)
     × ((texts : List (String Global)) × (map string_bytes texts ≡ take number words))
 IsRefusedIn words Memory = ⊤

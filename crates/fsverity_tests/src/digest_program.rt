@@ -1,7 +1,7 @@
 //! The program fsverity over a runtime in memory: which files are opened when, the lines, every message of its own, and
 //! the statuses.
 use crate::words::USAGE;
-use fixtures::{NO_TEXT, Said, Shape, data, descriptor, filled};
+use fixtures::{NOT_UTF8, Said, Shape, data, descriptor, filled};
 use fsverity::{ProgressLine, read_words, run_program};
 use memory_runtime::{Disk, Kind, MemoryRuntime};
 use sha2::{Digest as Hasher, Sha256, Sha512};
@@ -160,13 +160,13 @@ fn refused_lines_open_nothing(rt: HostRuntime) -> Result<(), Fail> {
 }
 
 #[test]
-fn a_word_that_is_no_text_is_refused(rt: HostRuntime) -> Result<(), Fail> {
+fn a_word_that_is_not_utf8_is_refused(rt: HostRuntime) -> Result<(), Fail> {
     let alloc = rt.alloc();
     let disk = disk(alloc)?;
     let mut memory = MemoryRuntime::new(alloc, &disk, "fsverity digest");
     let long = b"\xff".repeat(alloc, 1000)?;
     let digits = "\\xff".repeat(alloc, 1000)?;
-    for (word, shown) in [NO_TEXT, (long.as_slice(), digits.as_str())] {
+    for (word, shown) in [NOT_UTF8, (long.as_slice(), digits.as_str())] {
         memory.last_word = Some(word);
         let mut out = Vec::new(alloc);
         let mut msgs = Vec::new(alloc);

@@ -4,7 +4,7 @@ use Rattle.std.specs.Prelude.{slice_index_or, Result, Ok, Err}
 use Rattle.std.specs.Fork.{slice_chunk}
 use Rattle.verity_plan.specs.Plans.{Planned, levels_of}
 use Rattle.verity_plan.specs.Settings.{fan}
-use Rattle.verity_hash.specs.Hashing.{filled}
+use Rattle.verity_hash.specs.Hashing.{with_zeros}
 use Rattle.verity_tree.specs.Levels.{data_blocks}
 use Rattle.verity_tree.specs.Paths.{ChecksBlock, HasCollision, IsAccepted}
 use Rattle.verity_tree.specs.TreeOnDevice.{stored_block}
@@ -13,7 +13,7 @@ use Rattle.read_one_block.specs.declared.image.ReadFault.TheVariants.{DataFailed
 
 -- what a device holds at the place of the hash block of level l above data block i, zeros where it ends
 abbrev pub stored_above : Planned → ℕ → List ℕ → ℕ → List ℕ
-stored_above p i device l = filled p.settings.hash_block (stored_block p device l (i / fan p.settings ^ (l + 1)))
+stored_above p i device l = with_zeros p.settings.hash_block (stored_block p device l (i / fan p.settings ^ (l + 1)))
 
 -- the blocks of a path are those that a device holds above data block i
 pub record IsPathOn (p : Planned) (i : ℕ) (device path : List ℕ) : Type 0 where

@@ -2,7 +2,7 @@
 ghost use Rattle.std.specs.Prelude.{◌≡◌, ◌*◌, ◌<◌, ℕ, List, length, take, drop, IfErr, OnOk};
 ghost use Rattle.verity_io.specs.Counting.{Counts, CountsFailure};
 ghost use Rattle.verity_plan.specs.Plans.{levels_of};
-ghost use Rattle.verity_hash.specs.Hashing.{filled};
+ghost use Rattle.verity_hash.specs.Hashing.{with_zeros};
 ghost use Rattle.verity_tree.specs.Levels.{block_at, data_blocks, root};
 ghost use Rattle.read_one_block.specs.Reading.{Answers, IsPathOn, IsRight, WasRead, data_failed, is_failure};
 ghost use Rattle.read_one_block.specs.Reading.{tree_failed};
@@ -146,7 +146,7 @@ fn read_filled<D: Device>(device: &mut D, at: u64, buf: &mut [u8]) -> Result<(),
     ensures same { D.tells device.old → D.content device.new ≡ D.content device.old }
     ensures count { CountsFailure (D.failures device.old) (D.failures device.new) result }
     ensures bytes { D.tells device.old
-        → OnOk result (buf.new ≡ filled (length buf.old) (take (length buf.old) (drop at (D.content device.old)))) }
+        → OnOk result (buf.new ≡ with_zeros (length buf.old) (take (length buf.old) (drop at (D.content device.old)))) }
 {
     match device.read_at(at, buf) {
         Ok(count) => {

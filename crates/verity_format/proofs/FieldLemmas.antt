@@ -5,7 +5,7 @@ use Rattle.std.proofs.Math.Seq.{take-add}
 use Rattle.std.proofs.lemmas.List.{drop-replicate, drop_at, length-replicate, length-take-le}
 use Rattle.std.proofs.lemmas.List.{replicate-append-replicate, take-replicate, take_at}
 use borrow.Rule.Slice.PartMut.{put_mid}
-use Rattle.verity_hash.specs.Hashing.{filled, IsHeld}
+use Rattle.verity_hash.specs.Hashing.{with_zeros, IsHeld}
 
 -- there are as many bytes of fields as were put
 front_long : (n at : ℕ) (block : List ℕ) → IsHeld n block at → length (take at block) ≡ at
@@ -25,9 +25,9 @@ zeros_after n at block held =
     ∙ ap (λ m. replicate (n - m) 0) long
 
 -- the block, with bytes put after its fields
-put_mid-filled : (n at k : ℕ) (block xs : List ℕ) → IsHeld n block at → k ≡ length xs
-    → put_mid at k block xs ≡ filled n (take at block ++ xs)
-put_mid-filled n at k block xs held same =
+put_mid-with_zeros : (n at k : ℕ) (block xs : List ℕ) → IsHeld n block at → k ≡ length xs
+    → put_mid at k block xs ≡ with_zeros n (take at block ++ xs)
+put_mid-with_zeros n at k block xs held same =
     let front = take at block in
     let long = front_long n at block held in
     let less : n - at - k ≡ n - length (front ++ xs) = omega (arith, length-append front xs, long) in
@@ -40,12 +40,12 @@ pub take-put_mid : (n at k end : ℕ) (block xs : List ℕ) → IsHeld n block a
     → take end (put_mid at k block xs) ≡ take at block ++ xs
 take-put_mid n at k end block xs held ends same =
     let long = front_long n at block held in
-    ap (take end) (put_mid-filled n at k block xs held same)
+    ap (take end) (put_mid-with_zeros n at k block xs held same)
     ∙ take_at (take at block ++ xs) (replicate (n - length (take at block ++ xs)) 0) end
     (omega (arith, length-append (take at block) xs, long))
 
 -- a field writer may hold a block of some first bytes and then zeros
-held_from : (n end : ℕ) (block front : List ℕ) → block ≡ filled n front → take end block ≡ front → length front ≤ n
+held_from : (n end : ℕ) (block front : List ℕ) → block ≡ with_zeros n front → take end block ≡ front → length front ≤ n
     → end ≤ n → IsHeld n block end
 held_from n end block front whole taken short most = record {
   whole = ap length whole
@@ -55,7 +55,7 @@ held_from n end block front whole taken short most = record {
         length-replicate {A = ℕ} (n - length front) 0,
       );
   most = most;
-  zeros = whole ∙ ap (filled n) (sym taken);
+  zeros = whole ∙ ap (with_zeros n) (sym taken);
 }
 
 -- the rest of the block is still zeros
@@ -64,7 +64,7 @@ pub IsHeld-put_mid : (n at k end : ℕ) (block xs : List ℕ) → IsHeld n block
     → IsHeld n (put_mid at k block xs) end
 IsHeld-put_mid n at k end block xs held ends same room =
     let long = front_long n at block held in
-    held_from n end (put_mid at k block xs) (take at block ++ xs) (put_mid-filled n at k block xs held same)
+    held_from n end (put_mid at k block xs) (take at block ++ xs) (put_mid-with_zeros n at k block xs held same)
     (take-put_mid n at k end block xs held ends same) (omega (arith, length-append (take at block) xs, long)) room
 
 -- the zeros to be put stand there already

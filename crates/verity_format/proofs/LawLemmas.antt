@@ -5,14 +5,14 @@ use Rattle.std.specs.Cmp.Lexicographic.{bytes_decides}
 use Rattle.std.proofs.lemmas.Bool.{eqb-true, le-leb, leb-true}
 use Rattle.std.proofs.lemmas.Bool.Decides.{nat_tests}
 use Rattle.std.proofs.lemmas.List.{length-take-le}
-use Rattle.verity_hash.specs.Hashing.{named}
+use Rattle.verity_hash.specs.Hashing.{algorithm_named}
 use Rattle.verity_io.specs.Writing.{most_bytes}
 use Rattle.verity_plan.specs.Settings.{Settings, IsValid, digest_len, is_verity_block_size, least_block, most_salt}
 use Rattle.verity_plan.specs.Settings.{rule_of, type_of_number}
 use Rattle.verity_plan.specs.declared.hash_type.HashType.{HashType}
 use Rattle.verity_plan.specs.declared.hash_type.HashType.TheVariants.{Original, Current}
 use Rattle.verity_format.specs.Superblocks.{field, number_at, until_zero, SuperblockFields}
-use Rattle.verity_format.specs.Superblocks.{IsSuperblock, blocks_tests, cause, first_failed, header_tests}
+use Rattle.verity_format.specs.Superblocks.{IsSuperblock, blocks_tests, superblock_fault, first_failed, type_tests}
 use Rattle.verity_format.specs.Superblocks.{settings_tests, signature}
 use Rattle.verity_format.specs.declared.super_fault.SuperFault.{SuperFault}
 use Rattle.verity_format.proofs.ReadLemmas.{IsValid-verity}
@@ -32,15 +32,15 @@ value_of None h = cc
 value_of (Some x) h = (x, refl)
 
 -- bytes that pass every test say a superblock
-pub cause_none-says : (s : List ℕ) → cause s ≡ None → (v : SuperblockFields) × IsSuperblock s v
-cause_none-says s none =
-    let all = passed (header_tests s ++ settings_tests s ++ blocks_tests s) none in
+pub fault_none-says : (s : List ℕ) → superblock_fault s ≡ None → (v : SuperblockFields) × IsSuperblock s v
+fault_none-says s none =
+    let all = passed (type_tests s ++ settings_tests s ++ blocks_tests s) none in
     let long : 512 ≤ length s = leb-true 512 (length s) all.0 in
     let signed : take 8 s ≡ signature = (bytes_decides (take 8 s) signature).0 all.1.0 in
     let version : number_at 8 4 s ≡ 1 = eqb-true (number_at 8 4 s) 1 all.1.1.0 in
     let typed = value_of (type_of_number (number_at 12 4 s)) all.1.1.1.0 in
     let rest = all.1.1.1.1 in
-    let known = value_of (named (until_zero (field 32 32 s))) rest.1.1.0 in
+    let known = value_of (algorithm_named (until_zero (field 32 32 s))) rest.1.1.0 in
     let short : number_at 80 2 s ≤ 256 = leb-true (number_at 80 2 s) 256 rest.1.1.1.0 in
     let counted = rest.1.1.1.1 in
     let some : 0 < number_at 72 8 s = grind (arith, nat_tests, counted) in
@@ -86,8 +86,8 @@ most_256 Original = refl
 most_256 Current = refl
 
 -- bytes that say a superblock pass every test
-pub says-cause_none : (s : List ℕ) (v : SuperblockFields) → IsSuperblock s v → cause s ≡ None
-says-cause_none s v a =
+pub says-fault_none : (s : List ℕ) (v : SuperblockFields) → IsSuperblock s v → superblock_fault s ≡ None
+says-fault_none s v a =
     let rule = a.valid.of_type in
     let limits = a.valid.tree in
     let least : least_block v.tree.rule (digest_len v.tree) ≡ 512 =

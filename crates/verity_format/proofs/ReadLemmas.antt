@@ -10,7 +10,7 @@ use Rattle.verity_plan.specs.declared.hash_type.HashType.{HashType}
 use Rattle.verity_plan.specs.declared.hash_type.HashType.TheVariants.{Original, Current}
 use Rattle.verity_format.specs.Superblocks.{SuperblockFields, superblock_of, superblock_of_type, hash_type_of}
 use Rattle.verity_format.specs.Superblocks.{field, number_at}
-use Rattle.verity_format.specs.Superblocks.{AreSettings, IsSuperblock, blocks_tests, cause, first_failed, header_tests}
+use Rattle.verity_format.specs.Superblocks.{AreSettings, IsSuperblock, blocks_tests, superblock_fault, first_failed, type_tests}
 use Rattle.verity_format.specs.Superblocks.{settings_tests, signature}
 use Rattle.verity_format.specs.declared.super_fault.SuperFault.{SuperFault}
 
@@ -29,19 +29,19 @@ first_failed-found ((true, other) ∷ xs) ys fault found = first_failed-found xs
 first_failed-found ((false, other) ∷ xs) ys fault found = found
 
 -- the header passes, and the settings do not
-pub cause-settings : (s : List ℕ) (fault : SuperFault) → first_failed (header_tests s) ≡ None
+pub superblock_fault-settings : (s : List ℕ) (fault : SuperFault) → first_failed (type_tests s) ≡ None
     → first_failed (settings_tests s) ≡ Some fault
-    → cause s ≡ Some fault
-cause-settings s fault header found =
-    first_failed-found (header_tests s ++ settings_tests s) (blocks_tests s) fault
-    (first_failed-passed (header_tests s) (settings_tests s) header ∙ found)
+    → superblock_fault s ≡ Some fault
+superblock_fault-settings s fault header found =
+    first_failed-found (type_tests s ++ settings_tests s) (blocks_tests s) fault
+    (first_failed-passed (type_tests s) (settings_tests s) header ∙ found)
 
 -- the header and the settings pass
-pub cause-blocks : (s : List ℕ) → first_failed (header_tests s) ≡ None → first_failed (settings_tests s) ≡ None
-    → cause s ≡ first_failed (blocks_tests s)
-cause-blocks s header settings =
-    first_failed-passed (header_tests s ++ settings_tests s) (blocks_tests s)
-    (first_failed-passed (header_tests s) (settings_tests s) header ∙ settings)
+pub superblock_fault-blocks : (s : List ℕ) → first_failed (type_tests s) ≡ None → first_failed (settings_tests s) ≡ None
+    → superblock_fault s ≡ first_failed (blocks_tests s)
+superblock_fault-blocks s header settings =
+    first_failed-passed (type_tests s ++ settings_tests s) (blocks_tests s)
+    (first_failed-passed (type_tests s) (settings_tests s) header ∙ settings)
 
 -- parts within dm-verity's limits make settings
 pub verity_settings-ok : (algorithm : Algorithm) (hash_type : HashType) (salt : List ℕ) (data_block hash_block : ℕ)

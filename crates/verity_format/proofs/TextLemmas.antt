@@ -6,7 +6,7 @@ use Rattle.std.proofs.Math.Seq.{drop-append-add}
 use Rattle.std.proofs.lemmas.List.{drop_at, length-replicate, take_at}
 use Rattle.byteorder.specs.Endian.{little_bytes, little_number}
 use Rattle.byteorder.specs.Numbers.{little_number-reads_back}
-use Rattle.verity_hash.specs.Hashing.{name_of, named, filled}
+use Rattle.verity_hash.specs.Hashing.{name_of, algorithm_named, with_zeros}
 use Rattle.verity_hash.specs.declared.algorithm.Algorithm.{Algorithm}
 use Rattle.verity_hash.specs.declared.algorithm.Algorithm.TheVariants.{Sha256, Sha512, Sha1, Sha224, Sha384}
 use Rattle.verity_hash.specs.declared.salting.SaltRule.{SaltRule}
@@ -26,7 +26,7 @@ tail v z = little_bytes 4 v.tree.data_block ++ (little_bytes 4 v.tree.hash_block
 -- all the fields, and the zeros after them
 fields : SuperblockFields → List ℕ → List ℕ
 fields v z = signature ++ (little_bytes 4 1 ++ (little_bytes 4 (type_number v.hash_type) ++ (v.uuid
-    ++ (filled 32 (name_of v.tree.algorithm) ++ tail v z))))
+    ++ (with_zeros 32 (name_of v.tree.algorithm) ++ tail v z))))
 
 grouped : (a b c d e f g h i j k z : List ℕ)
     → ((((((((((a ++ b) ++ c) ++ d) ++ e) ++ f) ++ g) ++ h) ++ i) ++ j) ++ k) ++ z
@@ -37,13 +37,13 @@ text_is : (v : SuperblockFields) → (z : List ℕ) × (superblock_bytes v ≡ f
 unfolding superblock_bytes fields tail
 text_is v =
     let all = signature ++ little_bytes 4 1 ++ little_bytes 4 (type_number v.hash_type) ++ v.uuid
-    ++ filled 32 (name_of v.tree.algorithm)
+    ++ with_zeros 32 (name_of v.tree.algorithm)
     ++ little_bytes 4 v.tree.data_block ++ little_bytes 4 v.tree.hash_block ++ little_bytes 8 v.blocks
     ++ little_bytes 2 (length v.tree.salt) ++ replicate 6 0 ++ v.tree.salt in
     let z = replicate (512 - length all) 0 in (
       z,
       grouped signature (little_bytes 4 1) (little_bytes 4 (type_number v.hash_type)) v.uuid
-          (filled 32 (name_of v.tree.algorithm))
+          (with_zeros 32 (name_of v.tree.algorithm))
           (little_bytes 4 v.tree.data_block) (little_bytes 4 v.tree.hash_block) (little_bytes 8 v.blocks)
           (little_bytes 2 (length v.tree.salt)) (replicate 6 0) v.tree.salt z,
       omega (arith, length-append all z, length-replicate {A = ℕ} (512 - length all) 0),
@@ -58,14 +58,14 @@ past uuid name rest m sixteen long =
     ∙ ap (λ (n : ℕ). drop n ((uuid ++ name) ++ rest)) (sym both) ∙ drop-append-add (uuid ++ name) rest m
 
 name_read : (algorithm : Algorithm) (rest : List ℕ)
-    → named (until_zero (take 32 (filled 32 (name_of algorithm) ++ rest))) ≡ Some algorithm
+    → algorithm_named (until_zero (take 32 (with_zeros 32 (name_of algorithm) ++ rest))) ≡ Some algorithm
 name_read Sha256 rest = refl
 name_read Sha512 rest = refl
 name_read Sha1 rest = refl
 name_read Sha224 rest = refl
 name_read Sha384 rest = refl
 
-name_long : (algorithm : Algorithm) → length (filled 32 (name_of algorithm)) ≡ 32
+name_long : (algorithm : Algorithm) → length (with_zeros 32 (name_of algorithm)) ≡ 32
 name_long Sha256 = refl
 name_long Sha512 = refl
 name_long Sha1 = refl
@@ -89,7 +89,7 @@ fields_say : (v : SuperblockFields) (z : List ℕ) → IsValidSuperblock v → 5
     → IsSuperblock (fields v z) v
 unfolding fields tail number_at
 fields_say v z valid long =
-    let name = filled 32 (name_of v.tree.algorithm) in
+    let name = with_zeros 32 (name_of v.tree.algorithm) in
     let ln = name_long v.tree.algorithm in
     let small = type_small v.hash_type in
     let blocks : v.blocks ≤ v.blocks * v.tree.data_block = le-mul_of_pos_right v.blocks (some_data v.tree valid.tree) in
@@ -110,7 +110,7 @@ fields_say v z valid long =
           ∙ type_read v.hash_type;
       uuid = take_at v.uuid (name ++ tail v z) 16 valid.uuid;
       tree = record {
-        name = ap (λ (t : List ℕ). named (until_zero (take 32 t))) (drop_at v.uuid (name ++ tail v z) 16 valid.uuid)
+        name = ap (λ (t : List ℕ). algorithm_named (until_zero (take 32 t))) (drop_at v.uuid (name ++ tail v z) 16 valid.uuid)
             ∙ name_read v.tree.algorithm (tail v z);
         data_block = ap (little_number 4) (past v.uuid name (tail v z) 0 valid.uuid ln)
             ∙ little_number-reads_back 4 v.tree.data_block after_data_block

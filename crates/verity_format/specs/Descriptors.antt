@@ -3,7 +3,7 @@
 -- fsverity_formatted_digest).
 use Rattle.std.specs.Prelude.{◌≡◌, ℕ, ◌^◌, ◌<◌, List, [], ◌∷◌, ◌++◌, length, replicate, codes}
 use Rattle.byteorder.specs.Endian.{little_bytes}
-use Rattle.verity_hash.specs.Hashing.{hash_of, filled}
+use Rattle.verity_hash.specs.Hashing.{hash_of, with_zeros}
 use Rattle.verity_hash.specs.declared.algorithm.Algorithm.{Algorithm}
 use Rattle.verity_hash.specs.declared.algorithm.Algorithm.TheVariants.{Sha256, Sha512, Sha1, Sha224, Sha384}
 use Rattle.verity_hash.specs.declared.salting.SaltRule.TheVariants.{PaddedBefore}
@@ -35,10 +35,11 @@ algorithm_number Sha384 = 0
 -- the 256 bytes of a descriptor: version, algorithm, logarithm of the block size, salt size, four zeros, the file's
 -- size, 64 bytes of root hash, the salt as it was given, and zeros
 unfoldable pub descriptor_bytes : DescriptorFields → List ℕ
-descriptor_bytes v = filled 256 (1 ∷ algorithm_number v.tree.algorithm ∷ log2 v.tree.data_block ∷ length v.tree.salt ∷ []
+descriptor_bytes v = with_zeros 256
+    (1 ∷ algorithm_number v.tree.algorithm ∷ log2 v.tree.data_block ∷ length v.tree.salt ∷ []
     ++ replicate 4 0
     ++ little_bytes 8 v.size
-    ++ filled 64 v.root
+    ++ with_zeros 64 v.root
     ++ v.tree.salt)
 
 -- the digest of a file
@@ -46,8 +47,8 @@ abbrev pub digest_of_file : DescriptorFields → List ℕ
 digest_of_file v = hash_of v.tree.algorithm (descriptor_bytes v)
 
 -- the eight letters, the algorithm's number, the digest's length, the digest
-abbrev pub formatted : Algorithm → List ℕ → List ℕ
-formatted algorithm digest = codes "FSVerity"
+abbrev pub formatted_digest : Algorithm → List ℕ → List ℕ
+formatted_digest algorithm digest = codes "FSVerity"
     ++ little_bytes 2 (algorithm_number algorithm)
     ++ little_bytes 2 (length digest)
     ++ digest

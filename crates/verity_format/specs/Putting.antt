@@ -3,5 +3,5 @@ use Rattle.std.specs.Prelude.{ℕ}
 use Rattle.verity_format.specs.declared.putting.PutFault.{PutFault}
 
 -- how many bytes of the text were taken
-abbrev pub taken : PutFault → ℕ
-taken fault = fault.0
+abbrev pub bytes_taken : PutFault → ℕ
+bytes_taken fault = fault.0

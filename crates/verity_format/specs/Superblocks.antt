@@ -17,7 +17,7 @@ use Rattle.std.specs.Prelude.{ℕ, ◌==◌, List, length, take, drop, position,
 use Rattle.std.specs.Prelude.{nat_lt, Option, Some, None, if◌then◌else◌, Bool, [], ◌∷◌, ◌++◌, replicate, codes, is_some}
 use Rattle.std.specs.Str.{bytes_eq}
 use Rattle.byteorder.specs.Endian.{little_number, little_bytes}
-use Rattle.verity_hash.specs.Hashing.{name_of, named, filled}
+use Rattle.verity_hash.specs.Hashing.{name_of, algorithm_named, with_zeros}
 use Rattle.verity_hash.specs.declared.salting.SaltRule.{SaltRule}
 use Rattle.verity_hash.specs.declared.salting.SaltRule.TheVariants.{Before, After, PaddedBefore}
 use Rattle.verity_io.specs.Writing.{most_bytes}
@@ -39,7 +39,7 @@ number_at at n block = little_number n (drop at block)
 
 -- the bytes before the first zero, or all of them if there is none
 abbrev pub until_zero : List ℕ → List ℕ
-until_zero text = take (unwrap_or (position (λ byte. byte == 0) text) (length text)) text
+until_zero bytes = take (unwrap_or (position (λ byte. byte == 0) bytes) (length bytes)) bytes
 
 -- the hash type, how the tree is made, the UUID's 16 bytes, and the number of data blocks
 pub record SuperblockFields : Type 0 where
@@ -77,11 +77,11 @@ signature = codes "verity" ++ 0 ∷ 0 ∷ []
 
 -- the 512 bytes of a superblock
 unfoldable pub superblock_bytes : SuperblockFields → List ℕ
-superblock_bytes v = filled superblock_size (signature
+superblock_bytes v = with_zeros superblock_size (signature
     ++ little_bytes 4 1
     ++ little_bytes 4 (type_number v.hash_type)
     ++ v.uuid
-    ++ filled 32 (name_of v.tree.algorithm)
+    ++ with_zeros 32 (name_of v.tree.algorithm)
     ++ little_bytes 4 v.tree.data_block
     ++ little_bytes 4 v.tree.hash_block
     ++ little_bytes 8 v.blocks
@@ -91,7 +91,7 @@ superblock_bytes v = filled superblock_size (signature
 
 -- the bytes say these settings
 pub record AreSettings (s : List ℕ) (tree : Settings) : Type 0 where
-  pub name : named (until_zero (field 32 32 s)) ≡ Some tree.algorithm
+  pub name : algorithm_named (until_zero (field 32 32 s)) ≡ Some tree.algorithm
   pub data_block : number_at 64 4 s ≡ tree.data_block
   pub hash_block : number_at 68 4 s ≡ tree.hash_block
   pub salt_size : number_at 80 2 s ≡ length tree.salt
@@ -109,8 +109,8 @@ pub record IsSuperblock (s : List ℕ) (v : SuperblockFields) : Type 0 where
   pub valid : IsValidSuperblock v
 
 -- the tests of a superblock in the order in which they are made, each with the fault of bytes that fail it
-abbrev pub header_tests : List ℕ → List (Bool × SuperFault)
-header_tests s = (nat_le superblock_size (length s), fault.Short)
+abbrev pub type_tests : List ℕ → List (Bool × SuperFault)
+type_tests s = (nat_le superblock_size (length s), fault.Short)
     ∷ (bytes_eq (take 8 s) signature, fault.Signature)
     ∷ (number_at 8 4 s == 1, fault.Version (number_at 8 4 s))
     ∷ (is_some (type_of_number (number_at 12 4 s)), fault.HashType (number_at 12 4 s)) ∷ []
@@ -118,7 +118,7 @@ header_tests s = (nat_le superblock_size (length s), fault.Short)
 abbrev pub settings_tests : List ℕ → List (Bool × SuperFault)
 settings_tests s = (is_verity_block_size (number_at 64 4 s), fault.DataBlockSize (number_at 64 4 s))
     ∷ (is_verity_block_size (number_at 68 4 s), fault.HashBlockSize (number_at 68 4 s))
-    ∷ (is_some (named (until_zero (field 32 32 s))), fault.Algorithm)
+    ∷ (is_some (algorithm_named (until_zero (field 32 32 s))), fault.Algorithm)
     ∷ (nat_le (number_at 80 2 s) (most_salt Before), fault.SaltSize (number_at 80 2 s)) ∷ []
 
 abbrev pub blocks_tests : List ℕ → List (Bool × SuperFault)
@@ -131,5 +131,5 @@ first_failed [] = None
 first_failed (test ∷ tests) = if test.0 then first_failed tests else Some test.1
 
 -- why the bytes say no superblock
-abbrev pub cause : List ℕ → Option SuperFault
-cause s = first_failed (header_tests s ++ settings_tests s ++ blocks_tests s)
+abbrev pub superblock_fault : List ℕ → Option SuperFault
+superblock_fault s = first_failed (type_tests s ++ settings_tests s ++ blocks_tests s)

@@ -60,7 +60,7 @@ impl Descriptor {
 }
 
 /// The number of an algorithm (Linux kernel, `FS_VERITY_HASH_ALG_*`), 0 if it has none.
-pub(crate) fn number_of(algorithm: Algorithm) -> u8
+pub(crate) fn algorithm_number(algorithm: Algorithm) -> u8
     ensures { result ≡ algorithm_number algorithm }
 {
     match algorithm {
@@ -71,7 +71,7 @@ pub(crate) fn number_of(algorithm: Algorithm) -> u8
 }
 
 /// The binary logarithm of a block size.
-fn log2_of(size: u32) -> u8
+fn log2(size: u32) -> u8
     requires { 0 < size }
     ensures { result ≡ log2 size }
 {
@@ -88,13 +88,13 @@ pub fn write_descriptor(descriptor: &Descriptor) -> [u8; 256]
     let mut fields = FieldWriter::new();
     fields.put(&[
         1,
-        number_of(tree.algorithm()),
-        log2_of(tree.data_block()),
+        algorithm_number(tree.algorithm()),
+        log2(tree.data_block()),
         salt.len() as u8,
     ]);
     fields.put_zeros(4);
     fields.put_u64(descriptor.size);
-    fields.put_filled(64, descriptor.root.as_bytes());
+    fields.put_with_zeros(64, descriptor.root.as_bytes());
     fields.put(salt);
     fields.finish()
 }

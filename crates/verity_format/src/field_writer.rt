@@ -1,7 +1,7 @@
 //! A block of bytes that is written field by field.
 ghost use Rattle.std.specs.Prelude.{◌≡◌, ◌≤◌, ◌+◌, [], ◌++◌, length, replicate};
 ghost use Rattle.byteorder.specs.Endian.{little_bytes};
-ghost use Rattle.verity_hash.specs.Hashing.{filled};
+ghost use Rattle.verity_hash.specs.Hashing.{with_zeros};
 
 use byteorder::{ByteOrder, LittleEndian};
 use std::marker::Model;
@@ -57,10 +57,10 @@ impl<const N: usize> FieldWriter<N> {
     }
 
     /// Puts bytes, and zeros up to a field's width.
-    pub(crate) fn put_filled(&mut self, width: usize, bytes: &[u8])
+    pub(crate) fn put_with_zeros(&mut self, width: usize, bytes: &[u8])
         requires fits { length bytes.now ≤ width }
         requires room { length self.old + width ≤ N }
-        ensures bytes { self.new ≡ self.old ++ filled width bytes.now }
+        ensures bytes { self.new ≡ self.old ++ with_zeros width bytes.now }
         ensures longer { length self.new ≡ length self.old + width }
     {
         self.put(bytes);
@@ -106,7 +106,7 @@ impl<const N: usize> FieldWriter<N> {
 
     /// The whole block: the fields, and zeros.
     pub(crate) fn finish(self) -> [u8; N]
-        ensures { result ≡ filled N self.entry }
+        ensures { result ≡ with_zeros N self.entry }
     {
         self.bytes
     }

@@ -1,9 +1,9 @@
 //! The form in which a file digest is signed.
 ghost use Rattle.std.specs.Prelude.{◌≡◌, ◌<◌, ◌≤◌, length, SomeIff};
 ghost use Rattle.verity_hash.specs.Hashing.{digest_len_of};
-ghost use Rattle.verity_format.specs.Descriptors.{algorithm_number, formatted};
+ghost use Rattle.verity_format.specs.Descriptors.{algorithm_number, formatted_digest};
 
-use crate::descriptor::number_of;
+use crate::descriptor::algorithm_number;
 use crate::field_writer::FieldWriter;
 use std::marker::Model;
 use verity_hash::{Algorithm, Digest, ShortBytes};
@@ -38,10 +38,10 @@ impl Formatted {
 /// algorithm's digests.
 pub fn formatted_digest(algorithm: Algorithm, digest: &Digest) -> Option<Formatted>
     ensures { SomeIff result ((0 < algorithm_number algorithm) × (length digest.now ≡ digest_len_of algorithm))
-        (formatted algorithm digest.now) }
+        (formatted_digest algorithm digest.now) }
 {
     let digest = digest.as_bytes();
-    let number = number_of(algorithm);
+    let number = algorithm_number(algorithm);
     if number == 0 || digest.len() != algorithm.digest_len() {
         return None;
     }

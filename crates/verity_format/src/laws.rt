@@ -1,7 +1,7 @@
 //! Laws of superblocks, on the bytes that are written and on what bytes say, for authors of other tools for the format.
 ghost use Rattle.std.specs.Prelude.{◌≡◌, ◌↔◌, ℕ, List, None, Ok};
 ghost use Rattle.verity_format.specs.Superblocks.{SuperblockFields, IsValidSuperblock};
-ghost use Rattle.verity_format.specs.Superblocks.{IsSuperblock, cause, superblock_bytes};
+ghost use Rattle.verity_format.specs.Superblocks.{IsSuperblock, superblock_fault, superblock_bytes};
 
 use crate::{SuperFault, Superblock, read_superblock, write_superblock};
 
@@ -17,7 +17,7 @@ pub fn bytes_say_one_superblock()
 
 /// Bytes say a superblock exactly if they pass every test.
 pub fn bytes_say_a_superblock_or_fail_a_test()
-    ensures { (s : List ℕ) → ((v : SuperblockFields) × IsSuperblock s v) ↔ (cause s ≡ None) }
+    ensures { (s : List ℕ) → ((v : SuperblockFields) × IsSuperblock s v) ↔ (superblock_fault s ≡ None) }
 {}
 
 /// Reading the bytes that are written for a superblock gives that superblock back.

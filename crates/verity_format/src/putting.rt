@@ -2,7 +2,7 @@
 ghost use Rattle.std.specs.Prelude.{◌≢◌, ◌≤◌, ◌<◌, take, length, IfErr, IfOk, OnOk};
 ghost use Rattle.std.specs.Io.KnownBytes.{Appends, WriteAppends};
 ghost use Rattle.std.specs.IoError.{error_kind};
-ghost use Rattle.verity_format.specs.Putting.{taken};
+ghost use Rattle.verity_format.specs.Putting.{bytes_taken};
 
 use std::io;
 use std::io::{ErrorKind, Write};
@@ -15,9 +15,9 @@ pub struct PutFault(pub usize);
 /// before a write failed or took nothing.
 pub fn put_all<W: Write>(writer: &mut W, text: &[u8]) -> Result<(), PutFault>
     ensures whole { OnOk result (Appends (W.contents writer.old) (W.contents writer.new) text.now) }
-    ensures fewer { IfErr result (λ fault. taken fault < length text.now) }
+    ensures fewer { IfErr result (λ fault. bytes_taken fault < length text.now) }
     ensures front { IfErr result
-        (λ fault. Appends (W.contents writer.old) (W.contents writer.new) (take (taken fault) text.now)) }
+        (λ fault. Appends (W.contents writer.old) (W.contents writer.new) (take (bytes_taken fault) text.now)) }
 {
     let mut taken = 0;
     while taken < text.len() {

@@ -3,8 +3,8 @@ ghost use Rattle.std.specs.Prelude.{◌≡◌, ◌≤◌, ◌+◌, ◌==◌, len
 ghost use Rattle.verity_hash.specs.declared.salting.SaltRule.TheVariants.{Before};
 ghost use Rattle.verity_plan.specs.Plans.{superblock_size};
 ghost use Rattle.verity_plan.specs.Settings.{most_salt, is_verity_block_size, IsValid, rule_of};
-ghost use Rattle.verity_format.specs.Superblocks.{number_at, until_zero};
-ghost use Rattle.verity_format.specs.Superblocks.{AreSettings, IsSuperblock, cause, first_failed, settings_tests};
+ghost use Rattle.verity_format.specs.Superblocks.{AreSettings, IsSuperblock, superblock_fault, first_failed};
+ghost use Rattle.verity_format.specs.Superblocks.{number_at, settings_tests, until_zero};
 
 use crate::writing::VERSION;
 use crate::{SuperFault, Superblock};
@@ -17,7 +17,7 @@ use verity_plan::{HashType, MOST_SALT, SUPERBLOCK_SIZE, TreeSettings, is_verity_
 /// ignored.
 pub fn read_superblock(bytes: &[u8]) -> Result<Superblock, SuperFault>
     ensures value { IfOk result (λ superblock. IsSuperblock bytes.now superblock) }
-    ensures fault { IfErr result (λ fault. cause bytes.now ≡ Some fault) }
+    ensures fault { IfErr result (λ fault. superblock_fault bytes.now ≡ Some fault) }
 {
     if bytes.len() < SUPERBLOCK_SIZE {
         return Err(SuperFault::Short);

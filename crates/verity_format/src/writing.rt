@@ -21,7 +21,7 @@ pub fn write_superblock(superblock: &Superblock) -> [u8; SUPERBLOCK_SIZE]
     fields.put_u32(VERSION);
     fields.put_u32(superblock.hash_type().number());
     fields.put(&superblock.uuid());
-    fields.put_filled(32, tree.algorithm().name().as_bytes());
+    fields.put_with_zeros(32, tree.algorithm().name().as_bytes());
     fields.put_u32(tree.data_block());
     fields.put_u32(tree.hash_block());
     fields.put_u64(superblock.blocks());

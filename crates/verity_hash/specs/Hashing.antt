@@ -1,6 +1,6 @@
--- Hash functions (FIPS 180-4, as the crates sha1 and sha2 define them, with the names of veritysetup(8) and fsverity(1)),
--- and the salted hash of a block (Linux kernel, dm-verity page, "Construction Parameters", hash type and salt, and
--- fs-verity page, "Merkle tree").
+-- Hash functions (FIPS 180-4, as the crates sha1 and sha2 define them, with the names of veritysetup(8) and
+-- fsverity(1)), and the salted hash of a block (Linux kernel, dm-verity page, "Construction Parameters", hash type and
+-- salt, and fs-verity page, "Merkle tree").
 use Rattle.std.specs.Prelude.{ℕ, List, codes, Option, Some, None, if◌then◌else◌, ◌≡◌, ◌-◌, ◌≤◌, ◌++◌, length, take}
 use Rattle.std.specs.Prelude.{replicate}
 use Rattle.std.specs.Str.{bytes_eq}
@@ -46,29 +46,29 @@ name_of Sha224 = codes "sha224"
 name_of Sha384 = codes "sha384"
 
 -- the algorithm with this name
-abbrev pub named : List ℕ → Option Algorithm
-named text = if bytes_eq text (codes "sha256") then Some Sha256
-    else (if bytes_eq text (codes "sha512") then Some Sha512
-    else (if bytes_eq text (codes "sha1") then Some Sha1
-    else (if bytes_eq text (codes "sha224") then Some Sha224
-    else (if bytes_eq text (codes "sha384") then Some Sha384 else None))))
+abbrev pub algorithm_named : List ℕ → Option Algorithm
+algorithm_named name = if bytes_eq name (codes "sha256") then Some Sha256
+    else (if bytes_eq name (codes "sha512") then Some Sha512
+    else (if bytes_eq name (codes "sha1") then Some Sha1
+    else (if bytes_eq name (codes "sha224") then Some Sha224
+    else (if bytes_eq name (codes "sha384") then Some Sha384 else None))))
 
 -- the bytes, and zeros after them up to a length of n
-abbrev pub filled : ℕ → List ℕ → List ℕ
-filled n bytes = bytes ++ replicate (n - length bytes) 0
+abbrev pub with_zeros : ℕ → List ℕ → List ℕ
+with_zeros n bytes = bytes ++ replicate (n - length bytes) 0
 
 -- a buffer of this size, of which the first len bytes count and the others are zeros
 pub record IsHeld (size : ℕ) (bytes : List ℕ) (len : ℕ) : Type 0 where
   pub whole : length bytes ≡ size
   pub most : len ≤ size
-  pub zeros : bytes ≡ filled size (take len bytes)
+  pub zeros : bytes ≡ with_zeros size (take len bytes)
 
 -- what is hashed for a block: the salt, padded with zeros if the rule says so, before the block or after it
 abbrev pub salted_input : Algorithm → SaltRule → List ℕ → List ℕ → List ℕ
 salted_input algorithm Before salt block = salt ++ block
 salted_input algorithm After salt block = block ++ salt
 salted_input algorithm PaddedBefore salt block =
-    filled (next_multiple_of (length salt) (input_block_of algorithm)) salt ++ block
+    with_zeros (next_multiple_of (length salt) (input_block_of algorithm)) salt ++ block
 
 -- the salted hash of a block
 abbrev pub salted_hash : Algorithm → SaltRule → List ℕ → List ℕ → List ℕ

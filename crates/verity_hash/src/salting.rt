@@ -23,7 +23,7 @@ pub enum SaltRule {
 pub(crate) const ZEROS: [u8; 128] = [0; 128];
 
 /// A hasher that has taken all that is hashed for a block.
-fn fed<H: Hasher>(algorithm: Algorithm, rule: SaltRule, salt: &[u8], block: &[u8]) -> H
+fn hasher_of_block<H: Hasher>(algorithm: Algorithm, rule: SaltRule, salt: &[u8], block: &[u8]) -> H
     ensures { H.holds result (salted_input algorithm rule salt.now block.now) }
 {
     let mut hasher = H::begin();
@@ -52,7 +52,7 @@ fn fed<H: Hasher>(algorithm: Algorithm, rule: SaltRule, salt: &[u8], block: &[u8
 fn salted_by<H: Hasher>(algorithm: Algorithm, rule: SaltRule, salt: &[u8], block: &[u8]) -> Digest
     ensures { result ≡ H.hash (salted_input algorithm rule salt.now block.now) }
 {
-    let hasher: H = fed(algorithm, rule, salt, block);
+    let hasher: H = hasher_of_block(algorithm, rule, salt, block);
     hasher.end()
 }
 

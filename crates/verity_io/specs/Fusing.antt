@@ -21,8 +21,8 @@ abbrev pub fused_failures : {T : Type 0} → Fused T → ℕ
 fused_failures f = f.failures
 
 -- the next call is the one that fails
-abbrev pub BlowsNext : {T : Type 0} → Fused T → Type 0
-BlowsNext f = fused_calls f + 1 ≡ fused_call f
+abbrev pub FailsNext : {T : Type 0} → Fused T → Type 0
+FailsNext f = fused_calls f + 1 ≡ fused_call f
 
 -- a call is counted, up to the last count, and the number of the call that fails stays
 abbrev pub CountsCall : {T : Type 0} → Fused T → Fused T → Type 0
@@ -30,10 +30,10 @@ CountsCall before after =
     (fused_calls after ≡ min (fused_calls before + 1) last_count) × (fused_call after ≡ fused_call before)
 
 -- the call that fails leaves the value within
-abbrev pub IsBlown : {T X : Type 0} → Fused T → Fused T → Result X Failed → Type 0
-IsBlown before after result = BlowsNext before → IsErr result × (fused_inner after ≡ fused_inner before)
+abbrev pub FailsCall : {T X : Type 0} → Fused T → Fused T → Result X Failed → Type 0
+FailsCall before after result = FailsNext before → IsErr result × (fused_inner after ≡ fused_inner before)
 
 -- every other call answers Failed exactly if the value within counts a failure
-abbrev pub IsPassed : {T X : Type 0} → (T → ℕ) → Fused T → Fused T → Result X Failed → Type 0
-IsPassed failures before after result = ¬ BlowsNext before →
+abbrev pub PassesOn : {T X : Type 0} → (T → ℕ) → Fused T → Fused T → Result X Failed → Type 0
+PassesOn failures before after result = ¬ FailsNext before →
     CountsFailure (failures (fused_inner before)) (failures (fused_inner after)) result

@@ -5,8 +5,8 @@ use Rattle.std.specs.Prelude.{Bool, true, false}
 use Rattle.std.specs.declared.io.ErrorKind.{ErrorKind}
 use Rattle.std.specs.declared.io.ErrorKind.TheVariants.{InvalidInput, Unsupported, ReadOnlyFilesystem}
 
-abbrev pub is_unsyncable : ErrorKind → Bool
-is_unsyncable InvalidInput = true
-is_unsyncable Unsupported = true
-is_unsyncable ReadOnlyFilesystem = true
-is_unsyncable _ = false
+abbrev pub cannot_sync : ErrorKind → Bool
+cannot_sync InvalidInput = true
+cannot_sync Unsupported = true
+cannot_sync ReadOnlyFilesystem = true
+cannot_sync _ = false

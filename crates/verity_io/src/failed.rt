@@ -7,7 +7,7 @@ ghost use Rattle.verity_io.specs.Counting.{CountsFailure};
 pub struct Failed;
 
 // Counts the call if it failed, and hands its outcome back.
-pub(crate) fn counted<X>(failures: &mut u64, outcome: Result<X, Failed>) -> Result<X, Failed>
+pub(crate) fn count_failure<X>(failures: &mut u64, outcome: Result<X, Failed>) -> Result<X, Failed>
     ensures same { result ≡ outcome }
     ensures count { CountsFailure failures.old failures.new result }
 {

@@ -5,11 +5,11 @@ ghost use Rattle.std.specs.Io.Seek.{MovesTo};
 ghost use Rattle.std.specs.IoError.{error_kind};
 ghost use Rattle.verity_io.specs.Counting.{CountsFailure};
 ghost use Rattle.verity_io.specs.Moving.{file_of, EndsBefore, Fills, From, Stays};
-ghost use Rattle.verity_io.specs.Syncing.{is_unsyncable};
+ghost use Rattle.verity_io.specs.Syncing.{cannot_sync};
 ghost use Rattle.verity_io.specs.Writing.{most_bytes};
 
 use crate::device::{Device, MOST_BYTES};
-use crate::failed::{Failed, counted};
+use crate::failed::{Failed, count_failure};
 use crate::file_source::read_some;
 use std::fs::{File, OpenFile};
 use std::io;
@@ -37,25 +37,25 @@ impl<F: OpenFile> FileDevice<F> {
     /// Asks the system to keep on the disk what was written (fsync(2)), and fails if it refuses. A file of a kind that
     /// can't be synced, such as the null device, is no failure.
     pub fn sync(&self) -> Result<(), Failed> {
-        kept(self.file.sync_all())
+        sync_result(self.file.sync_all())
     }
 }
 
 // What the system's answer to a sync says: whether what was written is kept.
-fn kept(answer: io::Result<()>) -> Result<(), Failed>
+fn sync_result(answer: io::Result<()>) -> Result<(), Failed>
     ensures done { IfOk answer (λ _. IsOk result) }
-    ensures refused { IfErr answer (λ error. is_ok result ≡ is_unsyncable (error_kind error)) }
+    ensures refused { IfErr answer (λ error. is_ok result ≡ cannot_sync (error_kind error)) }
 {
     match answer {
         Ok(()) => Ok(()),
-        Err(error) if is_unsyncable(error.kind()) => Ok(()),
+        Err(error) if cannot_sync(error.kind()) => Ok(()),
         Err(_) => Err(Failed),
     }
 }
 
 // Whether the error says that this kind of file can't be synced.
-fn is_unsyncable(kind: ErrorKind) -> bool
-    ensures { result ≡ is_unsyncable kind }
+fn cannot_sync(kind: ErrorKind) -> bool
+    ensures { result ≡ cannot_sync kind }
 {
     matches!(
         kind,
@@ -82,7 +82,7 @@ impl<F: Read + Write + Seek> Device for FileDevice<F> {
             Fills (F.remaining moved) (F.remaining (file_of self.new)) k buf.new)) }
     {
         let outcome = read_from(&mut self.file, at, buf);
-        counted(&mut self.failures, outcome)
+        count_failure(&mut self.failures, outcome)
     }
 
     fn write_at(&mut self, at: u64, bytes: &[u8]) -> Result<(), Failed>
@@ -99,7 +99,7 @@ impl<F: Read + Write + Seek> Device for FileDevice<F> {
             Keeps (F.stream_bytes (file_of self.old)) (F.stream_bytes moved))) }
     {
         let outcome = write_from(&mut self.file, at, bytes);
-        counted(&mut self.failures, outcome)
+        count_failure(&mut self.failures, outcome)
     }
 }
 

@@ -4,7 +4,7 @@ ghost use Rattle.std.specs.Io.KnownBytes.{ReadConsumes};
 ghost use Rattle.std.specs.Io.Take.{take_remaining};
 ghost use Rattle.std.specs.IoError.{error_kind};
 
-use crate::failed::{Failed, counted};
+use crate::failed::{Failed, count_failure};
 use crate::source::Source;
 use std::fs::File;
 use std::io;
@@ -50,7 +50,7 @@ impl<F: Read> Source for FileSource<F> {
 
     fn read(&mut self, buf: &mut [u8]) -> Result<usize, Failed> {
         let outcome = read_some(&mut self.file, buf);
-        counted(&mut self.failures, outcome)
+        count_failure(&mut self.failures, outcome)
     }
 }
 

@@ -1,13 +1,13 @@
 //! A source or device that fails one call.
 ghost use Rattle.std.specs.Prelude.{◌≡◌, ◌≤◌, ◌+◌, ◌↔◌, length, IfOk, OnOk, OnErr, IsTrue};
 ghost use Rattle.verity_io.specs.Counting.{CountsFailure};
-ghost use Rattle.verity_io.specs.Fusing.{fused_inner, fused_call, fused_calls, fused_failures, BlowsNext, CountsCall};
-ghost use Rattle.verity_io.specs.Fusing.{IsBlown, IsPassed};
+ghost use Rattle.verity_io.specs.Fusing.{fused_inner, fused_call, fused_calls, fused_failures, FailsNext, CountsCall};
+ghost use Rattle.verity_io.specs.Fusing.{FailsCall, PassesOn};
 ghost use Rattle.verity_io.specs.Reading.{ReadsAt, TakesNext};
 ghost use Rattle.verity_io.specs.Writing.{most_bytes, put, Spoiled};
 
 use crate::device::Device;
-use crate::failed::{Failed, counted};
+use crate::failed::{Failed, count_failure};
 use crate::source::Source;
 
 /// A source or device that fails one call, which leaves the value within as it is, and passes every other call on: such
@@ -67,9 +67,9 @@ impl<T> Fused<T> {
     }
 
     // Counts a call, and says whether it is the one to fail.
-    fn blows(&mut self) -> bool
+    fn is_failing_call(&mut self) -> bool
         ensures calls { CountsCall self.old self.new }
-        ensures blown { IsTrue result ↔ BlowsNext self.old }
+        ensures fails { IsTrue result ↔ FailsNext self.old }
         ensures inner { fused_inner self.new ≡ fused_inner self.old }
         ensures failures { fused_failures self.new ≡ fused_failures self.old }
     {
@@ -95,15 +95,15 @@ impl<S: Source> Source for Fused<S> {
             TakesNext result buf.new (S.remaining (fused_inner self.old)) (S.remaining (fused_inner self.new)) }
         ensures count { CountsFailure (fused_failures self.old) (fused_failures self.new) result }
         ensures calls { CountsCall self.old self.new }
-        ensures blown { IsBlown self.old self.new result }
-        ensures passed { IsPassed S.failures self.old self.new result }
+        ensures fails { FailsCall self.old self.new result }
+        ensures passed { PassesOn S.failures self.old self.new result }
     {
-        let outcome = if self.blows() {
+        let outcome = if self.is_failing_call() {
             Err(Failed)
         } else {
             self.inner.read(buf)
         };
-        counted(&mut self.failures, outcome)
+        count_failure(&mut self.failures, outcome)
     }
 }
 
@@ -123,15 +123,15 @@ impl<D: Device> Device for Fused<D> {
             ReadsAt result at (D.content (fused_inner self.old)) buf.new }
         ensures count { CountsFailure (fused_failures self.old) (fused_failures self.new) result }
         ensures calls { CountsCall self.old self.new }
-        ensures blown { IsBlown self.old self.new result }
-        ensures passed { IsPassed D.failures self.old self.new result }
+        ensures fails { FailsCall self.old self.new result }
+        ensures passed { PassesOn D.failures self.old self.new result }
     {
-        let outcome = if self.blows() {
+        let outcome = if self.is_failing_call() {
             Err(Failed)
         } else {
             self.inner.read_at(at, buf)
         };
-        counted(&mut self.failures, outcome)
+        count_failure(&mut self.failures, outcome)
     }
 
     fn write_at(&mut self, at: u64, bytes: &[u8]) -> Result<(), Failed>
@@ -143,14 +143,14 @@ impl<D: Device> Device for Fused<D> {
             (Spoiled (D.content (fused_inner self.old)) at (length bytes.now) (D.content (fused_inner self.new))) }
         ensures count { CountsFailure (fused_failures self.old) (fused_failures self.new) result }
         ensures calls { CountsCall self.old self.new }
-        ensures blown { IsBlown self.old self.new result }
-        ensures passed { IsPassed D.failures self.old self.new result }
+        ensures fails { FailsCall self.old self.new result }
+        ensures passed { PassesOn D.failures self.old self.new result }
     {
-        let outcome = if self.blows() {
+        let outcome = if self.is_failing_call() {
             Err(Failed)
         } else {
             self.inner.write_at(at, bytes)
         };
-        counted(&mut self.failures, outcome)
+        count_failure(&mut self.failures, outcome)
     }
 }

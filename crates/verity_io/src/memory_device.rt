@@ -7,7 +7,7 @@ ghost use Rattle.verity_io.specs.Reading.{ReadsAt};
 ghost use Rattle.verity_io.specs.Writing.{most_bytes, put, Spoiled};
 
 use crate::device::Device;
-use crate::failed::{Failed, counted};
+use crate::failed::{Failed, count_failure};
 use std::alloc::AllocError;
 
 /// Bytes in memory, which grow by their vector's allocator. If a write ends past the vector's capacity and there is no
@@ -84,7 +84,7 @@ impl Device for MemoryDevice {
             (⟦<MemoryDevice as Device>⟧.failures self.new) result }
     {
         let outcome = put_at(&mut self.bytes, at as usize, bytes);
-        counted(&mut self.failures, outcome)
+        count_failure(&mut self.failures, outcome)
     }
 }
 

@@ -1,5 +1,5 @@
--- A plan: how many hash blocks each level has, where they stand, and what is read; and which sizes make one: at least one
--- data block, and a data area and a hash area of at most as many bytes as a device can have, `most_bytes`.
+-- A plan: how many hash blocks each level has, where they stand, and what is read; and which sizes make one: at least
+-- one data block, and a data area and a hash area of at most as many bytes as a device can have, `most_bytes`.
 --
 -- Levels: Linux kernel, dm-verity page, "Hash Tree". Places, counted in hash blocks: the top level first and level 0
 -- last, without gaps (the same page, "On-disk format": a depth at a time, from the root; cryptsetup's on-disk format

@@ -4,7 +4,7 @@
 use Rattle.std.specs.Prelude.{◌≡◌, ℕ, zero, suc, ◌+◌, ◌*◌, ◌/◌, ◌^◌, ◌≤◌, ◌&&◌, ◌==◌, Bool, true, false, not, List}
 use Rattle.std.specs.Prelude.{length, Option, Some, None, Result, Ok, Err, if◌then◌else◌, nat_le, nat_lt}
 use Rattle.std.specs.Int.{is_power_of_two}
-use Rattle.verity_hash.specs.Hashing.{digest_len_of, filled, salted_hash}
+use Rattle.verity_hash.specs.Hashing.{digest_len_of, with_zeros, salted_hash}
 use Rattle.verity_hash.specs.declared.algorithm.Algorithm.{Algorithm}
 use Rattle.verity_hash.specs.declared.algorithm.Algorithm.TheVariants.{Sha256, Sha512}
 use Rattle.verity_hash.specs.declared.salting.SaltRule.{SaltRule}
@@ -64,7 +64,7 @@ slot_width s = width_by s.rule (digest_len s)
 
 -- a digest in its slot: the digest, and zeros
 abbrev pub slot : Settings → List ℕ → List ℕ
-slot s digest = filled (slot_width s) digest
+slot s digest = with_zeros (slot_width s) digest
 
 -- the number of slots of a hash block
 unfoldable pub fan : Settings → ℕ

@@ -44,8 +44,8 @@ impl Model for Plan {
 ghost use Rattle.std.specs.Int.{div_ceil};
 
 impl Plan {
-    /// A plan for a number of whole data blocks, with the hash area from block `base` on, counted in hash blocks
-    /// (Linux kernel, dm-verity page, "Construction Parameters").
+    /// A plan for a number of whole data blocks, with the tree from hash block `base` on (Linux kernel, dm-verity page,
+    /// "Construction Parameters").
     ///
     /// `NoData` if there are no blocks; else `TooLarge` if the data area or the hash area, which ends after the last
     /// hash block, would go past 2^63 - 1 bytes.
@@ -58,8 +58,8 @@ impl Plan {
         }
     }
 
-    /// A plan for a number of bytes, the last data block perhaps not whole, with the hash area from block `base` on,
-    /// counted in hash blocks (Linux kernel, fs-verity page, "Merkle tree").
+    /// A plan for a number of bytes, the last data block perhaps not whole, with the tree from hash block `base` on
+    /// (Linux kernel, fs-verity page, "Merkle tree").
     ///
     /// `NoData` if there are no bytes; else `TooLarge` if the data area, in whole blocks, or the hash area would go
     /// past 2^63 - 1 bytes.

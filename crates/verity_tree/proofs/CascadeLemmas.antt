@@ -12,9 +12,9 @@ use Rattle.verity_tree.specs.TreeOnDevice.{closing, closes, stored_block, tree_b
 use Rattle.verity_tree.specs.Steps.Cascade.{EndsBlock, first_closing}
 use Rattle.verity_tree.specs.Steps.OpenBlocks.{digests_under, open_block, open_block_with, IsReached, IsCarrying}
 use Rattle.verity_tree.specs.Steps.OpenBlocks.{IsNext}
-use Rattle.verity_tree.specs.Steps.OpenBlocks.{IsKept, climb, arrival}
+use Rattle.verity_tree.specs.Steps.OpenBlocks.{IsKept, cascade_state, arrival}
 use Rattle.verity_io.specs.Writing.{put}
-use Rattle.verity_tree.specs.Verdicts.{NoneDiffers, StandsThere}
+use Rattle.verity_tree.specs.Verdicts.{NoneDiffers, HoldsBlockAt}
 use Rattle.verity_tree.proofs.QuotientLemmas.{quotient-below, quotient-next, IsReached-full}
 use Rattle.verity_tree.proofs.OpenBlockSteps.{level_digest-below, level_digest-next, level_digest-root, place-first}
 use Rattle.verity_tree.proofs.OrderSplit.{closing-prefix, closing-all, closes-reached, closes-last, first_closing-more}
@@ -61,7 +61,7 @@ reached-down f i m l some h le =
 pub level_digest-is_next : (s : Settings) (blocks : List (List ℕ)) (i m levels count index a k : ℕ)
     (store block digest : List ℕ) → 2 ≤ fan s
     → i < count → m < levels → index ≡ i / fan s ^ m → a ≡ m * s.hash_block → k ≡ s.hash_block
-    → block ≡ take k (drop a store) → count ≡ length blocks → IsCarrying s blocks (climb i m levels) store digest
+    → block ≡ take k (drop a store) → count ≡ length blocks → IsCarrying s blocks (cascade_state i m levels) store digest
     → IsNext s (blocks_up s blocks m) (arrival index block digest)
 level_digest-is_next s blocks i m levels count index a k store block digest two below inside place from wide was many h
     =
@@ -111,7 +111,7 @@ pub closing-kept : (s : Settings) (blocks : List (List ℕ)) (i m levels count i
     (block after store digest : List ℕ) → 2 ≤ fan s
     → i < count → m < levels → levels ≡ level_count (fan s) count → last ≡ eqb (i + 1) count → index ≡ i / fan s ^ m
     → count ≡ length blocks
-    → IsKept s (arrival index block digest) last after → IsCarrying s blocks (climb i m levels) store digest
+    → IsKept s (arrival index block digest) last after → IsCarrying s blocks (cascade_state i m levels) store digest
     → closing (fan s) count (i + 1) ≡ first_closing (fan s) i m
 closing-kept s blocks i m levels count index last block after store digest two below inside all l place many kept h =
     let f = fan s in
@@ -135,7 +135,7 @@ closing-kept s blocks i m levels count index last block after store digest two b
 -- all levels close
 pub closing-done : (s : Settings) (blocks : List (List ℕ)) (i levels count : ℕ) (store digest : List ℕ) → 2 ≤ fan s
     → i < count → levels ≡ level_count (fan s) count → count ≡ length blocks
-    → IsCarrying s blocks (climb i levels levels) store digest
+    → IsCarrying s blocks (cascade_state i levels levels) store digest
     → closing (fan s) count (i + 1) ≡ first_closing (fan s) i levels
 closing-done s blocks i levels count store digest two below all many h =
     let f = fan s in
@@ -161,7 +161,7 @@ pub closes-stopped : (s : Settings) (blocks : List (List ℕ)) (i m levels count
     (store digest : List ℕ) → 0 < fan s → i < count
     → last ≡ eqb (i + 1) count → index ≡ i / fan s ^ m → count ≡ length blocks
     → (index % fan s + 1 ≡ fan s) ⊎ (last ≡ true)
-    → IsCarrying s blocks (climb i m levels) store digest → closes (fan s) (length blocks) (i + 1) m ≡ true
+    → IsCarrying s blocks (cascade_state i m levels) store digest → closes (fan s) (length blocks) (i + 1) m ≡ true
 closes-stopped s blocks i m levels count index last store digest some below l place many ends h =
     let n = length blocks in
     elim ends [
@@ -184,7 +184,7 @@ pub closes-stopped_all : (s : Settings) (blocks : List (List ℕ)) (i m levels c
     (store digest : List ℕ) → 0 < fan s → i < count
     → last ≡ eqb (i + 1) count → index ≡ i / fan s ^ m → count ≡ length blocks
     → (index % fan s + 1 ≡ fan s) ⊎ (last ≡ true)
-    → IsCarrying s blocks (climb i m levels) store digest → (k : ℕ) → k ≤ m
+    → IsCarrying s blocks (cascade_state i m levels) store digest → (k : ℕ) → k ≤ m
     → closes (fan s) (length blocks) (i + 1) k ≡ true
 closes-stopped_all s blocks i m levels count index last store digest some below l place many ends h k le =
     let n = length blocks in
@@ -209,8 +209,8 @@ pub none-differs-more : (p : Planned) (blocks : List (List ℕ)) (i m : ℕ) (de
 none-differs-more p blocks i m device h here =
     let pair : ℕ × ℕ = (m, i / fan p.settings ^ (m + 1)) in
     subst (NoneDiffers p blocks device) (sym (first_closing-more (fan p.settings) i m))
-    (All-append (StandsThere p blocks device) (first_closing (fan p.settings) i m) (pair ∷ []) h
-    (All-cons (StandsThere p blocks device) pair [] here (All-nil (StandsThere p blocks device))))
+    (All-append (HoldsBlockAt p blocks device) (first_closing (fan p.settings) i m) (pair ∷ []) h
+    (All-cons (HoldsBlockAt p blocks device) pair [] here (All-nil (HoldsBlockAt p blocks device))))
 
 same_last : (i n : ℕ) → eqb (i + 1) n ≡ true → i + 1 ≡ n
 same_last i n is = elim (eqb_tells (i + 1) n) [

@@ -12,7 +12,7 @@ use Rattle.std.proofs.Math.Nat.{div-eq_of_lt, mul-le-mul_right}
 use Rattle.std.proofs.Math.Seq.{drop-cons}
 use Rattle.std.specs.Fork.{slice_chunk}
 use Rattle.std.specs.List.{flat_map}
-use Rattle.verity_hash.specs.Hashing.{filled}
+use Rattle.verity_hash.specs.Hashing.{with_zeros}
 use Rattle.verity_plan.specs.Plans.{level_count}
 use Rattle.verity_tree.specs.Levels.{block_at, cut, hash_block_of, blocks_up, root}
 use Rattle.verity_tree.specs.Steps.OpenBlocks.{digests_under}
@@ -113,8 +113,8 @@ true_chain-root s blocks i two below =
     (sym (height-level_count s blocks (omega (arith, two))))
 
 -- bytes filled to a size have it
-pub length-filled : (n : ℕ) (bytes : List ℕ) → length bytes ≤ n → length (filled n bytes) ≡ n
-length-filled n bytes most =
+pub length-with_zeros : (n : ℕ) (bytes : List ℕ) → length bytes ≤ n → length (with_zeros n bytes) ≡ n
+length-with_zeros n bytes most =
     omega (arith, length-append bytes (replicate (n - length bytes) 0), length-replicate {A = ℕ} (n - length bytes) 0)
 
 -- a block of the tree on the way up has a hash block's length
@@ -132,7 +132,7 @@ length-true_chain s blocks i l fits some room below =
     let few : length run ≤ f = omega (arith, length-take f (drop (q / f * f) xs)) in
     ap (λ (n : ℕ). length (get_or (blocks_up s blocks (l + 1)) n [])) (quotient-next f i l)
     ∙ ap length (block-up s blocks l (q / f) (quotient-below q (length xs) f some here) ∙ ap (hash_block_of s) mapped)
-    ∙ length-filled s.hash_block (flat_map (slot s) (map (hash s) run))
+    ∙ length-with_zeros s.hash_block (flat_map (slot s) (map (hash s) run))
     (omega (arith, length-slots s run fits, mul-le-mul_right (slot_width s) few, room))
 
 -- a data block has its length
@@ -142,5 +142,5 @@ unfolding cut
 length-data s n wanted bytes i below =
     let all = take wanted bytes in
     ap length (get_or-map-range_with_len (block_at s.data_block all) 0 n i i [] below (omega arith))
-    ∙ length-filled s.data_block (slice_chunk all s.data_block i)
+    ∙ length-with_zeros s.data_block (slice_chunk all s.data_block i)
     (omega (arith, length-take s.data_block (drop (i * s.data_block) all)))

@@ -2,12 +2,12 @@
 use Rattle.std.proofs.Common.{◌≡◌, ℕ, ◌+◌, ◌-◌, ◌<◌, ◌≤◌, List, [], ◌++◌, length, take, drop, replicate}
 use Rattle.std.proofs.Common.{arith, sym, ◌∙◌, ap, subst, refl, append_assoc, length-drop, Ok, Err}
 use Rattle.std.proofs.lemmas.List.{append-nil, length-take, take-append-drop, drop-drop}
-use Rattle.verity_tree.specs.Steps.ClosedBlocks.{Closes, IsCause, closed_block}
+use Rattle.verity_tree.specs.Steps.ClosedBlocks.{Closes, IsHashBlockFault, closed_block}
 use Rattle.verity_plan.specs.Plans.{Planned, byte_of}
 use Rattle.verity_tree.specs.TreeOnDevice.{stored_block}
 use Rattle.verity_io.specs.Writing.{put, Spoiled}
-use Rattle.verity_tree.specs.declared.pass.closed_block.Cause.{Cause}
-use Rattle.verity_tree.specs.declared.pass.closed_block.Cause.TheVariants.{Failed, Differs}
+use Rattle.verity_tree.specs.declared.pass.closed_block.HashBlockFault.{HashBlockFault}
+use Rattle.verity_tree.specs.declared.pass.closed_block.HashBlockFault.TheVariants.{Failed, Differs}
 use Rattle.verity_tree.specs.declared.pass.closed_block.Task.{Task}
 use Rattle.verity_tree.specs.declared.pass.closed_block.Task.TheVariants.{Write, Compare}
 
@@ -45,10 +45,10 @@ Closes-put p Compare l j bytes before after done some size h =
     h.0 ∙ put-same before bytes (byte_of p l j) p.settings.hash_block some size h.1
 
 -- a block that stops a pass spoils its range at most
-pub Closes-spoiled : (p : Planned) (task : Task) (l j : ℕ) (bytes before after : List ℕ) (cause : Cause)
-    → Closes p task (closed_block l j bytes) (Err cause) before after
+pub Closes-spoiled : (p : Planned) (task : Task) (l j : ℕ) (bytes before after : List ℕ) (fault : HashBlockFault)
+    → Closes p task (closed_block l j bytes) (Err fault) before after
     → Spoiled before (byte_of p l j) p.settings.hash_block after
-Closes-spoiled p Write l j bytes before after cause h = h
+Closes-spoiled p Write l j bytes before after fault h = h
 Closes-spoiled p Compare l j bytes before after Failed h = subst (Spoiled before (byte_of p l j) p.settings.hash_block)
     (sym h) (Spoiled-none before (byte_of p l j) p.settings.hash_block)
 Closes-spoiled p Compare l j bytes before after (Differs part) h =
@@ -63,9 +63,9 @@ Closes-same p Write l j bytes before after done compare h = cc
 Closes-same p Compare l j bytes before after done compare h = h
 
 -- a block that is compared and stops the pass
-pub Closes-cause : (p : Planned) (task : Task) (l j : ℕ) (bytes before after : List ℕ) (cause : Cause) → task ≡ Compare
-    → Closes p task (closed_block l j bytes) (Err cause) before after
-    → (after ≡ before) × IsCause p (closed_block l j bytes) before cause
-Closes-cause p Write l j bytes before after cause compare h = cc
-Closes-cause p Compare l j bytes before after Failed compare h = (h, tt)
-Closes-cause p Compare l j bytes before after (Differs part) compare h = h
+pub Closes-fault : (p : Planned) (task : Task) (l j : ℕ) (bytes before after : List ℕ) (fault : HashBlockFault) → task ≡ Compare
+    → Closes p task (closed_block l j bytes) (Err fault) before after
+    → (after ≡ before) × IsHashBlockFault p (closed_block l j bytes) before fault
+Closes-fault p Write l j bytes before after fault compare h = cc
+Closes-fault p Compare l j bytes before after Failed compare h = (h, tt)
+Closes-fault p Compare l j bytes before after (Differs part) compare h = h

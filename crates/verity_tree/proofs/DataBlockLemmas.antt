@@ -8,7 +8,7 @@ use Rattle.std.proofs.lemmas.List.FromFn.{get_or-map-range_with_len}
 use Rattle.std.proofs.lemmas.Slice.{between-put_mid}
 use borrow.Rule.Slice.PartMut.{put_mid}
 use Rattle.std.specs.List.{range_with_len}
-use Rattle.verity_hash.specs.Hashing.{filled}
+use Rattle.verity_hash.specs.Hashing.{with_zeros}
 use Rattle.verity_io.specs.Reading.{HasRead}
 use Rattle.verity_tree.specs.Reading.{EndsWithin, FailsWithin, bytes_of}
 use Rattle.verity_tree.specs.Steps.DataBlocks.{HoldsBlock, StopsWithin}
@@ -35,10 +35,10 @@ take-take_min n m xs =
 
 -- the next bytes of a file in a block are its next block
 block-next : (bytes : List ℕ) (b size i data_len : ℕ) → i * b < size → data_len ≡ min b (size - i * b)
-    → filled b (take data_len (drop (i * b) bytes)) ≡ block_at b (take size bytes) i
+    → with_zeros b (take data_len (drop (i * b) bytes)) ≡ block_at b (take size bytes) i
 block-next bytes b size i data_len here w =
     let split : i * b + (size - i * b) ≡ size = omega arith in
-    ap (filled b)
+    ap (with_zeros b)
     (ap (λ (k : ℕ). take k (drop (i * b) bytes)) w
     ∙ sym (take-take_min b (size - i * b) (drop (i * b) bytes))
     ∙ ap (take b) (sym (drop-take (i * b) (size - i * b) bytes))
@@ -65,8 +65,8 @@ NextBlock-read s size i data_len b bytes rest after block e here w have goes h =
       rest = h.rest ∙ ap (drop data_len) from ∙ drop-drop data_len (i * s.data_block) bytes
           ∙ ap (λ (k : ℕ). drop k bytes) (sym next);
       digest = ap (hash s)
-          (h.bytes ∙ ap (λ (xs : List ℕ). filled b (take data_len xs)) from
-          ∙ ap (λ (n : ℕ). filled n (take data_len (drop (i * s.data_block) bytes))) e
+          (h.bytes ∙ ap (λ (xs : List ℕ). with_zeros b (take data_len xs)) from
+          ∙ ap (λ (n : ℕ). with_zeros n (take data_len (drop (i * s.data_block) bytes))) e
           ∙ block-next bytes s.data_block size i data_len here wanted);
     }
 

@@ -16,7 +16,7 @@ use Rattle.verity_plan.proofs.CountLemmas.{le-div_ceil}
 use Rattle.verity_plan.proofs.FanLemmas.{fan-some, some_data}
 use Rattle.verity_tree.specs.TreeOnDevice.{order, times, tree_block, HoldsTree, stored_block}
 use Rattle.verity_tree.specs.Levels.{root, data_blocks, whole_blocks}
-use Rattle.verity_tree.specs.Verdicts.{NoneDiffers, StandsThere, differs, verdict_by, verdict}
+use Rattle.verity_tree.specs.Verdicts.{NoneDiffers, HoldsBlockAt, differs, verdict_by, verdict}
 use Rattle.verity_tree.specs.declared.comparing.CompareFault.{CompareFault}
 use Rattle.verity_tree.proofs.DataBlockLemmas.{whole_blocks-all}
 use Rattle.verity_tree.proofs.JudgeLemmas.{judges-right}
@@ -76,11 +76,11 @@ times-first pair pairs =
 
 -- pairs that all stand there, each that is counted
 stands-counted : (p : Planned) (blocks : List (List ℕ)) (device : List ℕ) (pairs : List (ℕ × ℕ))
-    → ((l j : ℕ) → 0 < times l j pairs → StandsThere p blocks device (l, j))
+    → ((l j : ℕ) → 0 < times l j pairs → HoldsBlockAt p blocks device (l, j))
     → NoneDiffers p blocks device pairs
-stands-counted p blocks device [] each = All-nil (StandsThere p blocks device)
+stands-counted p blocks device [] each = All-nil (HoldsBlockAt p blocks device)
 stands-counted p blocks device (pair ∷ pairs) each =
-    All-cons (StandsThere p blocks device) pair pairs (each pair.0 pair.1 (times-first pair pairs))
+    All-cons (HoldsBlockAt p blocks device) pair pairs (each pair.0 pair.1 (times-first pair pairs))
     (stands-counted p blocks device pairs (λ l j some. each l j (omega (arith, some, times-more l j pair pairs))))
 
 -- data of which no block is short holds all that is wanted
@@ -139,7 +139,7 @@ not-false false e = cc
 -- a block that doesn't differ stands there
 same-stands : (p : Planned) (blocks : List (List ℕ)) (device : List ℕ) (pair : ℕ × ℕ)
     → differs p blocks device pair ≡ false
-    → StandsThere p blocks device pair
+    → HoldsBlockAt p blocks device pair
 same-stands p blocks device pair same =
     (bytes_eq-Decides (stored_block p device pair.0 pair.1) (tree_block p.settings blocks pair.0 pair.1)).0
     (not-false _ same)

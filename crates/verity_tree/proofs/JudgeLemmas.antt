@@ -14,19 +14,19 @@ use Rattle.verity_tree.specs.Steps.OnePass.{fault_by, fault_of, StopsFor}
 use Rattle.verity_tree.specs.Levels.{root, data_blocks, whole_blocks}
 use Rattle.verity_plan.specs.Plans.{Planned, IsPlanned}
 use Rattle.verity_plan.specs.Settings.{fan}
-use Rattle.verity_tree.specs.Verdicts.{NoneDiffers, StandsThere, differs, verdict_by, part_of, verdict}
+use Rattle.verity_tree.specs.Verdicts.{NoneDiffers, HoldsBlockAt, differs, verdict_by, part_of, verdict}
 use Rattle.verity_tree.specs.declared.pass.cascade.Stop.{Stop}
 use Rattle.verity_tree.specs.declared.comparing.CompareFault.TheVariants.{SourceShort, RootDiffers}
 use Rattle.verity_tree.specs.declared.comparing.CompareFault.TheVariants as F
-use Rattle.verity_tree.specs.declared.pass.closed_block.Cause.{Cause}
-use Rattle.verity_tree.specs.declared.pass.closed_block.Cause.TheVariants.{Failed, Differs}
-use Rattle.verity_tree.specs.Steps.ClosedBlocks.{IsCause, closed_block}
+use Rattle.verity_tree.specs.declared.pass.closed_block.HashBlockFault.{HashBlockFault}
+use Rattle.verity_tree.specs.declared.pass.closed_block.HashBlockFault.TheVariants.{Failed, Differs}
+use Rattle.verity_tree.specs.Steps.ClosedBlocks.{IsHashBlockFault, closed_block}
 use Rattle.verity_tree.specs.declared.part.Part.{Part}
 use Rattle.verity_tree.proofs.OrderSplit.{order-prefix}
 use Rattle.verity_tree.proofs.DataBlockLemmas.{whole_blocks-above, whole_blocks-all}
 
 -- a block that stands there does not differ
-stands-same : (p : Planned) (blocks : List (List ℕ)) (device : List ℕ) (pair : ℕ × ℕ) → StandsThere p blocks device pair
+stands-same : (p : Planned) (blocks : List (List ℕ)) (device : List ℕ) (pair : ℕ × ℕ) → HoldsBlockAt p blocks device pair
     → differs p blocks device pair ≡ false
 stands-same p blocks device pair h =
     let same = (bytes_eq-Decides (stored_block p device pair.0 pair.1) (tree_block p.settings blocks pair.0 pair.1)).1 h
@@ -39,8 +39,8 @@ find-none : (p : Planned) (blocks : List (List ℕ)) (device : List ℕ) (pairs 
     → find (differs p blocks device) pairs ≡ None
 find-none p blocks device [] h = refl
 find-none p blocks device (pair ∷ pairs) h =
-    let stands = stands-same p blocks device pair (All-head (StandsThere p blocks device) pair pairs h) in
-    rw stands (find-none p blocks device pairs (All-tail (StandsThere p blocks device) pair pairs h))
+    let stands = stands-same p blocks device pair (All-head (HoldsBlockAt p blocks device) pair pairs h) in
+    rw stands (find-none p blocks device pairs (All-tail (HoldsBlockAt p blocks device) pair pairs h))
 
 -- the first one that differs comes after blocks that stand there
 find-first : (p : Planned) (blocks : List (List ℕ)) (device : List ℕ) (front rest : List (ℕ × ℕ)) (pair : ℕ × ℕ)
@@ -48,8 +48,8 @@ find-first : (p : Planned) (blocks : List (List ℕ)) (device : List ℕ) (front
     → differs p blocks device pair ≡ true → find (differs p blocks device) (front ++ (pair ∷ rest)) ≡ Some pair
 find-first p blocks device [] rest pair h here = rw here refl
 find-first p blocks device (first ∷ front) rest pair h here =
-    let stands = stands-same p blocks device first (All-head (StandsThere p blocks device) first front h) in
-    rw stands (find-first p blocks device front rest pair (All-tail (StandsThere p blocks device) first front h) here)
+    let stands = stands-same p blocks device first (All-head (HoldsBlockAt p blocks device) first front h) in
+    rw stands (find-first p blocks device front rest pair (All-tail (HoldsBlockAt p blocks device) first front h) here)
 
 -- bytes that are another's are not equal
 bytes-differ : (xs ys : List ℕ) → xs ≢ ys → not (bytes_eq xs ys) ≡ true
@@ -157,11 +157,11 @@ comes-to p device bytes stop stops =
 pub judges-stop : (p : Planned) → IsPlanned p → (device bytes digest : List ℕ) (stop : Stop)
     → StopsFor p bytes device stop
     → Judges p device bytes digest (Err (fault_of stop))
-judges-stop p planned device bytes digest stop stops = go stop.cause refl stops.cause_is
+judges-stop p planned device bytes digest stop stops = go stop.fault refl stops.fault_is
   where
-    go : (cause : Cause) → stop.cause ≡ cause
-        → IsCause p (closed_block stop.level stop.index
-        (tree_block p.settings (data_blocks p bytes) stop.level stop.index)) device cause
-        → Judges p device bytes digest (Err (fault_by stop.level stop.index cause))
+    go : (fault : HashBlockFault) → stop.fault ≡ fault
+        → IsHashBlockFault p (closed_block stop.level stop.index
+        (tree_block p.settings (data_blocks p bytes) stop.level stop.index)) device fault
+        → Judges p device bytes digest (Err (fault_by stop.level stop.index fault))
     go Failed e h = comes-to p device bytes stop stops
     go (Differs part) e h = judges-differs p planned device bytes digest stop part stops h.0 h.1

@@ -8,7 +8,7 @@ use Rattle.std.specs.Fork.{slice_chunk}
 use Rattle.std.specs.Int.{div_ceil}
 use Rattle.verity_plan.specs.Settings.{Settings, hash, fan}
 use Rattle.verity_tree.specs.Levels.{pack, cut, block_at, hash_block_of}
-use Rattle.verity_tree.specs.Steps.PlainRoots.{digest_of_run, digest_of_block}
+use Rattle.verity_tree.specs.Steps.PlainRoots.{digest_of_group, digest_of_block}
 
 -- a map of a map
 map-map : (f : List ℕ → List ℕ) (g : ℕ → List ℕ) (xs : List ℕ) → map f (map g xs) ≡ map (λ x. f (g x)) xs
@@ -17,7 +17,7 @@ map-map f g (x ∷ xs) = ap (λ (ys : List (List ℕ)). f (g x) ∷ ys) (map-map
 
 pub map-hash-pack : (s : Settings) (digests : List (List ℕ))
     → map (hash s) (pack s digests)
-    ≡ map (digest_of_run s digests) (range_with_len 0 (div_ceil (length digests) (fan s)))
+    ≡ map (digest_of_group s digests) (range_with_len 0 (div_ceil (length digests) (fan s)))
 unfolding pack
 map-hash-pack s digests =
     map-map (hash s) (λ j. hash_block_of s (slice_chunk digests (fan s) j))
@@ -35,14 +35,14 @@ take-run digests j size count all e m =
 
 -- one more run
 pub digests_more : (s : Settings) (digests above after : List (List ℕ)) (j : ℕ) (digest : List ℕ)
-    → after ≡ above ++ digest ∷ [] → above ≡ map (digest_of_run s digests) (range_with_len 0 j)
-    → digest ≡ digest_of_run s digests j
-    → after ≡ map (digest_of_run s digests) (range_with_len 0 (j + 1))
+    → after ≡ above ++ digest ∷ [] → above ≡ map (digest_of_group s digests) (range_with_len 0 j)
+    → digest ≡ digest_of_group s digests j
+    → after ≡ map (digest_of_group s digests) (range_with_len 0 (j + 1))
 digests_more s digests above after j digest pushed before same =
     pushed
     ∙ ap (λ (xs : List (List ℕ)). xs ++ digest ∷ []) before
-    ∙ ap (λ (x : List ℕ). map (digest_of_run s digests) (range_with_len 0 j) ++ x ∷ []) same
-    ∙ sym (map-range_with_len_more (digest_of_run s digests) 0 j j (omega arith))
+    ∙ ap (λ (x : List ℕ). map (digest_of_group s digests) (range_with_len 0 j) ++ x ∷ []) same
+    ∙ sym (map-range_with_len_more (digest_of_group s digests) 0 j j (omega arith))
 
 -- one more element of a list by its index
 pub mapped_more : (f : ℕ → List ℕ) (before after : List (List ℕ)) (j : ℕ) (x : List ℕ)

@@ -20,9 +20,9 @@ use Rattle.verity_tree.specs.Steps.Cascade.{first_closing, ClosesWith}
 use Rattle.verity_plan.specs.Plans.{Planned, byte_of}
 use Rattle.verity_tree.specs.Steps.OpenBlocks.{digests_under, open_block, HasOpenBlocks}
 use Rattle.verity_tree.proofs.OpenBlockSteps.{hash_block_of-none}
-use Rattle.verity_tree.specs.Steps.ClosedBlocks.{IsCause, closed_block}
+use Rattle.verity_tree.specs.Steps.ClosedBlocks.{IsHashBlockFault, closed_block}
 use Rattle.verity_tree.specs.Steps.OnePass.{StopsFor}
-use Rattle.verity_tree.specs.Verdicts.{NoneDiffers, StandsThere}
+use Rattle.verity_tree.specs.Verdicts.{NoneDiffers, HoldsBlockAt}
 use Rattle.verity_tree.specs.declared.pass.cascade.Stop.{Stop}
 
 zero_div : (w : ℕ) → 0 < w → 0 / w ≡ 0
@@ -125,7 +125,7 @@ pub none-differs-order : (p : Planned) (blocks : List (List ℕ)) (i : ℕ) (dev
     → NoneDiffers p blocks device (order (fan p.settings) p.blocks (i + 1))
 none-differs-order p blocks i device before h =
     subst (NoneDiffers p blocks device) (sym (order-more (fan p.settings) p.blocks i))
-    (All-append (StandsThere p blocks device) (order (fan p.settings) p.blocks i)
+    (All-append (HoldsBlockAt p blocks device) (order (fan p.settings) p.blocks i)
     (closing (fan p.settings) p.blocks (i + 1)) before h)
 
 -- a comparison that stops at a level of a data block
@@ -134,10 +134,10 @@ pub stops-for : (p : Planned) (bytes : List ℕ) (i : ℕ) (device : List ℕ) (
     → ClosesWith p i stop.level stop.index → bytes_of p (i + 1) ≤ length bytes
     → NoneDiffers p (data_blocks p bytes) device (order (fan p.settings) p.blocks i)
     → NoneDiffers p (data_blocks p bytes) device (first_closing (fan p.settings) i stop.level)
-    → IsCause p (closed_block stop.level stop.index (tree_block p.settings (data_blocks p bytes) stop.level stop.index))
-    device stop.cause
+    → IsHashBlockFault p (closed_block stop.level stop.index (tree_block p.settings (data_blocks p bytes) stop.level stop.index))
+    device stop.fault
     → StopsFor p bytes device stop
-stops-for p bytes i device stop some below with_it enough before h cause =
+stops-for p bytes i device stop some below with_it enough before h fault =
     let f = fan p.settings in
     let l = stop.level in
     let blocks = data_blocks p bytes in
@@ -154,6 +154,6 @@ stops-for p bytes i device stop some below with_it enough before h cause =
             (sym with_it.block_is)
             ∙ simp append_assoc;
       };
-      same = All-append (StandsThere p blocks device) (order f p.blocks i) (first_closing f i l) before h;
-      cause_is = cause;
+      same = All-append (HoldsBlockAt p blocks device) (order f p.blocks i) (first_closing f i l) before h;
+      fault_is = fault;
     }

@@ -12,7 +12,7 @@ use Rattle.std.specs.List.{flat_map}
 use Rattle.std.specs.Fork.{slice_chunk}
 use Rattle.std.specs.Int.{div_ceil}
 use Rattle.verity_plan.proofs.CountLemmas.{mul_le}
-use Rattle.verity_hash.specs.Hashing.{filled}
+use Rattle.verity_hash.specs.Hashing.{with_zeros}
 use Rattle.verity_hash.proofs.HashLemmas.{length-salted_hash}
 use Rattle.verity_plan.specs.Settings.{Settings, hash, fan, slot, slot_width, digest_len}
 use Rattle.verity_tree.specs.Levels.{hash_block_of, blocks_up}
@@ -47,15 +47,15 @@ length-slots s (x ∷ xs) fits =
 
 -- a digest put after the slots of a block is in its slot
 pub block-more : (k w at : ℕ) (slots digest : List ℕ) → length slots ≡ at → length digest ≤ w → at + w ≤ k
-    → take at (filled k slots) ++ digest ++ drop (at + length digest) (filled k slots)
-    ≡ filled k (slots ++ filled w digest)
+    → take at (with_zeros k slots) ++ digest ++ drop (at + length digest) (with_zeros k slots)
+    ≡ with_zeros k (slots ++ with_zeros w digest)
 block-more k w at slots digest len fits room =
     let zeros = replicate (k - length slots) 0 in
     let d = length digest in
-    let front : take at (filled k slots) ≡ slots = take_at slots zeros at len in
+    let front : take at (with_zeros k slots) ≡ slots = take_at slots zeros at len in
     let e : at + d ≡ length slots + d = omega (arith, len) in
-    let back : drop (at + d) (filled k slots) ≡ replicate (k - length slots - d) 0 =
-    ap (λ (n : ℕ). drop n (filled k slots)) e ∙ drop-append-add slots zeros d ∙ drop-replicate d (k - length slots) 0 in
+    let back : drop (at + d) (with_zeros k slots) ≡ replicate (k - length slots - d) 0 =
+    ap (λ (n : ℕ). drop n (with_zeros k slots)) e ∙ drop-append-add slots zeros d ∙ drop-replicate d (k - length slots) 0 in
     let slot_zeros = replicate (w - d) 0 in
     let size : length (slots ++ (digest ++ slot_zeros)) ≡ at + w =
     omega (
@@ -71,7 +71,7 @@ block-more k w at slots digest len fits room =
     let split : replicate (k - length slots - d) 0 ≡ slot_zeros ++ after =
     ap (λ (n : ℕ). replicate n 0) left
     ∙ sym (replicate-append-replicate (w - d) (k - length (slots ++ (digest ++ slot_zeros))) 0) in
-    ap (λ (xs : List ℕ). xs ++ digest ++ drop (at + d) (filled k slots)) front
+    ap (λ (xs : List ℕ). xs ++ digest ++ drop (at + d) (with_zeros k slots)) front
     ∙ ap (λ (xs : List ℕ). slots ++ digest ++ xs) (back ∙ split)
     ∙ sym (append_assoc (slots ++ digest) slot_zeros after)
     ∙ ap (λ (xs : List ℕ). xs ++ after) (append_assoc slots digest slot_zeros)
@@ -115,7 +115,7 @@ open-push s xs q digest at fits room some below same place =
     let pushed : flat_map (slot s) (take (q % f + 1) rest) ≡ slots ++ slot s digest =
     ap (flat_map (slot s)) next ∙ flat_map-append (slot s) (take (q % f) rest) (digest ∷ [])
     ∙ ap (λ (ys : List ℕ). slots ++ ys) (append-nil (slot s digest)) in
-    block-more s.hash_block w at slots digest len size inside ∙ ap (filled s.hash_block) (sym pushed)
+    block-more s.hash_block w at slots digest len size inside ∙ ap (with_zeros s.hash_block) (sym pushed)
 
 -- a block that is full, or the last, is the block of its run
 pub open-close : (s : Settings) (xs : List (List ℕ)) (q : ℕ) → 0 < fan s → (q % fan s + 1 ≡ fan s) ⊎ (q + 1 ≡ length xs)

@@ -16,7 +16,7 @@ use Rattle.verity_tree.specs.Levels.{hash_block_of, blocks_up, root}
 use Rattle.verity_plan.specs.Plans.{level_count}
 use Rattle.verity_tree.specs.Steps.OpenBlocks.{digests_under, open_block, open_block_with, HasOpenBlocks, level_digest}
 use Rattle.verity_tree.specs.Steps.OpenBlocks.{IsCarrying}
-use Rattle.verity_tree.specs.Steps.OpenBlocks.{IsNext, IsClosed, IsKept, IsCarriedOn, climb, arrival}
+use Rattle.verity_tree.specs.Steps.OpenBlocks.{IsNext, IsClosed, IsKept, IsCarriedOn, cascade_state, arrival}
 use Rattle.verity_plan.proofs.CountLemmas.{IsLevelCount-level_count, mul_le}
 use Rattle.verity_tree.proofs.TreeLemmas.{length-blocks_up, height-level_count}
 use Rattle.verity_tree.proofs.QuotientLemmas.{quotient-next, quotient-below, div_ceil-last, IsReached-zero}
@@ -109,8 +109,8 @@ pub IsCarrying-closed : (s : Settings) (blocks : List (List ℕ)) (i m levels a 
     → (i / fan s ^ m % fan s + 1 ≡ fan s) ⊎ (i + 1 ≡ length blocks) → levels * s.hash_block ≤ length store
     → a ≡ m * s.hash_block → k ≡ s.hash_block → zeros ≡ replicate s.hash_block 0 → length zeros ≡ s.hash_block
     → next ≡ hash s (open_block_with s (digests_under s blocks m) (i / fan s ^ m))
-    → IsCarrying s blocks (climb i m levels) store digest
-    → IsCarrying s blocks (climb i (m + 1) levels) (put_mid a k store zeros) next
+    → IsCarrying s blocks (cascade_state i m levels) store digest
+    → IsCarrying s blocks (cascade_state i (m + 1) levels) (put_mid a k store zeros) next
 IsCarrying-closed s blocks i m levels a k store zeros digest next some below inside ends room place wide none len is h =
     let f = fan s in
     let q = i / f ^ m in
@@ -150,7 +150,7 @@ pub HasOpenBlocks-kept : (s : Settings) (blocks : List (List ℕ)) (i m levels a
     → i / fan s ^ m % fan s + 1 < fan s → levels * s.hash_block ≤ length store
     → a ≡ m * s.hash_block → k ≡ s.hash_block → length stood ≡ s.hash_block
     → stood ≡ open_block_with s (digests_under s blocks m) (i / fan s ^ m)
-    → IsCarrying s blocks (climb i m levels) store digest
+    → IsCarrying s blocks (cascade_state i m levels) store digest
     → HasOpenBlocks s blocks 0 levels (i + 1) (put_mid a k store stood)
 HasOpenBlocks-kept s blocks i m levels a k store stood digest some more inside less room place wide len is h =
     let f = fan s in
@@ -184,7 +184,7 @@ HasOpenBlocks-kept s blocks i m levels a k store stood digest some more inside l
 -- past all levels only the last data block comes, and its digest is the root
 pub level_digest-root : (s : Settings) (blocks : List (List ℕ)) (i levels : ℕ) (store digest : List ℕ) → 2 ≤ fan s
     → i < length blocks
-    → levels ≡ level_count (fan s) (length blocks) → IsCarrying s blocks (climb i levels levels) store digest
+    → levels ≡ level_count (fan s) (length blocks) → IsCarrying s blocks (cascade_state i levels levels) store digest
     → (i + 1 ≡ length blocks) × (digest ≡ root s blocks)
 unfolding root
 level_digest-root s blocks i levels store digest two below count h =
@@ -242,7 +242,7 @@ slots-all s q f e two all =
 -- the loop over the levels begins
 pub IsCarrying-first : (s : Settings) (blocks : List (List ℕ)) (i levels : ℕ) (store digest : List ℕ)
     → digest ≡ level_digest s blocks i 0
-    → HasOpenBlocks s blocks 0 levels i store → IsCarrying s blocks (climb i 0 levels) store digest
+    → HasOpenBlocks s blocks 0 levels i store → IsCarrying s blocks (cascade_state i 0 levels) store digest
 IsCarrying-first s blocks i levels store digest is stands = record {
   reached = λ _. IsReached-zero (fan s) i;
   above = stands;
@@ -256,8 +256,8 @@ pub carry-closed : (s : Settings) (blocks : List (List ℕ)) (i m levels count i
     → i < count → m < levels → last ≡ eqb (i + 1) count → index ≡ i / fan s ^ m → levels * s.hash_block ≤ length store
     → a ≡ m * s.hash_block → k ≡ s.hash_block
     → block ≡ take k (drop a store) → IsClosed s (arrival index block digest) last after above → count ≡ length blocks
-    → IsCarrying s blocks (climb i m levels) store digest
-    → IsCarrying s blocks (climb i (m + 1) levels) (put_mid a k store after) above
+    → IsCarrying s blocks (cascade_state i m levels) store digest
+    → IsCarrying s blocks (cascade_state i (m + 1) levels) (put_mid a k store after) above
 carry-closed s blocks i m levels count index a k last store block after digest above two below inside l place room from
     wide was closed many h =
     let some : 0 < fan s = omega arith in
@@ -289,7 +289,7 @@ pub carry-kept : (s : Settings) (blocks : List (List ℕ)) (i m levels count ind
     → a ≡ m * s.hash_block → k ≡ s.hash_block
     → block ≡ take k (drop a store) → length after ≡ length block → IsKept s (arrival index block digest) last after
     → count ≡ length blocks
-    → IsCarrying s blocks (climb i m levels) store digest
+    → IsCarrying s blocks (cascade_state i m levels) store digest
     → IsCarriedOn s blocks i levels (put_mid a k store after) digest
 carry-kept s blocks i m levels count index a k last store block after digest two below inside l place room from wide was
     len kept many h =
@@ -328,7 +328,7 @@ carry-kept s blocks i m levels count index a k last store block after digest two
 -- past the last level
 pub carry-all : (s : Settings) (blocks : List (List ℕ)) (i levels : ℕ) (store digest : List ℕ) → 2 ≤ fan s
     → i < length blocks
-    → levels ≡ level_count (fan s) (length blocks) → IsCarrying s blocks (climb i levels levels) store digest
+    → levels ≡ level_count (fan s) (length blocks) → IsCarrying s blocks (cascade_state i levels levels) store digest
     → IsCarriedOn s blocks i levels store digest
 carry-all s blocks i levels store digest two below many h =
     let done = level_digest-root s blocks i levels store digest two below many h in

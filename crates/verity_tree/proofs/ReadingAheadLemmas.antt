@@ -17,7 +17,7 @@ use Rattle.verity_plan.specs.Plans.{Planned}
 use Rattle.verity_plan.specs.Settings.{fan}
 use Rattle.verity_tree.specs.Reading.{bytes_of}
 use Rattle.verity_tree.specs.Steps.Cascade.{EndsBlock}
-use Rattle.verity_tree.specs.Steps.ReadingAhead.{IsAhead, IsQuiet, StandsBy, stop_failed}
+use Rattle.verity_tree.specs.Steps.ReadingAhead.{IsAhead, IsWithinHashBlock, SourceStandsAt, stop_failed}
 use Rattle.verity_tree.specs.declared.pass.data_block.BlockFault.{BlockFault}
 use Rattle.verity_tree.specs.declared.pass.reading_ahead.Ahead.{Ahead}
 
@@ -40,10 +40,10 @@ add-mul-one : (q f : ℕ) → (q + 1) * f ≡ q * f + f
 add-mul-one q f = omega arith
 
 -- of data blocks that go no further than the next end of a hash block, none but the last ends one
-pub quiet-run : (f n i count k : ℕ) → 0 < f → count ≤ f - i % f → i + count ≤ n → i ≤ k → k + 1 < i + count
+pub none_closes-batch : (f n i count k : ℕ) → 0 < f → count ≤ f - i % f → i + count ≤ n → i ≤ k → k + 1 < i + count
     → ¬ EndsBlock f n k
-quiet-run f n i count k some within room from to (inr last) = omega arith
-quiet-run f n i count k some within room from to (inl full) =
+none_closes-batch f n i count k some within room from to (inr last) = omega arith
+none_closes-batch f n i count k some within room from to (inl full) =
     let q = i / f in
     let r = k / f in
     let here : q * f + i % f ≡ i = div-add-mod' i f in
@@ -74,14 +74,14 @@ none-or None = inl refl
 none-or (Some fault) = inr (some-fault fault)
 
 -- when a hash block ends, nothing is read ahead
-pub settled : (p : Planned) (i : ℕ) (ahead : Ahead) → IsQuiet p (i + 1) ahead → EndsBlock (fan p.settings) p.blocks i
+pub settled : (p : Planned) (i : ℕ) (ahead : Ahead) → IsWithinHashBlock p (i + 1) ahead → EndsBlock (fan p.settings) p.blocks i
     → (ahead.fault ≡ None) × (ahead.end ≡ i + 1)
-settled p i ahead quiet ends =
-    let none = quiet.quiet i (omega arith) in
+settled p i ahead within ends =
+    let none = within.none_closes i (omega arith) in
     elim (cases_lt (i + 1) ahead.end) [
       | inl more ↦ absurd (none (inl more) ends)
       | inr all ↦
-          let here : i + 1 ≡ ahead.end = omega (arith, all, quiet.from) in
+          let here : i + 1 ≡ ahead.end = omega (arith, all, within.from) in
           elim (none-or ahead.fault) [
             | inl is ↦ (is, sym here)
             | inr some ↦ absurd (none (inr (here, some)) ends)
@@ -89,13 +89,13 @@ settled p i ahead quiet ends =
     ]
 
 -- nor at the end of the data
-pub all-read : (p : Planned) (i : ℕ) (ahead : Ahead) → IsQuiet p i ahead → p.blocks ≤ i
+pub all-read : (p : Planned) (i : ℕ) (ahead : Ahead) → IsWithinHashBlock p i ahead → p.blocks ≤ i
     → (ahead.fault ≡ None) × (ahead.end ≡ p.blocks)
-all-read p i ahead quiet done =
-    let whole : ahead.end ≡ p.blocks = omega (arith, quiet.from, quiet.to, done) in
+all-read p i ahead within done =
+    let whole : ahead.end ≡ p.blocks = omega (arith, within.from, within.to, done) in
     elim (none-or ahead.fault) [
       | inl is ↦ (is, whole)
-      | inr some ↦ absurd (omega (arith, quiet.short some, whole))
+      | inr some ↦ absurd (omega (arith, within.short some, whole))
     ]
 
 -- then the blocks before it were read, and no more
@@ -103,7 +103,7 @@ pub read-to : (p : Planned) (i n : ℕ) (bytes : List ℕ) (ahead : Ahead) (afte
     → ahead.end ≡ n → IsAhead p i bytes ahead after → HasRead (bytes_of p n) bytes after
 read-to p i n bytes ahead after none end h =
     subst (λ (k : ℕ). HasRead (bytes_of p k) bytes after) end
-    (subst (λ (fault : Option BlockFault). StandsBy p ahead.end bytes fault after) none h.stands)
+    (subst (λ (fault : Option BlockFault). SourceStandsAt p ahead.end bytes fault after) none h.stands)
 
 -- and the source has not failed
 pub not-failed : (fault : Option BlockFault) (before after : ℕ) → fault ≡ None → Counts (stop_failed fault) before after

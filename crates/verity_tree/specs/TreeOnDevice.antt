@@ -1,7 +1,7 @@
 -- What a device holds of a tree: each hash block at its place (cryptsetup's on-disk format page; Linux kernel,
--- dm-verity page, "On-disk format"). And the closing order, in which hash blocks close, and so are written and compared,
--- as the data blocks come one after another: a block closes when it is full, or with the last data block. That order is
--- this project's own; the kernel's pages leave it open.
+-- dm-verity page, "On-disk format"). And the closing order, in which hash blocks close, and so are written and
+-- compared, as the data blocks come one after another: a block closes when it is full, or with the last data block.
+-- That order is this project's own; the kernel's pages leave it open.
 use Rattle.std.specs.Prelude.{◌≡◌, ◌<◌, ℕ, zero, suc, ◌+◌, ◌-◌, ◌%◌, ◌^◌, Bool, ◌||◌, ◌&&◌, ◌==◌, List, [], ◌∷◌, ◌++◌}
 use Rattle.std.specs.Prelude.{map, filter, length, slice_index_or, ◌≤◌, take, drop}
 use Rattle.std.specs.List.{range_with_len, count_by}

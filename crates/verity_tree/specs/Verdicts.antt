@@ -60,9 +60,9 @@ verdict p device bytes digest =
     (find (differs p (data_blocks p bytes) device) (order (fan p.settings) p.blocks (whole_blocks p bytes))) digest
 
 -- the device holds this block of the tree
-abbrev pub StandsThere : Planned → List (List ℕ) → List ℕ → ℕ × ℕ → Type 0
-StandsThere p blocks device pair = stored_block p device pair.0 pair.1 ≡ tree_block p.settings blocks pair.0 pair.1
+abbrev pub HoldsBlockAt : Planned → List (List ℕ) → List ℕ → ℕ × ℕ → Type 0
+HoldsBlockAt p blocks device pair = stored_block p device pair.0 pair.1 ≡ tree_block p.settings blocks pair.0 pair.1
 
 -- the device holds these blocks of the tree
 abbrev pub NoneDiffers : Planned → List (List ℕ) → List ℕ → List (ℕ × ℕ) → Type 0
-NoneDiffers p blocks device pairs = All (StandsThere p blocks device) pairs
+NoneDiffers p blocks device pairs = All (HoldsBlockAt p blocks device) pairs

@@ -4,7 +4,7 @@ ghost use Rattle.verity_plan.specs.Plans.{store_length_of};
 
 use crate::part::Part;
 use crate::pass::cascade::Stop;
-use crate::pass::closed_block::{Cause, Task};
+use crate::pass::closed_block::{HashBlockFault, Task};
 use crate::pass::one_pass::{PassFault, pass};
 use crate::store::Store;
 use verity_hash::Digest;
@@ -90,10 +90,10 @@ fn fault_of(stop: Stop) -> CompareFault
     let Stop {
         level,
         index: block,
-        cause,
+        fault,
     } = stop;
-    match cause {
-        Cause::Failed => CompareFault::DeviceFailed { level, block },
-        Cause::Differs(part) => CompareFault::Differs { level, block, part },
+    match fault {
+        HashBlockFault::Failed => CompareFault::DeviceFailed { level, block },
+        HashBlockFault::Differs(part) => CompareFault::Differs { level, block, part },
     }
 }

@@ -1,7 +1,7 @@
 //! The root hash by whole lists, level by level: the plain body that the passes are tested beside.
 ghost use Rattle.std.specs.Prelude.{◌≡◌, ◌+◌, ◌*◌, ◌<◌, ◌≤◌, ◌++◌, length, map, vec_len, IfOk, OnOk};
 ghost use Rattle.std.specs.Int.{div_ceil};
-ghost use Rattle.verity_hash.specs.Hashing.{filled};
+ghost use Rattle.verity_hash.specs.Hashing.{with_zeros};
 ghost use Rattle.verity_tree.specs.Levels.{cut, hash_block_of, pack, root, data_blocks};
 ghost use Rattle.verity_tree.specs.Steps.PlainRoots.{root_of_digests};
 ghost use Rattle.verity_plan.specs.Settings.{hash};
@@ -11,7 +11,7 @@ use verity_hash::Digest;
 use verity_plan::{Plan, TreeSettings};
 
 /// The hash block of some digests: their slots in order, and zeros.
-fn hash_block(
+fn hash_block_of(
     alloc: Global,
     settings: &TreeSettings,
     digests: &[Digest],
@@ -35,7 +35,7 @@ const ZEROS: [u8; 128] = [0; 128];
 /// Adds a digest in its slot.
 fn push_slot(block: &mut Vec<u8>, width: usize, digest: &Digest) -> Result<(), AllocError>
     requires { width ≤ 128 }
-    ensures ok { OnOk result (block.new.items ≡ block.old.items ++ filled width digest.now) }
+    ensures ok { OnOk result (block.new.items ≡ block.old.items ++ with_zeros width digest.now) }
 {
     let bytes = digest.as_bytes();
     block.extend_from_slice(bytes)?;
@@ -56,14 +56,14 @@ fn level_up(
     for j in 0..digests.len().div_ceil(fan) {
         let from = j * fan;
         let size = fan.min(digests.len() - from);
-        let block = hash_block(alloc, settings, &digests[from..from + size])?;
+        let block = hash_block_of(alloc, settings, &digests[from..from + size])?;
         above.push(settings.hash(&block))?;
     }
     Ok(above)
 }
 
 /// The root above these digests.
-fn root_above(
+fn root_of_digests(
     alloc: Global,
     settings: &TreeSettings,
     digests: Vec<Digest>,
@@ -71,7 +71,7 @@ fn root_above(
     requires { 0 < vec_len digests }
     ensures { IfOk result (λ root. root ≡ root_of_digests settings.now digests.items) }
 {
-    // The call tells the proof that the fan-out is at least 2.
+    // Called for the proof: its contract says that the fan-out is at least 2.
     let _fan = settings.fan();
     let mut level = digests;
     'levels: while level.len() > 1 {
@@ -83,7 +83,7 @@ fn root_above(
 /// Some bytes, and zeros after them.
 fn filled_block(alloc: Global, bytes: &[u8], size: usize) -> Result<Vec<u8>, AllocError>
     requires { length bytes.now ≤ size }
-    ensures { IfOk result (λ block. block.items ≡ filled size bytes.now) }
+    ensures { IfOk result (λ block. block.items ≡ with_zeros size bytes.now) }
 {
     let mut block = Vec::from_slice(alloc, bytes)?;
     block.resize(size, 0)?;
@@ -116,9 +116,9 @@ pub fn root_by_levels(alloc: Global, plan: &Plan, bytes: &[u8]) -> Result<Digest
     requires { length bytes.now ≡ plan.now.wanted }
     ensures { IfOk result (λ digest. digest ≡ root plan.now.settings (data_blocks plan.now bytes.now)) }
 {
-    // The call tells the proof that the plan has data.
+    // Called for the proof: its contract says that the plan has data.
     let _wanted = plan.wanted();
     let settings = plan.settings();
     let digests = digests_of(alloc, settings, bytes)?;
-    root_above(alloc, settings, digests)
+    root_of_digests(alloc, settings, digests)
 }

@@ -1,7 +1,7 @@
 //! The program over files in memory: what its options choose, its own messages, and what it leaves behind.
 use crate::images::image_of;
 use crate::words::{DUMP_USAGE, FORMAT_USAGE, VERIFY_USAGE};
-use fixtures::{NO_TEXT, REPORT_17, Report, Said, filled, words_of};
+use fixtures::{NOT_UTF8, REPORT_17, Report, Said, filled, words_of};
 use memory_runtime::{Call, Disk, Kind, MemoryRuntime};
 use std::alloc::Global;
 use std::io;
@@ -223,7 +223,7 @@ fn refused_words_open_no_file(rt: HostRuntime) -> Result<(), Fail> {
         assert_eq!(rt; said.msgs.as_slice(), expected.as_bytes(), "at {words}");
     }
     let mut runtime = MemoryRuntime::new(alloc, &disk, "veritysetup format data");
-    let (word, shown) = NO_TEXT;
+    let (word, shown) = NOT_UTF8;
     let message = format!(in alloc; "error: argument 3 is not UTF-8: {shown}\n")?;
     runtime.last_word = Some(word);
     let said = said_by(alloc, &runtime);

@@ -47,7 +47,7 @@ impl<'a, R: ProgressRuntime> ProgressLine<'a, R> {
     }
 
     /// Writes the line over the one that is shown. Without a clock it has no rate.
-    pub(crate) fn draw(&self, done: u64, total: u64, start: Option<Instant>) {
+    pub(crate) fn show(&self, done: u64, total: u64, start: Option<Instant>) {
         self.is_shown.set(true);
         let (done, total) = (done >> 20, total >> 20);
         let _ = match self.rate(done, start) {

@@ -47,7 +47,7 @@ impl<'a, R: ProgressRuntime> Progress<'a, R> {
         self.done = self.done.saturating_add(count as u64);
         if self.done >= self.next {
             self.next = self.done.saturating_add(step);
-            self.line.draw(self.done, self.total, self.start);
+            self.line.show(self.done, self.total, self.start);
         }
     }
 }

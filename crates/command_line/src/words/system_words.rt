@@ -1,7 +1,7 @@
 //! The words of the command line, as the system gives them.
 ghost use Rattle.std.specs.Prelude.{◌≡◌, ◌++◌, [], IfErr, IfOk, OnOk, string_bytes};
 ghost use Rattle.std.specs.List.{flat_map};
-ghost use Rattle.command_line.specs.SystemWords.{IsNoText, not_text, escaped_byte};
+ghost use Rattle.command_line.specs.SystemWords.{IsNotUtf8, not_utf8_text, escaped_byte};
 
 use crate::words::word_list::{WordList, all_words};
 use std::alloc::{AllocError, AllocGlobal, Global};
@@ -11,7 +11,7 @@ use std::env::{Env, FillError};
 #[derive(Debug, Drop)]
 pub enum WordsFault {
     /// A word is not UTF-8: its number, counted from the program's name with number 0, and its bytes.
-    NotText(usize, Vec<u8>),
+    NotUtf8(usize, Vec<u8>),
     /// There was not enough memory.
     Memory,
 }
@@ -60,7 +60,7 @@ impl<'a, R: Env> WordList for SystemWords<'a, R> {
 /// The words of the command line, the program's name first, or why they can't be read: the first one that is not
 /// UTF-8, or out of memory.
 pub fn given_words<R: Env + AllocGlobal>(rt: &R) -> Result<Vec<String>, WordsFault>
-    ensures { IfErr result IsNoText }
+    ensures { IfErr result IsNotUtf8 }
 {
     all_words(rt.alloc(), &SystemWords { rt })
 }
@@ -68,8 +68,8 @@ pub fn given_words<R: Env + AllocGlobal>(rt: &R) -> Result<Vec<String>, WordsFau
 /// The message for a word that is not UTF-8: its number, counted from the program's name with number 0, and its bytes,
 /// escaped: a byte that is not printable ASCII as two hexadecimal digits, as in `\xff`, and a backslash as two. The
 /// error is out of memory.
-pub fn not_text_message(alloc: Global, number: usize, word: &[u8]) -> Result<String, AllocError>
-    ensures { IfOk result (λ s. string_bytes s ≡ not_text number word.now) }
+pub fn not_utf8_message(alloc: Global, number: usize, word: &[u8]) -> Result<String, AllocError>
+    ensures { IfOk result (λ s. string_bytes s ≡ not_utf8_text number word.now) }
 {
     let escaped = escaped_word(alloc, word)?;
     format!(in alloc; "error: argument {number} is not UTF-8: {escaped}\n")

@@ -1,6 +1,6 @@
 //! Lists of words that are read one after another.
 ghost use Rattle.std.specs.Prelude.{◌≡◌, List, IfErr, IfOk, map, option_map, slice_get, string_bytes, ℕ};
-ghost use Rattle.command_line.specs.SystemWords.{IsNoText, IsRefusedIn};
+ghost use Rattle.command_line.specs.SystemWords.{IsNotUtf8, IsRefusedIn};
 
 use crate::WordsFault;
 use std::alloc::{AllocError, Global};
@@ -22,7 +22,7 @@ pub(crate) trait WordList {
 
 /// All words of a list, in order, or why they can't be read: the first one that is not UTF-8, or out of memory.
 pub(crate) fn all_words<L: WordList>(alloc: Global, list: &L) -> Result<Vec<String>, WordsFault>
-    ensures refused { IfErr result IsNoText }
+    ensures refused { IfErr result IsNotUtf8 }
 
     // The words are all of the list's, and a word that is refused is the one of its number in the list.
     ensures whole { L.tells list.now → IfOk result (λ words. map string_bytes words.items ≡ L.words list.now) }
@@ -37,7 +37,7 @@ pub(crate) fn all_words<L: WordList>(alloc: Global, list: &L) -> Result<Vec<Stri
                         return Err(WordsFault::Memory);
                     }
                 }
-                Err(error) => return Err(WordsFault::NotText(number, error.into_bytes())),
+                Err(error) => return Err(WordsFault::NotUtf8(number, error.into_bytes())),
             },
             None => return Ok(words),
         }

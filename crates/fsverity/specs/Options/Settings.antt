@@ -32,10 +32,17 @@ abbrev pub salt_bytes_of : Option (List ℕ) → Option (List ℕ)
 salt_bytes_of text = salt_of (most_salt PaddedBefore) (unwrap_or text [])
 
 -- the settings, or the first option that is refused, for so many input files and for an output file or none
-abbrev pub digest_settings : Option (List ℕ) → Option (List ℕ) → Option (List ℕ) → ℕ → Bool → Result Settings FsOptionFault
+abbrev pub digest_settings : Option (List ℕ) → Option (List ℕ) → Option (List ℕ) → ℕ → Bool
+    → Result Settings FsOptionFault
 digest_settings hash_alg block_size salt files out_files = do
   algorithm ← ok_or (algorithm_of hash_alg) UnknownHash
   block ← ok_or (block_size_of algorithm block_size) BadBlockSize
   bytes ← ok_or (salt_bytes_of salt) BadSalt
   if out_files && nat_lt 1 files then Err OneFileOnly
-      else Ok (record { algorithm = algorithm; rule = PaddedBefore; salt = bytes; data_block = block; hash_block = block })
+      else Ok (record {
+        algorithm = algorithm;
+        rule = PaddedBefore;
+        salt = bytes;
+        data_block = block;
+        hash_block = block;
+      })

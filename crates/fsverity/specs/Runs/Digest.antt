@@ -46,7 +46,8 @@ abbrev pub HasReason : Settings → OpenerChange → ℕ → RunFault → Type 0
 HasReason s opener f NotOpened =
     (opener.told × (slice_get opener.files f ≡ Some None) × (first_without_digest s opener.files ≡ f))
     ⊎ Rose opener.failures_before opener.failures_after
-HasReason s opener f (Digest TooLarge) = opener.told → IsLargeAt s opener.files f × (first_without_digest s opener.files ≡ f)
+HasReason s opener f (Digest TooLarge) =
+    opener.told → IsLargeAt s opener.files f × (first_without_digest s opener.files ≡ f)
 HasReason s opener f (Digest (SourceShort i)) = opener.told → ⊥
 HasReason s opener f (Digest (SourceFailed i)) =
     (opener.told → f < first_without_digest s opener.files) × Rose opener.failures_before opener.failures_after
@@ -55,9 +56,9 @@ HasReason s opener f (Digest Memory) = opener.told → f < first_without_digest 
 HasReason s opener f NotWritten = opener.told → f < first_without_digest s opener.files
 
 -- what is written of the file's line: its first bytes if it could not be written whole, and otherwise nothing
-abbrev pub StandsOf : List ℕ → List ℕ → RunFault → Type 0
-StandsOf whole part NotWritten = (k : ℕ) × (part ≡ take k whole)
-StandsOf whole part fault = part ≡ []
+abbrev pub IsWrittenFront : List ℕ → List ℕ → RunFault → Type 0
+IsWrittenFront whole front NotWritten = (k : ℕ) × (front ≡ take k whole)
+IsWrittenFront whole front fault = front ≡ []
 
 -- what a run gets beside its files: the settings, the form of the lines, and the files' names
 pub record Run : Type 0 where
@@ -70,9 +71,9 @@ pub record WritesUpTo (run : Run) (files : List (Option (List ℕ))) (f : ℕ) (
     (old new : Option (List ℕ)) : Type 0 where
   pub file : Option (List ℕ)
   pub is : slice_get files f ≡ Some file
-  pub part : List ℕ
-  pub stands : StandsOf (file_line run.settings run.form (slice_index_or run.names f []) file) part fault
-  pub written : Appends old new (lines run.settings run.form (take f (zip run.names files)) ++ part)
+  pub front : List ℕ
+  pub stands : IsWrittenFront (file_line run.settings run.form (slice_index_or run.names f []) file) front fault
+  pub written : Appends old new (lines run.settings run.form (take f (zip run.names files)) ++ front)
 
 -- how the opener's count changes with a fault: a failed read raises it by one, and otherwise only a file that is not
 -- opened may raise it

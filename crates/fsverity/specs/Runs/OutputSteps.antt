@@ -2,7 +2,7 @@
 -- For the private steps; not needed to read a public contract.
 use Rattle.std.specs.Prelude.{ℕ, ◌<◌, Bool, MatchBool, List, length, take, Option, Result, Ok, Err}
 use Rattle.std.specs.Io.KnownBytes.{Appends, Keeps}
-use Rattle.verity_format.specs.Putting.{taken}
+use Rattle.verity_format.specs.Putting.{bytes_taken}
 use Rattle.verity_format.specs.declared.putting.PutFault.{PutFault}
 use Rattle.fsverity.specs.Runs.Outputs.{OutputTask, output_task}
 use Rattle.fsverity.specs.declared.runs.outputs.OutputTask.{OutputTask as Given}
@@ -11,8 +11,10 @@ use Rattle.fsverity.specs.declared.runs.outputs.OutputTask.{OutputTask as Given}
 abbrev pub task_of : Given → OutputTask
 task_of task = output_task task.settings.now task.form task.name.now task.size task.wants_tree task.wants_descriptor
 
--- a text is added if it is wanted, or only its first bytes if a write fails
+-- the descriptor's bytes are added if they are wanted, or only the first of them if a write fails
 abbrev pub PutsDescriptor : List ℕ → Bool → Result (Unit {0}) PutFault → Option (List ℕ) → Option (List ℕ) → Type 0
-PutsDescriptor text wanted (Ok done) before after = MatchBool wanted (Appends before after text) (Keeps before after)
-PutsDescriptor text wanted (Err fault) before after =
-    MatchBool wanted ((taken fault < length text) × Appends before after (take (taken fault) text)) ⊥
+PutsDescriptor bytes wants_descriptor (Ok done) before after =
+    MatchBool wants_descriptor (Appends before after bytes) (Keeps before after)
+PutsDescriptor bytes wants_descriptor (Err fault) before after =
+    MatchBool wants_descriptor
+    ((bytes_taken fault < length bytes) × Appends before after (take (bytes_taken fault) bytes)) ⊥

@@ -94,8 +94,8 @@ AddsDescriptor task root before after = MatchBool task.wants_descriptor
     (Appends before after (descriptor_bytes (descriptor_of task.settings task.size root))) (Keeps before after)
 
 -- only this many of its first bytes are added
-abbrev pub AddsPart : OutputTask → List ℕ → ℕ → Option (List ℕ) → Option (List ℕ) → Type 0
-AddsPart task root count before after = MatchBool task.wants_descriptor
+abbrev pub AddsFront : OutputTask → List ℕ → ℕ → Option (List ℕ) → Option (List ℕ) → Type 0
+AddsFront task root count before after = MatchBool task.wants_descriptor
     ((count < length (descriptor_bytes (descriptor_of task.settings task.size root)))
     × Appends before after (take count (descriptor_bytes (descriptor_of task.settings task.size root)))) ⊥
 
@@ -103,7 +103,7 @@ AddsPart task root count before after = MatchBool task.wants_descriptor
 abbrev pub WritesDescriptor : OutputTask → List ℕ → Outcome → Option (List ℕ) → Option (List ℕ) → Type 0
 WritesDescriptor task root (Ok done) before after = AddsDescriptor task root before after
 WritesDescriptor task root (Err (Digest fault)) before after = Keeps before after
-WritesDescriptor task root (Err (Descriptor count)) before after = AddsPart task root count before after
+WritesDescriptor task root (Err (Descriptor count)) before after = AddsFront task root count before after
 WritesDescriptor task root (Err (Line fault)) before after = AddsDescriptor task root before after
 
 -- the line for this root hash
@@ -118,31 +118,31 @@ PrintsLine task root (Err (Line fault)) before after = Prints (Err fault) (line_
 PrintsLine task root outcome before after = Keeps before after
 
 -- the descriptor and the line have one root hash, which is the file's if the source tells its bytes
-pub record WritesTexts (task : OutputTask) (outcome : Outcome) (told : Type 0) (bytes : List ℕ) (texts : OutputChange)
-    : Type 0 where
+pub record WritesOutputs (task : OutputTask) (outcome : Outcome) (told : Type 0) (bytes : List ℕ)
+    (outputs : OutputChange) : Type 0 where
   pub root : List ℕ
   pub root_is : told → root ≡ root_of_file task.settings task.size bytes
-  pub descriptor : WritesDescriptor task root outcome texts.descriptor_before texts.descriptor_after
-  pub printed : PrintsLine task root outcome texts.out_before texts.out_after
+  pub descriptor : WritesDescriptor task root outcome outputs.descriptor_before outputs.descriptor_after
+  pub printed : PrintsLine task root outcome outputs.out_before outputs.out_after
 
 -- a run: one outcome says what became of the source, the tree's device and the writers
-pub record OutputRun (task : OutputTask) (status : ℕ) (source tree : Change) (texts : WriterChange) : Type 0 where
+pub record OutputRun (task : OutputTask) (status : ℕ) (source tree : Change) (writers : WriterChange) : Type 0 where
   pub outcome : Outcome
   pub status_is : status ≡ status_of outcome
   pub too_large : (digest_result outcome ≡ Err TooLarge) ↔ IsTrue (is_too_large task.settings task.size)
   pub read : source.told → Reads task (digest_result outcome) source.before source.after
   pub stands : source.told → tree.told → WritesTree task source.before (digest_result outcome) tree.before tree.after
-  pub texts_written : WritesTexts task outcome source.told source.before texts.outputs
-  pub message : AppendsFront (message_of outcome task.name) texts.msgs_before texts.msgs_after
+  pub outputs_written : WritesOutputs task outcome source.told source.before writers.outputs
+  pub message : AppendsFront (message_of outcome task.name) writers.msgs_before writers.msgs_after
   pub source_counted : Counts (source_failed (digest_result outcome)) source.failures_before source.failures_after
   pub tree_counted : Counts (device_failed (digest_result outcome)) tree.failures_before tree.failures_after
 
 -- what status 0 means: the file was read once, and what is wanted is written
-pub record IsWritten (task : OutputTask) (source tree : Change) (texts : OutputChange) : Type 0 where
+pub record IsWritten (task : OutputTask) (source tree : Change) (outputs : OutputChange) : Type 0 where
   pub read : HasRead task.size source.before source.after
   pub stands : tree.told → MatchBool task.wants_tree
       (tree.after ≡ with_tree task.settings task.size source.before tree.before) (tree.after ≡ tree.before)
   pub descriptor : AddsDescriptor task (root_of_file task.settings task.size source.before)
-      texts.descriptor_before texts.descriptor_after
-  pub printed : Appends texts.out_before texts.out_after
+      outputs.descriptor_before outputs.descriptor_after
+  pub printed : Appends outputs.out_before outputs.out_after
       (line_of_root task (root_of_file task.settings task.size source.before))

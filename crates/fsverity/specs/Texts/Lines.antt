@@ -5,7 +5,7 @@ use Rattle.std.specs.List.{concat}
 use Rattle.hex.specs.Hex.{encode_lower}
 use Rattle.verity_hash.specs.Hashing.{digest_len_of, name_of}
 use Rattle.verity_hash.specs.declared.algorithm.Algorithm.{Algorithm}
-use Rattle.verity_format.specs.Descriptors.{algorithm_number, formatted}
+use Rattle.verity_format.specs.Descriptors.{algorithm_number, formatted_digest}
 use Rattle.fsverity.specs.declared.texts.digest_lines.Form.{Form}
 use Rattle.fsverity.specs.declared.texts.digest_lines.Form.TheVariants.{Full, Compact, Builtin, CompactBuiltin}
 
@@ -22,8 +22,8 @@ line Full algorithm digest name =
     concat (name_of algorithm ∷ codes ":" ∷ encode_lower digest ∷ codes " " ∷ name ∷ codes "\n" ∷ [])
 line Compact algorithm digest name = concat (encode_lower digest ∷ codes "\n" ∷ [])
 line Builtin algorithm digest name =
-    concat (encode_lower (formatted algorithm digest) ∷ codes " " ∷ name ∷ codes "\n" ∷ [])
-line CompactBuiltin algorithm digest name = concat (encode_lower (formatted algorithm digest) ∷ codes "\n" ∷ [])
+    concat (encode_lower (formatted_digest algorithm digest) ∷ codes " " ∷ name ∷ codes "\n" ∷ [])
+line CompactBuiltin algorithm digest name = concat (encode_lower (formatted_digest algorithm digest) ∷ codes "\n" ∷ [])
 
 -- a digest of this algorithm has a formatted digest
 abbrev pub IsFormattable : Algorithm → List ℕ → Type 0

@@ -3,9 +3,9 @@
 use Rattle.std.specs.Prelude.{ℕ, List, [], ◌∷◌, codes}
 use Rattle.std.specs.List.{concat}
 use Rattle.std.specs.Fmt.{decimal}
-use Rattle.command_line.specs.SystemWords.{not_text}
+use Rattle.command_line.specs.SystemWords.{not_utf8_text}
 use Rattle.command_line.specs.declared.words.system_words.WordsFault.{WordsFault}
-use Rattle.command_line.specs.declared.words.system_words.WordsFault.TheVariants.{NotText, Memory as NoMemory}
+use Rattle.command_line.specs.declared.words.system_words.WordsFault.TheVariants.{NotUtf8, Memory as NoMemory}
 use Rattle.fsverity.specs.declared.runs.digest_fault.DigestFault.{DigestFault}
 use Rattle.fsverity.specs.declared.runs.digest_fault.DigestFault.TheVariants.{TooLarge, SourceShort, SourceFailed, DeviceFailed, Memory}
 use Rattle.fsverity.specs.declared.runs.run_fault.RunFault.{RunFault}
@@ -49,9 +49,9 @@ option_text OneFileOnly = codes "fsverity: output files need exactly one input f
 
 -- why the words of the command line can't be read, and the status that goes with it
 abbrev pub words_text : WordsFault → List ℕ
-words_text (NotText number word) = not_text number word.items
+words_text (NotUtf8 number word) = not_utf8_text number word.items
 words_text NoMemory = codes "fsverity: out of memory.\n"
 
 abbrev pub words_status : WordsFault → ℕ
-words_status (NotText number word) = 2
+words_status (NotUtf8 number word) = 2
 words_status NoMemory = 1

@@ -36,7 +36,7 @@ abbrev pub HoldsCommand : Option (Text × List Row) → Line → Type 0
 HoldsCommand met line = (p : Text × List Row) × (met ≡ Some p) × HoldsRows p.1 line
 
 -- the settings that a line's options give, or the first option that is refused
-abbrev pub settings_of : Line → Result Settings FsOptionFault
-settings_of line = digest_settings (option_map string_bytes line.hash_alg) (option_map string_bytes line.block_size)
+abbrev pub line_settings : Line → Result Settings FsOptionFault
+line_settings line = digest_settings (option_map string_bytes line.hash_alg) (option_map string_bytes line.block_size)
     (option_map string_bytes line.salt) (length line.files.items)
     (is_some line.out_merkle_tree || is_some line.out_descriptor)

@@ -33,9 +33,9 @@ pub fn digest_settings(options: &DigestOptions<'_>) -> Result<TreeSettings, FsOp
         options.now.files options.now.out_files }
     ensures rule { IfOk result (λ settings. settings.rule ≡ PaddedBefore) }
 {
-    let algorithm = algorithm(options.hash_alg).ok_or(FsOptionFault::UnknownHash)?;
-    let block = block_size(algorithm, options.block_size).ok_or(FsOptionFault::BadBlockSize)?;
-    let salt = salt(options.salt).ok_or(FsOptionFault::BadSalt)?;
+    let algorithm = algorithm_of(options.hash_alg).ok_or(FsOptionFault::UnknownHash)?;
+    let block = block_size_of(algorithm, options.block_size).ok_or(FsOptionFault::BadBlockSize)?;
+    let salt = salt_bytes_of(options.salt).ok_or(FsOptionFault::BadSalt)?;
     if options.out_files && options.files > 1 {
         return Err(FsOptionFault::OneFileOnly);
     }
@@ -46,7 +46,7 @@ pub fn digest_settings(options: &DigestOptions<'_>) -> Result<TreeSettings, FsOp
 }
 
 /// The algorithm of this name, by default SHA-256; `None` if fs-verity has none of this name.
-fn algorithm(name: Option<&str>) -> Option<Algorithm>
+fn algorithm_of(name: Option<&str>) -> Option<Algorithm>
     ensures value { result ≡ algorithm_of (option_copied name.entry) }
     ensures known { IfSome result (λ algorithm. is_of_fsverity algorithm ≡ true) }
 {
@@ -59,7 +59,7 @@ fn algorithm(name: Option<&str>) -> Option<Algorithm>
 }
 
 /// The block size of its digits, by default 4096; `None` if no tree can be made with it.
-fn block_size(algorithm: Algorithm, text: Option<&str>) -> Option<u32>
+fn block_size_of(algorithm: Algorithm, text: Option<&str>) -> Option<u32>
     requires { is_of_fsverity algorithm ≡ true }
     ensures { result ≡ block_size_of algorithm (option_copied text.entry) }
 {
@@ -74,7 +74,7 @@ fn block_size(algorithm: Algorithm, text: Option<&str>) -> Option<u32>
 }
 
 /// The salt of its digits, by default empty; `None` if the text is not a salt of fs-verity.
-fn salt(text: Option<&str>) -> Option<ShortBytes<32>>
+fn salt_bytes_of(text: Option<&str>) -> Option<ShortBytes<32>>
     ensures { result ≡ salt_bytes_of (option_copied text.entry) }
 {
     read_salt(text.unwrap_or(""))

@@ -2,7 +2,7 @@
 ghost use Rattle.std.specs.Prelude.{◌≡◌, ◌⊎◌, ◌≤◌, IfErr, IfOk, codes};
 ghost use Rattle.command_line.specs.LineFaults.{IsMemory};
 ghost use Rattle.command_line.specs.Printing.{AppendsFront};
-ghost use Rattle.fsverity.specs.Words.CommandLines.{settings_of};
+ghost use Rattle.fsverity.specs.Words.CommandLines.{line_settings};
 ghost use Rattle.fsverity.specs.Texts.Messages.{option_text, run_fault_text, words_status, words_text};
 ghost use Rattle.fsverity.specs.declared.runs.run_fault.RunFault.TheVariants.{NotOpened};
 
@@ -15,7 +15,7 @@ use crate::{
 };
 use command_line::{
     Identities, NULL_DEVICE, NullFiles, ProgressLine, ProgressRuntime, WordsFault, given_words,
-    not_text_message, texts_of, write_message, write_text,
+    not_utf8_message, texts_of, write_message, write_text,
 };
 use std::alloc::Global;
 use std::env::Env;
@@ -75,8 +75,8 @@ fn refuse_words<M: Write>(alloc: Global, fault: &WordsFault, msgs: &mut M) -> u8
     ensures message { AppendsFront (words_text fault.now) (M.contents msgs.old) (M.contents msgs.new) }
 {
     match fault {
-        WordsFault::NotText(number, word) => {
-            write_message(not_text_message(alloc, *number, word.as_slice()), msgs);
+        WordsFault::NotUtf8(number, word) => {
+            write_message(not_utf8_message(alloc, *number, word.as_slice()), msgs);
             REFUSED
         }
         WordsFault::Memory => stop_with(FAILED, OUT_OF_MEMORY, msgs),
@@ -108,9 +108,9 @@ fn run_line<R: Identities + ProgressRuntime + AllocGlobal, O: Write, M: Write>(
 ) -> u8
     ensures status { result ≤ 2 }
     ensures quiet { result ≡ 0 → msgs.new ≡ msgs.old }
-    ensures refused { IfErr (settings_of line.now) (λ fault. (result ≡ 2) × (out.new ≡ out.old)
+    ensures refused { IfErr (line_settings line.now) (λ fault. (result ≡ 2) × (out.new ≡ out.old)
         × AppendsFront (option_text fault) (M.contents msgs.old) (M.contents msgs.new)) }
-    ensures accepted { IfOk (settings_of line.now) (λ _. result ≤ 1) }
+    ensures accepted { IfOk (line_settings line.now) (λ _. result ≤ 1) }
 {
     let settings = match digest_settings(&line.options()) {
         Ok(settings) => settings,
@@ -121,7 +121,7 @@ fn run_line<R: Identities + ProgressRuntime + AllocGlobal, O: Write, M: Write>(
     };
     let null_files = NullFiles::open(rt);
     if !null_files.are_open() {
-        return cannot_open(rt.alloc(), NULL_DEVICE, msgs);
+        return stop_for_unopened_file(rt.alloc(), NULL_DEVICE, msgs);
     }
     let outputs = OutputNames::of_line(line);
     match names.as_slice() {
@@ -150,7 +150,7 @@ fn run_line<R: Identities + ProgressRuntime + AllocGlobal, O: Write, M: Write>(
 }
 
 /// Says that a file can't be opened. The answer is the status.
-pub(crate) fn cannot_open<M: Write>(alloc: Global, name: &str, msgs: &mut M) -> u8
+pub(crate) fn stop_for_unopened_file<M: Write>(alloc: Global, name: &str, msgs: &mut M) -> u8
     ensures status { result ≡ 1 }
     ensures message { AppendsFront (run_fault_text NotOpened name.now) (M.contents msgs.old) (M.contents msgs.new) }
 {

@@ -2,7 +2,7 @@
 ghost use Rattle.std.specs.Prelude.{◌≡◌, ◌≤◌};
 ghost use Rattle.verity_hash.specs.declared.salting.SaltRule.TheVariants.{PaddedBefore};
 
-use crate::program::entry::cannot_open;
+use crate::program::entry::stop_for_unopened_file;
 use crate::program::output_files::{OutputFiles, OutputNames};
 use crate::{Form, run_digest_to};
 use command_line::{Identities, ProgressLine, ProgressReader, ProgressRuntime, open_measured};
@@ -53,11 +53,11 @@ pub(crate) fn digest_to<R: Identities + ProgressRuntime + AllocGlobal, O: Write,
     let alloc = rt.alloc();
     let (file, size) = match open_measured(rt, request.name) {
         Ok(opened) => opened,
-        Err(_) => return cannot_open(alloc, request.name, msgs),
+        Err(_) => return stop_for_unopened_file(alloc, request.name, msgs),
     };
     let files = match OutputFiles::open(rt, &file, request.outputs) {
         Ok(files) => files,
-        Err(refused) => return cannot_open(alloc, refused, msgs),
+        Err(refused) => return stop_for_unopened_file(alloc, refused, msgs),
     };
     let source = FileSource::new(ProgressReader::new(file, size, progress), size);
     write_to(alloc, request, Input { size, source }, files, out, msgs)

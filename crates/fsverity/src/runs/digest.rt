@@ -15,7 +15,7 @@ use std::io::Write;
 use verity_tree::TreeSettings;
 
 /// The digest of the opener's next file.
-fn digest_opened<O: Opener>(
+fn next_digest<O: Opener>(
     alloc: Global,
     settings: &TreeSettings,
     opener: &mut O,
@@ -47,7 +47,7 @@ fn digest_opened<O: Opener>(
 }
 
 /// Writes the line of the opener's next file.
-fn digest_next<O: Opener, W: Write>(
+fn write_next_line<O: Opener, W: Write>(
     alloc: Global,
     settings: &TreeSettings,
     form: Form,
@@ -72,7 +72,7 @@ fn digest_next<O: Opener, W: Write>(
       index = O.next opener.old;
     }) result (W.contents out.old) (W.contents out.new) }
 {
-    let made = digest_opened(alloc, settings, opener)?;
+    let made = next_digest(alloc, settings, opener)?;
     match print_line(alloc, settings, form, name, &made, out) {
         Ok(()) => Ok(()),
         Err(PrintFault::Memory) => Err(RunFault::Digest(DigestFault::Memory)),
@@ -117,7 +117,7 @@ pub fn run_digest<O: Opener, W: Write, M: Write>(
         (W.contents out.old) (W.contents out.new) (M.contents msgs.old) (M.contents msgs.new) }
 {
     for name in names {
-        match digest_next(alloc, settings, form, name, opener, out) {
+        match write_next_line(alloc, settings, form, name, opener, out) {
             Ok(()) => {}
             Err(fault) => {
                 fault.write_message(alloc, name, msgs);

@@ -85,13 +85,13 @@ pub fn digest_file_with_tree<S: Source, D: Device>(
     let root = if size == 0 {
         Digest::zeros(settings.algorithm())
     } else {
-        root_of(alloc, settings, size, source, tree)?
+        root_of_source(alloc, settings, size, source, tree)?
     };
     Ok(digest_of_root(settings, size, &root))
 }
 
 /// The root hash of the first `size` bytes of a source, whose tree is written to a device.
-fn root_of<S: Source, D: Device>(
+fn root_of_source<S: Source, D: Device>(
     alloc: Global,
     settings: &TreeSettings,
     size: u64,

@@ -4,7 +4,7 @@ ghost use Rattle.verity_hash.specs.declared.salting.SaltRule.TheVariants.{Padded
 ghost use Rattle.verity_plan.specs.Settings.{digest_len};
 ghost use Rattle.verity_io.specs.Counting.{Counts, change};
 ghost use Rattle.fsverity.specs.Runs.FileDigest.{GivesDigest, IsDigestOfSource, device_failed, is_too_large, source_failed};
-ghost use Rattle.fsverity.specs.Runs.Outputs.{IsWritten, OutputRun, Reads, WritesTexts, WritesTree};
+ghost use Rattle.fsverity.specs.Runs.Outputs.{IsWritten, OutputRun, Reads, WritesOutputs, WritesTree};
 ghost use Rattle.fsverity.specs.Runs.Outputs.{digest_result, output_change, output_task};
 ghost use Rattle.fsverity.specs.declared.runs.digest_fault.DigestFault.TheVariants.{TooLarge};
 
@@ -60,14 +60,14 @@ fn digest_for_task<S: Source, D: Device>(
 /// Writes the descriptor if it is wanted. The fault says how many of its bytes were taken.
 fn put_descriptor<W: Write>(
     made: &FileDigest,
-    wanted: bool,
+    wants_descriptor: bool,
     descriptor: &mut W,
 ) -> Result<(), PutFault>
-    ensures kept { wanted ≡ false → descriptor.new ≡ descriptor.old }
-    ensures put { PutsDescriptor made.now.descriptor wanted result
+    ensures kept { wants_descriptor ≡ false → descriptor.new ≡ descriptor.old }
+    ensures put { PutsDescriptor made.now.descriptor wants_descriptor result
         (W.contents descriptor.old) (W.contents descriptor.new) }
 {
-    if wanted {
+    if wants_descriptor {
         put_all(descriptor, &made.descriptor)
     } else {
         Ok(())
@@ -95,7 +95,7 @@ fn write_outputs<S: Source, D: Device, W: Write, O: Write>(
     ensures stands { S.tells source.old → D.tells tree.old
         → WritesTree (task_of task.now) (S.remaining source.old) (digest_result result)
         (D.content tree.old) (D.content tree.new) }
-    ensures written { WritesTexts (task_of task.now) result (S.tells source.old) (S.remaining source.old)
+    ensures written { WritesOutputs (task_of task.now) result (S.tells source.old) (S.remaining source.old)
         (output_change W.contents O.contents descriptor.old descriptor.new out.old out.new) }
     ensures source_count { Counts (source_failed (digest_result result))
         (S.failures source.old) (S.failures source.new) }

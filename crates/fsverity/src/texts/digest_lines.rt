@@ -1,7 +1,7 @@
 //! The line of a file.
 ghost use Rattle.std.specs.Prelude.{◌≡◌, IfOk, string_bytes};
 ghost use Rattle.hex.specs.Hex.{encode_lower};
-ghost use Rattle.verity_format.specs.Descriptors.{formatted};
+ghost use Rattle.verity_format.specs.Descriptors.{formatted_digest};
 ghost use Rattle.fsverity.specs.Texts.Lines.{FitsForm, IsFormattable, line};
 
 use std::alloc::{AllocError, Global};
@@ -62,7 +62,7 @@ fn formatted_digits(
     digest: &Digest,
 ) -> Result<String, AllocError>
     requires { IsFormattable algorithm digest.now }
-    ensures { IfOk result (λ text. string_bytes text ≡ encode_lower (formatted algorithm digest.now)) }
+    ensures { IfOk result (λ text. string_bytes text ≡ encode_lower (formatted_digest algorithm digest.now)) }
 {
     match formatted_digest(algorithm, digest) {
         Some(formatted) => hex::encode(alloc, formatted.as_bytes()),

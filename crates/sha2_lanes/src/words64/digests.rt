@@ -93,7 +93,7 @@ fn leftmost_384(bytes: &[u8; 64]) -> [u8; 48]
 }
 
 /// The hash values of the first four messages, or of as many as there are, in bytes, from an initial hash value.
-fn hashed_four(
+fn four_hash_values(
     initial: &[u64; 8],
     before: &[u8],
     parts: &[u8],
@@ -116,7 +116,7 @@ fn hashed_four(
 
 /// The hash values of `count` messages, in bytes, from an initial hash value. For four or fewer there is no second
 /// pass.
-fn hashed(
+fn hash_values(
     initial: &[u64; 8],
     before: &[u8],
     parts: &[u8],
@@ -130,11 +130,11 @@ fn hashed(
     ensures { (j : ℕ) → j < count
         → row result j ≡ S512.digest_bytes (S512.final_hash initial.now (message_of before.now parts.now len after.now j)) 8 }
 {
-    let [a, b, c, d] = hashed_four(initial, before, parts, len, after);
+    let [a, b, c, d] = four_hash_values(initial, before, parts, len, after);
     if count <= 4 {
         return [a, b, c, d, a, b, c, d];
     }
-    let [e, f, g, h] = hashed_four(initial, before, &parts[4 * len..], len, after);
+    let [e, f, g, h] = four_hash_values(initial, before, &parts[4 * len..], len, after);
     [a, b, c, d, e, f, g, h]
 }
 
@@ -147,7 +147,7 @@ pub fn sha512(before: &[u8], parts: &[u8], len: usize, count: usize, after: &[u8
     requires most { count ≤ 8 }
     ensures { (j : ℕ) → j < count → row result j ≡ S512.sha512 (message_of before.now parts.now len after.now j) }
 {
-    hashed(&INITIAL_HASH_512, before, parts, len, count, after)
+    hash_values(&INITIAL_HASH_512, before, parts, len, count, after)
 }
 
 /// The SHA-384 digests of `count` messages of one length, one to eight. Message `j` is `before`, then part `j` of
@@ -159,7 +159,7 @@ pub fn sha384(before: &[u8], parts: &[u8], len: usize, count: usize, after: &[u8
     requires most { count ≤ 8 }
     ensures { (j : ℕ) → j < count → row result j ≡ S512.sha384 (message_of before.now parts.now len after.now j) }
 {
-    let [a, b, c, d, e, f, g, h] = hashed(&INITIAL_HASH_384, before, parts, len, count, after);
+    let [a, b, c, d, e, f, g, h] = hash_values(&INITIAL_HASH_384, before, parts, len, count, after);
     [
         leftmost_384(&a),
         leftmost_384(&b),

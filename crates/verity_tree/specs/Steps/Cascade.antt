@@ -8,7 +8,7 @@ use Rattle.verity_tree.specs.TreeOnDevice.{closing, closes, tree_block, device_w
 use Rattle.verity_plan.specs.Plans.{Planned, byte_of, levels_of}
 use Rattle.verity_tree.specs.declared.pass.cascade.Stop.{Stop}
 use Rattle.verity_tree.specs.declared.pass.closed_block.Task.{Task}
-use Rattle.verity_tree.specs.Steps.ClosedBlocks.{IsCause, call_failed, closed_block}
+use Rattle.verity_tree.specs.Steps.ClosedBlocks.{IsHashBlockFault, call_failed, closed_block}
 use Rattle.verity_tree.specs.Verdicts.{NoneDiffers}
 use Rattle.verity_tree.specs.Steps.OpenBlocks.{Arrival, IsNext, open_block_with, IsCarriedOn, IsKept, IsClosed}
 use Rattle.verity_io.specs.Writing.{put, Spoiled}
@@ -27,7 +27,7 @@ EndsBlock fan n i = (i % fan + 1 ≡ fan) ⊎ (i + 1 ≡ n)
 abbrev pub StepsLevel : Settings → Arrival → Bool → List ℕ → LevelStep → Type 0
 StepsLevel s a last after Open = IsKept s a last after
 StepsLevel s a last after (Closed above) = IsClosed s a last after above
-StepsLevel s a last after (Stopped cause) = (a.index % fan s + 1 ≡ fan s) ⊎ (last ≡ true)
+StepsLevel s a last after (Stopped fault) = (a.index % fan s + 1 ≡ fan s) ⊎ (last ≡ true)
 
 -- what a level does to the device: its closed block is put at its place, or stands there
 abbrev pub StepsDevice : Planned → ℕ → Arrival → LevelStep → List ℕ → List ℕ → Type 0
@@ -35,29 +35,29 @@ StepsDevice p level a Open before after = after ≡ before
 StepsDevice p level a (Closed above) before after = (below : List (List ℕ)) → IsNext p.settings below a
     → after ≡ put before (byte_of p level (a.index / fan p.settings))
     (open_block_with p.settings (map (hash p.settings) below) a.index)
-StepsDevice p level a (Stopped cause) before after =
+StepsDevice p level a (Stopped fault) before after =
     Spoiled before (byte_of p level (a.index / fan p.settings)) p.settings.hash_block after
 
--- what a level's closed block says beside what stands at its place; the device stays
+-- whether a level's closed block stands at its place; the device stays
 abbrev pub StepsCompared : Planned → ℕ → Arrival → LevelStep → List ℕ → List ℕ → Type 0
 StepsCompared p level a Open before after = after ≡ before
 StepsCompared p level a (Closed above) before after = (after ≡ before)
     × ((below : List (List ℕ)) → IsNext p.settings below a
     → stored_block p before level (a.index / fan p.settings)
     ≡ open_block_with p.settings (map (hash p.settings) below) a.index)
-StepsCompared p level a (Stopped cause) before after = (after ≡ before)
+StepsCompared p level a (Stopped fault) before after = (after ≡ before)
     × ((below : List (List ℕ)) → IsNext p.settings below a
-    → IsCause p (closed_block level (a.index / fan p.settings)
-    (open_block_with p.settings (map (hash p.settings) below) a.index)) before cause)
+    → IsHashBlockFault p (closed_block level (a.index / fan p.settings)
+    (open_block_with p.settings (map (hash p.settings) below) a.index)) before fault)
 
 -- whether a call of the device failed
 abbrev pub step_failed : Task → LevelStep → Bool
-step_failed task (Stopped cause) = call_failed task cause
+step_failed task (Stopped fault) = call_failed task fault
 step_failed task _ = false
 
 abbrev pub carry_failed : Task → Result Digest Stop → Bool
 carry_failed task (Ok digest) = false
-carry_failed task (Err stop) = call_failed task stop.cause
+carry_failed task (Err stop) = call_failed task stop.fault
 
 -- the block that closes with data block i, counted from 0, after those of the levels below it
 pub record ClosesWith (p : Planned) (i level block : ℕ) : Type 0 where
@@ -84,5 +84,5 @@ CarriesCompared p blocks i (Ok digest) before after =
     (after ≡ before) × NoneDiffers p blocks before (closing (fan p.settings) p.blocks (i + 1))
 CarriesCompared p blocks i (Err stop) before after = (after ≡ before)
     × NoneDiffers p blocks before (first_closing (fan p.settings) i stop.level)
-    × IsCause p (closed_block stop.level stop.index (tree_block p.settings blocks stop.level stop.index)) before
-    stop.cause
+    × IsHashBlockFault p
+    (closed_block stop.level stop.index (tree_block p.settings blocks stop.level stop.index)) before stop.fault

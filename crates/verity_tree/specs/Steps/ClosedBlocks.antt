@@ -5,8 +5,8 @@ use Rattle.verity_io.specs.Writing.{put, Spoiled}
 use Rattle.verity_plan.specs.Plans.{Planned, byte_of}
 use Rattle.verity_tree.specs.Verdicts.{part_of}
 use Rattle.verity_tree.specs.TreeOnDevice.{stored_block}
-use Rattle.verity_tree.specs.declared.pass.closed_block.Cause.{Cause}
-use Rattle.verity_tree.specs.declared.pass.closed_block.Cause.TheVariants.{Failed, Differs}
+use Rattle.verity_tree.specs.declared.pass.closed_block.HashBlockFault.{HashBlockFault}
+use Rattle.verity_tree.specs.declared.pass.closed_block.HashBlockFault.TheVariants.{Failed, Differs}
 use Rattle.verity_tree.specs.declared.pass.closed_block.Task.{Task}
 use Rattle.verity_tree.specs.declared.pass.closed_block.Task.TheVariants.{Write, Compare}
 
@@ -19,24 +19,24 @@ pub record ClosedBlock : Type 0 where
 abbrev pub closed_block : ℕ → ℕ → List ℕ → ClosedBlock
 closed_block level index bytes = record { level = level; index = index; bytes = bytes }
 
--- what stored bytes say beside the computed block
-abbrev pub ComparesBlock : Planned → ClosedBlock → List ℕ → Result Unit Cause → Type 0
+-- whether stored bytes are the computed block, and if not, where they differ
+abbrev pub ComparesBlock : Planned → ClosedBlock → List ℕ → Result Unit HashBlockFault → Type 0
 ComparesBlock p computed on_device (Ok _) = on_device ≡ computed.bytes
 ComparesBlock p computed on_device (Err Failed) = ⊥
 ComparesBlock p computed on_device (Err (Differs part)) =
     (on_device ≢ computed.bytes) × (part ≡ part_of p computed.level computed.index on_device computed.bytes)
 
 -- why the computed block stops the pass: what the device holds at its place differs, and where, or the device failed
-abbrev pub IsCause : Planned → ClosedBlock → List ℕ → Cause → Type 0
-IsCause p computed device Failed = Unit {0}
-IsCause p computed device (Differs part) = (stored_block p device computed.level computed.index ≢ computed.bytes)
+abbrev pub IsHashBlockFault : Planned → ClosedBlock → List ℕ → HashBlockFault → Type 0
+IsHashBlockFault p computed device Failed = Unit {0}
+IsHashBlockFault p computed device (Differs part) = (stored_block p device computed.level computed.index ≢ computed.bytes)
     × (part ≡ part_of p computed.level computed.index
     (stored_block p device computed.level computed.index) computed.bytes)
 
 -- the device before and after
-abbrev pub Closes : Planned → Task → ClosedBlock → Result Unit Cause → List ℕ → List ℕ → Type 0
+abbrev pub Closes : Planned → Task → ClosedBlock → Result Unit HashBlockFault → List ℕ → List ℕ → Type 0
 Closes p Write closed (Ok _) before after = after ≡ put before (byte_of p closed.level closed.index) closed.bytes
-Closes p Write closed (Err cause) before after =
+Closes p Write closed (Err fault) before after =
     Spoiled before (byte_of p closed.level closed.index) p.settings.hash_block after
 Closes p Compare closed (Err Failed) before after = after ≡ before
 Closes p Compare closed (Ok done) before after =
@@ -45,10 +45,11 @@ Closes p Compare closed (Err (Differs part)) before after =
     (after ≡ before) × ComparesBlock p closed (stored_block p before closed.level closed.index) (Err (Differs part))
 
 -- whether a call of the device failed
-abbrev pub call_failed : Task → Cause → Bool
+abbrev pub call_failed : Task → HashBlockFault → Bool
+call_failed Write fault = true
+call_failed Compare Failed = true
 call_failed Compare (Differs part) = false
-call_failed _ _ = true
 
-abbrev pub close_failed : Task → Result Unit Cause → Bool
+abbrev pub close_failed : Task → Result Unit HashBlockFault → Bool
 close_failed task (Ok _) = false
-close_failed task (Err cause) = call_failed task cause
+close_failed task (Err fault) = call_failed task fault

@@ -2,7 +2,7 @@
 -- For the private steps; not needed to read a public contract.
 use Rattle.std.specs.Prelude.{◌≡◌, ℕ, ◌+◌, ◌<◌, ◌≤◌, Bool, true, false, List, [], length, take, drop, Result, Ok}
 use Rattle.std.specs.Prelude.{Err}
-use Rattle.verity_hash.specs.Hashing.{filled}
+use Rattle.verity_hash.specs.Hashing.{with_zeros}
 use Rattle.verity_hash.specs.declared.digest.Digest.{Digest}
 use Rattle.verity_io.specs.Reading.{HasRead}
 use Rattle.verity_plan.specs.Plans.{Planned}
@@ -15,7 +15,7 @@ use Rattle.verity_tree.specs.declared.pass.data_block.BlockFault.TheVariants.{Sh
 -- the next bytes, and zeros after them
 pub record HoldsBlock (data_len size : ℕ) (before after block : List ℕ) : Type 0 where
   pub enough : data_len ≤ length before
-  pub bytes : block ≡ filled size (take data_len before)
+  pub bytes : block ≡ with_zeros size (take data_len before)
   pub rest : after ≡ drop data_len before
 
 -- fewer bytes than were wanted were read

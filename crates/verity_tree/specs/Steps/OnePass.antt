@@ -5,15 +5,15 @@ use Rattle.verity_hash.specs.declared.digest.Digest.{Digest}
 use Rattle.verity_tree.specs.Building.{Builds, BuildsOnDevice}
 use Rattle.verity_tree.specs.Reading.{bytes_of}
 use Rattle.verity_tree.specs.TreeOnDevice.{tree_block, ComesNext, order}
-use Rattle.verity_tree.specs.Steps.ClosedBlocks.{IsCause, call_failed, closed_block}
+use Rattle.verity_tree.specs.Steps.ClosedBlocks.{IsHashBlockFault, call_failed, closed_block}
 use Rattle.verity_tree.specs.Levels.{data_blocks}
 use Rattle.verity_plan.specs.Plans.{Planned}
 use Rattle.verity_plan.specs.Settings.{fan}
 use Rattle.verity_tree.specs.Verdicts.{NoneDiffers}
 use Rattle.verity_tree.specs.declared.pass.cascade.Stop.{Stop}
 use Rattle.verity_tree.specs.declared.pass.closed_block.Task.{Task}
-use Rattle.verity_tree.specs.declared.pass.closed_block.Cause.{Cause}
-use Rattle.verity_tree.specs.declared.pass.closed_block.Cause.TheVariants as cause
+use Rattle.verity_tree.specs.declared.pass.closed_block.HashBlockFault.{HashBlockFault}
+use Rattle.verity_tree.specs.declared.pass.closed_block.HashBlockFault.TheVariants as block_fault
 use Rattle.verity_tree.specs.declared.building.BuildFault.{BuildFault}
 use Rattle.verity_tree.specs.declared.building.BuildFault.TheVariants as build
 use Rattle.verity_tree.specs.declared.comparing.CompareFault.{CompareFault}
@@ -44,9 +44,9 @@ pub record StopsFor (p : Planned) (bytes device : List ℕ) (stop : Stop) : Type
   pub done : List (ℕ × ℕ)
   pub next : ComesNext (order (fan p.settings) p.blocks (i + 1)) done (stop.level, stop.index)
   pub same : NoneDiffers p (data_blocks p bytes) device done
-  pub cause_is : IsCause p
-      (closed_block stop.level stop.index (tree_block p.settings (data_blocks p bytes) stop.level stop.index)) device
-      stop.cause
+  pub fault_is : IsHashBlockFault p
+      (closed_block stop.level stop.index
+      (tree_block p.settings (data_blocks p bytes) stop.level stop.index)) device stop.fault
 
 -- a comparison leaves the device as it is, and goes on as long as nothing differs
 abbrev pub PassesCompared : Planned → List ℕ → Result Digest PassFault → List ℕ → List ℕ → Type 0
@@ -64,13 +64,13 @@ source_failed (Err (SourceFailed i)) = true
 source_failed _ = false
 
 abbrev pub device_failed : Task → Result Digest PassFault → Bool
-device_failed task (Err (Stopped stop)) = call_failed task stop.cause
+device_failed task (Err (Stopped stop)) = call_failed task stop.fault
 device_failed task _ = false
 
--- what a comparison answers if a hash block stops its pass, by the cause
-abbrev pub fault_by : ℕ → ℕ → Cause → CompareFault
-fault_by level block cause.Failed = fault.DeviceFailed level block
-fault_by level block (cause.Differs part) = fault.Differs level block part
+-- what a comparison answers if a hash block stops its pass, by the block's fault
+abbrev pub fault_by : ℕ → ℕ → HashBlockFault → CompareFault
+fault_by level block block_fault.Failed = fault.DeviceFailed level block
+fault_by level block (block_fault.Differs part) = fault.Differs level block part
 
 abbrev pub fault_of : Stop → CompareFault
-fault_of stop = fault_by stop.level stop.index stop.cause
+fault_of stop = fault_by stop.level stop.index stop.fault

@@ -33,16 +33,16 @@ pub record IsReached (f i m : ℕ) : Type 0 where
   pub whole : i + 1 ≡ (i / f ^ m + 1) * f ^ m
 
 -- how far a data block's digest has come: the data block, counted from 0, the level, and the number of levels
-pub record Climb : Type 0 where
+pub record CascadeState : Type 0 where
   pub i : ℕ
   pub level : ℕ
   pub levels : ℕ
 
-abbrev pub climb : ℕ → ℕ → ℕ → Climb
-climb i level levels = record { i = i; level = level; levels = levels }
+abbrev pub cascade_state : ℕ → ℕ → ℕ → CascadeState
+cascade_state i level levels = record { i = i; level = level; levels = levels }
 
 -- the cascade of data block i has come to a level with this digest: the levels below have closed
-pub record IsCarrying (s : Settings) (blocks : List (List ℕ)) (c : Climb) (store digest : List ℕ) : Type 0 where
+pub record IsCarrying (s : Settings) (blocks : List (List ℕ)) (c : CascadeState) (store digest : List ℕ) : Type 0 where
   pub reached : c.i + 1 < length blocks → IsReached (fan s) c.i c.level
   pub above : HasOpenBlocks s blocks c.level c.levels c.i store
   pub below : c.i + 1 < length blocks → HasOpenBlocks s blocks 0 c.level (c.i + 1) store

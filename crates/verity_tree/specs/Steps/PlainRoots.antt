@@ -10,9 +10,9 @@ use Rattle.verity_plan.specs.Settings.{Settings, hash, fan}
 abbrev pub digest_of_block : Settings → ℕ → List ℕ → ℕ → List ℕ
 digest_of_block s wanted bytes i = hash s (block_at s.data_block (take wanted bytes) i)
 
--- the digest of the hash block of the j-th run of digests
-abbrev pub digest_of_run : Settings → List (List ℕ) → ℕ → List ℕ
-digest_of_run s digests j = hash s (hash_block_of s (slice_chunk digests (fan s) j))
+-- the digest of the hash block of the j-th group of digests
+abbrev pub digest_of_group : Settings → List (List ℕ) → ℕ → List ℕ
+digest_of_group s digests j = hash s (hash_block_of s (slice_chunk digests (fan s) j))
 
 -- the digests that stand l levels above these
 unfoldable pub digests_up : Settings → List (List ℕ) → ℕ → List (List ℕ)

@@ -25,23 +25,23 @@ ReadsRow p i bytes (Err fault) row after = StopsInBlock p i bytes fault after
 -- `count` data blocks from i on stand in the rows
 abbrev pub HoldsDataBlocks : Planned → ℕ → List ℕ → ℕ → List ℕ → Type 0
 HoldsDataBlocks p i bytes count rows = (r : ℕ) → r < count
-    → hash p.settings (slice_chunk rows p.settings.data_block r) ≡ level_digest p.settings (data_blocks p bytes)
-    (i + r) 0
+    → hash p.settings (slice_chunk rows p.settings.data_block r)
+    ≡ level_digest p.settings (data_blocks p bytes) (i + r) 0
 
 -- where the source stands before data block i, or why that block can't be read
-abbrev pub StandsBy : Planned → ℕ → List ℕ → Option BlockFault → List ℕ → Type 0
-StandsBy p i bytes None after = HasRead (bytes_of p i) bytes after
-StandsBy p i bytes (Some fault) after = StopsInBlock p i bytes fault after
+abbrev pub SourceStandsAt : Planned → ℕ → List ℕ → Option BlockFault → List ℕ → Type 0
+SourceStandsAt p i bytes None after = HasRead (bytes_of p i) bytes after
+SourceStandsAt p i bytes (Some fault) after = StopsInBlock p i bytes fault after
 
 -- `count` data blocks from i on are there, and none of them but the last is the last below a hash block
-pub record IsRun (p : Planned) (i count : ℕ) : Type 0 where
+pub record IsBatch (p : Planned) (i count : ℕ) : Type 0 where
   pub below : i + count ≤ p.blocks
-  pub quiet : (k : ℕ) → i ≤ k → k + 1 < i + count → ¬ EndsBlock (fan p.settings) p.blocks k
+  pub none_closes : (k : ℕ) → i ≤ k → k + 1 < i + count → ¬ EndsBlock (fan p.settings) p.blocks k
 
 -- all of them, or fewer if the source ended or failed
-abbrev pub IsReadOf : ℕ → ℕ → Option BlockFault → Type 0
-IsReadOf count n None = n ≡ count
-IsReadOf count n (Some fault) = n < count
+abbrev pub ReadsCount : ℕ → ℕ → Option BlockFault → Type 0
+ReadsCount count n None = n ≡ count
+ReadsCount count n (Some fault) = n < count
 
 -- whether the source failed
 abbrev pub stop_failed : Option BlockFault → Bool
@@ -65,33 +65,33 @@ abbrev pub IsPending : Ahead → ℕ → Type 0
 IsPending ahead k = (k + 1 < ahead.end) ⊎ ((k + 1 ≡ ahead.end) × (ahead.fault ≢ None))
 
 -- what was read before data block i has its turn: nothing past a data block that is the last below a hash block
-pub record IsQuiet (p : Planned) (i : ℕ) (ahead : Ahead) : Type 0 where
+pub record IsWithinHashBlock (p : Planned) (i : ℕ) (ahead : Ahead) : Type 0 where
   pub start : ahead.first ≤ i
   pub room : ahead.end ≤ ahead.first + 8
   pub from : i ≤ ahead.end
   pub to : ahead.end ≤ p.blocks
   pub short : ahead.fault ≢ None → ahead.end < p.blocks
-  pub quiet : (k : ℕ) → i ≤ k + 1 → IsPending ahead k → ¬ EndsBlock (fan p.settings) p.blocks k
+  pub none_closes : (k : ℕ) → i ≤ k + 1 → IsPending ahead k → ¬ EndsBlock (fan p.settings) p.blocks k
   pub sizes : HasSizes p ahead
 
 -- data block i was read, or there is a reason why not
-pub record IsFilled (p : Planned) (i : ℕ) (ahead : Ahead) : Type 0 where
+pub record HasNext (p : Planned) (i : ℕ) (ahead : Ahead) : Type 0 where
   pub start : ahead.first ≤ i
   pub room : ahead.end ≤ ahead.first + 8
   pub some : (i < ahead.end) ⊎ ((i ≡ ahead.end) × (ahead.fault ≢ None))
   pub to : ahead.end ≤ p.blocks
   pub short : ahead.fault ≢ None → ahead.end < p.blocks
-  pub quiet : (k : ℕ) → i ≤ k → IsPending ahead k → ¬ EndsBlock (fan p.settings) p.blocks k
+  pub none_closes : (k : ℕ) → i ≤ k → IsPending ahead k → ¬ EndsBlock (fan p.settings) p.blocks k
   pub sizes : HasSizes p ahead
 
 -- the digests of the data blocks from i on, and where the source stands
 pub record IsAhead (p : Planned) (i : ℕ) (bytes : List ℕ) (ahead : Ahead) (after : List ℕ) : Type 0 where
   pub digests_are : (k : ℕ) → i ≤ k → k < ahead.end
       → slice_index_or ahead.digests (k - ahead.first) [] ≡ level_digest p.settings (data_blocks p bytes) k 0
-  pub stands : StandsBy p ahead.end bytes ahead.fault after
+  pub stands : SourceStandsAt p ahead.end bytes ahead.fault after
 
 -- the next data block's digest, or why there is none
 abbrev pub TakesDigest : Planned → ℕ → List ℕ → Result Digest BlockFault → Ahead → List ℕ → Type 0
 TakesDigest p i bytes (Ok digest) ahead after =
     IsAhead p (i + 1) bytes ahead after × (digest ≡ level_digest p.settings (data_blocks p bytes) i 0)
-TakesDigest p i bytes (Err fault) ahead after = StandsBy p i bytes (Some fault) after
+TakesDigest p i bytes (Err fault) ahead after = SourceStandsAt p i bytes (Some fault) after

@@ -9,7 +9,7 @@ ghost use Rattle.verity_tree.specs.Steps.OpenBlocks.{HasOpenBlocks, arrival, lev
 ghost use Rattle.verity_plan.specs.Plans.{Planned, HasBlock, levels_of};
 ghost use Rattle.verity_plan.specs.Settings.{digest_len, fan};
 
-use crate::pass::closed_block::{Cause, Job, close};
+use crate::pass::closed_block::{HashBlockFault, Job, close};
 use verity_hash::Digest;
 use verity_io::Device;
 
@@ -21,7 +21,7 @@ pub(crate) enum LevelStep {
     /// It has closed, and this is its digest.
     Closed(Digest),
     /// It stops the pass.
-    Stopped(Cause),
+    Stopped(HashBlockFault),
 }
 
 /// The hash block that stops a pass.
@@ -29,7 +29,7 @@ pub(crate) enum LevelStep {
 pub(crate) struct Stop {
     pub level: usize,
     pub index: u64,
-    pub cause: Cause,
+    pub fault: HashBlockFault,
 }
 
 /// The next digest of a level.
@@ -88,7 +88,7 @@ fn step_level<D: Device>(
             bytes.fill(0);
             LevelStep::Closed(above)
         }
-        Err(cause) => LevelStep::Stopped(cause),
+        Err(fault) => LevelStep::Stopped(fault),
     }
 }
 
@@ -143,11 +143,11 @@ pub(crate) fn carry<D: Device>(
         match step_level(job, level, &next, bytes, stored, device) {
             LevelStep::Closed(above) => current = above,
             LevelStep::Open => return Ok(current),
-            LevelStep::Stopped(cause) => {
+            LevelStep::Stopped(fault) => {
                 return Err(Stop {
                     level,
                     index: index / fan,
-                    cause,
+                    fault,
                 });
             }
         }

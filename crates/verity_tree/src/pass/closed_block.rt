@@ -26,7 +26,7 @@ pub(crate) struct Job {
 
 /// Why a pass stops at a hash block.
 #[derive(Clone, Copy, Debug, PartialEq, Eq)]
-pub(crate) enum Cause {
+pub(crate) enum HashBlockFault {
     /// The device failed.
     Failed,
     /// What stands at the block's place differs.
@@ -41,7 +41,7 @@ pub(crate) fn close<D: Device>(
     bytes: &[u8],
     stored: &mut [u8],
     device: &mut D,
-) -> Result<(), Cause>
+) -> Result<(), HashBlockFault>
     requires here { HasBlock job.now.plan level index }
     requires size { length bytes.now ≡ job.now.plan.settings.hash_block }
     requires stored { length stored.old ≡ job.now.plan.settings.hash_block }
@@ -55,11 +55,11 @@ pub(crate) fn close<D: Device>(
     match job.task {
         Task::Write => match device.write_at(at, bytes) {
             Ok(()) => Ok(()),
-            Err(_) => Err(Cause::Failed),
+            Err(_) => Err(HashBlockFault::Failed),
         },
         Task::Compare => match device.read_at(at, stored) {
             Ok(count) => compare_block(&job.plan, level, index, bytes, stored, count),
-            Err(_) => Err(Cause::Failed),
+            Err(_) => Err(HashBlockFault::Failed),
         },
     }
 }
@@ -72,7 +72,7 @@ fn compare_block(
     bytes: &[u8],
     stored: &[u8],
     count: usize,
-) -> Result<(), Cause>
+) -> Result<(), HashBlockFault>
     requires here { HasBlock plan.now level index }
     requires size { length bytes.now ≡ plan.now.settings.hash_block }
     requires stored { length stored.now ≡ plan.now.settings.hash_block }
@@ -80,10 +80,10 @@ fn compare_block(
     ensures { ComparesBlock plan.now (closed_block level index bytes.now) (take count stored.now) result }
 {
     if count < stored.len() {
-        return Err(Cause::Differs(Part::Missing));
+        return Err(HashBlockFault::Differs(Part::Missing));
     }
     if stored == bytes {
         return Ok(());
     }
-    Err(Cause::Differs(part_between(plan, level, index, stored, bytes)))
+    Err(HashBlockFault::Differs(part_between(plan, level, index, stored, bytes)))
 }

@@ -8,8 +8,8 @@ ghost use Rattle.verity_plan.specs.Settings.{digest_len};
 ghost use Rattle.verity_tree.specs.Reading.{bytes_of};
 ghost use Rattle.verity_tree.specs.Steps.DataBlocks.{read_failed};
 ghost use Rattle.verity_tree.specs.Steps.OpenBlocks.{HasOpenBlocks};
-ghost use Rattle.verity_tree.specs.Steps.ReadingAhead.{HoldsDataBlocks, IsAhead, IsFilled, IsQuiet, IsReadOf, IsRun};
-ghost use Rattle.verity_tree.specs.Steps.ReadingAhead.{ReadsRow, StandsBy, TakesDigest, ahead_failed, next_failed};
+ghost use Rattle.verity_tree.specs.Steps.ReadingAhead.{HoldsDataBlocks, IsAhead, HasNext, IsWithinHashBlock, ReadsCount, IsBatch};
+ghost use Rattle.verity_tree.specs.Steps.ReadingAhead.{ReadsRow, SourceStandsAt, TakesDigest, ahead_failed, next_failed};
 ghost use Rattle.verity_tree.specs.Steps.ReadingAhead.{stop_failed};
 
 use crate::pass::data_block::{BlockFault, read_data_block, take_data_block};
@@ -42,11 +42,11 @@ pub(crate) struct Ahead {
 impl Ahead {
     ghost use Rattle.std.specs.Prelude.{ℕ, List};
     ghost use Rattle.verity_io.specs.Counting.{Counts};
-    ghost use Rattle.verity_tree.specs.Steps.ReadingAhead.{IsAhead, IsQuiet, ahead_failed};
+    ghost use Rattle.verity_tree.specs.Steps.ReadingAhead.{IsAhead, IsWithinHashBlock, ahead_failed};
 
     /// Before the first data block nothing is ahead.
     pub(crate) fn none(plan: &Plan) -> Ahead
-        ensures quiet { IsQuiet plan.now 0 result }
+        ensures within { IsWithinHashBlock plan.now 0 result }
         ensures count { (start : ℕ) → Counts (ahead_failed result) start start }
         ensures ahead { (bytes : List ℕ) → IsAhead plan.now 0 bytes result bytes }
     {
@@ -70,10 +70,10 @@ pub(crate) fn take_next<S: Source>(
 ) -> Result<Digest, BlockFault>
     requires room { levels_of plan.now * plan.now.settings.hash_block + plan.now.settings.data_block ≤ length work.old }
     requires below { i < plan.now.blocks }
-    requires quiet { IsQuiet plan.now i ahead.old }
+    requires within { IsWithinHashBlock plan.now i ahead.old }
     ensures size { IfOk result (λ digest. length digest ≡ digest_len plan.now.settings) }
     ensures told { S.tells source.old → S.tells source.new }
-    ensures quiet { IfOk result (λ digest. IsQuiet plan.now (i + 1) ahead.new) }
+    ensures within { IfOk result (λ digest. IsWithinHashBlock plan.now (i + 1) ahead.new) }
     ensures count { (start : ℕ) → Counts (ahead_failed ahead.old) start (S.failures source.old)
         → Counts (next_failed result ahead.new) start (S.failures source.new) }
     ensures opened { (blocks : List (List ℕ)) → HasOpenBlocks plan.now.settings blocks 0 (levels_of plan.now) i work.old
@@ -96,7 +96,7 @@ fn rows_from(plan: &Plan, window: usize, i: u64) -> usize
     requires { i < plan.now.blocks }
     ensures some { 0 < result }
     ensures most { result ≤ 8 }
-    ensures run { IsRun plan.now i result }
+    ensures batch { IsBatch plan.now i result }
     ensures fits { 1 < result → result * plan.now.settings.data_block ≤ window }
 {
     let fan = plan.fan() as u64;
@@ -112,7 +112,7 @@ fn rows_from(plan: &Plan, window: usize, i: u64) -> usize
 
 /// Whether data blocks are read together, in a window.
 pub(crate) fn needs_window(plan: &Plan) -> bool {
-    // The call tells the proof that a plan has a data block.
+    // Called for the proof: its contract says that a plan has a data block.
     let _blocks = plan.blocks();
     rows_from(plan, WINDOW, 0) > 1
 }
@@ -128,18 +128,18 @@ fn read_ahead<S: Source>(
     requires room { levels_of plan.now * plan.now.settings.hash_block + plan.now.settings.data_block ≤ length work.old }
     requires below { i < plan.now.blocks }
     ensures told { S.tells source.old → S.tells source.new }
-    ensures quiet { IsFilled plan.now i result }
+    ensures next { HasNext plan.now i result }
     ensures count { Counts (ahead_failed result) (S.failures source.old) (S.failures source.new) }
     ensures opened { (blocks : List (List ℕ)) → HasOpenBlocks plan.now.settings blocks 0 (levels_of plan.now) i work.old
         → HasOpenBlocks plan.now.settings blocks 0 (levels_of plan.now) i work.new }
     ensures ahead { S.tells source.old → (bytes : List ℕ) → HasRead (bytes_of plan.now i) bytes (S.remaining source.old)
         → IsAhead plan.now i bytes result (S.remaining source.new) }
 {
-    // The call tells the proof that the number of data blocks is a `u64`.
+    // Called for the proof: its contract says that the number of data blocks is a `u64`.
     let _blocks = plan.blocks();
     let count = rows_from(plan, window.len(), i);
     if count > 1 {
-        return read_run(
+        return read_batch(
             plan,
             &mut window[..count * plan.data_block()],
             i,
@@ -165,18 +165,24 @@ fn read_ahead<S: Source>(
 
 /// Reads `count` data blocks from `i` on and hashes them side by side. If the source ends or fails within one, the
 /// digests of its row and of those after it count for nothing.
-fn read_run<S: Source>(plan: &Plan, rows: &mut [u8], i: u64, count: usize, source: &mut S) -> Ahead
+fn read_batch<S: Source>(
+    plan: &Plan,
+    rows: &mut [u8],
+    i: u64,
+    count: usize,
+    source: &mut S,
+) -> Ahead
     requires room { length rows.old ≡ count * plan.now.settings.data_block }
     requires some { 0 < count }
     requires most { count ≤ 8 }
-    requires run { IsRun plan.now i count }
+    requires batch { IsBatch plan.now i count }
     ensures told { S.tells source.old → S.tells source.new }
-    ensures quiet { IsFilled plan.now i result }
+    ensures next { HasNext plan.now i result }
     ensures count { Counts (ahead_failed result) (S.failures source.old) (S.failures source.new) }
     ensures ahead { S.tells source.old → (bytes : List ℕ) → HasRead (bytes_of plan.now i) bytes (S.remaining source.old)
         → IsAhead plan.now i bytes result (S.remaining source.new) }
 {
-    // The call tells the proof that the number of data blocks is a `u64`.
+    // Called for the proof: its contract says that the number of data blocks is a `u64`.
     let _blocks = plan.blocks();
     let (read, fault) = read_rows(plan, rows, i, count, source);
     Ahead {
@@ -199,13 +205,13 @@ fn read_rows<S: Source>(
     requires below { i + count ≤ plan.now.blocks }
     ensures told { S.tells source.old → S.tells source.new }
     ensures count { Counts (stop_failed result.1) (S.failures source.old) (S.failures source.new) }
-    ensures many { IsReadOf count result.0 result.1 }
+    ensures many { ReadsCount count result.0 result.1 }
     ensures rows { S.tells source.old → (bytes : List ℕ) → HasRead (bytes_of plan.now i) bytes (S.remaining source.old)
         → HoldsDataBlocks plan.now i bytes result.0 rows.new }
     ensures read { S.tells source.old → (bytes : List ℕ) → HasRead (bytes_of plan.now i) bytes (S.remaining source.old)
-        → StandsBy plan.now (i + result.0) bytes result.1 (S.remaining source.new) }
+        → SourceStandsAt plan.now (i + result.0) bytes result.1 (S.remaining source.new) }
 {
-    // The call tells the proof that the number of data blocks is a `u64`.
+    // Called for the proof: its contract says that the number of data blocks is a `u64`.
     let _blocks = plan.blocks();
     for row in 0..count {
         match read_row(plan, rows, i + row as u64, row, source) {

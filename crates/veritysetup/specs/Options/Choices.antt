@@ -4,7 +4,7 @@
 use Rattle.std.specs.Prelude.{ℕ, ◌/◌, ◌&&◌, Bool, not, nat_lt, List, Option, Result, Ok, Err, ok_or, unwrap_or, if◌then◌else◌}
 use Rattle.verity_plan.specs.Settings.{rule_of, type_of_number}
 use Rattle.command_line.specs.Options.{algorithm_or_default, default_block_size, number_or, ◌>>=◌}
-use Rattle.veritysetup.specs.Options.OptionTexts.{OptionTexts, area_uuid, block_size_of, multiple_of, number_if_given, offset_unit, root_if_given, salt_or_random, uuid_or_random}
+use Rattle.veritysetup.specs.Options.OptionTexts.{OptionTexts, superblock_uuid, block_size_of, multiple_of, number_if_given, offset_unit, root_if_given, salt_or_random, uuid_or_random}
 use Rattle.veritysetup.specs.declared.options.raw_options.OptionName.TheVariants.{Format, DataBlockSize, HashBlockSize, DataBlocks, HashOffset}
 use Rattle.veritysetup.specs.declared.options.raw_options.OptionFault.{OptionFault}
 use Rattle.veritysetup.specs.declared.options.raw_options.OptionFault.TheVariants.{BadNumber, UnknownHash, BadHashType, BadBlockSize, BadSalt, BadUuid, BadHashOffset, NoData, TooLarge, Overlap, BadRoot}
@@ -39,7 +39,7 @@ parameters texts random = do
   offset ← ok_or (multiple_of (offset_unit (not texts.no_superblock) hash_block) n.offset) BadHashOffset
   Ok (record {
     hash_type = hash_type;
-    uuid = area_uuid (not texts.no_superblock) uuid;
+    uuid = superblock_uuid (not texts.no_superblock) uuid;
     offset = offset;
     superblock = not texts.no_superblock;
     blocks = n.blocks;
@@ -74,8 +74,8 @@ settings_with texts p (Ok planned) = if overlaps texts.same_file p.offset planne
 
 -- what the options choose for data of this length in bytes, or the first fault: there are as many data blocks as are
 -- wanted, by default all whole ones
-abbrev pub settings : OptionTexts → ℕ → Option (List ℕ) → Result VeritySettings OptionFault
-settings texts length random = do
+abbrev pub settings_of : OptionTexts → ℕ → Option (List ℕ) → Result VeritySettings OptionFault
+settings_of texts length random = do
   p ← parameters texts random
   let blocks = unwrap_or p.blocks (length / p.tree.data_block)
   settings_with texts p (plan_at p.tree blocks p.offset p.superblock)

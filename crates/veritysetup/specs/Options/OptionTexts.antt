@@ -9,7 +9,7 @@ use Rattle.verity_plan.specs.Plans.{superblock_size}
 use Rattle.verity_plan.specs.Settings.{is_verity_block_size, most_salt}
 use Rattle.command_line.specs.Options.{number_of, salt_of}
 use Rattle.veritysetup.specs.Options.Uuids.{random_uuid}
-use Rattle.veritysetup.specs.Options.VeritySettings.{root_of}
+use Rattle.veritysetup.specs.Options.VeritySettings.{read_root}
 use Rattle.veritysetup.specs.declared.options.raw_options.RawOptions.{RawOptions}
 
 -- the texts of the options, each None if it is not given
@@ -76,11 +76,11 @@ uuid_or_random None (Some random) = Some (random_uuid (take 16 (drop 32 random))
 uuid_or_random None None = Some no_uuid
 
 -- the UUID of a hash area with a superblock; without one it has none, which is all zeros
-abbrev pub area_uuid : Bool → List ℕ → List ℕ
-area_uuid true uuid = uuid
-area_uuid false uuid = no_uuid
+abbrev pub superblock_uuid : Bool → List ℕ → List ℕ
+superblock_uuid true uuid = uuid
+superblock_uuid false uuid = no_uuid
 
 -- a root hash that may be missing; none if the text is no digest of the algorithm
 abbrev pub root_if_given : Algorithm → Option (List ℕ) → Option (Option (List ℕ))
 root_if_given algorithm None = Some None
-root_if_given algorithm (Some text) = option_map (λ root. Some root) (root_of algorithm text)
+root_if_given algorithm (Some text) = option_map (λ root. Some root) (read_root algorithm text)

@@ -12,8 +12,8 @@ use Rattle.verity_plan.specs.declared.plan_fault.PlanFault.{PlanFault}
 use Rattle.verity_plan.specs.declared.plan_fault.PlanFault.TheVariants.{NoData, TooLarge}
 
 -- the bytes of a root hash
-abbrev pub root_of : Algorithm → List ℕ → Option (List ℕ)
-root_of algorithm text = if length text == 2 * digest_len_of algorithm then result_ok (decode_of text) else None
+abbrev pub read_root : Algorithm → List ℕ → Option (List ℕ)
+read_root algorithm text = if length text == 2 * digest_len_of algorithm then result_ok (decode_of text) else None
 
 -- the settings of a hash device: the hash type, the UUID's bytes, the hash offset in bytes, whether a superblock stands
 -- there, the tree's plan, and the root hash if one was given

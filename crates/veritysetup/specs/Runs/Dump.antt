@@ -7,7 +7,7 @@ use Rattle.veritysetup.specs.Texts.Messages.{super_text, unread_superblock_text,
 use Rattle.veritysetup.specs.Runs.Outcomes.{TextChange, status_of, message_of}
 use Rattle.command_line.specs.Printing.{AppendsFront, Prints}
 use Rattle.veritysetup.specs.Texts.Reports.{report_text, uuid_text}
-use Rattle.veritysetup.specs.Runs.HashDevice.{header, ReadsSuperblock, is_unread}
+use Rattle.veritysetup.specs.Runs.HashDevice.{superblock_at, ReadsSuperblock, is_unread}
 use Rattle.veritysetup.specs.declared.runs.dump.DumpFault.{DumpFault}
 use Rattle.veritysetup.specs.declared.runs.dump.DumpFault.TheVariants.{Superblock, Report}
 use Rattle.command_line.specs.declared.printing.print_fault.PrintFault.{PrintFault}
@@ -32,7 +32,7 @@ fault_text (Report (Output count)) = unwritten_output_text
 abbrev pub ReportsSuperblock : ℕ → List ℕ → Change → Result (Unit {0}) PrintFault → Option (List ℕ)
     → Option (List ℕ) → Type 0
 ReportsSuperblock offset path device result before after = (v : SuperblockFields)
-    × (device.told → IsSuperblock (header offset device.before) v)
+    × (device.told → IsSuperblock (superblock_at offset device.before) v)
     × Prints result (report_text path (uuid_text v.uuid) v None) before after
 
 -- what is printed of a device with the superblock at an offset

@@ -15,7 +15,7 @@ use Rattle.veritysetup.specs.Runs.HashDevice.{formatted_device, superblock_for}
 use Rattle.veritysetup.specs.Texts.Messages.{build_text, memory_text, unwritten_output_text, unwritten_superblock_text}
 use Rattle.veritysetup.specs.Runs.Outcomes.{TextChange, status_of, message_of}
 use Rattle.command_line.specs.Printing.{AppendsFront, Prints}
-use Rattle.veritysetup.specs.Texts.Reports.{bare_text, report_text, uuid_text}
+use Rattle.veritysetup.specs.Texts.Reports.{no_uuid_text, report_text, uuid_text}
 use Rattle.veritysetup.specs.declared.runs.format.FormatFault.{FormatFault}
 use Rattle.veritysetup.specs.declared.runs.format.FormatFault.TheVariants.{Store, Build, Superblock, Report}
 use Rattle.command_line.specs.declared.printing.print_fault.PrintFault.TheVariants.{Memory, Output}
@@ -42,7 +42,7 @@ root_above s bytes = root s.plan.settings (data_blocks s.plan bytes)
 
 -- the text in the report's line of the UUID
 abbrev pub report_uuid : VeritySettings → List ℕ
-report_uuid s = if s.superblock then uuid_text s.uuid else bare_text
+report_uuid s = if s.superblock then uuid_text s.uuid else no_uuid_text
 
 -- the report of format, with this root hash
 abbrev pub format_report : VeritySettings → List ℕ → List ℕ → List ℕ
@@ -58,7 +58,8 @@ Reads s outcome before after = HasRead s.plan.wanted before after
 abbrev pub Writes : VeritySettings → List (List ℕ) → Result (Unit {0}) FormatFault → List ℕ → List ℕ → Type 0
 Writes s blocks (Err Store) before after = after ≡ before
 Writes s blocks (Err (Build fault)) before after = BuildsOnDevice s.plan blocks (Err fault) before after
-Writes s blocks (Err Superblock) before after = Spoiled (tree_on_device s.plan blocks before) s.offset superblock_size after
+Writes s blocks (Err Superblock) before after =
+    Spoiled (tree_on_device s.plan blocks before) s.offset superblock_size after
 Writes s blocks outcome before after = after ≡ formatted_device s blocks before
 
 -- what is added to out: the report, or its first bytes if a write fails

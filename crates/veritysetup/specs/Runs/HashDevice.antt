@@ -1,8 +1,8 @@
--- What a hash device holds: the superblock at the hash offset, if there is one, and what format leaves there, every hash
--- block at its place and then that superblock (cryptsetup's on-disk format page, "dm-verity header"; Linux kernel,
+-- What a hash device holds: the superblock at the hash offset, if there is one, and what format leaves there, every
+-- hash block at its place and then that superblock (cryptsetup's on-disk format page, "dm-verity header"; Linux kernel,
 -- dm-verity page, "On-disk format").
 use Rattle.std.specs.Prelude.{◌≡◌, ℕ, Bool, true, false, List, take, drop, Some, Result, Ok, Err, if◌then◌else◌}
-use Rattle.verity_format.specs.Superblocks.{IsSuperblock, cause, superblock_bytes, SuperblockFields}
+use Rattle.verity_format.specs.Superblocks.{IsSuperblock, superblock_fault, superblock_bytes, SuperblockFields}
 use Rattle.verity_format.specs.declared.superblock.Superblock.{Superblock}
 use Rattle.verity_plan.specs.Plans.{superblock_size}
 use Rattle.veritysetup.specs.declared.runs.stored_superblock.StoredFault.{StoredFault}
@@ -12,13 +12,13 @@ use Rattle.verity_io.specs.Writing.{put}
 use Rattle.veritysetup.specs.Options.VeritySettings.{VeritySettings}
 
 -- the bytes that a superblock is read from; on a shorter device all that there are
-abbrev pub header : ℕ → List ℕ → List ℕ
-header offset device = take superblock_size (drop offset device)
+abbrev pub superblock_at : ℕ → List ℕ → List ℕ
+superblock_at offset device = take superblock_size (drop offset device)
 
 -- the superblock that the bytes hold, or the reason why they hold none
 abbrev pub ReadsSuperblock : Result Superblock StoredFault → ℕ → List ℕ → Type 0
-ReadsSuperblock (Ok superblock) offset device = IsSuperblock (header offset device) superblock
-ReadsSuperblock (Err (Refused fault)) offset device = cause (header offset device) ≡ Some fault
+ReadsSuperblock (Ok superblock) offset device = IsSuperblock (superblock_at offset device) superblock
+ReadsSuperblock (Err (Refused fault)) offset device = superblock_fault (superblock_at offset device) ≡ Some fault
 ReadsSuperblock (Err Unread) offset device = Unit {0}
 
 -- the device could not be read

@@ -10,11 +10,11 @@ use Rattle.verity_tree.specs.Comparing as comparing
 use Rattle.verity_tree.specs.TreeOnDevice.{HoldsTree}
 use Rattle.verity_tree.specs.declared.comparing.CompareFault.{CompareFault}
 use Rattle.verity_tree.specs.declared.comparing.CompareFault.TheVariants as fault
-use Rattle.veritysetup.specs.Options.VeritySettings.{plan_at, root_of}
+use Rattle.veritysetup.specs.Options.VeritySettings.{plan_at, read_root}
 use Rattle.veritysetup.specs.Texts.Messages.{compare_text, memory_text, option_text, super_text, too_large_text, unread_superblock_text}
 use Rattle.veritysetup.specs.Runs.Outcomes.{status_of, message_of}
 use Rattle.command_line.specs.Printing.{AppendsFront}
-use Rattle.veritysetup.specs.Runs.HashDevice.{ReadsSuperblock, header, is_unread}
+use Rattle.veritysetup.specs.Runs.HashDevice.{ReadsSuperblock, superblock_at, is_unread}
 use Rattle.veritysetup.specs.declared.options.raw_options.OptionFault.TheVariants as option
 use Rattle.veritysetup.specs.declared.runs.stored_superblock.StoredFault.TheVariants.{Unread, Refused}
 use Rattle.veritysetup.specs.declared.runs.verify_fault.InputFault.{InputFault}
@@ -65,24 +65,24 @@ plan_of offset v = plan_at v.tree v.blocks offset true
 -- a superblock at this offset and the text of a root hash give this plan and this root hash
 pub record Describes (offset : ℕ) (text device : List ℕ) (plan : Planned) (root : List ℕ) : Type 0 where
   pub fields : SuperblockFields
-  pub superblock : IsSuperblock (header offset device) fields
+  pub superblock : IsSuperblock (superblock_at offset device) fields
   pub plan_is : plan_of offset fields ≡ Ok plan
-  pub root_is : root_of fields.tree.algorithm text ≡ Some root
+  pub root_is : read_root fields.tree.algorithm text ≡ Some root
 
 -- the superblock at this offset describes some data, so if there is no plan the hash area is too large
 pub record IsTooLarge (offset : ℕ) (device : List ℕ) : Type 0 where
   pub fields : SuperblockFields
-  pub superblock : IsSuperblock (header offset device) fields
+  pub superblock : IsSuperblock (superblock_at offset device) fields
   pub cause : PlanFault
   pub no_plan : plan_of offset fields ≡ Err cause
 
 -- there is a plan, and the text is no root hash
 pub record IsBadRoot (offset : ℕ) (text device : List ℕ) : Type 0 where
   pub fields : SuperblockFields
-  pub superblock : IsSuperblock (header offset device) fields
+  pub superblock : IsSuperblock (superblock_at offset device) fields
   pub plan : Planned
   pub plan_is : plan_of offset fields ≡ Ok plan
-  pub no_root : root_of fields.tree.algorithm text ≡ None
+  pub no_root : read_root fields.tree.algorithm text ≡ None
 
 -- why nothing is compared: the superblock is read, then the plan is made, then the text is read
 abbrev pub RefusesStored : ℕ → List ℕ → List ℕ → InputFault → Type 0
@@ -118,8 +118,8 @@ Verifies input device before after (Err Store) =
     ((plan : Planned) × (root : List ℕ) × Trusts input device plan root) × (after ≡ before)
 Verifies input device before after (Err (Compare fault)) = Compares input device before after (Err fault)
 
--- what status 0 stands for: the device holds the whole tree above the data, of which just the wanted bytes were read, and
--- the root hash is the tree's
+-- what status 0 stands for: the device holds the whole tree above the data, of which just the wanted bytes were read,
+-- and the root hash is the tree's
 pub record IsVerified (input : VerifyInput) (device before after : List ℕ) : Type 0 where
   pub plan : Planned
   pub root : List ℕ

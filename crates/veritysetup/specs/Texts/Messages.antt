@@ -47,7 +47,8 @@ abbrev pub option_text : OptionFault → List ℕ
 option_text (BadNumber option) = concat (codes "Option --" ∷ option_name option ∷ codes " is not a number.\n" ∷ [])
 option_text UnknownHash = codes "Unknown hash algorithm.\n"
 option_text BadHashType = codes "Hash type must be 0 or 1.\n"
-option_text (BadBlockSize option) = concat (codes "Option --" ∷ option_name option ∷ codes " is not a valid block size.\n" ∷ [])
+option_text (BadBlockSize option) =
+    concat (codes "Option --" ∷ option_name option ∷ codes " is not a valid block size.\n" ∷ [])
 option_text BadSalt = codes "Salt is not valid.\n"
 option_text BadUuid = codes "UUID is not valid.\n"
 option_text BadHashOffset = codes "Hash offset is not valid.\n"
@@ -58,8 +59,8 @@ option_text BadRoot = codes "Root hash is not valid.\n"
 
 -- a number in a superblock that is refused
 abbrev pub refused_text : List ℕ → ℕ → List ℕ → List ℕ
-refused_text field number verdict =
-    concat (codes "Superblock " ∷ field ∷ codes " " ∷ decimal number ∷ codes " is not " ∷ verdict ∷ codes ".\n" ∷ [])
+refused_text field number adjective =
+    concat (codes "Superblock " ∷ field ∷ codes " " ∷ decimal number ∷ codes " is not " ∷ adjective ∷ codes ".\n" ∷ [])
 
 -- bytes that are no superblock
 abbrev pub super_text : SuperFault → List ℕ

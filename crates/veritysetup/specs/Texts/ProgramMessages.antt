@@ -2,9 +2,9 @@
 -- messages are this project's own).
 use Rattle.std.specs.Prelude.{◌≡◌, ◌⊎◌, ℕ, List, [], ◌∷◌, codes}
 use Rattle.std.specs.List.{concat}
-use Rattle.command_line.specs.SystemWords.{not_text}
+use Rattle.command_line.specs.SystemWords.{not_utf8_text}
 use Rattle.command_line.specs.declared.words.system_words.WordsFault.{WordsFault}
-use Rattle.command_line.specs.declared.words.system_words.WordsFault.TheVariants.{NotText, Memory}
+use Rattle.command_line.specs.declared.words.system_words.WordsFault.TheVariants.{NotUtf8, Memory}
 use Rattle.veritysetup.specs.Texts.Messages.{memory_text}
 
 -- a file that can't be opened, or whose length can't be found
@@ -25,11 +25,11 @@ incomplete_text = codes "error: the command line is not complete\n"
 
 -- the words of the command line can't be read
 abbrev pub words_text : WordsFault → List ℕ
-words_text (NotText number word) = not_text number word.items
+words_text (NotUtf8 number word) = not_utf8_text number word.items
 words_text Memory = memory_text
 
 abbrev pub words_status : WordsFault → ℕ
-words_status (NotText number word) = 1
+words_status (NotUtf8 number word) = 1
 words_status Memory = 3
 
 -- a command line is refused, or there is no memory for it

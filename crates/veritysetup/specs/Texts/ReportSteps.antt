@@ -7,8 +7,8 @@ use Rattle.verity_plan.specs.Settings.{type_number, Settings}
 use Rattle.veritysetup.specs.Texts.Reports.{report_line}
 
 -- a text, and the lines on the device, with this text of the UUID
-abbrev pub with_header : List ℕ → List ℕ → SuperblockFields → List ℕ
-with_header text uuid v = text
+abbrev pub with_device : List ℕ → List ℕ → SuperblockFields → List ℕ
+with_device text uuid v = text
     ++ report_line (codes "UUID:") uuid
     ++ report_line (codes "Hash type:") (decimal (type_number v.hash_type))
     ++ report_line (codes "Data blocks:") (decimal v.blocks)

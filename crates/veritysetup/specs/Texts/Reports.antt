@@ -26,8 +26,8 @@ abbrev pub uuid_text : List ℕ → List ℕ
 uuid_text uuid = hyphenated_text lower uuid
 
 -- what stands in place of a UUID if there is no superblock
-abbrev pub bare_text : List ℕ
-bare_text = codes "-"
+abbrev pub no_uuid_text : List ℕ
+no_uuid_text = codes "-"
 
 -- the line of the root hash, if there is one
 abbrev pub root_line : Option (List ℕ) → List ℕ

@@ -1,10 +1,10 @@
 //! From the texts of a line's options to settings.
 
-pub(crate) mod hash_area;
 pub(crate) mod hash_offset;
 pub(crate) mod numbers;
 pub(crate) mod parameters;
 pub(crate) mod raw_options;
 pub(crate) mod root_hash;
 pub(crate) mod settings;
+pub(crate) mod tree_plan;
 pub(crate) mod uuids;

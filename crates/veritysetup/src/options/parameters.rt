@@ -1,6 +1,7 @@
 //! What the texts of options choose, before the data is looked at.
 ghost use Rattle.std.specs.Prelude.{◌≡◌, IfOk, option_map};
-ghost use Rattle.veritysetup.specs.Options.OptionTexts.{texts_of, block_size_of, salt_or_random, uuid_or_random, area_uuid};
+ghost use Rattle.veritysetup.specs.Options.OptionTexts.{texts_of, block_size_of, salt_or_random, superblock_uuid};
+ghost use Rattle.veritysetup.specs.Options.OptionTexts.{uuid_or_random};
 ghost use Rattle.verity_plan.specs.Settings.{rule_of};
 ghost use Rattle.veritysetup.specs.Options.Choices.{parameters};
 
@@ -61,7 +62,7 @@ impl Parameters {
         let offset = multiple_of(unit, numbers.offset).ok_or(OptionFault::BadHashOffset)?;
         Ok(Parameters {
             hash_type,
-            uuid: area_uuid(superblock, uuid),
+            uuid: superblock_uuid(superblock, uuid),
             offset,
             superblock,
             blocks: numbers.blocks,
@@ -104,8 +105,8 @@ fn uuid_or_random(text: Option<&str>, random: Option<&[u8; 48]>) -> Option<Uuid>
 }
 
 /// The UUID of a hash area with a superblock; all zeros without one.
-fn area_uuid(superblock: bool, uuid: Uuid) -> Uuid
-    ensures { result ≡ area_uuid superblock uuid }
+fn superblock_uuid(superblock: bool, uuid: Uuid) -> Uuid
+    ensures { result ≡ superblock_uuid superblock uuid }
 {
     if superblock { uuid } else { Uuid::nil() }
 }

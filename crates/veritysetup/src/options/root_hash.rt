@@ -1,13 +1,13 @@
 //! Root hashes as the command line writes them.
 ghost use Rattle.std.specs.Prelude.{◌≡◌, option_map};
 ghost use Rattle.veritysetup.specs.Options.OptionTexts.{root_if_given};
-ghost use Rattle.veritysetup.specs.Options.VeritySettings.{root_of};
+ghost use Rattle.veritysetup.specs.Options.VeritySettings.{read_root};
 
 use verity_hash::{Algorithm, Digest};
 
 /// The digest of exactly as many hexadecimal digits of either case as the algorithm's digests have, or `None`.
-pub fn root_of(algorithm: Algorithm, text: &str) -> Option<Digest>
-    ensures { result ≡ root_of algorithm text.now }
+pub fn read_root(algorithm: Algorithm, text: &str) -> Option<Digest>
+    ensures { result ≡ read_root algorithm text.now }
 {
     let mut bytes = [0; 64];
     let digest = &mut bytes[..algorithm.digest_len()];
@@ -22,7 +22,7 @@ pub fn root_if_given(algorithm: Algorithm, text: Option<&str>) -> Option<Option<
     ensures { result ≡ root_if_given algorithm (option_map (λ t. t.now) text.entry) }
 {
     match text {
-        Some(text) => match root_of(algorithm, text) {
+        Some(text) => match read_root(algorithm, text) {
             Some(root) => Some(Some(root)),
             None => None,
         },

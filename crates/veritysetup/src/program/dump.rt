@@ -7,7 +7,7 @@ ghost use Rattle.veritysetup.specs.Program.Refusals.{EndsRefused, line_offset};
 use crate::Line;
 use crate::options::hash_offset::offset_of;
 use crate::runs::dump::run_dump;
-use crate::texts::program_messages::{cannot_open, refuse_option};
+use crate::texts::program_messages::{refuse_option, stop_for_unopened_file};
 use command_line::open_readable;
 use std::alloc::AllocGlobal;
 use std::io::Write;
@@ -37,6 +37,6 @@ where
             out,
             msgs,
         ),
-        Err(_) => cannot_open(hash, msgs),
+        Err(_) => stop_for_unopened_file(hash, msgs),
     }
 }

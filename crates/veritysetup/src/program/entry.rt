@@ -9,7 +9,7 @@ use crate::program::file_paths::FilePaths;
 use crate::program::format::format_files;
 use crate::program::verify::verify_files;
 use crate::texts::program_messages::{
-    cannot_open, refuse_incomplete_line, refuse_line, refuse_words, stop_without_memory,
+    refuse_incomplete_line, refuse_line, refuse_words, stop_for_unopened_file, stop_without_memory,
 };
 use crate::words::reading::{read_words, usage_of};
 use crate::{CommandName, Line};
@@ -68,7 +68,7 @@ where
     };
     let null_files = NullFiles::open(rt);
     if !null_files.are_open() {
-        return cannot_open(NULL_DEVICE, msgs);
+        return stop_for_unopened_file(NULL_DEVICE, msgs);
     }
     run_line(rt, progress, &line, out, msgs)
 }

@@ -2,7 +2,7 @@
 ghost use Rattle.std.specs.Prelude.{◌≡◌, ◌<◌, ◌≤◌, ℕ, List, length, IfErr, IfNone, IfSome};
 ghost use Rattle.command_line.specs.Printing.{AppendsFront};
 ghost use Rattle.verity_tree.specs.Levels.{whole_blocks};
-ghost use Rattle.veritysetup.specs.Options.Choices.{settings};
+ghost use Rattle.veritysetup.specs.Options.Choices.{settings_of};
 ghost use Rattle.veritysetup.specs.Texts.Messages.{short_text};
 ghost use Rattle.veritysetup.specs.Options.OptionTexts.{texts_of};
 ghost use Rattle.veritysetup.specs.Runs.Outcomes.{text_change};
@@ -18,7 +18,8 @@ use crate::program::random_bytes::draw;
 use crate::program::syncing::{is_missing, keep};
 use crate::runs::format::run_format;
 use crate::texts::program_messages::{
-    cannot_open, cannot_write, refuse_option, stop_for_short_data, stop_without_random_bytes,
+    refuse_option, stop_for_short_data, stop_for_unopened_file, stop_for_unwritten_file,
+    stop_without_random_bytes,
 };
 use command_line::{Identities, ProgressLine, ProgressRuntime, lead_to_one, open_writable};
 use rand::rngs::StdRng;
@@ -56,7 +57,7 @@ where
 {
     let data_file = match open_data(rt, paths.data, progress) {
         Ok(data_file) => data_file,
-        Err(_) => return cannot_open(paths.data, msgs),
+        Err(_) => return stop_for_unopened_file(paths.data, msgs),
     };
     let opened = rt.file_identity(&data_file.file);
     let raw = line.raw(lead_to_one(paths.data, paths.hash, opened, rt.path_identity(paths.hash)));
@@ -91,9 +92,9 @@ where
     O: Write,
     M: Write,
     ensures run { CommandRun result (text_change O.contents M.contents out.old out.new msgs.old msgs.new) }
-    ensures refused { IfErr (settings (texts_of options.now.raw) data_file.entry.length options.now.random)
+    ensures refused { IfErr (settings_of (texts_of options.now.raw) data_file.entry.length options.now.random)
         (EndsRefused result (M.contents msgs.old) (M.contents msgs.new)) }
-    ensures unprinted { IfErr (settings (texts_of options.now.raw) data_file.entry.length options.now.random)
+    ensures unprinted { IfErr (settings_of (texts_of options.now.raw) data_file.entry.length options.now.random)
         (λ _. out.new ≡ out.old) }
 {
     match settings_of(&options.raw, data_file.length, options.random.as_ref()) {
@@ -161,7 +162,7 @@ where
     let is_new = is_missing(rt, hash);
     let mut device = match open_writable(rt, hash) {
         Ok(file) => FileDevice::new(file),
-        Err(_) => return cannot_open(hash, msgs),
+        Err(_) => return stop_for_unopened_file(hash, msgs),
     };
     let status = run_format(
         rt.alloc(),
@@ -177,6 +178,6 @@ where
     }
     match keep(rt, &device, hash, is_new) {
         Ok(()) => 0,
-        Err(Failed) => cannot_write(hash, msgs),
+        Err(Failed) => stop_for_unwritten_file(hash, msgs),
     }
 }

@@ -1,7 +1,7 @@
 //! `veritysetup verify` over the files of a runtime.
 ghost use Rattle.std.specs.Prelude.{◌≡◌, IfErr, None, false};
 ghost use Rattle.std.specs.Io.KnownBytes.{Keeps};
-ghost use Rattle.veritysetup.specs.Options.Choices.{settings};
+ghost use Rattle.veritysetup.specs.Options.Choices.{settings_of};
 ghost use Rattle.veritysetup.specs.Options.OptionTexts.{texts_of};
 ghost use Rattle.veritysetup.specs.Program.CommandRuns.{Grows, IsStatus};
 ghost use Rattle.veritysetup.specs.Program.Refusals.{EndsRefused, line_offset};
@@ -14,7 +14,7 @@ use crate::program::data_file::{DataFile, open_data};
 use crate::program::file_paths::FilePaths;
 use crate::runs::verify::run_verify;
 use crate::runs::verify_input::VerifyInput;
-use crate::texts::program_messages::{cannot_open, refuse_option};
+use crate::texts::program_messages::{refuse_option, stop_for_unopened_file};
 use command_line::{ProgressLine, ProgressRuntime, open_readable};
 use std::alloc::AllocGlobal;
 use std::io::Write;
@@ -41,7 +41,7 @@ where
         → IfErr (line_offset line.now) (EndsRefused result (M.contents msgs.old) (M.contents msgs.new)) }
 {
     if line.no_superblock {
-        return verify_bare(rt, progress, line, paths, msgs);
+        return verify_without_superblock(rt, progress, line, paths, msgs);
     }
     let offset = match offset_of(&line.raw(false)) {
         Ok(offset) => offset,
@@ -58,12 +58,12 @@ where
                 msgs,
             )
         }
-        Err(_) => cannot_open(paths.data, msgs),
+        Err(_) => stop_for_unopened_file(paths.data, msgs),
     }
 }
 
 /// Verifies a hash device without a superblock, by the options.
-fn verify_bare<R, M>(
+fn verify_without_superblock<R, M>(
     rt: &R,
     progress: &ProgressLine<'_, R>,
     line: &Line,
@@ -79,7 +79,7 @@ where
 {
     match open_data(rt, paths.data, progress) {
         Ok(data_file) => verify_by(rt, &line.raw(false), data_file, paths.hash, msgs),
-        Err(_) => cannot_open(paths.data, msgs),
+        Err(_) => stop_for_unopened_file(paths.data, msgs),
     }
 }
 
@@ -98,7 +98,7 @@ where
     ensures status { IsStatus result }
     ensures grows { Grows (M.contents msgs.old) (M.contents msgs.new) }
     ensures quiet { result ≡ 0 → Keeps (M.contents msgs.old) (M.contents msgs.new) }
-    ensures refused { IfErr (settings (texts_of raw.now) data_file.entry.length None)
+    ensures refused { IfErr (settings_of (texts_of raw.now) data_file.entry.length None)
         (EndsRefused result (M.contents msgs.old) (M.contents msgs.new)) }
 {
     match settings_of(raw, data_file.length, None) {
@@ -129,6 +129,6 @@ where
             &mut FileDevice::new(file),
             msgs,
         ),
-        Err(_) => cannot_open(hash, msgs),
+        Err(_) => stop_for_unopened_file(hash, msgs),
     }
 }

@@ -3,8 +3,8 @@ ghost use Rattle.std.specs.Prelude.{◌≡◌};
 ghost use Rattle.verity_io.specs.Counting.{Counts};
 ghost use Rattle.veritysetup.specs.Runs.VerifySteps.{IsTrustedTree, IsStoredTree, device_unread};
 
-use crate::options::hash_area::plan_at;
-use crate::options::root_hash::root_of;
+use crate::options::root_hash::read_root;
+use crate::options::tree_plan::plan_at;
 use crate::runs::stored_superblock::stored_superblock;
 use crate::runs::verify_fault::InputFault;
 use crate::runs::verify_input::VerifyInput;
@@ -62,7 +62,7 @@ fn read_stored_tree<D: Device>(
         Ok(plan) => plan,
         Err(_) => return Err(InputFault::TooLarge),
     };
-    match root_of(tree.algorithm(), root) {
+    match read_root(tree.algorithm(), root) {
         Some(root) => Ok(TrustedTree { plan, root }),
         None => Err(InputFault::BadRoot),
     }

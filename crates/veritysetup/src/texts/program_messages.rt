@@ -9,14 +9,14 @@ ghost use Rattle.veritysetup.specs.Texts.ProgramMessages.{unwritten_text, words_
 use crate::options::raw_options::OptionFault;
 use crate::texts::messages::{OUT_OF_MEMORY, build_message, option_message};
 use command_line::{
-    LineFault, WordsFault, not_text_message, write_message, write_pieces, write_text,
+    LineFault, WordsFault, not_utf8_message, write_message, write_pieces, write_text,
 };
 use std::alloc::Global;
 use std::io::Write;
 use verity_tree::BuildFault;
 
 /// The file could not be opened, or its length could not be found.
-pub fn cannot_open<M: Write>(path: &str, msgs: &mut M) -> u8
+pub fn stop_for_unopened_file<M: Write>(path: &str, msgs: &mut M) -> u8
     ensures status { result ≡ 4 }
     ensures message { AppendsFront (unopened_text path.now) (M.contents msgs.old) (M.contents msgs.new) }
 {
@@ -25,7 +25,7 @@ pub fn cannot_open<M: Write>(path: &str, msgs: &mut M) -> u8
 }
 
 /// The system does not keep what was written to the file.
-pub fn cannot_write<M: Write>(path: &str, msgs: &mut M) -> u8
+pub fn stop_for_unwritten_file<M: Write>(path: &str, msgs: &mut M) -> u8
     ensures status { result ≡ 4 }
     ensures message { AppendsFront (unwritten_text path.now) (M.contents msgs.old) (M.contents msgs.new) }
 {
@@ -78,15 +78,15 @@ pub fn refuse_incomplete_line<M: Write>(msgs: &mut M) -> u8
     1
 }
 
-/// The words of the command line can't be read: one is no text, or there is no memory for them.
+/// The words of the command line can't be read: one is not UTF-8, or there is no memory for them.
 pub fn refuse_words<M: Write>(alloc: Global, fault: &WordsFault, msgs: &mut M) -> u8
     ensures status { result ≡ words_status fault.now }
     ensures refusal { IsRefusal result }
     ensures message { AppendsFront (words_text fault.now) (M.contents msgs.old) (M.contents msgs.new) }
 {
     match fault {
-        WordsFault::NotText(number, word) => {
-            write_message(not_text_message(alloc, *number, word.as_slice()), msgs);
+        WordsFault::NotUtf8(number, word) => {
+            write_message(not_utf8_message(alloc, *number, word.as_slice()), msgs);
             1
         }
         WordsFault::Memory => stop_without_memory(msgs),

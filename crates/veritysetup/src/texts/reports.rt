@@ -1,7 +1,7 @@
 //! The report of format and dump.
 ghost use Rattle.std.specs.Prelude.{◌≡◌, ◌++◌, IfOk, OnOk, string_bytes, option_map};
-ghost use Rattle.veritysetup.specs.Texts.ReportSteps.{with_header, with_sizes, with_hash};
-ghost use Rattle.veritysetup.specs.Texts.Reports.{bare_text, salt_text, uuid_text, root_line, report_text};
+ghost use Rattle.veritysetup.specs.Texts.ReportSteps.{with_device, with_sizes, with_hash};
+ghost use Rattle.veritysetup.specs.Texts.Reports.{no_uuid_text, salt_text, uuid_text, root_line, report_text};
 
 use std::alloc::{AllocError, Global};
 use uuid::Uuid;
@@ -35,7 +35,7 @@ pub fn report_bare(
     path: &str,
 ) -> Result<String, AllocError>
     ensures { IfOk result (λ s. string_bytes s
-        ≡ report_text path.now bare_text superblock.now (option_map (λ d. d.now) root.entry)) }
+        ≡ report_text path.now no_uuid_text superblock.now (option_map (λ d. d.now) root.entry)) }
 {
     report_with(alloc, superblock, "-", root, path)
 }
@@ -52,9 +52,9 @@ fn report_with(
         ≡ report_text path.now uuid.now superblock.now (option_map (λ d. d.now) root.entry)) }
 {
     let tree = superblock.tree();
-    let salt = salt_value(alloc, tree.salt())?;
+    let salt = salt_text(alloc, tree.salt())?;
     let mut text = format!(in alloc; "VERITY header information for {path}\n")?;
-    push_header(&mut text, uuid, superblock)?;
+    push_device(&mut text, uuid, superblock)?;
     push_sizes(&mut text, tree)?;
     push_hash(&mut text, tree.algorithm().name(), salt.as_str())?;
     push_root(alloc, &mut text, root)?;
@@ -62,8 +62,8 @@ fn report_with(
 }
 
 /// Adds the lines of UUID, hash type and number of blocks.
-fn push_header(text: &mut String, uuid: &str, superblock: &Superblock) -> Result<(), AllocError>
-    ensures { OnOk result (string_bytes text.new ≡ with_header (string_bytes text.old) uuid.now superblock.now) }
+fn push_device(text: &mut String, uuid: &str, superblock: &Superblock) -> Result<(), AllocError>
+    ensures { OnOk result (string_bytes text.new ≡ with_device (string_bytes text.old) uuid.now superblock.now) }
 {
     let hash_type = superblock.hash_type().number();
     let blocks = superblock.blocks();
@@ -105,7 +105,7 @@ fn push_root(alloc: Global, text: &mut String, root: Option<&Digest>) -> Result<
 }
 
 /// The digits of a salt, or `-` for none.
-fn salt_value(alloc: Global, salt: &[u8]) -> Result<String, AllocError>
+fn salt_text(alloc: Global, salt: &[u8]) -> Result<String, AllocError>
     ensures { IfOk result (λ s. string_bytes s ≡ salt_text salt.now) }
 {
     if salt.is_empty() {

@@ -1,5 +1,5 @@
-use Rattle.verity_format.proofs.LawLemmas.{cause_none-says, says-cause_none}
+use Rattle.verity_format.proofs.LawLemmas.{fault_none-says, says-fault_none}
 use Rattle.verity_format.proofs.laws.bytes_say_a_superblock_or_fail_a_test.Goals as goal
 
 pub returns : goal.returns
-returns c = λ s. (λ said. says-cause_none s said.0 said.1, cause_none-says s)
+returns c = λ s. (λ said. says-fault_none s said.0 said.1, fault_none-says s)

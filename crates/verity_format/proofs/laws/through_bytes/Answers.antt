@@ -1,15 +1,15 @@
 -- The bytes say the superblock and no other, and fail no test.
 use Rattle.std.proofs.Common.{◌≡◌, ◌↔◌, ℕ, List, Some, None, Result, Ok, Err, IfOk, IfErr, sym, ap, subst}
-use Rattle.verity_format.specs.Superblocks.{SuperblockFields, IsSuperblock, cause}
+use Rattle.verity_format.specs.Superblocks.{SuperblockFields, IsSuperblock, superblock_fault}
 use Rattle.verity_format.specs.declared.super_fault.SuperFault.{SuperFault}
 use Rattle.verity_format.proofs.laws.through_bytes.Goals as goal
 
 read_is : (s : List ℕ) (v : SuperblockFields) (read : Result SuperblockFields SuperFault) → IsSuperblock s v
     → ((t : List ℕ) (x y : SuperblockFields) → IsSuperblock t x → IsSuperblock t y → x ≡ y)
-    → ((t : List ℕ) → ((x : SuperblockFields) × IsSuperblock t x) ↔ (cause t ≡ None))
-    → IfOk read (IsSuperblock s) → IfErr read (λ fault. cause s ≡ Some fault) → read ≡ Ok v
+    → ((t : List ℕ) → ((x : SuperblockFields) × IsSuperblock t x) ↔ (superblock_fault t ≡ None))
+    → IfOk read (IsSuperblock s) → IfErr read (λ fault. superblock_fault s ≡ Some fault) → read ≡ Ok v
 read_is s v (Ok w) said one none value fault = ap (λ (x : SuperblockFields). Ok x) (one s w v value said)
-read_is s v (Err e) said one none value fault = let passes : cause s ≡ None = (none s).0 (v, said) in cc
+read_is s v (Err e) said one none value fault = let passes : superblock_fault s ≡ None = (none s).0 (v, said) in cc
 
 pub returns : goal.returns
 returns c =

@@ -3,21 +3,21 @@ use Rattle.std.proofs.Common.{◌≡◌, ◌*◌, ◌<◌, nat_le, nat_lt, true,
 use Rattle.std.proofs.lemmas.Bool.Decides.{nat_tests}
 use Rattle.std.proofs.lemmas.Result.{err_from_is_err_and}
 use Rattle.verity_io.specs.Writing.{most_bytes}
-use Rattle.verity_format.specs.Superblocks.{number_at, first_failed, header_tests}
-use Rattle.verity_format.proofs.ReadLemmas.{IsSuperblock-made, cause-blocks, cause-settings, superblock_of-none}
+use Rattle.verity_format.specs.Superblocks.{number_at, first_failed, type_tests}
+use Rattle.verity_format.proofs.ReadLemmas.{IsSuperblock-made, superblock_fault-blocks, superblock_fault-settings, superblock_of-none}
 use Rattle.verity_format.proofs.reading.read_superblock.Goals as goal
 
 pub returns-in_err-tree-clause-fault : goal.returns-in_err-tree-clause-fault
 returns-in_err-tree-clause-fault c =
-    let header : first_failed (header_tests c.args.bytes.now) ≡ None = search rules in
+    let header : first_failed (type_tests c.args.bytes.now) ≡ None = search rules in
     let p = err_from_is_err_and c.from_residual.result c.from_residual.ensures.1 in
-    rw (p.1, p.2) (cause-settings c.args.bytes.now _ header c.in_err-tree.ensures.fault)
+    rw (p.1, p.2) (superblock_fault-settings c.args.bytes.now _ header c.in_err-tree.ensures.fault)
 
 pub returns-then-blocks-eq0-clause-fault : goal.returns-then-blocks-eq0-clause-fault
 returns-then-blocks-eq0-clause-fault c =
-    let header : first_failed (header_tests c.args.bytes.now) ≡ None = search rules in
+    let header : first_failed (type_tests c.args.bytes.now) ≡ None = search rules in
     let none : number_at 72 8 c.args.bytes.now ≡ 0 = sym c.u64_at-blocks.ensures ∙ c.if-blocks-eq0.true in
-    cause-blocks c.args.bytes.now header c.in_ok-tree.ensures.passed ∙ rw none refl
+    superblock_fault-blocks c.args.bytes.now header c.in_ok-tree.ensures.passed ∙ rw none refl
 
 pub returns-in-Some-new-clause-value : goal.returns-in-Some-new-clause-value
 returns-in-Some-new-clause-value c =
@@ -30,7 +30,7 @@ returns-in-Some-new-clause-value c =
 
 pub returns-in-None-clause-fault : goal.returns-in-None-clause-fault
 returns-in-None-clause-fault c =
-    let header : first_failed (header_tests c.args.bytes.now) ≡ None = search rules in
+    let header : first_failed (type_tests c.args.bytes.now) ≡ None = search rules in
     let some : 0 < c.u64_at-blocks.result = omega (arith, c.if-blocks-eq0.false) in
     let first : nat_lt 0 (number_at 72 8 c.args.bytes.now) ≡ true =
     rw (← c.u64_at-blocks.ensures) (grind (arith, nat_tests, some)) in
@@ -38,4 +38,4 @@ returns-in-None-clause-fault c =
     c.u64_at-blocks.result c.in_ok-tree.ensures.of_type some (sym c.new.ensures ∙ c.in-None.is) in
     let second : nat_le (number_at 72 8 c.args.bytes.now * number_at 64 4 c.args.bytes.now) most_bytes ≡ false =
     rw (c.in_ok-tree.ensures.value.data_block, ← c.u64_at-blocks.ensures) over in
-    cause-blocks c.args.bytes.now header c.in_ok-tree.ensures.passed ∙ rw (first, second) refl
+    superblock_fault-blocks c.args.bytes.now header c.in_ok-tree.ensures.passed ∙ rw (first, second) refl

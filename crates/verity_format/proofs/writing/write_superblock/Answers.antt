@@ -14,7 +14,7 @@ returns c =
       c.put_u64.ensures.bytes,
       c.put_u32-4.ensures.bytes,
       c.put_u32-3.ensures.bytes,
-      c.put_filled.ensures.bytes,
+      c.put_with_zeros.ensures.bytes,
       c.put-2.ensures.bytes,
       c.put_u32-2.ensures.bytes,
       c.put_u32.ensures.bytes,

@@ -4,7 +4,7 @@ use Rattle.std.proofs.lemmas.List.{take_all}
 use Rattle.std.specs.List.{range_with_len}
 use Rattle.std.specs.Int.{div_ceil}
 use Rattle.std.specs.Fork.{slice_chunk}
-use Rattle.verity_hash.specs.Hashing.{filled}
+use Rattle.verity_hash.specs.Hashing.{with_zeros}
 use Rattle.verity_plan.specs.Settings.{hash}
 use Rattle.verity_tree.specs.Levels.{block_at}
 use Rattle.verity_tree.specs.Steps.PlainRoots.{digest_of_block}
@@ -17,8 +17,8 @@ loop-i-preserved c =
     let bytes = c.args.bytes.now in
     let run = take-bytes bytes c.loop-i.i c.data_block-size.result c.min-count.result settings.data_block
     c.data_block-size.ensures.value c.min-count.ensures in
-    let block = c.deref.ensures.value ∙ c.in_ok-block.ensures ∙ ap (filled c.data_block-size.result) run
-    ∙ ap (λ (n : ℕ). filled n (slice_chunk bytes settings.data_block c.loop-i.i)) c.data_block-size.ensures.value
+    let block = c.deref.ensures.value ∙ c.in_ok-block.ensures ∙ ap (with_zeros c.data_block-size.result) run
+    ∙ ap (λ (n : ℕ). with_zeros n (slice_chunk bytes settings.data_block c.loop-i.i)) c.data_block-size.ensures.value
     ∙ ap (λ (xs : List ℕ). block_at settings.data_block xs c.loop-i.i)
     (sym (take_all (length bytes) bytes (omega arith))) in
     mapped_more (digest_of_block settings (length bytes) bytes) c.loop-i.digests.items _ c.loop-i.i c.hash.result

@@ -4,7 +4,7 @@ use Rattle.std.specs.List.{range_with_len}
 use Rattle.std.specs.Int.{div_ceil}
 use Rattle.verity_plan.specs.Settings.{hash, fan}
 use Rattle.verity_tree.specs.Levels.{hash_block_of}
-use Rattle.verity_tree.specs.Steps.PlainRoots.{digest_of_run}
+use Rattle.verity_tree.specs.Steps.PlainRoots.{digest_of_group}
 use Rattle.verity_tree.proofs.LevelLemmas.{map-hash-pack, take-run, digests_more}
 use Rattle.verity_tree.proofs.plain_root.level_up.Goals as goal
 
@@ -26,5 +26,5 @@ returns c =
     c.div_ceil-j-end.ensures ∙ ap (λ (n : ℕ). div_ceil (length c.args.digests.now) n) c.fan-fan.ensures.value in
     let last : c.loop-j.j ≡ count = omega (arith, same, c.loop-j.auto.j-end, c.loop-j-test.false) in
     c.loop-j.invariant
-    ∙ ap (λ (n : ℕ). map (digest_of_run settings c.args.digests.now) (range_with_len 0 n)) last
+    ∙ ap (λ (n : ℕ). map (digest_of_group settings c.args.digests.now) (range_with_len 0 n)) last
     ∙ sym (map-hash-pack settings c.args.digests.now)

@@ -27,8 +27,8 @@ digests-are p planned s bytes digests same all is =
 blocks-are-some : (p : Planned) → IsPlanned p → (bytes : List ℕ) → 0 < length (data_blocks p bytes)
 blocks-are-some p planned bytes = omega (arith, length-cut p.settings p.blocks p.wanted bytes, blocks-some p planned)
 
-pub root_above-requires : goal.root_above-requires
-root_above-requires c =
+pub root_of_digests-requires : goal.root_of_digests-requires
+root_of_digests-requires c =
     let p = c.args.plan.now in
     let planned = c.wanted-wanted.ensures.planned in
     let bytes = c.args.bytes.now in
@@ -50,4 +50,4 @@ returns c =
     ∙ ap (root_of_digests p.settings) digests
     ∙ sym (root-digests p.settings (data_blocks p bytes) (fan-two p.settings planned.valid)
     (blocks-are-some p planned bytes)) in
-    subst (λ (x : List ℕ). IfOk c.root_above.result (λ r. r ≡ x)) same c.root_above.ensures
+    subst (λ (x : List ℕ). IfOk c.root_of_digests.result (λ r. r ≡ x)) same c.root_of_digests.ensures

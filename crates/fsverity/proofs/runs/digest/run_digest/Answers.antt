@@ -7,7 +7,7 @@ use Rattle.std.specs.List.{slice_get, zip}
 use Rattle.fsverity.specs.Openers.Opening.{opener_change}
 use Rattle.fsverity.specs.Runs.Digest.{has_digest}
 use Rattle.command_line.proofs.Fronts.{appends_nothing}
-use Rattle.fsverity.proofs.RunLemmas.{line_more, part_more, passes_more, stops_run}
+use Rattle.fsverity.proofs.RunLemmas.{line_more, front_more, passes_more, stops_run}
 use Rattle.fsverity.proofs.runs.digest.run_digest.Goals as goal
 
 -- the mapped element of an index
@@ -26,32 +26,32 @@ returns-in-Err-clause-ended g c = λ _.
       f = c.loop-name.name-index;
       fault = c.in-Err.fault;
       has_name = rw (length-map c.args.names.now (λ n. n.now)) c.loop-name-test.true;
-      is_next = c.digest_next.ensures.next ∙ ap (λ n. n + 1) c.loop-name.invariant.next;
+      is_next = c.write_next_line.ensures.next ∙ ap (λ n. n + 1) c.loop-name.invariant.next;
       within = c.loop-name.invariant.within;
-      reason = stops_run c.args.settings.now (change c.args.opener.now c.digest_next.new.opener)
-          (change c.loop-name.opener c.digest_next.new.opener) c.loop-name.name-index c.in-Err.fault
+      reason = stops_run c.args.settings.now (change c.args.opener.now c.write_next_line.new.opener)
+          (change c.loop-name.opener c.write_next_line.new.opener) c.loop-name.name-index c.in-Err.fault
           c.loop-name.invariant.same.told c.loop-name.invariant.same.files c.loop-name.invariant.next
           c.loop-name.invariant.within (omega (arith, c.loop-name.invariant.failures)) refl c.in-Err.ensures.reason;
       counted = rw c.loop-name.invariant.failures at c.in-Err.ensures.counted;
       message = rw (get_or_from_slice_get _ _ _ _ named) (rw c.loop-name.invariant.quiet at c.write_message.ensures.front);
       written = λ t.
-          let part = c.in-Err.ensures.written (c.loop-name.invariant.same.told.0 t) in
-          part_more _ _ _ _ _ _ _ _ named (c.loop-name.invariant.out t)
-          (rw (c.loop-name.invariant.same.files, c.loop-name.invariant.next) at part);
+          let front = c.in-Err.ensures.written (c.loop-name.invariant.same.told.0 t) in
+          front_more _ _ _ _ _ _ _ _ named (c.loop-name.invariant.out t)
+          (rw (c.loop-name.invariant.same.files, c.loop-name.invariant.next) at front);
     }
 
 pub loop-name-preserved : goal.loop-name-preserved
 loop-name-preserved g c =
     let named = mapped_at (λ n. n.now) c.args.names.now c.loop-name.name-index _ c.loop-name-test.true in
     record {
-      next = c.digest_next.ensures.next ∙ ap (λ n. n + 1) c.loop-name.invariant.next;
+      next = c.write_next_line.ensures.next ∙ ap (λ n. n + 1) c.loop-name.invariant.next;
       same = record {
         told = (
-          λ t. c.digest_next.ensures.same.told.0 (c.loop-name.invariant.same.told.0 t),
-          λ t. c.loop-name.invariant.same.told.1 (c.digest_next.ensures.same.told.1 t),
+          λ t. c.write_next_line.ensures.same.told.0 (c.loop-name.invariant.same.told.0 t),
+          λ t. c.loop-name.invariant.same.told.1 (c.write_next_line.ensures.same.told.1 t),
         );
-        files = c.digest_next.ensures.same.files ∙ c.loop-name.invariant.same.files;
-        count = c.digest_next.ensures.same.count ∙ c.loop-name.invariant.same.count;
+        files = c.write_next_line.ensures.same.files ∙ c.loop-name.invariant.same.files;
+        count = c.write_next_line.ensures.same.count ∙ c.loop-name.invariant.same.count;
       };
       failures = c.in-Ok.ensures.counted ∙ c.loop-name.invariant.failures;
       quiet = c.loop-name.invariant.quiet;

@@ -6,8 +6,8 @@ use Rattle.sha2_lanes.proofs.words64.digests.sha384.Goals as goal
 
 pub returns : goal.returns
 returns c =
-    let is = λ (j : ℕ) (lt : j < c.args.count) (d : List ℕ) (cut : d ≡ take 48 (row c.hashed.result j)).
-    sha384_is (message_of c.args.before.now c.args.parts.now c.args.len c.args.after.now j) cut (c.hashed.ensures j lt) refl in
+    let is = λ (j : ℕ) (lt : j < c.args.count) (d : List ℕ) (cut : d ≡ take 48 (row c.hash_values.result j)).
+    sha384_is (message_of c.args.before.now c.args.parts.now c.args.len c.args.after.now j) cut (c.hash_values.ensures j lt) refl in
     first_cases _ c.requires.most
     (λ lt. is 0 lt _ c.leftmost_384.ensures)
     (λ lt. is 1 lt _ c.leftmost_384-2.ensures)

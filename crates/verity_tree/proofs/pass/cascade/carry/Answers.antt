@@ -4,11 +4,11 @@ use Rattle.std.proofs.Common.{◌≡◌, ◌≤◌}
 use Rattle.verity_tree.specs.TreeOnDevice.{closing, closes, tree_block, device_with, stored_block}
 use Rattle.verity_tree.specs.Steps.Cascade.{first_closing}
 use Rattle.verity_plan.specs.Plans.{level_count, byte_at, byte_of, levels_of}
-use Rattle.verity_tree.specs.Steps.OpenBlocks.{IsCarrying, digests_under, open_block_with, climb}
+use Rattle.verity_tree.specs.Steps.OpenBlocks.{IsCarrying, digests_under, open_block_with, cascade_state}
 use Rattle.verity_plan.specs.Settings.{fan}
 use Rattle.verity_io.specs.Writing.{Spoiled}
 use Rattle.std.proofs.lemmas.List.Elements.{All-nil}
-use Rattle.verity_tree.specs.Steps.ClosedBlocks.{IsCause, closed_block}
+use Rattle.verity_tree.specs.Steps.ClosedBlocks.{IsHashBlockFault, closed_block}
 use Rattle.verity_tree.specs.Verdicts.{NoneDiffers}
 use Rattle.verity_tree.proofs.OpenBlockSteps.{carry-closed, carry-kept, carry-all, IsCarrying-first, place-first}
 use Rattle.verity_tree.proofs.CascadeLemmas.{level_digest-is_next, closed-block, closes-stopped_all, closing-below}
@@ -183,14 +183,14 @@ returns-in-Stopped-clause-compared g c = λ compare tells blocks many first stan
     c.in-Stopped.ensures.level ∙ ap (tree_block s blocks m) (sym place) in (
       step.0 ∙ before.0,
       before.1,
-      subst (λ (xs : List ℕ). IsCause p
+      subst (λ (xs : List ℕ). IsHashBlockFault p
           (closed_block m (c.loop-level.index / c.fan-fan.result)
-          (tree_block s blocks m (c.loop-level.index / c.fan-fan.result))) xs c.in-Stopped.cause) before.0
-          (subst (λ (xs : List ℕ). IsCause p (closed_block m (c.loop-level.index / c.fan-fan.result) xs)
-          (g.D.Device.content c.loop-level.device) c.in-Stopped.cause) block
-          (subst (λ (f : ℕ). IsCause p
+          (tree_block s blocks m (c.loop-level.index / c.fan-fan.result))) xs c.in-Stopped.fault) before.0
+          (subst (λ (xs : List ℕ). IsHashBlockFault p (closed_block m (c.loop-level.index / c.fan-fan.result) xs)
+          (g.D.Device.content c.loop-level.device) c.in-Stopped.fault) block
+          (subst (λ (f : ℕ). IsHashBlockFault p
           (closed_block m (c.loop-level.index / f) (open_block_with s (digests_under s blocks m) c.loop-level.index))
-          (g.D.Device.content c.loop-level.device) c.in-Stopped.cause) (sym c.fan-fan.ensures.value)
+          (g.D.Device.content c.loop-level.device) c.in-Stopped.fault) (sym c.fan-fan.ensures.value)
           (step.1 _ next))),
     )
 
@@ -237,7 +237,7 @@ returns-clause-carries g c = λ blocks many first stands.
     carry-all s blocks c.args.i (levels_of p) c.loop-level.opened c.loop-level.current
     (omega (arith, c.fan-fan.ensures.two, c.fan-fan.ensures.value))
     (omega (arith, c.requires.below, many)) (ap (λ (n : ℕ). level_count (fan s) n) many)
-    (subst (λ (m : ℕ). IsCarrying s blocks (climb c.args.i m (levels_of p)) c.loop-level.opened c.loop-level.current)
+    (subst (λ (m : ℕ). IsCarrying s blocks (cascade_state c.args.i m (levels_of p)) c.loop-level.opened c.loop-level.current)
     all (inv.carries blocks many first stands))
 
 pub returns-clause-device : goal.returns-clause-device
@@ -250,7 +250,7 @@ returns-clause-device g c = λ tells blocks many first stands.
     let done = closing-done s blocks c.args.i (levels_of p) p.blocks c.loop-level.opened c.loop-level.current
     (omega (arith, c.fan-fan.ensures.two, c.fan-fan.ensures.value))
     c.requires.below refl many
-    (subst (λ (m : ℕ). IsCarrying s blocks (climb c.args.i m (levels_of p)) c.loop-level.opened c.loop-level.current)
+    (subst (λ (m : ℕ). IsCarrying s blocks (cascade_state c.args.i m (levels_of p)) c.loop-level.opened c.loop-level.current)
     all (inv.carries blocks many first stands)) in
     inv.image tells blocks many first stands
     ∙ ap (λ (ps : List (ℕ × ℕ)). device_with s blocks p.base ps (g.D.Device.content c.args.device.now))
@@ -266,7 +266,7 @@ returns-clause-compared g c = λ compare tells blocks many first stands.
     let done = closing-done s blocks c.args.i (levels_of p) p.blocks c.loop-level.opened c.loop-level.current
     (omega (arith, c.fan-fan.ensures.two, c.fan-fan.ensures.value))
     c.requires.below refl many
-    (subst (λ (m : ℕ). IsCarrying s blocks (climb c.args.i m (levels_of p)) c.loop-level.opened c.loop-level.current)
+    (subst (λ (m : ℕ). IsCarrying s blocks (cascade_state c.args.i m (levels_of p)) c.loop-level.opened c.loop-level.current)
     all (inv.carries blocks many first stands)) in
     let before = inv.compared compare tells blocks many first stands in (
       before.0,

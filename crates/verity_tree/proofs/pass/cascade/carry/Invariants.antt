@@ -1,6 +1,6 @@
 use Rattle.std.proofs.Common.{◌≡◌, ◌<◌, ℕ, ◌/◌, ◌^◌, List, length}
 use Rattle.verity_plan.specs.Settings.{fan, digest_len}
-use Rattle.verity_tree.specs.Steps.OpenBlocks.{HasOpenBlocks, level_digest, IsCarrying, climb}
+use Rattle.verity_tree.specs.Steps.OpenBlocks.{HasOpenBlocks, level_digest, IsCarrying, cascade_state}
 use Rattle.verity_tree.specs.Steps.Cascade.{EndsBlock, first_closing}
 use Rattle.verity_tree.specs.TreeOnDevice.{device_with}
 use Rattle.verity_plan.specs.Plans.{levels_of}
@@ -19,7 +19,7 @@ invariant-loop-level g l = record {
   carries : (blocks : List (List ℕ)) → l.job.plan.blocks ≡ length blocks
       → l.fn.digest ≡ level_digest l.job.plan.settings blocks l.i 0
       → HasOpenBlocks l.job.plan.settings blocks 0 (levels_of l.job.plan) l.i l.fn.opened
-      → IsCarrying l.job.plan.settings blocks (climb l.i l.level (levels_of l.job.plan)) l.opened l.current;
+      → IsCarrying l.job.plan.settings blocks (cascade_state l.i l.level (levels_of l.job.plan)) l.opened l.current;
   image : g.D.Device.tells l.fn.device → (blocks : List (List ℕ)) → l.job.plan.blocks ≡ length blocks
       → l.fn.digest ≡ level_digest l.job.plan.settings blocks l.i 0
       → HasOpenBlocks l.job.plan.settings blocks 0 (levels_of l.job.plan) l.i l.fn.opened

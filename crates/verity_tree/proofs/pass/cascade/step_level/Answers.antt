@@ -4,10 +4,10 @@ use Rattle.verity_io.specs.Writing.{put, Spoiled}
 use Rattle.verity_plan.proofs.FitLemmas.{hash_block-some}
 use Rattle.verity_tree.proofs.OpenBlockLemmas.{length-hash}
 use Rattle.verity_tree.proofs.OpenBlockSteps.{slot-room, open_block_with-put, slots-all, slots-left}
-use Rattle.verity_tree.specs.Steps.ClosedBlocks.{IsCause, closed_block}
+use Rattle.verity_tree.specs.Steps.ClosedBlocks.{IsHashBlockFault, closed_block}
 use Rattle.verity_plan.specs.Plans.{byte_of}
 use Rattle.verity_tree.specs.TreeOnDevice.{stored_block}
-use Rattle.verity_tree.proofs.ClosedBlockLemmas.{Closes-cause, Closes-put, Closes-same, Closes-spoiled}
+use Rattle.verity_tree.proofs.ClosedBlockLemmas.{Closes-fault, Closes-put, Closes-same, Closes-spoiled}
 use Rattle.verity_tree.proofs.pass.cascade.step_level.Goals.{else-slot-fan-via-then-slot-fan+else-not-next}
 use Rattle.verity_tree.proofs.pass.cascade.step_level.Goals.{else-slot-fan-via-else-slot-fan}
 use Rattle.verity_tree.proofs.pass.cascade.step_level.Goals as goal
@@ -83,7 +83,7 @@ returns-in-Err-clause-device g c = λ tells.
     (byte_of p c.args.level (c.args.next.now.index / n))
     p.settings.hash_block (g.D.Device.content c.close.new.device)) c.fan-fan.ensures.value
     (Closes-spoiled p c.args.job.now.task c.args.level
-    (c.args.next.now.index / c.fan-fan.result) c.put_slot.new.block _ _ c.in-Err.cause
+    (c.args.next.now.index / c.fan-fan.result) c.put_slot.new.block _ _ c.in-Err.fault
     (c.in-Err.ensures.device tells))
 
 pub returns-in-Ok-clause-compared : goal.returns-in-Ok-clause-compared
@@ -111,20 +111,20 @@ returns-in-Err-clause-compared g c = λ compare tells.
     let p = c.args.job.now.plan in
     let s = p.settings in
     let before = g.D.Device.content c.args.device.now in
-    let stop = Closes-cause p c.args.job.now.task c.args.level
+    let stop = Closes-fault p c.args.job.now.task c.args.level
     (c.args.next.now.index / c.fan-fan.result) c.put_slot.new.block before
-    (g.D.Device.content c.close.new.device) c.in-Err.cause
+    (g.D.Device.content c.close.new.device) c.in-Err.fault
     compare (c.in-Err.ensures.device tells) in (
       stop.0,
       λ below next.
-          subst (λ (xs : List ℕ). IsCause p
-          (closed_block c.args.level (c.args.next.now.index / fan s) xs) before c.in-Err.cause)
+          subst (λ (xs : List ℕ). IsHashBlockFault p
+          (closed_block c.args.level (c.args.next.now.index / fan s) xs) before c.in-Err.fault)
           (open_block_with-put s below c.args.next.now.index c.fan-fan.result c.slot_width.result c.args.bytes.now
           c.put_slot.new.block
           c.args.next.now.digest.now
           c.fan-fan.ensures.value c.slot_width.ensures c.fan-fan.ensures.two c.fan-fan.ensures.fits c.put_slot.ensures
           next)
-          (subst (λ (n : ℕ). IsCause p
+          (subst (λ (n : ℕ). IsHashBlockFault p
           (closed_block c.args.level (c.args.next.now.index / n) c.put_slot.new.block) before
-          c.in-Err.cause) c.fan-fan.ensures.value stop.1),
+          c.in-Err.fault) c.fan-fan.ensures.value stop.1),
     )

@@ -8,7 +8,7 @@ use Rattle.verity_tree.proofs.OnePassLemmas.{none-differs-order, stops-for}
 use Rattle.verity_plan.proofs.FitLemmas.{fan-pos}
 use Rattle.verity_tree.proofs.LevelLemmas.{length-cut}
 use Rattle.verity_tree.proofs.DataBlockLemmas.{blocks-some}
-use Rattle.verity_tree.specs.Steps.ClosedBlocks.{IsCause, closed_block}
+use Rattle.verity_tree.specs.Steps.ClosedBlocks.{IsHashBlockFault, closed_block}
 use Rattle.verity_tree.specs.Verdicts.{NoneDiffers}
 use Rattle.verity_plan.specs.Settings.{fan}
 use Rattle.verity_tree.proofs.ReadingAheadLemmas.{read-to, settled}
@@ -26,7 +26,7 @@ loop-i-init g c =
       source_told = λ t. t;
       device_told = λ t. t;
       source_failures = c.none-ahead.ensures.count _;
-      quiet = c.none-ahead.ensures.quiet;
+      within = c.none-ahead.ensures.within;
       device_failures = refl;
       read = λ _. c.none-ahead.ensures.ahead _;
       opened = λ _ _. HasOpenBlocks-zeros p.settings _ (levels_of p) (length c.args.work.now) c.fill.new.self
@@ -53,7 +53,7 @@ loop-i-preserved g c =
       source_told = λ t. c.in-Ok.ensures.told (inv.source_told t);
       device_told = λ t. c.in-Ok-carry.ensures.told (inv.device_told t);
       source_failures = c.in-Ok.ensures.count _ inv.source_failures;
-      quiet = c.in-Ok.ensures.quiet;
+      within = c.in-Ok.ensures.within;
       device_failures = c.in-Ok-carry.ensures.count ∙ inv.device_failures;
       read = λ tells. (c.in-Ok.ensures.read (inv.source_told tells) bytes (inv.read tells)).0;
       opened = λ tells more.
@@ -91,7 +91,7 @@ returns-in-Err-clause-read g c = λ tells.
     let inv = c.loop-i.invariant in
     let below : c.loop-i.i < p.blocks = omega (arith, c.loop-i-test.true, c.blocks-i-end.ensures.value) in
     let next = c.in-Ok.ensures.read (inv.source_told tells) bytes (inv.read tells) in
-    let still = settled p c.loop-i.i c.take_next.new.ahead c.in-Ok.ensures.quiet c.in-Err.ensures.ends in
+    let still = settled p c.loop-i.i c.take_next.new.ahead c.in-Ok.ensures.within c.in-Err.ensures.ends in
     reads-up-to p c.loop-i.i c.in-Err.stop.level c.in-Err.stop.index bytes _
     (fan-pos p.settings c.blocks-i-end.ensures.planned.valid) below
     (c.in-Err.ensures.carries blocks (sym (length-cut p.settings p.blocks p.wanted bytes)) next.1
@@ -124,7 +124,7 @@ returns-in-Err-clause-compared g c = λ compare tells told.
     let next = c.in-Ok.ensures.read (inv.source_told tells) bytes (inv.read tells) in
     let opened = c.in-Ok.ensures.opened blocks (inv.opened tells below) in
     let before = inv.compared compare tells told in
-    let still = settled p c.loop-i.i c.take_next.new.ahead c.in-Ok.ensures.quiet c.in-Err.ensures.ends in
+    let still = settled p c.loop-i.i c.take_next.new.ahead c.in-Ok.ensures.within c.in-Err.ensures.ends in
     let read = read-to p (c.loop-i.i + 1) (c.loop-i.i + 1) bytes c.take_next.new.ahead _ still.0 still.1 next.0 in
     let step = c.in-Err.ensures.compared compare (inv.device_told told) blocks many next.1 opened in (
       step.0 ∙ before.0,
@@ -134,9 +134,9 @@ returns-in-Err-clause-compared g c = λ compare tells told.
           (subst (λ (xs : List ℕ). NoneDiffers p blocks xs
           (first_closing (fan p.settings) c.loop-i.i c.in-Err.stop.level))
           before.0 step.1)
-          (subst (λ (xs : List ℕ). IsCause p
+          (subst (λ (xs : List ℕ). IsHashBlockFault p
           (closed_block c.in-Err.stop.level c.in-Err.stop.index
-          (tree_block p.settings blocks c.in-Err.stop.level c.in-Err.stop.index)) xs c.in-Err.stop.cause) before.0
+          (tree_block p.settings blocks c.in-Err.stop.level c.in-Err.stop.index)) xs c.in-Err.stop.fault) before.0
           step.2),
     )
 

@@ -3,7 +3,7 @@ use Rattle.verity_io.specs.Counting.{Counts}
 use Rattle.verity_tree.specs.TreeOnDevice.{tree_on_device_after, order}
 use Rattle.verity_tree.specs.Levels.{root, data_blocks}
 use Rattle.verity_tree.specs.Steps.OpenBlocks.{HasOpenBlocks}
-use Rattle.verity_tree.specs.Steps.ReadingAhead.{IsAhead, IsQuiet, ahead_failed}
+use Rattle.verity_tree.specs.Steps.ReadingAhead.{IsAhead, IsWithinHashBlock, ahead_failed}
 use Rattle.verity_plan.specs.Plans.{levels_of}
 use Rattle.verity_plan.specs.Settings.{digest_len, fan}
 use Rattle.verity_tree.specs.Verdicts.{NoneDiffers}
@@ -17,7 +17,7 @@ invariant-loop-i g l = record {
   source_told : g.S.Source.tells l.fn.source → g.S.Source.tells l.source;
   device_told : g.D.Device.tells l.fn.device → g.D.Device.tells l.device;
   source_failures : Counts (ahead_failed l.ahead) (g.S.Source.failures l.fn.source) (g.S.Source.failures l.source);
-  quiet : IsQuiet l.job.plan l.i l.ahead;
+  within : IsWithinHashBlock l.job.plan l.i l.ahead;
   device_failures : g.D.Device.failures l.device ≡ g.D.Device.failures l.fn.device;
   read : g.S.Source.tells l.fn.source
       → IsAhead l.job.plan l.i (g.S.Source.remaining l.fn.source) l.ahead (g.S.Source.remaining l.source);

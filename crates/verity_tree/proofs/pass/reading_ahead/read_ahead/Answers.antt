@@ -16,14 +16,14 @@ returns-in-Ok-clause-ahead g c = λ tells bytes read_before.
       stands = next.0;
     }
 
-pub returns-in-Err-clause-quiet : goal.returns-in-Err-clause-quiet
-returns-in-Err-clause-quiet g c = record {
+pub returns-in-Err-clause-next : goal.returns-in-Err-clause-next
+returns-in-Err-clause-next g c = record {
   start = omega arith;
   room = omega arith;
   some = inr (refl, some-fault c.in-Err.fault);
   to = omega arith;
   short = λ ne. c.requires.below;
-  quiet = λ k from pending. elim pending [
+  none_closes = λ k from pending. elim pending [
     | inl lt ↦ absurd (omega (arith, from, lt))
     | inr eq ↦ absurd (omega (arith, from, eq.0))
   ];

@@ -1,11 +1,11 @@
 -- How many data blocks are read together.
 use Rattle.std.proofs.Common.{◌≡◌, ◌+◌, ◌-◌, ◌%◌, ◌<◌, ◌≤◌, ℕ, arith, ap}
 use Rattle.verity_plan.specs.Settings.{fan}
-use Rattle.verity_tree.proofs.ReadingAheadLemmas.{quiet-run}
+use Rattle.verity_tree.proofs.ReadingAheadLemmas.{none_closes-batch}
 use Rattle.verity_tree.proofs.pass.reading_ahead.rows_from.Goals as goal
 
-pub returns-clause-run : goal.returns-clause-run
-returns-clause-run c =
+pub returns-clause-batch : goal.returns-clause-batch
+returns-clause-batch c =
     let p = c.args.plan.now in
     let f = fan p.settings in
     let rows = c.min-rows.result in
@@ -18,5 +18,5 @@ returns-clause-run c =
     omega (arith, c.requires, c.blocks-2.ensures.value, c.min-rows.ensures, c.min.ensures) in
     record {
       below = room;
-      quiet = λ k from to. quiet-run f p.blocks c.args.i rows k some within room from to;
+      none_closes = λ k from to. none_closes-batch f p.blocks c.args.i rows k some within room from to;
     }

@@ -11,4 +11,4 @@ returns-in-Ok-keep g c =
 pub returns : goal.returns
 returns g c =
     CommandRun-unwritten _ _ _ _ _ (CommandRun-format _ _ _ _ _ _ c.run_format-status.ensures.run) c.if-status-ne0.false
-    c.cannot_write.ensures.status c.cannot_write.ensures.message
+    c.stop_for_unwritten_file.ensures.status c.stop_for_unwritten_file.ensures.message

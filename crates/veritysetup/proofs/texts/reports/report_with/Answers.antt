@@ -2,7 +2,7 @@ use Rattle.std.proofs.Common.{◌≡◌, ◌∙◌, ap, refl, List, ℕ, ◌++�
 use Rattle.verity_format.specs.Superblocks.{SuperblockFields}
 use Rattle.verity_hash.specs.Hashing.{name_of}
 use Rattle.verity_plan.specs.Settings.{Settings}
-use Rattle.veritysetup.specs.Texts.ReportSteps.{with_hash, with_header, with_sizes}
+use Rattle.veritysetup.specs.Texts.ReportSteps.{with_hash, with_device, with_sizes}
 use Rattle.veritysetup.specs.Texts.Reports.{salt_text, title, root_line, report_text}
 use Rattle.veritysetup.proofs.texts.reports.report_with.Goals as goal
 
@@ -10,14 +10,14 @@ use Rattle.veritysetup.proofs.texts.reports.report_with.Goals as goal
 by_parts : (path uuid name salt : List ℕ) (v : SuperblockFields) (tree : Settings) (root : Option (List ℕ))
     (first second third fourth last : List ℕ)
     → tree ≡ v.tree → name ≡ name_of tree.algorithm → salt ≡ salt_text tree.salt
-    → first ≡ title path → second ≡ with_header first uuid v → third ≡ with_sizes second tree
+    → first ≡ title path → second ≡ with_device first uuid v → third ≡ with_sizes second tree
     → fourth ≡ with_hash third name salt → last ≡ fourth ++ root_line root → last ≡ report_text path uuid v root
 unfolding report_text
 by_parts path uuid name salt v tree root first second third fourth last a b c d e f g h =
     let named = b ∙ ap (λ (t : Settings). name_of t.algorithm) a in
     let salted = c ∙ ap (λ (t : Settings). salt_text t.salt) a in
     let sized = f ∙ ap (λ (t : Settings). with_sizes second t) a in
-    let whole : fourth ≡ with_hash (with_sizes (with_header (title path) uuid v) v.tree)
+    let whole : fourth ≡ with_hash (with_sizes (with_device (title path) uuid v) v.tree)
     (name_of v.tree.algorithm) (salt_text v.tree.salt) =
     rw (g, sized, e, d, named, salted) refl in
     h ∙ ap (λ (text : List ℕ). text ++ root_line root) whole
@@ -27,5 +27,5 @@ returns c = by_parts c.args.path.now c.args.uuid.now c.name.result.now c.as_str.
     c.tree-tree.result.now _ _ _ _ _ _
     c.tree-tree.ensures.value (c.name.ensures ∙ ap name_of c.algorithm.ensures)
     (c.as_str.ensures.value ∙ c.in_ok-salt.ensures ∙ ap salt_text c.salt.ensures.value)
-    c.in_ok-text.ensures.ok c.in_ok-push_header.ensures c.in_ok-push_sizes.ensures c.in_ok-push_hash.ensures
+    c.in_ok-text.ensures.ok c.in_ok-push_device.ensures c.in_ok-push_sizes.ensures c.in_ok-push_hash.ensures
     c.in_ok-push_root.ensures

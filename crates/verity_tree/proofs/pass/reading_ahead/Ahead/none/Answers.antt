@@ -2,14 +2,14 @@ use Rattle.std.proofs.Common.{arith, inl, inr, refl}
 use Rattle.verity_tree.proofs.DataBlockLemmas.{HasRead-none}
 use Rattle.verity_tree.proofs.pass.reading_ahead.Ahead.none.Goals as goal
 
-pub returns-clause-quiet : goal.returns-clause-quiet
-returns-clause-quiet c = record {
+pub returns-clause-within : goal.returns-clause-within
+returns-clause-within c = record {
   start = omega arith;
   room = omega arith;
   from = omega arith;
   to = omega arith;
   short = λ ne. absurd (ne refl);
-  quiet = λ k from pending. elim pending [
+  none_closes = λ k from pending. elim pending [
     | inl lt ↦ absurd (omega (arith, lt))
     | inr eq ↦ absurd (eq.1 refl)
   ];

@@ -1,6 +1,6 @@
 use Rattle.std.proofs.Common.{◌≡◌, ◌<◌, vec_len}
 use Rattle.verity_tree.specs.Steps.PlainRoots.{root_of_digests}
-use Rattle.verity_tree.proofs.plain_root.root_above.Given as goal
+use Rattle.verity_tree.proofs.plain_root.root_of_digests.Given as goal
 
 -- some digests are left, with the same root above them
 abbrev pub invariant-levels : goal.invariant-levels

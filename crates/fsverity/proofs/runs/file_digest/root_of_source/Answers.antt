@@ -1,6 +1,6 @@
 use Rattle.verity_plan.proofs.PlanLemmas.{planned_is}
 use Rattle.fsverity.proofs.DigestLemmas.{ends_short}
-use Rattle.fsverity.proofs.runs.file_digest.root_of.Goals as goal
+use Rattle.fsverity.proofs.runs.file_digest.root_of_source.Goals as goal
 
 pub returns-in-Err-SourceShort-clause-bytes : goal.returns-in-Err-SourceShort-clause-bytes
 returns-in-Err-SourceShort-clause-bytes g c = λ t.

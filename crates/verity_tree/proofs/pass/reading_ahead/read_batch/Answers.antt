@@ -6,20 +6,20 @@ use Rattle.verity_plan.specs.Plans.{Planned}
 use Rattle.verity_plan.specs.Settings.{hash}
 use Rattle.verity_tree.specs.Levels.{data_blocks}
 use Rattle.verity_tree.specs.Steps.OpenBlocks.{level_digest}
-use Rattle.verity_tree.specs.Steps.ReadingAhead.{HasSizes, IsFilled, IsReadOf, IsRun}
+use Rattle.verity_tree.specs.Steps.ReadingAhead.{HasSizes, HasNext, ReadsCount, IsBatch}
 use Rattle.verity_tree.specs.declared.pass.data_block.BlockFault.{BlockFault}
 use Rattle.verity_tree.specs.declared.pass.reading_ahead.Ahead.{Ahead}
 use Rattle.verity_tree.proofs.OpenBlockLemmas.{length-hash}
 use Rattle.verity_tree.proofs.ReadingAheadLemmas.{some-fault}
-use Rattle.verity_tree.proofs.pass.reading_ahead.read_run.Goals as goal
+use Rattle.verity_tree.proofs.pass.reading_ahead.read_batch.Goals as goal
 
 -- all blocks, or fewer and why
-read-of : (count n : ℕ) (fault : Option BlockFault) → IsReadOf count n fault
+read-of : (count n : ℕ) (fault : Option BlockFault) → ReadsCount count n fault
     → ((n ≡ count) × (fault ≡ None)) ⊎ ((n < count) × (fault ≢ None))
 read-of count n None h = inl (h, refl)
 read-of count n (Some fault) h = inr (h, some-fault fault)
 
-most-read : (count n : ℕ) (fault : Option BlockFault) → IsReadOf count n fault → n ≤ count
+most-read : (count n : ℕ) (fault : Option BlockFault) → ReadsCount count n fault → n ≤ count
 most-read count n fault h =
     elim (read-of count n fault h) [ inl all ↦ omega (arith, all.0) | inr few ↦ omega (arith, few.0) ]
 
@@ -27,11 +27,11 @@ count-some : (n : ℕ) → (n ≡ 0) ⊎ (0 < n)
 count-some zero = inl refl
 count-some (suc n) = inr (omega arith)
 
-filled-run : (p : Planned) (i count n : ℕ) (ahead : Ahead) → 0 < count → count ≤ 8 → IsRun p i count
-    → IsReadOf count n ahead.fault → ahead.first ≡ i → ahead.end ≡ i + n → HasSizes p ahead → IsFilled p i ahead
-filled-run p i count n ahead some most run read first end sizes =
+has_next : (p : Planned) (i count n : ℕ) (ahead : Ahead) → 0 < count → count ≤ 8 → IsBatch p i count
+    → ReadsCount count n ahead.fault → ahead.first ≡ i → ahead.end ≡ i + n → HasSizes p ahead → HasNext p i ahead
+has_next p i count n ahead some most batch read first end sizes =
     let within : n ≤ count = most-read count n ahead.fault read in
-    let room = run.below in
+    let room = batch.below in
     elim (read-of count n ahead.fault read) [
       | inl h ↦
           let all = h.0 in
@@ -42,8 +42,8 @@ filled-run p i count n ahead some most run read first end sizes =
             some = inl (omega (arith, all, end, some));
             to = omega (arith, all, room, end);
             short = λ ne. absurd (ne is);
-            quiet = λ k from pending. elim pending [
-              | inl lt ↦ run.quiet k from (omega (arith, lt, all, end))
+            none_closes = λ k from pending. elim pending [
+              | inl lt ↦ batch.none_closes k from (omega (arith, lt, all, end))
               | inr eq ↦ absurd (eq.1 is)
             ];
             sizes = sizes;
@@ -59,7 +59,7 @@ filled-run p i count n ahead some most run read first end sizes =
             ];
             to = omega (arith, few, room, end);
             short = λ ne. omega (arith, few, room, end);
-            quiet = λ k from pending. run.quiet k from
+            none_closes = λ k from pending. batch.none_closes k from
                 (elim pending [
                   | inl lt ↦ omega (arith, lt, few, end)
                   | inr eq ↦ let e = eq.0 in omega (arith, e, few, end)
@@ -68,10 +68,10 @@ filled-run p i count n ahead some most run read first end sizes =
           }
     ]
 
-pub returns-clause-quiet : goal.returns-clause-quiet
-returns-clause-quiet g c =
+pub returns-clause-next : goal.returns-clause-next
+returns-clause-next g c =
     let p = c.args.plan.now in
-    filled-run p c.args.i c.args.count c.read_rows-read.result.0 _ c.requires.some c.requires.most c.requires.run
+    has_next p c.args.i c.args.count c.read_rows-read.result.0 _ c.requires.some c.requires.most c.requires.batch
     c.read_rows-read.ensures.many refl refl
     (λ r lt.
     ap length

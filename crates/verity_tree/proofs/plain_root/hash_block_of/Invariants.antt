@@ -1,7 +1,7 @@
 use Rattle.std.proofs.Common.{◌≡◌, take}
 use Rattle.std.specs.List.{flat_map}
 use Rattle.verity_plan.specs.Settings.{slot}
-use Rattle.verity_tree.proofs.plain_root.hash_block.Given as goal
+use Rattle.verity_tree.proofs.plain_root.hash_block_of.Given as goal
 
 -- the slots of the digests so far
 abbrev pub invariant-loop-digest : goal.invariant-loop-digest

@@ -2,7 +2,7 @@ use Rattle.std.proofs.Common.{◌≡◌, ℕ, ◌+◌, ◌*◌, ◌<◌, ◌≤�
 use Rattle.sha2.specs.Sha512 as S512
 use Rattle.sha2_lanes.proofs.LaneWise.{first_cases}
 use Rattle.sha2_lanes.proofs.Pieces.{part_below, part_of_rest, length_of_rest}
-use Rattle.sha2_lanes.proofs.words64.digests.hashed.Goals as goal
+use Rattle.sha2_lanes.proofs.words64.digests.hash_values.Goals as goal
 
 pub returns : goal.returns
 returns c =
@@ -13,10 +13,10 @@ returns c =
     let within : (j : ℕ) → j < c.args.count → j * len + len ≤ length parts = λ j lt.
     omega (arith, c.requires.whole, part_below c.args.count j len lt) in
     let first = λ (j : ℕ) (lane : j < 4) (lt : j < c.args.count).
-    c.hashed_four.ensures j lane (within j lt) in
+    c.four_hash_values.ensures j lane (within j lt) in
     let second = λ (j i : ℕ) (lane : j < 4) (place : i * len ≡ 4 * len + j * len) (lt : i < c.args.count).
     let room : i * len + len ≤ length parts = within i lt in
-    c.hashed_four-2.ensures j lane (omega (arith, place, room, length_of_rest parts (4 * len) (omega arith)))
+    c.four_hash_values-2.ensures j lane (omega (arith, place, room, length_of_rest parts (4 * len) (omega arith)))
     ∙ ap (λ z. S512.digest_bytes (S512.final_hash c.args.initial.now (before ++ z ++ after)) 8)
     (part_of_rest parts len (4 * len) (i * len) j place room) in
     first_cases _ c.requires.most

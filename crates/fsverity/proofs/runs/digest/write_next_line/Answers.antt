@@ -1,6 +1,6 @@
 use Rattle.std.proofs.Common.{◌≡◌, ◌<◌, length, arith}
 use Rattle.fsverity.proofs.RunLemmas.{wrote_nothing}
-use Rattle.fsverity.proofs.runs.digest.digest_next.Goals as goal
+use Rattle.fsverity.proofs.runs.digest.write_next_line.Goals as goal
 
 pub returns-in_err-made-clause-written : goal.returns-in_err-made-clause-written
 returns-in_err-made-clause-written g c = λ t.

@@ -6,7 +6,7 @@ use Rattle.verity_tree.specs.Levels.{pack}
 use Rattle.verity_tree.specs.Steps.PlainRoots.{root_of_digests}
 use Rattle.verity_plan.proofs.CountLemmas.{div_ceil-pos, div_ceil-lt}
 use Rattle.verity_tree.proofs.RootLemmas.{length-above, root_of_digests-up, root_of_digests-one}
-use Rattle.verity_tree.proofs.plain_root.root_above.Goals as goal
+use Rattle.verity_tree.proofs.plain_root.root_of_digests.Goals as goal
 
 pub levels-preserved : goal.levels-preserved
 levels-preserved c =

@@ -2,7 +2,7 @@ use Rattle.std.proofs.Common.{ℕ, ◌+◌, ◌*◌, ◌<◌, ◌≤◌, length,
 use Rattle.sha2.specs.Sha512 as S512
 use Rattle.sha2_lanes.specs.Lanes.{message_of}
 use Rattle.sha2_lanes.proofs.LaneWise.{four_cases}
-use Rattle.sha2_lanes.proofs.words64.digests.hashed_four.Goals as goal
+use Rattle.sha2_lanes.proofs.words64.digests.four_hash_values.Goals as goal
 
 pub returns : goal.returns
 returns c =

@@ -1,7 +1,7 @@
 use Rattle.std.proofs.Common.{◌-◌}
 use Rattle.sha2_lanes.proofs.LaneWise.{own_lanes, zip_lanes, splat_lanes, as_lanes}
 use Rattle.sha2_lanes.proofs.Hash32.{rotate_right_below}
-use Rattle.sha2_lanes.proofs.words32.functions.rotated.Goals as goal
+use Rattle.sha2_lanes.proofs.words32.functions.rotr.Goals as goal
 
 pub returns : goal.returns
 returns c =
