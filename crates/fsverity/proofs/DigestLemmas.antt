@@ -1,8 +1,14 @@
 -- What the answer of a pass over the data says of a file.
 use Rattle.std.proofs.Common.{◌≡◌, ℕ, ◌+◌, ◌*◌, ◌/◌, ◌<◌, ◌≤◌, List, [], length, sym, arith}
+use Rattle.std.specs.Prelude.{min}
 use Rattle.std.proofs.Math.Nat.{div-eq_of_lt-le}
-use Rattle.verity_tree.specs.Reading.{EndsWithin}
+use Rattle.verity_io.specs.Reading.{HasRead}
+use Rattle.verity_tree.specs.Levels.{data_blocks, root}
+use Rattle.verity_tree.specs.Reading.{EndsWithin, FailsWithin}
+use Rattle.verity_tree.specs.TreeOnDevice.{tree_on_device}
 use Rattle.verity_plan.specs.Plans.{Planned}
+use Rattle.verity_plan.specs.Settings.{Settings}
+use Rattle.fsverity.specs.Runs.FileDigest.{plan_of_file, root_of_file, with_tree}
 
 -- a source that ended within block i holds so many blocks, and not all that is wanted
 pub ends_short : (p : Planned) (i : ℕ) (before after : List ℕ) → EndsWithin p i before after →
@@ -12,3 +18,18 @@ ends_short p i before after ends =
     let from : i * p.settings.data_block ≤ length before = omega (arith, ends.enough, short) in
     let to : length before < (i + 1) * p.settings.data_block = omega (arith, ends.short) in
     (short, sym (div-eq_of_lt-le p.settings.data_block from to), ends.rest)
+
+-- a source that failed within block i was read so far, and less than all that is wanted
+pub fails_within : (p : Planned) (i : ℕ) (before after : List ℕ) → FailsWithin p i before after →
+    (count : ℕ) × (i * p.settings.data_block ≤ count) × (count < min ((i + 1) * p.settings.data_block) p.wanted)
+    × HasRead count before after
+fails_within p i before after fails = (fails.count, omega (arith, fails.from, fails.to), fails.to, fails.read)
+
+-- a file that isn't empty has the root hash of its tree, and its device holds the tree
+pub root_of_some : (s : Settings) (size : ℕ) (bytes : List ℕ) → 0 < size
+    → root s (data_blocks (plan_of_file s size) bytes) ≡ root_of_file s size bytes
+root_of_some s size bytes some = grind arith
+
+pub tree_of_some : (s : Settings) (size : ℕ) (bytes device : List ℕ) → 0 < size
+    → tree_on_device (plan_of_file s size) (data_blocks (plan_of_file s size) bytes) device ≡ with_tree s size bytes device
+tree_of_some s size bytes device some = grind arith
