@@ -1,0 +1,34 @@
+use Rattle.std.proofs.Common.{◌≡◌}
+use Rattle.command_line.specs.declared.printing.print_fault.PrintFault.TheVariants.{Memory}
+use Rattle.veritysetup.specs.declared.runs.stored_superblock.StoredFault.TheVariants.{Unread, Refused}
+use Rattle.veritysetup.proofs.runs.dump.DumpFault.write_message.Goals as goal
+
+pub returns-in-Superblock-Refused-clause-whole : goal.returns-in-Superblock-Refused-clause-whole
+returns-in-Superblock-Refused-clause-whole g c = λ t.
+    let inner : c.in-Superblock-Refused.field-0 ≡ Refused c.in-Superblock-Refused.fault = rw c.in-Superblock-Refused.is at c.in-Superblock-Refused.field-0-is in
+    rw (c.in-Superblock-Refused.is, inner) (c.write_message.ensures.whole _ c.super_message.ensures t)
+
+pub returns-in-Superblock-Refused-clause-front : goal.returns-in-Superblock-Refused-clause-front
+returns-in-Superblock-Refused-clause-front g c =
+    let inner : c.in-Superblock-Refused.field-0 ≡ Refused c.in-Superblock-Refused.fault = rw c.in-Superblock-Refused.is at c.in-Superblock-Refused.field-0-is in
+    rw (c.in-Superblock-Refused.is, inner) (c.write_message.ensures.front _ c.super_message.ensures)
+
+pub returns-in-Superblock-Unread-clause-whole : goal.returns-in-Superblock-Unread-clause-whole
+returns-in-Superblock-Unread-clause-whole g c = λ t.
+    let inner : c.in-Superblock-Unread.field-0 ≡ Unread = rw c.in-Superblock-Unread.is at c.in-Superblock-Unread.field-0-is in
+    rw (c.in-Superblock-Unread.is, inner) (c.write_text.ensures.whole t)
+
+pub returns-in-Superblock-Unread-clause-front : goal.returns-in-Superblock-Unread-clause-front
+returns-in-Superblock-Unread-clause-front g c =
+    let inner : c.in-Superblock-Unread.field-0 ≡ Unread = rw c.in-Superblock-Unread.is at c.in-Superblock-Unread.field-0-is in
+    rw (c.in-Superblock-Unread.is, inner) c.write_text.ensures.front
+
+pub returns-in-Report-Memory-clause-whole : goal.returns-in-Report-Memory-clause-whole
+returns-in-Report-Memory-clause-whole g c = λ t.
+    let inner : c.in-Report-Memory.field-0 ≡ Memory = rw c.in-Report-Memory.is at c.in-Report-Memory.field-0-is in
+    rw (c.in-Report-Memory.is, inner) (c.write_text-in-Report-Memory.ensures.whole t)
+
+pub returns-in-Report-Memory-clause-front : goal.returns-in-Report-Memory-clause-front
+returns-in-Report-Memory-clause-front g c =
+    let inner : c.in-Report-Memory.field-0 ≡ Memory = rw c.in-Report-Memory.is at c.in-Report-Memory.field-0-is in
+    rw (c.in-Report-Memory.is, inner) c.write_text-in-Report-Memory.ensures.front

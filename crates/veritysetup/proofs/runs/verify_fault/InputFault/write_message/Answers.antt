@@ -1,0 +1,35 @@
+use Rattle.std.proofs.Common.{◌≡◌}
+use Rattle.veritysetup.specs.declared.runs.stored_superblock.StoredFault.TheVariants.{Unread, Refused}
+use Rattle.veritysetup.proofs.runs.verify_fault.InputFault.write_message.Goals as goal
+
+pub returns-in-Superblock-Refused-clause-whole : goal.returns-in-Superblock-Refused-clause-whole
+returns-in-Superblock-Refused-clause-whole g c = λ t.
+    let inner : c.in-Superblock-Refused.field-0 ≡ Refused c.in-Superblock-Refused.fault = rw c.in-Superblock-Refused.is at c.in-Superblock-Refused.field-0-is in
+    rw (c.in-Superblock-Refused.is, inner) (c.write_message.ensures.whole _ c.super_message.ensures t)
+
+pub returns-in-Superblock-Refused-clause-front : goal.returns-in-Superblock-Refused-clause-front
+returns-in-Superblock-Refused-clause-front g c =
+    let inner : c.in-Superblock-Refused.field-0 ≡ Refused c.in-Superblock-Refused.fault = rw c.in-Superblock-Refused.is at c.in-Superblock-Refused.field-0-is in
+    rw (c.in-Superblock-Refused.is, inner) (c.write_message.ensures.front _ c.super_message.ensures)
+
+pub returns-in-Superblock-Unread-clause-whole : goal.returns-in-Superblock-Unread-clause-whole
+returns-in-Superblock-Unread-clause-whole g c = λ t.
+    let inner : c.in-Superblock-Unread.field-0 ≡ Unread = rw c.in-Superblock-Unread.is at c.in-Superblock-Unread.field-0-is in
+    rw (c.in-Superblock-Unread.is, inner) (c.write_text.ensures.whole t)
+
+pub returns-in-Superblock-Unread-clause-front : goal.returns-in-Superblock-Unread-clause-front
+returns-in-Superblock-Unread-clause-front g c =
+    let inner : c.in-Superblock-Unread.field-0 ≡ Unread = rw c.in-Superblock-Unread.is at c.in-Superblock-Unread.field-0-is in
+    rw (c.in-Superblock-Unread.is, inner) c.write_text.ensures.front
+
+pub returns-in-TooLarge-clause-whole : goal.returns-in-TooLarge-clause-whole
+returns-in-TooLarge-clause-whole g c = λ t. rw c.in-TooLarge.is (c.write_text-in-TooLarge.ensures.whole t)
+
+pub returns-in-TooLarge-clause-front : goal.returns-in-TooLarge-clause-front
+returns-in-TooLarge-clause-front g c = rw c.in-TooLarge.is c.write_text-in-TooLarge.ensures.front
+
+pub returns-in-BadRoot-clause-whole : goal.returns-in-BadRoot-clause-whole
+returns-in-BadRoot-clause-whole g c = λ t. rw c.in-BadRoot.is (c.write_message-in-BadRoot.ensures.whole _ c.option_message.ensures t)
+
+pub returns-in-BadRoot-clause-front : goal.returns-in-BadRoot-clause-front
+returns-in-BadRoot-clause-front g c = rw c.in-BadRoot.is (c.write_message-in-BadRoot.ensures.front _ c.option_message.ensures)
