@@ -4,6 +4,8 @@
 //! Words: sha256 or sha512, the size of a block (512, 4096, 16384 or 65536), and the file.
 #![tactic(auto)]
 
+ghost use Rattle.std.specs.Prelude.{◌≤◌};
+
 use sha2::{Digest, Sha256, Sha512};
 use std::fs::File;
 use std::io::Read;
@@ -39,23 +41,33 @@ fn hash_all<R: Read>(reader: &mut R, long: bool, buffer: &mut [u8]) -> io::Resul
     Ok(joined)
 }
 
+/// The size of a block that a word chooses.
+fn block_size(word: &str) -> usize
+    ensures { result ≤ 65536 }
+{
+    match word {
+        "512" => 512,
+        "16384" => 16384,
+        "65536" => 65536,
+        _ => 4096,
+    }
+}
+
+/// Hashes a file, a block of this size at a time.
+fn hash_file(rt: &HostRuntime, name: &str, long: bool, size: usize) -> io::Result<u8>
+    requires { size ≤ 65536 }
+{
+    let mut file = File::open(rt, name)?;
+    let mut buffer = [0; 65536];
+    hash_all(&mut file, long, &mut buffer[..size])
+}
+
 fn main(rt: HostRuntime) -> io::Result<()> {
     let mut words = env::args(&rt)?.skip(1);
     let (Some(function), Some(size), Some(name)) = (words.next(), words.next(), words.next()) else {
         return println!(rt; "sha256|sha512 SIZE FILE");
     };
-    let size = match size.as_str() {
-        "512" => 512,
-        "16384" => 16384,
-        "65536" => 65536,
-        _ => 4096,
-    };
-    let mut file = File::open(&rt, name.as_str())?;
-    let mut buffer = [0; 65536];
-    let joined = hash_all(
-        &mut file,
-        function.as_str() == "sha512",
-        &mut buffer[..size],
-    )?;
+    let long = function.as_str() == "sha512";
+    let joined = hash_file(&rt, name.as_str(), long, block_size(size.as_str()))?;
     println!(rt; "{joined:02x}")
 }

@@ -1,17 +1,18 @@
-//! Runs of digest over files in memory: the lines, and the message of each fault. Expected digests are those of sha2
-//! over stated bytes.
+//! Runs of digest over files in memory: the lines, the message of each fault, and the output files.
 ghost use Rattle.std.specs.Prelude.{◌≡◌, length};
 
-use crate::digest::DEFAULTS;
+use crate::digest::{DEFAULTS, EMPTY};
+use crate::digest_program::expected;
 use crate::stating_opener::StatingOpener;
-use fixtures::{data, descriptor, filled};
+use fixtures::data;
 use fsverity::{
     Form, FusedOpener, MemoryOpener, OUT_OF_MEMORY, Opener, digest_settings, run_digest,
+    run_digest_to,
 };
-use sha2::{Digest as Hasher, Sha256};
-use std::alloc::{AllocError, Global};
+use std::alloc::Global;
 use std::io::Write;
 use std::test::Fail;
+use verity_tree::{MemoryDevice, MemorySource};
 
 /// Runs digest with no option over some files. The answer is the status and the messages.
 fn run<O: Opener, W: Write>(
@@ -29,56 +30,19 @@ fn run<O: Opener, W: Write>(
     Ok((status, msgs))
 }
 
-/// The line of a file of this many bytes with this root hash, by SHA-256 and blocks of 4096 bytes.
-fn line(alloc: Global, size: u64, root: &[u8], name: &str) -> Result<String, AllocError> {
-    let bytes = descriptor(alloc, &[1, 1, 12, 0], size, root, &[])?;
-    let digits = hex::encode(alloc, Sha256::digest(bytes.as_slice()).as_slice())?;
-    format!(in alloc; "sha256:{digits} {name}\n")
-}
-
-fn empty_line(alloc: Global, name: &str) -> Result<String, AllocError> {
-    line(alloc, 0, &[], name)
-}
-
-#[test]
-fn each_file_has_its_line(rt: HostRuntime) -> Result<(), Fail> {
-    let alloc = rt.alloc();
-    let root = Sha256::digest(filled(alloc, &[&[0x61]], 4096)?.as_slice());
-    let lines = [
-        empty_line(alloc, "one")?,
-        line(alloc, 1, &root, "se cond")?,
-        empty_line(alloc, "")?,
-    ];
-    let names = ["one", "se cond", ""];
-    let files = [Some(b"".as_slice()), Some(&[0x61]), Some(b"")];
-    let mut opener = MemoryOpener::new(&files);
-    let mut out = Vec::new(alloc);
-    let (status, msgs) = run(alloc, &names, &mut opener, &mut out)?;
-    let [one, two, three] = &lines;
-    let expected = filled(
-        alloc,
-        &[one.as_bytes(), two.as_bytes(), three.as_bytes()],
-        0,
-    )?;
-    assert_eq!(rt; status, 0);
-    assert_eq!(rt; out.as_slice(), expected.as_slice());
-    assert!(rt; msgs.is_empty());
-    Ok(())
-}
-
 #[test]
 fn a_missing_file_ends_a_run(rt: HostRuntime) -> Result<(), Fail> {
     let alloc = rt.alloc();
     let names = ["first", "se cond", "third"];
     let files = [Some(b"".as_slice()), None, Some(b"")];
-    let mut opener = StatingOpener::new(&files, 0);
+    let mut opener = MemoryOpener::new(&files);
     let mut out = Vec::new(alloc);
     let (status, msgs) = run(alloc, &names, &mut opener, &mut out)?;
     let text = b"fsverity: cannot open se cond.\n";
+    let line = format!(in alloc; "sha256:{EMPTY} first\n")?;
     assert_eq!(rt; status, 1);
-    assert_eq!(rt; out.as_slice(), empty_line(alloc, "first")?.as_bytes());
+    assert_eq!(rt; out.as_slice(), line.as_bytes());
     assert_eq!(rt; msgs.as_slice(), text.as_slice());
-    assert_eq!(rt; opener.started(), 2);
     Ok(())
 }
 
@@ -132,8 +96,39 @@ fn a_failed_read_ends_a_run(rt: HostRuntime) -> Result<(), Fail> {
     let mut out = Vec::new(alloc);
     let (status, msgs) = run(alloc, &names, &mut opener, &mut out)?;
     let text = b"fsverity: cannot read block 1: second.\n";
+    let line = format!(in alloc; "sha256:{EMPTY} empty\n")?;
     assert_eq!(rt; status, 1);
-    assert_eq!(rt; out.as_slice(), empty_line(alloc, "empty")?.as_bytes());
+    assert_eq!(rt; out.as_slice(), line.as_bytes());
     assert_eq!(rt; msgs.as_slice(), text.as_slice());
+    Ok(())
+}
+
+#[test]
+fn output_files_are_written(rt: HostRuntime) -> Result<(), Fail> {
+    let alloc = rt.alloc();
+    let (image, text, digits) = expected(alloc)?;
+    let bytes = data(alloc, 4097)?;
+    let mut tree = MemoryDevice::new(Vec::new(alloc));
+    let mut descriptor = Vec::new(alloc);
+    let mut out = Vec::new(alloc);
+    let status = run_digest_to(
+        alloc,
+        &digest_settings(&DEFAULTS)?,
+        Form::Full,
+        "a b",
+        4097,
+        &mut MemorySource::new(bytes.as_slice()),
+        true,
+        &mut tree,
+        true,
+        &mut descriptor,
+        &mut out,
+        &mut Vec::new(alloc),
+    );
+    let line = format!(in alloc; "sha256:{digits} a b\n")?;
+    assert_eq!(rt; status, 0);
+    assert_eq!(rt; tree.bytes(), image.as_slice());
+    assert_eq!(rt; descriptor.as_slice(), text.as_slice());
+    assert_eq!(rt; out.as_slice(), line.as_bytes());
     Ok(())
 }

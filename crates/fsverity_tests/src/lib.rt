@@ -1,5 +1,6 @@
 //! Tests of what fsverity does: its command line and options, the digests of files, and the program over files in
-//! memory. Expected bytes come from the kernel's page on fs-verity, expected digests from `sha2` over stated bytes.
+//! memory. Expected bytes come from the kernel's page on fs-verity, expected digests from `sha2` over stated bytes, or
+//! from docs/DEFINITIONS.md.
 #![tactic(auto)]
 
 #[cfg(test)]
@@ -10,8 +11,6 @@ mod digest_program;
 mod digest_runs;
 #[cfg(test)]
 mod output_program;
-#[cfg(test)]
-mod output_runs;
 #[cfg(test)]
 mod progress;
 #[cfg(test)]

@@ -25,11 +25,6 @@ impl<'a> StatingOpener<'a> {
             failures: 0,
         }
     }
-
-    /// How many files were begun.
-    pub fn started(&self) -> usize {
-        self.next
-    }
 }
 
 impl<'a> Opener for StatingOpener<'a> {
