@@ -1,6 +1,6 @@
 //! Each fault in turn: every call of a program's files fails once, its output and its messages end at each length, and
-//! superblocks and trees are changed byte by byte. What each fault should leave is known from lists of steps and from
-//! trees of plain bytes, with digests of `sha1` and `sha2`.
+//! fields of superblocks and bytes of trees are spoiled. What each fault should leave is known from lists of steps and
+//! from trees of plain bytes, with digests of `sha1` and `sha2`.
 #![tactic(auto)]
 
 #[cfg(test)]
@@ -11,8 +11,6 @@ mod hostile;
 mod images;
 #[cfg(test)]
 mod scene;
-#[cfg(test)]
-mod second_reading;
 #[cfg(test)]
 mod setups;
 #[cfg(test)]

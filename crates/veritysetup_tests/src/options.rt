@@ -1,12 +1,8 @@
-//! The options of format, and the random values drawn for those that are missing.
-use crate::images::SMALL;
-use fixtures::UUID;
-use rand::rngs::StdRng;
-use rand_core::{Rng, SeedableRng};
+//! The random values drawn for options of format that are missing.
 use std::test::Fail;
 use verity_hash::Algorithm;
 use verity_tree::HashType;
-use veritysetup::{OptionFault, OptionName, RawOptions, draw, settings_of};
+use veritysetup::{RawOptions, settings_of};
 
 /// No option is given.
 pub const DEFAULTS: RawOptions<'static> = RawOptions {
@@ -24,7 +20,7 @@ pub const DEFAULTS: RawOptions<'static> = RawOptions {
 };
 
 /// The random bytes 0, 1, .. 47.
-pub fn counted() -> [u8; 48] {
+fn counted() -> [u8; 48] {
     let mut random = [0; 48];
     let mut next = 0_u8;
     for byte in &mut random {
@@ -52,203 +48,5 @@ fn random_bytes_stand_for_what_is_missing(rt: HostRuntime) -> Result<(), Fail> {
         0x2f,
     ];
     assert_eq!(rt; settings.uuid(), uuid);
-    let settings = settings_of(&SMALL, 8704, Some(&random))?;
-    assert_eq!(rt; settings.plan().settings().salt(), b"".as_slice());
-    assert_eq!(rt; settings.uuid(), UUID);
-    Ok(())
-}
-
-#[test]
-fn draws_are_the_next_numbers(rt: HostRuntime) -> Result<(), Fail> {
-    for seed in [0, 1, 0x0123_4567_89ab_cdef] {
-        let mut rng = StdRng::seed_from_u64(seed);
-        let mut numbers = Vec::new(rt.alloc());
-        for _ in 0..6 {
-            numbers.extend_from_slice(&rng.next_u64().to_le_bytes())?;
-        }
-        let bytes = draw(&mut StdRng::seed_from_u64(seed));
-        assert_eq!(rt; bytes.as_slice(), numbers.as_slice(), "at {seed}");
-    }
-    Ok(())
-}
-
-#[test]
-fn data_and_hash_are_planned(rt: HostRuntime) -> Result<(), Fail> {
-    let mut same_file = SMALL;
-    same_file.same_file = true;
-    let mut larger = SMALL;
-    larger.data_block_size = None;
-    for (raw, length, fault) in [
-        (&larger, 0, Some(OptionFault::NoData)),
-        (&larger, 4095, Some(OptionFault::NoData)),
-        (&larger, 4096, None),
-        (&SMALL, 9_223_372_036_854_775_807, None),
-        (
-            &SMALL,
-            9_223_372_036_854_775_808,
-            Some(OptionFault::TooLarge),
-        ),
-        (&same_file, 8704, Some(OptionFault::Overlap)),
-        (&same_file, 0, Some(OptionFault::NoData)),
-    ] {
-        assert_eq!(rt; settings_of(raw, length, None).err(), fault, "at {length}");
-    }
-    Ok(())
-}
-
-/// The texts of `--hash`, `--format`, `--data-block-size`, `--hash-block-size`, `--salt` and `--uuid`.
-type Texts = [Option<&'static str>; 6];
-
-const DASH: Option<&'static str> = Some("-");
-
-const SIZE: Option<&'static str> = Some("512");
-
-const WORD: Option<&'static str> = Some("x");
-
-/// Options, and the first fault in them.
-const REFUSED: [(Texts, Option<OptionFault>); 23] = [
-    (
-        [WORD, WORD, WORD, WORD, WORD, WORD],
-        Some(OptionFault::BadNumber(OptionName::Format)),
-    ),
-    (
-        [WORD, Some("2"), WORD, WORD, WORD, WORD],
-        Some(OptionFault::BadNumber(OptionName::DataBlockSize)),
-    ),
-    (
-        [WORD, Some("2"), Some("0"), WORD, WORD, WORD],
-        Some(OptionFault::BadNumber(OptionName::HashBlockSize)),
-    ),
-    (
-        [Some("md5"), Some("2"), Some("0"), Some("0"), WORD, WORD],
-        Some(OptionFault::UnknownHash),
-    ),
-    (
-        [Some("SHA256"), None, None, None, DASH, None],
-        Some(OptionFault::UnknownHash),
-    ),
-    (
-        [Some("sha512"), Some("2"), Some("0"), Some("0"), WORD, WORD],
-        Some(OptionFault::BadHashType),
-    ),
-    (
-        [None, Some("1"), Some("0"), Some("0"), WORD, WORD],
-        Some(OptionFault::BadBlockSize(OptionName::DataBlockSize)),
-    ),
-    (
-        [None, None, SIZE, Some("256"), WORD, WORD],
-        Some(OptionFault::BadBlockSize(OptionName::HashBlockSize)),
-    ),
-    (
-        [None, None, SIZE, SIZE, WORD, WORD],
-        Some(OptionFault::BadSalt),
-    ),
-    (
-        [None, None, SIZE, SIZE, DASH, WORD],
-        Some(OptionFault::BadUuid),
-    ),
-    ([None, None, SIZE, SIZE, DASH, None], None),
-    ([None, None, SIZE, SIZE, Some(""), None], None),
-    (
-        [None, None, SIZE, SIZE, None, None],
-        Some(OptionFault::BadSalt),
-    ),
-    (
-        [None, None, SIZE, SIZE, Some("abc"), None],
-        Some(OptionFault::BadSalt),
-    ),
-    (
-        [None, None, Some("+512"), SIZE, DASH, None],
-        Some(OptionFault::BadNumber(OptionName::DataBlockSize)),
-    ),
-    (
-        [None, None, Some(""), SIZE, DASH, None],
-        Some(OptionFault::BadNumber(OptionName::DataBlockSize)),
-    ),
-    ([None, None, Some("0512"), SIZE, DASH, None], None),
-    (
-        [None, None, Some("768"), SIZE, DASH, None],
-        Some(OptionFault::BadBlockSize(OptionName::DataBlockSize)),
-    ),
-    (
-        [None, None, Some("1048576"), SIZE, DASH, None],
-        Some(OptionFault::BadBlockSize(OptionName::DataBlockSize)),
-    ),
-    (
-        [None, None, Some("18446744073709551615"), SIZE, DASH, None],
-        Some(OptionFault::BadBlockSize(OptionName::DataBlockSize)),
-    ),
-    (
-        [None, None, Some("18446744073709551616"), SIZE, DASH, None],
-        Some(OptionFault::BadNumber(OptionName::DataBlockSize)),
-    ),
-    (
-        [None, None, SIZE, Some("18446744073709551615"), DASH, None],
-        Some(OptionFault::BadBlockSize(OptionName::HashBlockSize)),
-    ),
-    (
-        [None, None, SIZE, Some("18446744073709551616"), DASH, None],
-        Some(OptionFault::BadNumber(OptionName::HashBlockSize)),
-    ),
-];
-
-#[test]
-fn options_are_refused(rt: HostRuntime) {
-    for (texts, fault) in REFUSED {
-        let [hash, format, data_block_size, hash_block_size, salt, uuid] = texts;
-        let raw = RawOptions {
-            hash,
-            format,
-            data_block_size,
-            hash_block_size,
-            salt,
-            uuid,
-            ..DEFAULTS
-        };
-        let found = settings_of(&raw, 524_288, None).err();
-        assert_eq!(rt; found, fault, "at {texts:?}");
-    }
-}
-
-#[test]
-fn numbers_may_begin_with_zeros(rt: HostRuntime) -> Result<(), Fail> {
-    let raw = RawOptions {
-        data_block_size: Some("0512"),
-        ..SMALL
-    };
-    let settings = settings_of(&raw, 8704, None)?;
-    assert_eq!(rt; settings.plan().data_block(), 512);
-    assert_eq!(rt; settings.plan().blocks(), 17);
-    Ok(())
-}
-
-#[test]
-fn salts_are_hexadecimal(rt: HostRuntime) -> Result<(), Fail> {
-    let longer = "ab".repeat(rt.alloc(), 257)?;
-    let longest = longer.as_str().get(..512).unwrap_or("");
-    let cases: [(&str, Option<&[u8]>); 6] = [
-        ("abc", None),
-        ("zz", None),
-        (longer.as_str(), None),
-        (longest, Some(&[0xab; 256])),
-        ("AB", Some(&[0xab])),
-        ("", Some(&[])),
-    ];
-    for (text, salt) in cases {
-        let raw = RawOptions {
-            salt: Some(text),
-            ..SMALL
-        };
-        let settings = settings_of(&raw, 8704, None);
-        let fault = if salt.is_some() {
-            None
-        } else {
-            Some(OptionFault::BadSalt)
-        };
-        assert_eq!(rt; settings.as_ref().err().copied(), fault, "at {text}");
-        if let Ok(settings) = settings {
-            assert_eq!(rt; Some(settings.plan().settings().salt()), salt, "at {text}");
-        }
-    }
     Ok(())
 }

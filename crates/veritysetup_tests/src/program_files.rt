@@ -1,7 +1,7 @@
 //! The program over files in memory: which files are opened when, and two names of one file.
 use crate::images::image_17;
 use crate::program_runs::{OPTIONS_17, disk_of, run};
-use fixtures::{REPORT_17, filled};
+use fixtures::{REPORT_17, filled, flip};
 use memory_runtime::{Call, Disk, Kind};
 use std::alloc::Global;
 use std::io;
@@ -9,44 +9,108 @@ use std::test::Fail;
 
 const NULL_FILES: &str = "/dev/null: read\n/dev/null: read\n/dev/null: read\n";
 
-/// Words, and what is opened after the null files.
-const OPENED: [(&str, &str); 10] = [
+/// Words, what is opened after the null files, and the status and the message.
+const OPENED: [(&str, &str, u8, &str); 12] = [
     (
         "format data hash",
         "data: read\nhash: read write create\n.: read\n",
+        0,
+        "",
     ),
-    ("format --data-blocks 3 data hash", "data: read\n"),
-    ("format --hash md5 data hash", "data: read\n"),
-    ("format data data", "data: read\n"),
-    ("dump hash", "hash: read\n"),
-    ("dump --hash-offset 1 hash", ""),
-    ("verify data hash ab", "data: read\nhash: read\n"),
-    ("verify --hash-offset 1 data hash ab", ""),
+    (
+        "format --data-blocks 3 data hash",
+        "data: read\n",
+        4,
+        "Data ends before the end of block 2.\n",
+    ),
+    (
+        "format --hash md5 data hash",
+        "data: read\n",
+        1,
+        "Unknown hash algorithm.\n",
+    ),
+    (
+        "format data data",
+        "data: read\n",
+        1,
+        "Data area and hash area overlap.\n",
+    ),
+    ("dump hash", "hash: read\n", 4, "Cannot open hash.\n"),
+    ("dump data", "data: read\n", 1, "No verity superblock.\n"),
+    (
+        "dump --hash-offset 1 hash",
+        "",
+        1,
+        "Hash offset is not valid.\n",
+    ),
+    (
+        "verify data hash ab",
+        "data: read\nhash: read\n",
+        4,
+        "Cannot open hash.\n",
+    ),
+    (
+        "verify data data 00",
+        "data: read\ndata: read\n",
+        1,
+        "No verity superblock.\n",
+    ),
+    (
+        "verify --hash-offset 1 data hash ab",
+        "",
+        1,
+        "Hash offset is not valid.\n",
+    ),
     (
         "verify --no-superblock --salt=- data hash ab",
         "data: read\n",
+        1,
+        "Root hash is not valid.\n",
     ),
-    ("verify missing hash ab", "missing: read\n"),
+    (
+        "verify missing hash ab",
+        "missing: read\n",
+        4,
+        "Cannot open missing.\n",
+    ),
 ];
 
+/// Only a run that goes through makes, writes and syncs a file, and prints a report.
 #[test]
 fn files_are_opened_in_order(rt: HostRuntime) -> Result<(), Fail> {
     let alloc = rt.alloc();
-    for (words, opened) in OPENED {
+    for (words, opened, status, message) in OPENED {
         let disk = disk_of(alloc, &[5; 8192])?;
-        // Only what the disk recorded is tested.
-        let _said = run(alloc, &disk, words)?;
+        let said = run(alloc, &disk, words)?;
         let expected = format!(in alloc; "{NULL_FILES}{opened}")?;
-        assert_eq!(rt; disk.opened()?.as_str(), expected.as_str(), "at {words}");
+        assert_eq!(rt; disk.opened()?, expected, "at {words}");
+        assert_eq!(rt; said.status, status, "at {words}");
+        assert_eq!(rt; said.msgs.as_slice(), message.as_bytes(), "at {words}");
+        let changes = [
+            disk.has("hash")?,
+            disk.calls(Call::Write)? > 0,
+            disk.calls(Call::Sync)? > 0,
+            !said.out.is_empty(),
+        ];
+        assert_eq!(rt; changes, [status == 0; 4], "at {words}");
     }
     Ok(())
 }
 
 /// Words, and what is opened, synced and closed while the null files are open.
-const HELD: [(&str, &str); 4] = [
+const HELD: [(&str, &str); 6] = [
     (
         "format data hash",
         "open data\nopen hash\nsync hash\nopen .\nsync .\nclose .\nclose hash\nclose data\n",
+    ),
+    (
+        "format data images/new",
+        "open data\nopen images/new\nsync images/new\nopen images\nsync images\nclose images\nclose images/new\nclose data\n",
+    ),
+    // The folder of an old file isn't synced.
+    (
+        "format data hash.img",
+        "open data\nopen hash.img\nsync hash.img\nclose hash.img\nclose data\n",
     ),
     ("dump hash.img", "open hash.img\nclose hash.img\n"),
     (
@@ -64,13 +128,14 @@ fn null_files_are_open_to_the_end(rt: HostRuntime) -> Result<(), Fail> {
     let alloc = rt.alloc();
     for (words, held) in HELD {
         let disk = disk_of(alloc, &[5; 8192])?;
+        disk.make_kind("images", Kind::Folder, Vec::new(alloc))?;
         disk.make("hash.img", [0; 8192].to_vec(alloc)?)?;
         // Only what the disk recorded is tested.
         let _said = run(alloc, &disk, words)?;
         let opened = "open /dev/null\n".repeat(alloc, 3)?;
         let closed = "close /dev/null\n".repeat(alloc, 3)?;
         let expected = format!(in alloc; "{opened}{held}{closed}")?;
-        assert_eq!(rt; disk.held()?.as_str(), expected.as_str(), "at {words}");
+        assert_eq!(rt; disk.held()?, expected, "at {words}");
     }
     Ok(())
 }
@@ -85,13 +150,11 @@ fn a_folder_is_not_opened_as_a_file(rt: HostRuntime) -> Result<(), Fail> {
         "verify folder hash.img ab",
         "verify data folder ab",
         "verify --no-superblock --salt=- folder hash.img ab",
-        "verify --no-superblock --salt=- data folder ROOT",
     ] {
         let disk = disk_of(alloc, &[5; 8192])?;
         disk.make_kind("folder", Kind::Folder, Vec::new(alloc))?;
         disk.make("hash.img", [0; 8192].to_vec(alloc)?)?;
-        let words = words.replace(alloc, "ROOT", "00".repeat(alloc, 32)?.as_str())?;
-        let said = run(alloc, &disk, words.as_str())?;
+        let said = run(alloc, &disk, words)?;
         let message = b"Cannot open folder.\n".as_slice();
         assert_eq!(rt; said.status, 4, "at {words}");
         assert_eq!(rt; said.msgs.as_slice(), message, "at {words}");
@@ -102,37 +165,10 @@ fn a_folder_is_not_opened_as_a_file(rt: HostRuntime) -> Result<(), Fail> {
 }
 
 #[test]
-fn hash_that_cannot_be_opened_is_named(rt: HostRuntime) -> Result<(), Fail> {
-    let alloc = rt.alloc();
-    let disk = disk_of(alloc, &[5; 8192])?;
-    disk.refuse("hash")?;
-    disk.make_kind("pipe", Kind::Pipe, Vec::new(alloc))?;
-    for (words, message) in [
-        ("format data hash", "Cannot open hash.\n"),
-        ("dump hash", "Cannot open hash.\n"),
-        ("verify data hash ab", "Cannot open hash.\n"),
-        ("format pipe hash", "Cannot open pipe.\n"),
-        ("verify pipe hash ab", "Cannot open pipe.\n"),
-    ] {
-        let said = run(alloc, &disk, words)?;
-        assert_eq!(rt; said.status, 4, "at {words}");
-        assert_eq!(rt; said.msgs.as_slice(), message.as_bytes(), "at {words}");
-    }
-    Ok(())
-}
-
-#[test]
 fn the_root_folder_stands_for_the_null_device(rt: HostRuntime) -> Result<(), Fail> {
     let alloc = rt.alloc();
     let disk = Disk::new(alloc);
     disk.make("data", [5; 8192].to_vec(alloc)?)?;
-    let said = run(alloc, &disk, "format data hash")?;
-    assert_eq!(rt; said.status, 4);
-    assert_eq!(rt;
-        said.msgs.as_slice(),
-        b"Cannot open /dev/null.\n".as_slice()
-    );
-    assert!(rt; !disk.has("hash")?);
     disk.make_kind("/", Kind::Character, Vec::new(alloc))?;
     let said = run(alloc, &disk, "format data hash")?;
     assert_eq!(rt; said.status, 0);
@@ -150,31 +186,26 @@ fn disk_of_two_names(alloc: Global, kind: Kind) -> io::Result<Disk> {
     Ok(disk)
 }
 
-/// The kind of the file, the options after those of the image, and HASH.
-const OVERLAPS: [(Kind, &str, &str); 6] = [
-    (Kind::Plain, "", "data"),
-    (Kind::Character, "", "data"),
-    (Kind::Plain, "", "other"),
-    (Kind::Block, "", "other"),
-    (Kind::Plain, "--data-blocks 17 --hash-offset 8192 ", "data"),
-    (Kind::Plain, "--data-blocks 17 --hash-offset 8192 ", "other"),
+/// The kind of the file, and HASH.
+const OVERLAPS: [(Kind, &str); 4] = [
+    (Kind::Plain, "data"),
+    (Kind::Character, "data"),
+    (Kind::Plain, "other"),
+    (Kind::Block, "other"),
 ];
 
 #[test]
 fn data_is_never_overwritten(rt: HostRuntime) -> Result<(), Fail> {
     let alloc = rt.alloc();
-    let image = image_17(alloc)?;
-    for (kind, options, hash) in OVERLAPS {
+    for (kind, hash) in OVERLAPS {
         let disk = disk_of_two_names(alloc, kind)?;
-        let words = format!(in alloc; "format {OPTIONS_17} {options}data {hash}")?;
+        let words = format!(in alloc; "format {OPTIONS_17} data {hash}")?;
         let said = run(alloc, &disk, words.as_str())?;
         assert_eq!(rt; said.status, 1, "at {words}");
         let message = b"Data area and hash area overlap.\n".as_slice();
         assert_eq!(rt; said.msgs.as_slice(), message, "at {words}");
-        assert_eq!(rt; disk.bytes_of("data")?.as_slice(), image.data.as_slice());
         let opened = format!(in alloc; "{NULL_FILES}data: read\n")?;
-        assert_eq!(rt; disk.opened()?.as_str(), opened.as_str(), "at {words}");
-        assert_eq!(rt; disk.calls(Call::Write)?, 0, "at {words}");
+        assert_eq!(rt; disk.opened()?, opened, "at {words}");
     }
     Ok(())
 }
@@ -192,23 +223,11 @@ fn one_file_holds_data_and_tree(rt: HostRuntime) -> Result<(), Fail> {
         )?;
         let said = run(alloc, &disk, words.as_str())?;
         assert_eq!(rt; said.status, 0, "at {hash}");
-        assert_eq!(rt;
-            disk.bytes_of("data")?.as_slice(),
-            both.as_slice(),
-            "at {hash}"
-        );
+        assert_eq!(rt; disk.bytes_of("data")?, both, "at {hash}");
         let words = format!(in alloc; "verify --hash-offset 8704 data {hash} {root}")?;
         let said = run(alloc, &disk, words.as_str())?;
         assert_eq!(rt; said.status, 0, "at {hash}");
         assert!(rt; said.msgs.is_empty(), "at {hash}");
-        let words = format!(in alloc; "format {OPTIONS_17} --hash-offset 8704 data {hash}")?;
-        let said = run(alloc, &disk, words.as_str())?;
-        assert_eq!(rt; said.status, 1, "at {hash}");
-        assert_eq!(rt;
-            disk.bytes_of("data")?.as_slice(),
-            both.as_slice(),
-            "at {hash}"
-        );
     }
     Ok(())
 }
@@ -218,18 +237,41 @@ fn a_tree_is_dumped_and_verified(rt: HostRuntime) -> Result<(), Fail> {
     let alloc = rt.alloc();
     let image = image_17(alloc)?;
     let root = hex::encode(alloc, image.root.as_slice())?;
+    let zeros = "00".repeat(alloc, 32)?;
+    let mut changed = image.device.to_vec(alloc)?;
+    flip(changed.as_mut_slice(), 1600);
     let disk = disk_of(alloc, image.data.as_slice())?;
     disk.make("hash.img", image.device)?;
+    disk.make("changed", changed)?;
     let said = run(alloc, &disk, "dump hash.img")?;
     assert_eq!(rt; said.status, 0);
     assert_eq!(rt; said.out.as_slice(), REPORT_17.text(alloc)?.as_bytes());
-    // With a superblock no option but the hash offset is looked at.
-    let words = format!(in alloc;
-        "verify --hash md5 --salt x --data-blocks 0 data hash.img {root}"
-    )?;
-    let said = run(alloc, &disk, words.as_str())?;
-    assert_eq!(rt; said.status, 0);
-    assert!(rt; said.out.is_empty());
-    assert!(rt; said.msgs.is_empty());
+    for (words, status, message) in [
+        // With a superblock no option but the hash offset is looked at.
+        (
+            "--hash md5 --salt x --data-blocks 0 data hash.img ROOT",
+            0,
+            "",
+        ),
+        (
+            "data hash.img ZEROS",
+            2,
+            "Verification failed: root hash is ROOT.\n",
+        ),
+        (
+            "data changed ROOT",
+            2,
+            "Verification failed: level 0 block 1, spare bytes.\n",
+        ),
+    ] {
+        let words = words.replace(alloc, "ROOT", root.as_str())?;
+        let words = words.as_str().replace(alloc, "ZEROS", zeros.as_str())?;
+        let words = format!(in alloc; "verify {words}")?;
+        let message = message.replace(alloc, "ROOT", root.as_str())?;
+        let said = run(alloc, &disk, words.as_str())?;
+        assert_eq!(rt; said.status, status, "at {words}");
+        assert_eq!(rt; said.msgs.as_slice(), message.as_bytes(), "at {words}");
+        assert!(rt; said.out.is_empty(), "at {words}");
+    }
     Ok(())
 }
