@@ -239,7 +239,7 @@ fn a_tree_is_dumped_and_verified(rt: HostRuntime) -> Result<(), Fail> {
     let root = hex::encode(alloc, image.root.as_slice())?;
     let zeros = "00".repeat(alloc, 32)?;
     let mut changed = image.device.to_vec(alloc)?;
-    flip(changed.as_mut_slice(), 1600);
+    flip(changed.as_mut_slice(), 1100);
     let disk = disk_of(alloc, image.data.as_slice())?;
     disk.make("hash.img", image.device)?;
     disk.make("changed", changed)?;
@@ -261,7 +261,7 @@ fn a_tree_is_dumped_and_verified(rt: HostRuntime) -> Result<(), Fail> {
         (
             "data changed ROOT",
             2,
-            "Verification failed: level 0 block 1, spare bytes.\n",
+            "Verification failed: level 0 block 0, child 2.\n",
         ),
     ] {
         let words = words.replace(alloc, "ROOT", root.as_str())?;
