@@ -1,65 +1,101 @@
-//! Settings, and the shape of their trees by the kernel's pages.
-use fixtures::{Shape, filled};
-use std::alloc::Global;
+//! Trees to be made, and the same trees made from plain lists of bytes by the kernel's pages.
+use fixtures::{Shape, Tree, data, filled};
+use std::alloc::{AllocError, Global};
 use std::test::Fail;
-use verity_hash::Algorithm;
-use verity_tree::{HashType, TreeSettings};
+use verity_hash::{Algorithm, SaltRule};
+use verity_tree::{HashType, Plan, SettingFault, TreeSettings};
 
-/// Settings, and how a tree is made by them. Each function takes the sizes of a data block and a hash block, one size
-/// if they are the same, and the number and the width of a hash block's slots.
+pub const SHA1: Algorithm = Algorithm::Sha1;
+
+pub const SHA224: Algorithm = Algorithm::Sha224;
+
+pub const SHA256: Algorithm = Algorithm::Sha256;
+
+pub const SHA384: Algorithm = Algorithm::Sha384;
+
+pub const SHA512: Algorithm = Algorithm::Sha512;
+
+/// dm-verity, hash type 1: the salt comes before each block.
+pub const CURRENT: SaltRule = SaltRule::Before;
+
+/// dm-verity, hash type 0: the salt comes after each block.
+pub const ORIGINAL: SaltRule = SaltRule::After;
+
+/// fs-verity: the salt comes before each block, padded with zeros to an input block of the hash function.
+pub const FILE: SaltRule = SaltRule::PaddedBefore;
+
+/// The format, by its rule for salts; the function and the salt; the sizes of a data block and a hash block; the
+/// number and the width of a hash block's slots; the number of bytes of data, and of levels above them.
+pub type Row = (
+    SaltRule,
+    Algorithm,
+    &'static [u8],
+    (u32, u32),
+    (usize, usize),
+    (usize, usize),
+);
+
+/// The input block of FIPS 180-4, figure 1.
+fn input_block(algorithm: Algorithm) -> usize
+    ensures { 0 < result }
+{
+    match algorithm {
+        Algorithm::Sha1 | Algorithm::Sha224 | Algorithm::Sha256 => 64,
+        Algorithm::Sha384 | Algorithm::Sha512 => 128,
+    }
+}
+
+/// How blocks of no size are hashed with a salt.
+pub fn salted_shape(
+    alloc: Global,
+    algorithm: Algorithm,
+    rule: SaltRule,
+    salt: &[u8],
+) -> Result<Shape, AllocError> {
+    let mut shape = Shape::new(alloc, algorithm, (0, 0), (0, 0));
+    match rule {
+        SaltRule::Before => shape.before = Vec::from_slice(alloc, salt)?,
+        SaltRule::After => shape.after = Vec::from_slice(alloc, salt)?,
+        SaltRule::PaddedBefore => {
+            let width = salt.len().next_multiple_of(input_block(algorithm));
+            shape.before = filled(alloc, &[salt], width)?;
+        }
+    }
+    Ok(shape)
+}
+
+fn settings_of(row: &Row) -> Result<TreeSettings, SettingFault> {
+    let (rule, algorithm, salt, (data_block, hash_block), _, _) = *row;
+    let hash_type = match rule {
+        SaltRule::Before => HashType::Current,
+        SaltRule::After => HashType::Original,
+        SaltRule::PaddedBefore => return TreeSettings::fsverity(algorithm, salt, hash_block),
+    };
+    TreeSettings::verity(algorithm, hash_type, salt, data_block, hash_block)
+}
+
+/// A row's plan, whose hash area begins after one hash block; its data, and the tree made from plain lists.
 #[derive(Drop)]
 pub struct Case {
-    pub settings: TreeSettings,
+    pub plan: Plan,
     pub shape: Shape,
+    pub data: Vec<u8>,
+    pub tree: Tree,
 }
 
 impl Case {
-    /// dm-verity's hash type 1: the salt comes before each block.
-    pub fn verity(
-        alloc: Global,
-        algorithm: Algorithm,
-        salt: &[u8],
-        sizes: (u32, u32),
-        slots: (usize, usize),
-    ) -> Result<Case, Fail> {
-        let settings = TreeSettings::verity(algorithm, HashType::Current, salt, sizes.0, sizes.1)?;
-        let sizes = (sizes.0 as usize, sizes.1 as usize);
-        let mut shape = Shape::new(alloc, algorithm, sizes, slots);
-        shape.before = Vec::from_slice(alloc, salt)?;
-        Ok(Case { settings, shape })
-    }
-
-    /// dm-verity's hash type 0: the salt comes after each block.
-    pub fn original(
-        alloc: Global,
-        algorithm: Algorithm,
-        salt: &[u8],
-        sizes: (u32, u32),
-        slots: (usize, usize),
-    ) -> Result<Case, Fail> {
-        let settings = TreeSettings::verity(algorithm, HashType::Original, salt, sizes.0, sizes.1)?;
-        let sizes = (sizes.0 as usize, sizes.1 as usize);
-        let mut shape = Shape::new(alloc, algorithm, sizes, slots);
-        shape.after = Vec::from_slice(alloc, salt)?;
-        Ok(Case { settings, shape })
-    }
-
-    /// fs-verity: a salt comes before each block, padded with zeros to an input block of the hash function.
-    pub fn fsverity(
-        alloc: Global,
-        algorithm: Algorithm,
-        salt: &[u8],
-        size: u32,
-        slots: (usize, usize),
-    ) -> Result<Case, Fail> {
-        let settings = TreeSettings::fsverity(algorithm, salt, size)?;
-        let mut shape = Shape::new(alloc, algorithm, (size as usize, size as usize), slots);
-        let input_block = match algorithm {
-            _ if salt.is_empty() => 0,
-            Algorithm::Sha384 | Algorithm::Sha512 => 128,
-            Algorithm::Sha1 | Algorithm::Sha224 | Algorithm::Sha256 => 64,
-        };
-        shape.before = filled(alloc, &[salt], input_block)?;
-        Ok(Case { settings, shape })
+    pub fn new(alloc: Global, row: &Row) -> Result<Case, Fail> {
+        let (rule, algorithm, salt, sizes, slots, (size, levels)) = *row;
+        let mut shape = salted_shape(alloc, algorithm, rule, salt)?;
+        (shape.data_block, shape.hash_block) = (sizes.0 as usize, sizes.1 as usize);
+        (shape.slots, shape.width) = slots;
+        let data = data(alloc, size)?;
+        let tree = shape.tree(alloc, data.as_slice(), levels)?;
+        Ok(Case {
+            plan: Plan::for_bytes(&settings_of(row)?, size as u64, 1)?,
+            shape,
+            data,
+            tree,
+        })
     }
 }

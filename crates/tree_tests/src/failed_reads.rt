@@ -1,10 +1,9 @@
 //! A stored tree is compared with its data while each read of a hash block fails in turn: which block is named, at
 //! every level, and how much of the data was read.
 use crate::cases::Case;
-use fixtures::data;
 use std::test::Fail;
-use verity_hash::{Algorithm, Digest};
-use verity_tree::{CompareFault, Fused, MemoryDevice, MemorySource, Plan, Store, compare};
+use verity_hash::{Algorithm, Digest, SaltRule};
+use verity_tree::{CompareFault, Fused, MemoryDevice, MemorySource, Store, compare};
 
 /// The hash blocks above nine data blocks, with two digests in each, in the order in which they close: the level, the
 /// block, and how many bytes of the data are left then. The last four close with the same data block.
@@ -25,17 +24,23 @@ const ORDER: [(usize, u64, usize); 11] = [
 #[test]
 fn each_failing_read_names_its_block(rt: HostRuntime) -> Result<(), Fail> {
     let alloc = rt.alloc();
-    let case = Case::fsverity(alloc, Algorithm::Sha256, b"salt", 64, (2, 32))?;
-    let bytes = data(alloc, 576)?;
-    let plan = Plan::for_bytes(&case.settings, 576, 0)?;
-    let tree = case.shape.tree(alloc, bytes.as_slice(), 4)?;
-    let root = Digest::from_bytes(tree.root.as_slice()).ok_or("a root hash")?;
+    let (rule, sha256) = (SaltRule::PaddedBefore, Algorithm::Sha256);
+    let row = (
+        rule,
+        sha256,
+        b"salt".as_slice(),
+        (64, 64),
+        (2, 32),
+        (576, 4),
+    );
+    let case = Case::new(alloc, &row)?;
+    let root = Digest::from_bytes(case.tree.root.as_slice()).ok_or("a root hash")?;
     for (before, (level, block, rest)) in ORDER.iter().enumerate() {
         let failing = (before as u64).saturating_add(1);
-        let mut store = Store::new(alloc, &plan)?;
-        let mut source = MemorySource::new(bytes.as_slice());
-        let mut device = Fused::new(MemoryDevice::new(tree.image(alloc, 0)?), failing);
-        let answer = compare(&plan, &mut store, &mut source, &mut device, &root);
+        let mut store = Store::new(alloc, &case.plan)?;
+        let mut source = MemorySource::new(case.data.as_slice());
+        let mut device = Fused::new(MemoryDevice::new(case.tree.image(alloc, 64)?), failing);
+        let answer = compare(&case.plan, &mut store, &mut source, &mut device, &root);
         let fault = CompareFault::DeviceFailed {
             level: *level,
             block: *block,

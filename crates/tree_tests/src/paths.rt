@@ -26,67 +26,46 @@ enum Change {
     Root,
 }
 
-/// A data block, its path and the root hash.
-#[derive(Drop)]
-struct Checked {
-    block: Vec<u8>,
-    path: Vec<u8>,
-    root: Digest,
-}
-
 /// The block of 512 bytes of this number.
 fn block_of(bytes: &[u8], number: usize) -> &[u8] {
     bytes.chunks(512).nth(number).unwrap_or(&[])
 }
 
-impl Checked {
-    /// A data block and its path in the tree: level 0 begins with block 4 of the image, level 1 with block 2, level 2
-    /// with block 1.
-    fn new(alloc: Global, i: usize) -> Result<Self, Fail> {
-        let data = data(alloc, 131_584)?;
-        let tree = small_tree(alloc, data.as_slice(), 3)?;
-        let image = tree.image(alloc, 512)?;
-        let mut path = Vec::new(alloc);
-        for place in [(i / 16).saturating_add(4), (i / 256).saturating_add(2), 1] {
-            path.extend_from_slice(block_of(image.as_slice(), place))?;
-        }
-        Ok(Checked {
-            block: Vec::from_slice(alloc, block_of(data.as_slice(), i))?,
-            path,
-            root: Digest::from_bytes(tree.root.as_slice()).ok_or("a root hash")?,
-        })
+/// The answer for data block `asked`, if it is given data block `i` with its path and a change. Level 0 of the tree
+/// begins with block 4 of the image, level 1 with block 2, level 2 with block 1.
+fn answer(
+    alloc: Global,
+    i: usize,
+    change: Change,
+    asked: u64,
+) -> Result<Result<(), PathFault>, Fail> {
+    let data = data(alloc, 131_584)?;
+    let tree = small_tree(alloc, data.as_slice(), 3)?;
+    let image = tree.image(alloc, 512)?;
+    let mut path = Vec::new(alloc);
+    for place in [(i / 16).saturating_add(4), (i / 256).saturating_add(2), 1] {
+        path.extend_from_slice(block_of(image.as_slice(), place))?;
     }
-
-    fn change(&mut self, change: Change) -> Result<(), Fail> {
-        match change {
-            Change::Nothing => {}
-            Change::BlockByte(at) => flip(&mut self.block, at),
-            Change::PathByte(at) => flip(&mut self.path, at),
-            Change::BlockCut(length) => self.block.truncate(length),
-            Change::PathCut(length) => self.path.truncate(length),
-            Change::PathMore => self.path.extend_from_slice(&[0; 512])?,
-            Change::Root => self.root = Digest::zeros(Algorithm::Sha256),
-        }
-        Ok(())
+    let mut block = Vec::from_slice(alloc, block_of(data.as_slice(), i))?;
+    let mut root = Digest::from_bytes(tree.root.as_slice()).ok_or("a root hash")?;
+    match change {
+        Change::Nothing => {}
+        Change::BlockByte(at) => flip(&mut block, at),
+        Change::PathByte(at) => flip(&mut path, at),
+        Change::BlockCut(length) => block.truncate(length),
+        Change::PathCut(length) => path.truncate(length),
+        Change::PathMore => path.extend_from_slice(&[0; 512])?,
+        Change::Root => root = Digest::zeros(Algorithm::Sha256),
     }
-
-    fn answer(&self, i: u64) -> Result<Result<(), PathFault>, Fail> {
-        let plan = Plan::for_blocks(&small()?, 257, 1)?;
-        Ok(check_block(
-            &plan,
-            i,
-            self.block.as_slice(),
-            self.path.as_slice(),
-            &self.root,
-        ))
-    }
+    let plan = Plan::for_blocks(&small()?, 257, 1)?;
+    Ok(check_block(&plan, asked, block.as_slice(), path.as_slice(), &root))
 }
 
 #[test]
 fn true_paths_are_accepted(rt: HostRuntime) -> Result<(), Fail> {
     for i in [0, 15, 16, 35, 255, 256] {
-        let checked = Checked::new(rt.alloc(), i)?;
-        assert_eq!(rt; checked.answer(i as u64)?, Ok(()), "at {i}");
+        let answer = answer(rt.alloc(), i, Change::Nothing, i as u64)?;
+        assert_eq!(rt; answer, Ok(()), "at {i}");
     }
     Ok(())
 }
@@ -115,22 +94,9 @@ fn the_lowest_level_that_differs_is_named(rt: HostRuntime) -> Result<(), Fail> {
         (Change::PathCut(1024), 257, PathFault::Index),
     ];
     for (change, i, fault) in cases {
-        let mut checked = Checked::new(rt.alloc(), 35)?;
-        checked.change(change)?;
-        assert_eq!(rt; checked.answer(i)?, Err(fault), "at {change:?}, {i}");
+        let answer = answer(rt.alloc(), 35, change, i)?;
+        assert_eq!(rt; answer, Err(fault), "at {change:?}, {i}");
     }
-    Ok(())
-}
-
-#[test]
-fn a_single_block_has_no_path(rt: HostRuntime) -> Result<(), Fail> {
-    let plan = Plan::for_blocks(&small()?, 1, 1)?;
-    let mut block = data(rt.alloc(), 512)?;
-    let root = Digest::from_bytes(&Sha256::digest(block.as_slice())).ok_or("a root hash")?;
-    assert_eq!(rt; check_block(&plan, 0, block.as_slice(), &[], &root), Ok(()));
-    flip(&mut block, 511);
-    let fault = Err(PathFault::DiffersAt(0));
-    assert_eq!(rt; check_block(&plan, 0, block.as_slice(), &[], &root), fault);
     Ok(())
 }
 

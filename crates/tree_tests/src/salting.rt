@@ -1,0 +1,141 @@
+//! Salted hashes: published vectors, and those of one to eight blocks beside `sha1` and `sha2` over what is hashed for
+//! each.
+use crate::cases::salted_shape;
+use fixtures::{Shape, data};
+use std::alloc::Global;
+use std::test::Fail;
+use verity_hash::{Algorithm, Digest, SaltRule, salted, salted_rows};
+
+/// The message `abc`, as a salt and a block, and its digest.
+type Vector = (
+    Algorithm,
+    SaltRule,
+    &'static [u8],
+    &'static [u8],
+    &'static str,
+);
+
+/// The examples of one block on NIST's page on FIPS 180-4.
+const VECTORS: [Vector; 7] = [
+    (Algorithm::Sha1, SaltRule::Before, b"a", b"bc", SHA1_ABC),
+    (
+        Algorithm::Sha1,
+        SaltRule::PaddedBefore,
+        b"",
+        b"abc",
+        SHA1_ABC,
+    ),
+    (
+        Algorithm::Sha224,
+        SaltRule::Before,
+        b"a",
+        b"bc",
+        "23097d223405d8228642a477bda255b32aadbce4bda0b3f7e36c9da7",
+    ),
+    (Algorithm::Sha256, SaltRule::After, b"c", b"ab", SHA256_ABC),
+    (Algorithm::Sha256, SaltRule::Before, b"a", b"bc", SHA256_ABC),
+    (
+        Algorithm::Sha384,
+        SaltRule::After,
+        b"c",
+        b"ab",
+        "cb00753f45a35e8bb5a03d699ac65007272c32ab0eded1631a8b605a43ff5bed\
+         8086072ba1e7cc2358baeca134c825a7",
+    ),
+    (
+        Algorithm::Sha512,
+        SaltRule::Before,
+        b"ab",
+        b"c",
+        "ddaf35a193617abacc417349ae20413112e6fa4e89a97ea20a9eeee64b55d39a\
+         2192992a274fc1a836ba3c23a3feebbd454d4423643ce80e2a9ac94fa54ca49f",
+    ),
+];
+
+const SHA1_ABC: &str = "a9993e364706816aba3e25717850c26c9cd0d89d";
+
+const SHA256_ABC: &str = "ba7816bf8f01cfea414140de5dae2223b00361a396177a9cb410ff61f20015ad";
+
+#[test]
+fn all_functions_hash(rt: HostRuntime) -> Result<(), Fail> {
+    for (algorithm, rule, salt, block, digits) in VECTORS {
+        let digest = salted(algorithm, rule, salt, block);
+        let text = hex::encode(rt.alloc(), digest.as_bytes())?;
+        assert_eq!(rt; text.as_str(), digits, "at {digits}");
+    }
+    Ok(())
+}
+
+const ALGORITHMS: [Algorithm; 5] = [
+    Algorithm::Sha256,
+    Algorithm::Sha512,
+    Algorithm::Sha1,
+    Algorithm::Sha224,
+    Algorithm::Sha384,
+];
+
+const RULES: [SaltRule; 3] = [SaltRule::Before, SaltRule::After, SaltRule::PaddedBefore];
+
+/// Lengths of salts near multiples of the input block.
+const SALTS: [usize; 10] = [0, 1, 32, 63, 64, 65, 127, 128, 129, 255];
+
+/// Sizes of blocks: none, a few bytes, near the end of the last input block, and usual ones. There is another number of
+/// blocks with each, from one to eight.
+const SIZES: [usize; 12] = [0, 1, 55, 56, 63, 64, 111, 112, 119, 128, 512, 1024];
+
+/// The first of `count` blocks of a size whose salted hash isn't that of the plain list.
+fn wrong_row(
+    alloc: Global,
+    rule: SaltRule,
+    salt: &[u8],
+    shape: &Shape,
+    size: usize,
+    count: usize,
+) -> Result<Option<usize>, Fail> {
+    let rows = data(alloc, size.saturating_mul(count))?;
+    if count == 0 || count > 8 || rows.len() != size.saturating_mul(count) {
+        return Err("one to eight rows".into());
+    }
+    let digests = salted_rows(shape.algorithm, rule, salt, rows.as_slice(), size, count);
+    for (r, digest) in digests.iter().take(count).enumerate() {
+        let from = r.saturating_mul(size);
+        let block = rows.get(from..from.saturating_add(size)).unwrap_or(&[]);
+        let expected = shape.digest(alloc, block)?;
+        if Some(*digest) != Digest::from_bytes(expected.as_slice()) {
+            return Ok(Some(r));
+        }
+    }
+    Ok(None)
+}
+
+/// The first salt and size whose rows have a wrong hash by a function and a rule, with the number of blocks and the
+/// block.
+fn wrong_rows(
+    alloc: Global,
+    algorithm: Algorithm,
+    rule: SaltRule,
+) -> Result<Option<(usize, usize, usize, usize)>, Fail> {
+    let salts = data(alloc, 255)?;
+    for (turn, len) in SALTS.iter().enumerate() {
+        let salt = salts.get(..*len).ok_or("a salt")?;
+        let shape = salted_shape(alloc, algorithm, rule, salt)?;
+        for (i, size) in SIZES.iter().enumerate() {
+            let count = (turn.saturating_add(i) % 8).saturating_add(1);
+            if let Some(r) = wrong_row(alloc, rule, salt, &shape, *size, count)? {
+                return Ok(Some((*len, *size, count, r)));
+            }
+        }
+    }
+    Ok(None)
+}
+
+#[test]
+fn each_of_one_to_eight_blocks_has_its_salted_hash(rt: HostRuntime) -> Result<(), Fail> {
+    for algorithm in ALGORITHMS {
+        for rule in RULES {
+            let wrong = wrong_rows(rt.alloc(), algorithm, rule)?;
+            assert_eq!(rt; wrong, None, "by {algorithm:?}, {rule:?}");
+        }
+    }
+    Ok(())
+}
