@@ -14,12 +14,13 @@ const FAR: u64 = 5_000_000_000;
 const INTERRUPTS: u32 = 1000;
 
 /// A file with a hole at its start: nothing below `first` can be read or written. A call gives or takes `piece` bytes
-/// at most, and goes through after this many interrupts.
+/// at most, and goes through after this many interrupts. No offset above `top` can be reached.
 #[derive(Drop)]
 struct Sparse {
     first: u64,
     bytes: Vec<u8>,
     offset: u64,
+    top: u64,
     piece: usize,
     interrupts: u32,
     interrupted: u32,
@@ -31,6 +32,7 @@ impl Sparse {
             first,
             bytes,
             offset: first,
+            top: u64::MAX,
             piece,
             interrupts,
             interrupted: 0,
@@ -54,7 +56,7 @@ impl Sparse {
 impl Seek for Sparse {
     fn seek(&mut self, to: SeekFrom) -> io::Result<u64> {
         match to {
-            SeekFrom::Start(at) => self.offset = at,
+            SeekFrom::Start(at) if at <= self.top => self.offset = at,
             SeekFrom::End(0) => self.offset = self.first.saturating_add(self.bytes.len() as u64),
             _ => return Err(io::Error::from(ErrorKind::InvalidInput)),
         }
@@ -105,43 +107,34 @@ fn counted(alloc: Global, len: usize) -> Result<Vec<u8>, AllocError> {
 #[test]
 fn long_blocks_stand_at_far_offsets(rt: HostRuntime) -> Result<(), Fail> {
     let alloc = rt.alloc();
-    for piece in [usize::MAX, 70_000, 1_000] {
-        let block = counted(alloc, 70_000)?;
-        assert!(rt; block.len() == 70_000);
+    let block = counted(alloc, 70_000)?;
+    assert!(rt; block.len() == 70_000);
+    for piece in [usize::MAX, 1_000] {
         let mut device = FileDevice::new(Sparse::new(FAR, Vec::new(alloc), piece, 0));
-        assert_eq!(rt;
-            device.write_at(FAR + 100, block.as_slice()),
-            Ok(()),
-            "at {piece}"
-        );
+        assert_eq!(rt; device.write_at(FAR + 100, block.as_slice()), Ok(()));
         let mut stored = vec![in alloc; 7u8; 70_000]?;
-        assert_eq!(rt;
-            device.read_at(FAR + 100, &mut stored),
-            Ok(70_000),
-            "at {piece}"
-        );
+        assert_eq!(rt; device.read_at(FAR + 100, &mut stored), Ok(70_000));
         assert_eq!(rt; stored.as_slice(), block.as_slice(), "at {piece}");
-        assert_eq!(rt; device.read_at(FAR, &mut stored), Ok(70_000), "at {piece}");
-        assert_eq!(rt;
-            stored.get(..100),
-            Some([0u8; 100].as_slice()),
-            "at {piece}"
-        );
-        assert_eq!(rt; stored.get(100..), block.get(..69_900), "at {piece}");
-        assert_eq!(rt;
-            device.read_at(FAR + 100 + 64_999, &mut stored),
-            Ok(5001),
-            "at {piece}"
-        );
+        assert_eq!(rt; device.read_at(FAR + 100 + 64_999, &mut stored), Ok(5001));
         assert_eq!(rt; stored.get(..5001), block.get(64_999..), "at {piece}");
-        assert_eq!(rt;
-            device.read_at(FAR + 70_100, &mut stored),
-            Ok(0),
-            "at {piece}"
-        );
-        assert_eq!(rt; device.read_at(100, &mut stored), Err(Failed), "at {piece}");
-        assert_eq!(rt; device.write_at(100, b"a"), Err(Failed), "at {piece}");
+        assert_eq!(rt; device.read_at(FAR + 70_100, &mut stored), Ok(0));
+        assert_eq!(rt; device.read_at(100, &mut stored), Err(Failed));
+        assert_eq!(rt; device.write_at(100, b"a"), Err(Failed));
     }
+    Ok(())
+}
+
+#[test]
+fn a_refused_offset_lies_past_the_end(rt: HostRuntime) -> Result<(), Fail> {
+    let mut buf = [9u8; 1];
+    let mut file = Sparse::new(0, b"abcd".to_vec(rt.alloc())?, 1, 0);
+    file.top = 2;
+    let mut device = FileDevice::new(file);
+    assert_eq!(rt; device.read_at(2, &mut buf), Ok(1));
+    assert_eq!(rt; device.read_at(3, &mut buf), Err(Failed));
+    assert_eq!(rt; device.read_at(4, &mut buf), Ok(0));
+    assert_eq!(rt; device.read_at(u64::MAX, &mut buf), Ok(0));
+    assert_eq!(rt; device.write_at(4, b"e"), Err(Failed));
     Ok(())
 }
 

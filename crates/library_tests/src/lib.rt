@@ -1,10 +1,8 @@
 //! Tests of the libraries below the programs, except trees: sources and devices over files, the bytes of the formats,
-//! and what both command lines share; and of the runtime in memory that programs are tested over. Expected bytes come
-//! from the formats' public pages, expected digests from `sha2` over stated bytes.
+//! and what both command lines share. Expected bytes come from the formats' public pages, expected digests from `sha2`
+//! over stated bytes.
 #![tactic(auto)]
 
-#[cfg(test)]
-mod devices;
 #[cfg(test)]
 mod file_identity;
 #[cfg(test)]
@@ -13,8 +11,6 @@ mod files;
 mod formats;
 #[cfg(test)]
 mod printing;
-#[cfg(test)]
-mod runtime;
 #[cfg(test)]
 mod syncs;
 #[cfg(test)]

@@ -53,34 +53,22 @@ impl OpenFile for Unsynced {
     }
 }
 
-/// The kinds of errors that say that a file can't be synced.
-const PASSED_OVER: [ErrorKind; 3] = [
-    ErrorKind::ReadOnlyFilesystem,
-    ErrorKind::InvalidInput,
-    ErrorKind::Unsupported,
-];
-
-/// Kinds of a disk's own errors, and two that say little. By the contract every kind but the three is a failure.
-const FAILURES: [ErrorKind; 8] = [
-    ErrorKind::QuotaExceeded,
-    ErrorKind::StorageFull,
-    ErrorKind::FileTooLarge,
-    ErrorKind::StaleNetworkFileHandle,
-    ErrorKind::PermissionDenied,
-    ErrorKind::Interrupted,
-    ErrorKind::Uncategorized,
-    ErrorKind::Other,
+/// Answers of the system, and whether they are passed over: the kinds of errors that say that a file can't be synced
+/// are, and no others.
+const ANSWERS: [(Option<ErrorKind>, bool); 7] = [
+    (None, true),
+    (Some(ErrorKind::ReadOnlyFilesystem), true),
+    (Some(ErrorKind::InvalidInput), true),
+    (Some(ErrorKind::Unsupported), true),
+    (Some(ErrorKind::StorageFull), false),
+    (Some(ErrorKind::Interrupted), false),
+    (Some(ErrorKind::Other), false),
 ];
 
 #[test]
 fn a_refused_sync_is_a_failure(rt: HostRuntime) {
-    assert!(rt; FileDevice::new(Unsynced { error: None }).sync().is_ok());
-    for kind in PASSED_OVER {
-        let device = FileDevice::new(Unsynced { error: Some(kind) });
-        assert!(rt; device.sync().is_ok(), "at {kind:?}");
-    }
-    for kind in FAILURES {
-        let device = FileDevice::new(Unsynced { error: Some(kind) });
-        assert!(rt; device.sync().is_err(), "at {kind:?}");
+    for (error, passed_over) in ANSWERS {
+        let device = FileDevice::new(Unsynced { error });
+        assert_eq!(rt; device.sync().is_ok(), passed_over, "at {error:?}");
     }
 }

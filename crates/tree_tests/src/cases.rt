@@ -1,4 +1,6 @@
 //! Trees to be made, and the same trees made from plain lists of bytes by the kernel's pages.
+ghost use Rattle.std.specs.Prelude.{◌<◌};
+
 use fixtures::{Shape, Tree, data, filled};
 use std::alloc::{AllocError, Global};
 use std::test::Fail;

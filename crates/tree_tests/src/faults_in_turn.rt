@@ -155,7 +155,7 @@ fn closing_order(
 }
 
 /// A run, and what is expected of it.
-#[derive(Clone, Copy, Debug, PartialEq, Eq)]
+#[derive(Clone, Copy)]
 struct Trial {
     /// The calls of the source and of the device that fail, by their numbers; none for 0.
     failing: (usize, usize),
@@ -172,6 +172,7 @@ struct Trial {
 #[derive(Drop)]
 struct Sweep {
     case: Case,
+    blocks: usize,
     root: Digest,
     order: Vec<Closed>,
 }
@@ -182,6 +183,7 @@ impl Sweep {
         let blocks = case.data.len().div_ceil(case.shape.data_block.max(1));
         let levels = case.tree.levels.len();
         Ok(Sweep {
+            blocks,
             root: Digest::from_bytes(case.tree.root.as_slice()).ok_or("a root hash")?,
             order: closing_order(alloc, case.shape.slots, blocks, levels)?,
             case,
@@ -243,14 +245,13 @@ impl Sweep {
     fn trials(&self, alloc: Global, tried: Tried) -> Result<Vec<Trial>, AllocError> {
         let (piece, every) = tried;
         let mut trials = Vec::new(alloc);
-        let (mut i, mut before) = (0usize, 0usize);
-        while self.after(i) > 0 {
+        let mut before = 0usize;
+        for i in 0..self.blocks {
             let held = self.after(i).min(self.case.shape.data_block);
             let reads = held.div_ceil(piece.max(1));
             if i % every.max(1) == 0 {
                 trials.extend_from_slice(&self.at_block(i, piece, before, reads))?;
             }
-            i = i.saturating_add(1);
             before = before.saturating_add(reads);
         }
         for (closed, (level, block, read)) in self.order.iter().enumerate() {
@@ -316,19 +317,18 @@ impl Sweep {
     }
 }
 
-/// The first run that goes wrong, with the number of its row.
-fn first_wrong(
-    alloc: Global,
-    rows: &[Row],
-    sources: &[Tried],
-) -> Result<Option<(usize, Tried, Trial)>, Fail> {
+/// A run that goes wrong: the number of its row, how many bytes its source gives at a time, the calls that fail, and how
+/// many bytes the source has.
+type Wrong = (usize, usize, (usize, usize), usize);
+
+fn first_wrong(alloc: Global, rows: &[Row], sources: &[Tried]) -> Result<Option<Wrong>, Fail> {
     for (number, row) in rows.iter().enumerate() {
         let sweep = Sweep::new(alloc, row)?;
         let mut store = Store::new(alloc, &sweep.case.plan)?;
         for tried in sources {
             for trial in sweep.trials(alloc, *tried)?.iter() {
                 if !sweep.holds(alloc, &mut store, tried.0, trial)? {
-                    return Ok(Some((number, *tried, *trial)));
+                    return Ok(Some((number, tried.0, trial.failing, trial.given)));
                 }
             }
         }
