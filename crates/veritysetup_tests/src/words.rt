@@ -1,6 +1,6 @@
 //! The command lines of veritysetup: what a line holds, and which lines are refused with which text.
 use crate::program_runs::{disk_of, run, said_by};
-use fixtures::{NO_TEXT, words_of};
+use fixtures::{NOT_UTF8, words_of};
 use memory_runtime::MemoryRuntime;
 use std::alloc::{AllocError, Global};
 use std::test::Fail;
@@ -148,7 +148,7 @@ fn refused_words_open_no_file(rt: HostRuntime) -> Result<(), Fail> {
         assert_eq!(rt; said.status, 1, "at {words}");
         assert_eq!(rt; said.msgs.as_slice(), expected.as_bytes(), "at {words}");
     }
-    let (word, shown) = NO_TEXT;
+    let (word, shown) = NOT_UTF8;
     let mut runtime = MemoryRuntime::new(alloc, &disk, "veritysetup format data");
     runtime.last_word = Some(word);
     let said = said_by(alloc, &runtime);
