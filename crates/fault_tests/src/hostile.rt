@@ -23,7 +23,7 @@ fn image_17(alloc: Global) -> Result<Image, AllocError> {
     shape.before = salt.to_vec(alloc)?;
     let tree: Tree = shape.tree(alloc, data.as_slice(), 2)?;
     let front = superblock(1, b"sha256", (512, 512), 17, salt);
-    let area = tree.image(alloc, 0)?;
+    let area = tree.on_device(alloc, 0)?;
     Ok(Image {
         data,
         device: filled(alloc, &[&front, area.as_slice()], 0)?,

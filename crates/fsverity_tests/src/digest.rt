@@ -71,6 +71,6 @@ fn each_option_counts(rt: HostRuntime) -> Result<(), Fail> {
     let digest = Sha512::digest(expected.as_slice());
     assert_eq!(rt; made.descriptor.as_slice(), expected.as_slice());
     assert_eq!(rt; made.digest.as_bytes(), digest.as_slice());
-    assert_eq!(rt; device.bytes(), tree.image(alloc, 0)?.as_slice());
+    assert_eq!(rt; device.bytes(), tree.on_device(alloc, 0)?.as_slice());
     Ok(())
 }

@@ -38,7 +38,7 @@ pub fn expected(alloc: Global) -> Result<(Vec<u8>, Vec<u8>, String), AllocError>
     let made = shape.tree(alloc, bytes.as_slice(), 1)?;
     let text = descriptor(alloc, &[1, 1, 12, 0], 4097, made.root.as_slice(), &[])?;
     let digits = hex::encode(alloc, Sha256::digest(text.as_slice()).as_slice())?;
-    Ok((made.image(alloc, 0)?, text, digits))
+    Ok((made.on_device(alloc, 0)?, text, digits))
 }
 
 /// Command lines that are refused, and how the message begins and ends. The last ends without a value, and the program

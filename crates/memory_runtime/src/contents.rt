@@ -38,8 +38,6 @@ pub struct Contents {
     /// A name, and the number of its file.
     names: Vec<(String, usize)>,
     pub files: Vec<Stored>,
-    /// The names whose opening is refused.
-    pub refused: Vec<String>,
     /// What was opened, a line each.
     pub opened: String,
     /// What was opened, synced and closed again, a line each.
@@ -58,7 +56,6 @@ impl Contents {
         Contents {
             names: Vec::new(alloc),
             files: Vec::new(alloc),
-            refused: Vec::new(alloc),
             opened: String::new(alloc),
             held: String::new(alloc),
             standard_error: Vec::new(alloc),
@@ -113,10 +110,6 @@ impl Contents {
         Ok(())
     }
 
-    fn is_refused(&self, name: &str) -> bool {
-        self.refused.iter().any(|refused| refused.as_str() == name)
-    }
-
     /// Records how a name was opened.
     fn write_down(&mut self, how: &OpenOptions, name: &str) -> Result<(), AllocError> {
         self.opened.push_str(name)?;
@@ -140,7 +133,7 @@ impl Contents {
     /// number.
     pub fn open(&mut self, alloc: Global, how: &OpenOptions, name: &str) -> io::Result<usize> {
         self.write_down(how, name)?;
-        if self.calls.fails(Call::Open) || self.is_refused(name) {
+        if self.calls.fails(Call::Open) {
             return Err(io::Error::from(ErrorKind::PermissionDenied));
         }
         let Some(number) = self.number_of(name) else {

@@ -85,13 +85,6 @@ impl Disk {
         }
     }
 
-    /// Makes each opening of this name fail.
-    pub fn refuse(&self, name: &str) -> io::Result<()> {
-        let name = String::from_str(self.alloc, name)?;
-        self.changed()?.refused.push(name)?;
-        Ok(())
-    }
-
     /// Makes the call of this number fail, counted from 1 over all files.
     pub fn fail(&self, call: Call, number: u64) -> io::Result<()> {
         self.changed()?.calls.set_failing(call, number);
@@ -115,7 +108,7 @@ impl Disk {
         match contents.files.get(number)?.kind {
             Kind::Plain => Some(FileIdentity::Regular { device: 1, inode }),
             Kind::Block => Some(FileIdentity::BlockDevice { number: inode }),
-            Kind::Character | Kind::Pipe | Kind::Folder => None,
+            Kind::Character | Kind::Folder => None,
         }
     }
 
@@ -131,7 +124,7 @@ impl Disk {
         }
     }
 
-    /// What was opened, in order, each in a line such as `hash: read write create`. An opening that was refused counts.
+    /// What was opened, in order, each in a line such as `hash: read write create`. An opening that failed counts.
     pub fn opened(&self) -> io::Result<String> {
         Ok(String::from_str(self.alloc, self.seen()?.opened.as_str())?)
     }

@@ -111,9 +111,6 @@ impl Seek for MemoryFile<'_> {
         let Some(stored) = contents.files.get(self.number) else {
             return refused(ErrorKind::NotFound);
         };
-        if stored.kind == Kind::Pipe {
-            return refused(ErrorKind::NotSeekable);
-        }
         if stored.kind == Kind::Folder && to == SeekFrom::End(0) {
             return Ok(LAST_OFFSET);
         }

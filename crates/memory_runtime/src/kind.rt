@@ -9,8 +9,6 @@ pub enum Kind {
     Block,
     /// A character device, such as the null device.
     Character,
-    /// A pipe, which can't be moved to an offset.
-    Pipe,
     /// A folder, which can be opened for reading but not read.
     Folder,
 }

@@ -32,7 +32,7 @@ fn verdict(alloc: Global, change: Change) -> Result<Verdict, Fail> {
     let mut bytes = data(alloc, 8704)?;
     let tree = small_tree(alloc, bytes.as_slice(), 2)?;
     let root = Digest::from_bytes(tree.root.as_slice()).ok_or("a root hash")?;
-    let mut image = tree.image(alloc, 512)?;
+    let mut image = tree.on_device(alloc, 512)?;
     let (mut source_fails, mut device_fails) = (0, 0);
     match change {
         Change::Nothing => {}

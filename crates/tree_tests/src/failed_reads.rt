@@ -39,7 +39,7 @@ fn each_failing_read_names_its_block(rt: HostRuntime) -> Result<(), Fail> {
         let failing = (before as u64).saturating_add(1);
         let mut store = Store::new(alloc, &case.plan)?;
         let mut source = MemorySource::new(case.data.as_slice());
-        let mut device = Fused::new(MemoryDevice::new(case.tree.image(alloc, 64)?), failing);
+        let mut device = Fused::new(MemoryDevice::new(case.tree.on_device(alloc, 64)?), failing);
         let answer = compare(&case.plan, &mut store, &mut source, &mut device, &root);
         let fault = CompareFault::DeviceFailed {
             level: *level,

@@ -41,7 +41,7 @@ fn answer(
 ) -> Result<Result<(), PathFault>, Fail> {
     let data = data(alloc, 131_584)?;
     let tree = small_tree(alloc, data.as_slice(), 3)?;
-    let image = tree.image(alloc, 512)?;
+    let image = tree.on_device(alloc, 512)?;
     let mut path = Vec::new(alloc);
     for place in [(i / 16).saturating_add(4), (i / 256).saturating_add(2), 1] {
         path.extend_from_slice(block_of(image.as_slice(), place))?;

@@ -99,7 +99,7 @@ fn is_made(alloc: Global, case: &Case) -> Result<bool, Fail> {
         return Ok(false);
     }
     let root = Digest::from_bytes(case.tree.root.as_slice()).ok_or("a root hash")?;
-    let image = case.tree.image(alloc, case.shape.hash_block)?;
+    let image = case.tree.on_device(alloc, case.shape.hash_block)?;
     let mut device = MemoryDevice::new(vec![in alloc; 0u8; case.shape.hash_block]?);
     let mut source = MemorySource::new(bytes);
     let built = build(plan, &mut store, &mut source, &mut device)?;

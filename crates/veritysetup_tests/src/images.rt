@@ -26,7 +26,7 @@ pub fn image_of(
     let mut shape = Shape::new(alloc, Algorithm::Sha256, (size, size), (size / 32, 32));
     shape.before = Vec::from_slice(alloc, salt)?;
     let tree = shape.tree(alloc, data.as_slice(), levels)?;
-    let area = tree.image(alloc, 0)?;
+    let area = tree.on_device(alloc, 0)?;
     Ok(Image {
         data,
         device: filled(alloc, &[front.as_slice(), area.as_slice()], 0)?,
