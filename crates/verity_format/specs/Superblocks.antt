@@ -130,6 +130,6 @@ abbrev pub first_failed : List (Bool × SuperFault) → Option SuperFault
 first_failed [] = None
 first_failed (test ∷ tests) = if test.0 then first_failed tests else Some test.1
 
--- why the bytes say no superblock
+-- why the bytes are no superblock
 abbrev pub superblock_fault : List ℕ → Option SuperFault
 superblock_fault s = first_failed (type_tests s ++ settings_tests s ++ blocks_tests s)

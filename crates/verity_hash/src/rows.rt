@@ -117,7 +117,7 @@ fn after_padded_salt(
 }
 
 /// The salted hashes of `count` blocks of `size` bytes each, one to eight, which stand one after another in `rows`:
-/// each is what `salted` gives for its block. The digests after theirs are meaningless. Those of SHA-2 are computed
+/// each is what `salted` gives for its block. The digests after theirs count for nothing. Those of SHA-2 are computed
 /// side by side, in much less time: any number of them by SHA-224 and SHA-256 takes as long as eight, and by SHA-384
 /// and SHA-512 one to four take half as long as five to eight.
 pub fn salted_rows(

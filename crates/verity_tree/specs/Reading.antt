@@ -26,7 +26,7 @@ pub record FailsWithin (p : Planned) (i : ℕ) (before after : List ℕ) : Type 
   pub to : count < bytes_of p (i + 1)
   pub read : HasRead count before after
 
--- a source of which the data blocks were read with which a hash block closes, and no more
+-- a source that was read up to the data block with which a hash block closes, and no further
 pub record ReadsUpTo (p : Planned) (level block : ℕ) (before after : List ℕ) : Type 0 where
   pub i : ℕ
   pub below : i < p.blocks

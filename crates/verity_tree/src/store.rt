@@ -41,7 +41,7 @@ impl Store {
         self.bytes.len() == plan.store_length()
     }
 
-    /// Lends its bytes. Whoever has them can't ask for more memory.
+    /// Lends its bytes. Through them it can't be made to grow.
     pub(crate) fn lend(&mut self) -> &mut [u8]
         ensures* kept { sem 𝓛 (Lends the_row (Array byte 0) self.entry result (λ _. self.old)) }
         ensures len { length result.now ≡ self.old.length }

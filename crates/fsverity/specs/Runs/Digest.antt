@@ -39,8 +39,8 @@ abbrev pub IsLargeAt : Settings → List (Option (List ℕ)) → ℕ → Type 0
 IsLargeAt s files f =
     (bytes : List ℕ) × (slice_get files f ≡ Some (Some bytes)) × (is_too_large s (length bytes) ≡ true)
 
--- why a run ends at file f: it is absent and nothing before it was, or a count rose; it is there and too large; it was
--- short, which a told file isn't; or memory, a read or the writer failed, which happens only at a file that is there
+-- why a run ends at file f: it is absent and nothing before it was, or a count rose; it is there and too large; it
+-- ended early, as no file does whose bytes are told; or memory, a read or the writer failed, and then the file is there
 -- and not too large. There is no device
 abbrev pub HasReason : Settings → OpenerChange → ℕ → RunFault → Type 0
 HasReason s opener f NotOpened =

@@ -18,7 +18,7 @@ use verity_tree::{HashType, TreeSettings};
 /// What a tree is made by, and where it goes on the hash device.
 #[derive(Clone, Copy)]
 pub struct Parameters {
-    /// Where the salt goes.
+    /// dm-verity's hash type.
     pub hash_type: HashType,
     /// The UUID of the hash area, all zeros without a superblock.
     pub uuid: Uuid,
