@@ -18,8 +18,7 @@ use Rattle.verity_plan.specs.declared.setting_fault.SettingFault.TheVariants.{Da
 -- the first of least, least + 1, .. that passes a test; least + fuel if none before it does
 unfoldable pub least_from : (ℕ → Bool) → ℕ → ℕ → ℕ
 least_from passes least zero = least
-least_from passes least (suc fuel) =
-    elim (passes least) [ true ↦ least | false ↦ least_from passes (suc least) fuel ]
+least_from passes least (suc fuel) = elim (passes least) [ true ↦ least | false ↦ least_from passes (suc least) fuel ]
 
 -- the least number that passes, if one up to most does
 abbrev pub least_up_to : ℕ → (ℕ → Bool) → ℕ
