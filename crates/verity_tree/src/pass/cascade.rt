@@ -9,7 +9,7 @@ ghost use Rattle.verity_tree.specs.Steps.OpenBlocks.{HasOpenBlocks, arrival, lev
 ghost use Rattle.verity_plan.specs.Plans.{Planned, HasBlock, levels_of};
 ghost use Rattle.verity_plan.specs.Settings.{digest_len, fan};
 
-use crate::pass::closed_block::{HashBlockFault, Job, close};
+use crate::pass::closed_block::{HashBlockFault, Job, write_or_compare};
 use verity_hash::Digest;
 use verity_io::Device;
 
@@ -82,7 +82,7 @@ fn step_level<D: Device>(
     if slot + 1 < fan && !next.last {
         return LevelStep::Open;
     }
-    match close(job, level, next.index / fan as u64, bytes, stored, device) {
+    match write_or_compare(job, level, next.index / fan as u64, bytes, stored, device) {
         Ok(()) => {
             let above = plan.hash(bytes);
             bytes.fill(0);

@@ -34,7 +34,7 @@ pub(crate) enum HashBlockFault {
 }
 
 /// Writes a closed hash block, or compares it, by way of a buffer for the stored one, with what stands at its place.
-pub(crate) fn close<D: Device>(
+pub(crate) fn write_or_compare<D: Device>(
     job: &Job,
     level: usize,
     index: u64,

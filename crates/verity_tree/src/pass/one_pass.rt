@@ -53,14 +53,14 @@ pub(crate) fn pass<S: Source, D: Device>(
     let (work, stored) = store.split_at_mut(store.len() - plan.hash_block());
     let job = Job { plan: *plan, task };
     if needs_window(plan) {
-        return pass_over(&job, work, stored, &mut [0; WINDOW], source, device);
+        return pass_with_window(&job, work, stored, &mut [0; WINDOW], source, device);
     }
-    pass_over(&job, work, stored, &mut [], source, device)
+    pass_with_window(&job, work, stored, &mut [], source, device)
 }
 
 /// The pass, with a window into which data blocks that are hashed side by side are read as far as it has room. The open
 /// blocks and the data block are in `work`, and a hash block to compare with in `stored`.
-fn pass_over<S: Source, D: Device>(
+fn pass_with_window<S: Source, D: Device>(
     job: &Job,
     work: &mut [u8],
     stored: &mut [u8],

@@ -26,8 +26,8 @@ pub record OptionTexts : Type 0 where
   pub no_superblock : Bool
   pub same_file : Bool
 
-abbrev pub texts_of : RawOptions → OptionTexts
-texts_of raw = record {
+abbrev pub option_texts : RawOptions → OptionTexts
+option_texts raw = record {
   hash = option_map (λ t. t.now) raw.hash;
   format = option_map (λ t. t.now) raw.format;
   data_block_size = option_map (λ t. t.now) raw.data_block_size;

@@ -1,7 +1,7 @@
 //! The options that are numbers.
 ghost use Rattle.std.specs.Prelude.{◌≡◌, option_map};
 ghost use Rattle.veritysetup.specs.Options.Choices.{numbers};
-ghost use Rattle.veritysetup.specs.Options.OptionTexts.{number_if_given, texts_of};
+ghost use Rattle.veritysetup.specs.Options.OptionTexts.{number_if_given, option_texts};
 
 use crate::options::raw_options::{OptionFault, OptionName, RawOptions};
 use command_line::{DEFAULT_BLOCK_SIZE, number_or, read_number};
@@ -24,7 +24,7 @@ pub struct OptionNumbers {
 impl OptionNumbers {
     /// The numbers, or which option is the first that is no number.
     pub fn read(raw: &RawOptions) -> Result<OptionNumbers, OptionFault>
-        ensures { result ≡ numbers (texts_of raw.now) }
+        ensures { result ≡ numbers (option_texts raw.now) }
     {
         let format = number_or(1, raw.format).ok_or(OptionFault::BadNumber(OptionName::Format))?;
         let data_block = number_or(DEFAULT_BLOCK_SIZE, raw.data_block_size).ok_or(

@@ -1,6 +1,6 @@
 //! What the texts of options choose, before the data is looked at.
 ghost use Rattle.std.specs.Prelude.{◌≡◌, IfOk, option_map};
-ghost use Rattle.veritysetup.specs.Options.OptionTexts.{texts_of, block_size_of, salt_or_random, superblock_uuid};
+ghost use Rattle.veritysetup.specs.Options.OptionTexts.{option_texts, block_size_of, salt_or_random, superblock_uuid};
 ghost use Rattle.veritysetup.specs.Options.OptionTexts.{uuid_or_random};
 ghost use Rattle.verity_plan.specs.Settings.{rule_of};
 ghost use Rattle.veritysetup.specs.Options.Choices.{parameters};
@@ -35,7 +35,7 @@ pub struct Parameters {
 impl Parameters {
     /// What the texts choose, or the first fault.
     pub fn read(raw: &RawOptions, random: Option<&[u8; 48]>) -> Result<Parameters, OptionFault>
-        ensures value { result ≡ parameters (texts_of raw.now) (option_map (λ b. b.now) random.entry) }
+        ensures value { result ≡ parameters (option_texts raw.now) (option_map (λ b. b.now) random.entry) }
         ensures of_type { IfOk result (λ p. p.tree.rule ≡ rule_of p.hash_type) }
     {
         let numbers = OptionNumbers::read(raw)?;

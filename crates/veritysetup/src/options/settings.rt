@@ -4,7 +4,7 @@ ghost use Rattle.std.specs.Prelude.{◌≡◌, option_map};
 ghost use Rattle.veritysetup.specs.Options.VeritySettings.{PartsAgree};
 ghost use Rattle.veritysetup.specs.Options.Choices.{settings_of};
 ghost use Rattle.veritysetup.specs.Runs.HashDevice.{superblock_for};
-ghost use Rattle.veritysetup.specs.Options.OptionTexts.{texts_of};
+ghost use Rattle.veritysetup.specs.Options.OptionTexts.{option_texts};
 
 use crate::options::parameters::Parameters;
 use crate::options::raw_options::{OptionFault, RawOptions};
@@ -122,7 +122,7 @@ pub fn settings_of(
     length: u64,
     random: Option<&[u8; 48]>,
 ) -> Result<Settings, OptionFault>
-    ensures { result ≡ settings_of (texts_of raw.now) length (option_map (λ b. b.now) random.entry) }
+    ensures { result ≡ settings_of (option_texts raw.now) length (option_map (λ b. b.now) random.entry) }
 {
     let parameters = Parameters::read(raw, random)?;
     let whole = length / u64::from(parameters.tree.data_block());

@@ -4,7 +4,7 @@ ghost use Rattle.command_line.specs.Printing.{AppendsFront};
 ghost use Rattle.verity_tree.specs.Levels.{whole_blocks};
 ghost use Rattle.veritysetup.specs.Options.Choices.{settings_of};
 ghost use Rattle.veritysetup.specs.Texts.Messages.{short_text};
-ghost use Rattle.veritysetup.specs.Options.OptionTexts.{texts_of};
+ghost use Rattle.veritysetup.specs.Options.OptionTexts.{option_texts};
 ghost use Rattle.veritysetup.specs.Runs.Outcomes.{text_change};
 ghost use Rattle.veritysetup.specs.Program.CommandRuns.{CommandRun};
 ghost use Rattle.veritysetup.specs.Program.Refusals.{EndsRefused};
@@ -61,7 +61,7 @@ where
     };
     let opened = rt.file_identity(&data_file.file);
     let raw = line.raw(lead_to_one(paths.data, paths.hash, opened, rt.path_identity(paths.hash)));
-    let random = match random_bytes(rt, &raw) {
+    let random = match draw_if_missing(rt, &raw) {
         Ok(random) => random,
         Err(_) => return stop_without_random_bytes(msgs),
     };
@@ -70,7 +70,7 @@ where
 }
 
 /// Random bytes of a generator that the runtime seeds, if salt or UUID is missing.
-fn random_bytes<R: RandomSource>(rt: &R, raw: &RawOptions) -> io::Result<Option<[u8; 48]>> {
+fn draw_if_missing<R: RandomSource>(rt: &R, raw: &RawOptions) -> io::Result<Option<[u8; 48]>> {
     if raw.salt.is_some() && raw.uuid.is_some() {
         return Ok(None);
     }
@@ -92,9 +92,9 @@ where
     O: Write,
     M: Write,
     ensures run { CommandRun result (text_change O.contents M.contents out.old out.new msgs.old msgs.new) }
-    ensures refused { IfErr (settings_of (texts_of options.now.raw) data_file.entry.length options.now.random)
+    ensures refused { IfErr (settings_of (option_texts options.now.raw) data_file.entry.length options.now.random)
         (EndsRefused result (M.contents msgs.old) (M.contents msgs.new)) }
-    ensures unprinted { IfErr (settings_of (texts_of options.now.raw) data_file.entry.length options.now.random)
+    ensures unprinted { IfErr (settings_of (option_texts options.now.raw) data_file.entry.length options.now.random)
         (λ _. out.new ≡ out.old) }
 {
     match settings_of(&options.raw, data_file.length, options.random.as_ref()) {

@@ -2,7 +2,7 @@
 ghost use Rattle.std.specs.Prelude.{◌≡◌, IfErr, None, false};
 ghost use Rattle.std.specs.Io.KnownBytes.{Keeps};
 ghost use Rattle.veritysetup.specs.Options.Choices.{settings_of};
-ghost use Rattle.veritysetup.specs.Options.OptionTexts.{texts_of};
+ghost use Rattle.veritysetup.specs.Options.OptionTexts.{option_texts};
 ghost use Rattle.veritysetup.specs.Program.CommandRuns.{Grows, IsStatus};
 ghost use Rattle.veritysetup.specs.Program.Refusals.{EndsRefused, line_offset};
 
@@ -98,7 +98,7 @@ where
     ensures status { IsStatus result }
     ensures grows { Grows (M.contents msgs.old) (M.contents msgs.new) }
     ensures quiet { result ≡ 0 → Keeps (M.contents msgs.old) (M.contents msgs.new) }
-    ensures refused { IfErr (settings_of (texts_of raw.now) data_file.entry.length None)
+    ensures refused { IfErr (settings_of (option_texts raw.now) data_file.entry.length None)
         (EndsRefused result (M.contents msgs.old) (M.contents msgs.new)) }
 {
     match settings_of(raw, data_file.length, None) {

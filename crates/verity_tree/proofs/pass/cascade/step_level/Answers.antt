@@ -65,7 +65,7 @@ returns-in-Ok-clause-device g c = λ tells below next.
     let before = g.D.Device.content c.args.device.now in
     let size : length c.put_slot.new.block ≡ s.hash_block = c.put_slot.auto.block ∙ c.requires.size in
     Closes-put p c.args.job.now.task c.args.level (c.args.next.now.index / c.fan-fan.result) c.put_slot.new.block before
-    (g.D.Device.content c.close.new.device) c.in-Ok.field-0
+    (g.D.Device.content c.write_or_compare.new.device) c.in-Ok.field-0
     (hash_block-some s (omega (arith, c.fan-fan.ensures.two, c.fan-fan.ensures.value)) c.fan-fan.ensures.fits) size
     (c.in-Ok.ensures.device tells)
     ∙ ap (λ (n : ℕ). put before (byte_of p c.args.level (c.args.next.now.index / n)) c.put_slot.new.block)
@@ -81,7 +81,7 @@ returns-in-Err-clause-device g c = λ tells.
     let p = c.args.job.now.plan in
     subst (λ (n : ℕ). Spoiled (g.D.Device.content c.args.device.now)
     (byte_of p c.args.level (c.args.next.now.index / n))
-    p.settings.hash_block (g.D.Device.content c.close.new.device)) c.fan-fan.ensures.value
+    p.settings.hash_block (g.D.Device.content c.write_or_compare.new.device)) c.fan-fan.ensures.value
     (Closes-spoiled p c.args.job.now.task c.args.level
     (c.args.next.now.index / c.fan-fan.result) c.put_slot.new.block _ _ c.in-Err.fault
     (c.in-Err.ensures.device tells))
@@ -93,7 +93,7 @@ returns-in-Ok-clause-compared g c = λ compare tells.
     let before = g.D.Device.content c.args.device.now in
     let same = Closes-same p c.args.job.now.task c.args.level
     (c.args.next.now.index / c.fan-fan.result) c.put_slot.new.block before
-    (g.D.Device.content c.close.new.device) c.in-Ok.field-0
+    (g.D.Device.content c.write_or_compare.new.device) c.in-Ok.field-0
     compare (c.in-Ok.ensures.device tells) in (
       same.0,
       λ below next.
@@ -113,7 +113,7 @@ returns-in-Err-clause-compared g c = λ compare tells.
     let before = g.D.Device.content c.args.device.now in
     let stop = Closes-fault p c.args.job.now.task c.args.level
     (c.args.next.now.index / c.fan-fan.result) c.put_slot.new.block before
-    (g.D.Device.content c.close.new.device) c.in-Err.fault
+    (g.D.Device.content c.write_or_compare.new.device) c.in-Err.fault
     compare (c.in-Err.ensures.device tells) in (
       stop.0,
       λ below next.

@@ -8,7 +8,7 @@ use Rattle.verity_plan.specs.Plans.{levels_of}
 use Rattle.verity_plan.specs.Settings.{digest_len, fan}
 use Rattle.verity_tree.specs.Verdicts.{NoneDiffers}
 use Rattle.verity_tree.specs.declared.pass.closed_block.Task.TheVariants.{Compare}
-use Rattle.verity_tree.proofs.pass.one_pass.pass_over.Given as goal
+use Rattle.verity_tree.proofs.pass.one_pass.pass_with_window.Given as goal
 
 -- the tree stands as after i data blocks
 abbrev pub invariant-loop-i : goal.invariant-loop-i

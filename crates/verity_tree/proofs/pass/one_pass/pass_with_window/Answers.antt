@@ -14,7 +14,7 @@ use Rattle.verity_plan.specs.Settings.{fan}
 use Rattle.verity_tree.proofs.ReadingAheadLemmas.{read-to, settled}
 use Rattle.std.proofs.lemmas.List.Elements.{All-nil}
 use Rattle.std.proofs.lemmas.List.{length-replicate}
-use Rattle.verity_tree.proofs.pass.one_pass.pass_over.Goals as goal
+use Rattle.verity_tree.proofs.pass.one_pass.pass_with_window.Goals as goal
 
 pub loop-i-init : goal.loop-i-init
 unfolding device_with order
