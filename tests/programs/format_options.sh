@@ -137,7 +137,7 @@ command_lines() {
     command_line 'a help option' --help
     command_line 'a help command' help
     command_line 'help of a command' format --help
-    command_line 'a file name that is no text' format "$data" "$scratch/"$'\xff\xfe'
+    command_line 'a file name that is not UTF-8' format "$data" "$scratch/"$'\xff\xfe'
 }
 
 drawn_values

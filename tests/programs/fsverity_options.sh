@@ -100,8 +100,8 @@ command_lines() {
     command_line 'a short help option' -h
     command_line 'a help command' help
     command_line 'help of a command' digest --help
-    command_line 'a file name that is no text' digest $'\xff\xfe'
-    command_line 'a word that is no text' $'\xff' "$scratch/empty"
+    command_line 'a file name that is not UTF-8' digest $'\xff\xfe'
+    command_line 'a word that is not UTF-8' $'\xff' "$scratch/empty"
     runs 'a file name after two hyphens' 1 '' 'fsverity: cannot open --salt.' "$fsverity" digest -- --salt
 }
 

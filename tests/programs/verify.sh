@@ -201,7 +201,7 @@ command_lines() {
     command_line 'verify: a UUID' verify --uuid "$UUID" "$data" "$image" "$root"
     command_line 'dump: help' dump --help
     command_line 'verify: help' verify -h
-    command_line 'verify: a root hash that is no text' verify "$data" "$image" $'\xff'
+    command_line 'verify: a root hash that is not UTF-8' verify "$data" "$image" $'\xff'
 }
 
 superblocks

@@ -4,7 +4,7 @@ import hashlib
 import struct
 from collections import namedtuple
 
-from reading import USAGE, Outcome, Refused, hexadecimal, is_block_size, not_text, number, read_line
+from reading import USAGE, Outcome, Refused, hexadecimal, is_block_size, not_utf8, number, read_line
 from trees import FS_VERITY, Settings, Tree
 
 # The hash functions and their numbers in a descriptor.
@@ -17,7 +17,7 @@ Way = namedtuple("Way", "name block salt")
 
 def expected(words, scene):
     """The outcome of a run."""
-    message = not_text(words)
+    message = not_utf8(words)
     if message:
         return Outcome(2, b"", message, scene.files)
     line = read_line("fsverity", words)

@@ -65,7 +65,7 @@ class Scene:
         return self.files.get(self.name(path))
 
 
-def not_text(words):
+def not_utf8(words):
     """The message about the first word that isn't UTF-8, or None."""
     for number, word in enumerate(words, 1):
         raw = os.fsencode(word)

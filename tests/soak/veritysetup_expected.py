@@ -4,7 +4,7 @@ import re
 import struct
 from collections import namedtuple
 
-from reading import USAGE, Outcome, Refused, hexadecimal, is_block_size, not_text, number, read_line, uuid, uuid_text
+from reading import USAGE, Outcome, Refused, hexadecimal, is_block_size, not_utf8, number, read_line, uuid, uuid_text
 from trees import MOST_BYTES, Settings, Shape, Tree, put, verdict
 
 SUPERBLOCK_SIZE = 512
@@ -31,7 +31,7 @@ def drawn_by(report):
 
 def expected(words, scene, drawn):
     """The outcome of a run."""
-    message = not_text(words)
+    message = not_utf8(words)
     if message:
         return Outcome(1, b"", message, scene.files)
     line = read_line("veritysetup", words)
