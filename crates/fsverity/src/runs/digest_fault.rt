@@ -3,7 +3,7 @@
 /// Why a file has no digest.
 #[derive(Clone, Copy, Debug, PartialEq, Eq)]
 pub enum DigestFault {
-    /// The file's blocks, or its tree, would have more than 2 to the 63 less one bytes.
+    /// The file's blocks, or its tree, would have more than 2^63 - 1 bytes.
     TooLarge,
     /// The file ended before the end of this block, counted from 0. The last block ends at the size that was stated.
     SourceShort(u64),

@@ -33,7 +33,7 @@ IsHashBlockFault p computed device (Differs part) = (stored_block p device compu
     × (part ≡ part_of p computed.level computed.index
     (stored_block p device computed.level computed.index) computed.bytes)
 
--- the device before and after
+-- the device before and after a closed block is written or compared
 abbrev pub Closes : Planned → Task → ClosedBlock → Result Unit HashBlockFault → List ℕ → List ℕ → Type 0
 Closes p Write closed (Ok _) before after = after ≡ put before (byte_of p closed.level closed.index) closed.bytes
 Closes p Write closed (Err fault) before after =

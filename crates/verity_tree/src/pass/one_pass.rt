@@ -58,8 +58,8 @@ pub(crate) fn pass<S: Source, D: Device>(
     pass_with_window(&job, work, stored, &mut [], source, device)
 }
 
-/// The pass, with a window into which data blocks that are hashed side by side are read as far as it has room. The open
-/// blocks and the data block are in `work`, and a hash block to compare with in `stored`.
+/// The pass, with a window into which data blocks that are hashed side by side are read as far as it has room; into an
+/// empty one none are. The open blocks and the data block are in `work`, and a hash block to compare with in `stored`.
 fn pass_with_window<S: Source, D: Device>(
     job: &Job,
     work: &mut [u8],

@@ -26,6 +26,7 @@ pub record OptionTexts : Type 0 where
   pub no_superblock : Bool
   pub same_file : Bool
 
+-- the texts themselves, without the references to them
 abbrev pub option_texts : RawOptions → OptionTexts
 option_texts raw = record {
   hash = option_map (λ t. t.now) raw.hash;

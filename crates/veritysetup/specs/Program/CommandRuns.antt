@@ -3,7 +3,8 @@ use Rattle.std.specs.Prelude.{◌≡◌, ◌≤◌, ℕ, List, Option}
 use Rattle.std.specs.Io.KnownBytes.{Appends, Keeps}
 use Rattle.veritysetup.specs.Runs.Outcomes.{TextChange}
 
--- 0 done, 1 refused, 2 verification failed, 3 out of memory, 4 a file that can't be opened, read or written
+-- 0 done, 1 refused, 2 verification failed, 3 out of memory, 4 no random bytes, data that ends too soon, output that
+-- can't be written, or a file that can't be opened, read or written
 abbrev pub IsStatus : ℕ → Type 0
 IsStatus status = status ≤ 4
 

@@ -2,7 +2,8 @@
 ghost use Rattle.std.specs.Prelude.{◌≡◌};
 ghost use Rattle.veritysetup.specs.Texts.Messages.{option_name};
 
-/// The texts of the options of format and verify, each `None` if it is not given (veritysetup(8)).
+/// What format, dump and verify are asked for: the texts of the options and the ROOT of verify, each `None` if it is not
+/// given (veritysetup(8)), and whether DATA and HASH are one file.
 #[derive(Clone, Copy)]
 pub struct RawOptions<'a> {
     /// `--hash`: the name of the hash algorithm. By default sha256.
@@ -25,7 +26,7 @@ pub struct RawOptions<'a> {
     pub root: Option<&'a str>,
     /// `--no-superblock`: the hash area is the tree alone.
     pub no_superblock: bool,
-    /// Whether data and hash area are in one file.
+    /// Whether DATA and HASH are one file.
     pub same_file: bool,
 }
 
