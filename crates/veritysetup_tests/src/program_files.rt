@@ -1,6 +1,6 @@
 //! The program over files in memory: which files are opened when, and two names of one file.
 use crate::images::image_17;
-use crate::program_runs::{OPTIONS_17, disk_of, run};
+use crate::program_runs::{OPTIONS_17, differs, disk_of, run};
 use fixtures::{REPORT_17, filled, flip};
 use memory_runtime::{Call, Disk, Kind};
 use std::alloc::Global;
@@ -84,8 +84,16 @@ fn files_are_opened_in_order(rt: HostRuntime) -> Result<(), Fail> {
         let said = run(alloc, &disk, words)?;
         let expected = format!(in alloc; "{NULL_FILES}{opened}")?;
         assert_eq!(rt; disk.opened()?, expected, "at {words}");
-        assert_eq!(rt; said.status, status, "at {words}");
-        assert_eq!(rt; said.msgs.as_slice(), message.as_bytes(), "at {words}");
+        let out = if status == 0 {
+            said.out.as_slice()
+        } else {
+            b""
+        };
+        assert_eq!(rt;
+            differs(&said, status, out, message.as_bytes()),
+            None,
+            "at {words}"
+        );
         let changes = [
             disk.has("hash")?,
             disk.calls(Call::Write)? > 0,
@@ -156,8 +164,7 @@ fn a_folder_is_not_opened_as_a_file(rt: HostRuntime) -> Result<(), Fail> {
         disk.make("hash.img", [0; 8192].to_vec(alloc)?)?;
         let said = run(alloc, &disk, words)?;
         let message = b"Cannot open folder.\n".as_slice();
-        assert_eq!(rt; said.status, 4, "at {words}");
-        assert_eq!(rt; said.msgs.as_slice(), message, "at {words}");
+        assert_eq!(rt; differs(&said, 4, b"", message), None, "at {words}");
         assert!(rt; !disk.has("hash")?, "at {words}");
         assert_eq!(rt; disk.calls(Call::Read)?, 0, "at {words}");
     }
@@ -201,9 +208,8 @@ fn data_is_never_overwritten(rt: HostRuntime) -> Result<(), Fail> {
         let disk = disk_of_two_names(alloc, kind)?;
         let words = format!(in alloc; "format {OPTIONS_17} data {hash}")?;
         let said = run(alloc, &disk, words.as_str())?;
-        assert_eq!(rt; said.status, 1, "at {words}");
         let message = b"Data area and hash area overlap.\n".as_slice();
-        assert_eq!(rt; said.msgs.as_slice(), message, "at {words}");
+        assert_eq!(rt; differs(&said, 1, b"", message), None, "at {words}");
         let opened = format!(in alloc; "{NULL_FILES}data: read\n")?;
         assert_eq!(rt; disk.opened()?, opened, "at {words}");
     }
@@ -226,8 +232,7 @@ fn one_file_holds_data_and_tree(rt: HostRuntime) -> Result<(), Fail> {
         assert_eq!(rt; disk.bytes_of("data")?, both, "at {hash}");
         let words = format!(in alloc; "verify --hash-offset 8704 data {hash} {root}")?;
         let said = run(alloc, &disk, words.as_str())?;
-        assert_eq!(rt; said.status, 0, "at {hash}");
-        assert!(rt; said.msgs.is_empty(), "at {hash}");
+        assert_eq!(rt; differs(&said, 0, b"", b""), None, "at {hash}");
     }
     Ok(())
 }
@@ -244,34 +249,32 @@ fn a_tree_is_dumped_and_verified(rt: HostRuntime) -> Result<(), Fail> {
     disk.make("hash.img", image.device)?;
     disk.make("changed", changed)?;
     let said = run(alloc, &disk, "dump hash.img")?;
-    assert_eq!(rt; said.status, 0);
-    assert_eq!(rt; said.out.as_slice(), REPORT_17.text(alloc)?.as_bytes());
-    for (words, status, message) in [
+    let report = REPORT_17.text(alloc)?;
+    assert_eq!(rt; differs(&said, 0, report.as_bytes(), b""), None);
+    let other_root = format!(in alloc; "Verification failed: root hash is {root}.\n")?;
+    for (files, given, status, message) in [
         // With a superblock no option but the hash offset is looked at.
         (
-            "--hash md5 --salt x --data-blocks 0 data hash.img ROOT",
+            "--hash md5 --salt x --data-blocks 0 data hash.img",
+            root.as_str(),
             0,
             "",
         ),
+        ("data hash.img", zeros.as_str(), 2, other_root.as_str()),
         (
-            "data hash.img ZEROS",
-            2,
-            "Verification failed: root hash is ROOT.\n",
-        ),
-        (
-            "data changed ROOT",
+            "data changed",
+            root.as_str(),
             2,
             "Verification failed: level 0 block 0, child 2.\n",
         ),
     ] {
-        let words = words.replace(alloc, "ROOT", root.as_str())?;
-        let words = words.as_str().replace(alloc, "ZEROS", zeros.as_str())?;
-        let words = format!(in alloc; "verify {words}")?;
-        let message = message.replace(alloc, "ROOT", root.as_str())?;
+        let words = format!(in alloc; "verify {files} {given}")?;
         let said = run(alloc, &disk, words.as_str())?;
-        assert_eq!(rt; said.status, status, "at {words}");
-        assert_eq!(rt; said.msgs.as_slice(), message.as_bytes(), "at {words}");
-        assert!(rt; said.out.is_empty(), "at {words}");
+        assert_eq!(rt;
+            differs(&said, status, b"", message.as_bytes()),
+            None,
+            "at {words}"
+        );
     }
     Ok(())
 }
