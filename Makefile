@@ -90,9 +90,9 @@ help:
 	@echo
 	@echo 'make run             7 minutes     proves and builds fsverity, and prints the digest of a file'
 	@echo 'make programs        11 minutes    proves and builds bin/fsverity and bin/veritysetup [CPU]'
-	@echo 'make test            65 minutes    all tests: gate, the programs as a user runs them, documents, comparisons'
+	@echo 'make test            67 minutes    all tests: gate, the programs as a user runs them, documents, comparisons'
 	@echo 'make check           5 minutes +   all tests but the gate'
-	@echo 'make gate            57 minutes    every proof from nothing, code changes that must be refused, tests of the crates'
+	@echo 'make gate            56 minutes    every proof from nothing, code changes that must be refused, tests of the crates'
 	@echo 'make check-programs  30 seconds +  runs the programs as a user would'
 	@echo 'make out-of-memory   7 minutes +   refuses each request for memory in turn'
 	@echo 'make interop         10 minutes +  compares the programs with those of Debian, over all settings'
