@@ -1,4 +1,4 @@
-# The commands that the README names. They need the Rattle toolchain, with `rt` on the PATH; `make help` lists them.
+# The commands of this project. They need the Rattle toolchain, with `rt` on the PATH; `make help` lists them.
 
 # For which processor programs are built: the one that builds them. CPU=x86-64-v2 makes programs for nearly every x86-64
 # processor.
@@ -13,8 +13,8 @@ SUFFIX = -proved
 SECONDS = 1800
 SEED =
 
-.PHONY: run programs test check gate check-programs out-of-memory interop soak kernel bench reproducible install uninstall \
-    clean help
+.PHONY: run programs test check gate wrong-bodies check-programs out-of-memory interop soak kernel bench reproducible \
+    install uninstall clean help
 
 # Proves and builds the one program that this needs, and prints the digest of a real file.
 run:
@@ -34,10 +34,14 @@ test:
 check: programs
 	tests/all.sh --without-gate
 
-# The gate: every proof from nothing, the changes to the code that the prover must refuse, the tests of the crates, and
+# The gate: every proof from nothing, the wrong bodies that the prover must refuse, the tests of the crates, and
 # the programs' stored runs.
 gate:
 	rt ci
+
+# Tries each wrong body of crates/*/must-fail by itself that shares a file with others; the gate tries the files.
+wrong-bodies:
+	tests/wrong_bodies.sh
 
 # Runs the programs as a user would. Needs no other tool.
 check-programs: programs
@@ -90,9 +94,10 @@ help:
 	@echo
 	@echo 'make run             7 minutes     proves and builds fsverity, and prints the digest of a file'
 	@echo 'make programs        11 minutes    proves and builds bin/fsverity and bin/veritysetup [CPU]'
-	@echo 'make test            67 minutes    all tests: gate, the programs as a user runs them, documents, comparisons'
+	@echo 'make test            50 minutes    all tests: gate, the programs as a user runs them, documents, comparisons'
 	@echo 'make check           5 minutes +   all tests but the gate'
-	@echo 'make gate            56 minutes    every proof from nothing, code changes that must be refused, tests of the crates'
+	@echo 'make gate            40 minutes    every proof from nothing, wrong bodies that must be refused, tests of the crates'
+	@echo 'make wrong-bodies    30 minutes    tries each wrong body by itself that shares a file with others'
 	@echo 'make check-programs  30 seconds +  runs the programs as a user would'
 	@echo 'make out-of-memory   7 minutes +   refuses each request for memory in turn'
 	@echo 'make interop         10 minutes +  compares the programs with those of Debian, over all settings'

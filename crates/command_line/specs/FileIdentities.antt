@@ -12,5 +12,5 @@ identity_of status = if status.is_regular then Some (Regular status.device statu
     else None
 
 -- two paths are equal, or the system says that they lead to one file
-abbrev pub LeadToOne : List ℕ → List ℕ → Option FileIdentity → Option FileIdentity → Type 0
-LeadToOne path other_path opened other = (path ≡ other_path) ⊎ (IsSome opened × (opened ≡ other))
+abbrev pub PathsAreSameFile : List ℕ → List ℕ → Option FileIdentity → Option FileIdentity → Type 0
+PathsAreSameFile path other_path opened other = (path ≡ other_path) ⊎ (IsSome opened × (opened ≡ other))

@@ -16,8 +16,8 @@ escaped_byte byte =
     else codes "\\x" ++ encode_lower (byte ∷ [])
 
 -- the message for the word of this number, which is not UTF-8; the program's name has number 0
-abbrev pub not_utf8_text : ℕ → List ℕ → List ℕ
-not_utf8_text number word = concat
+abbrev pub not_utf8_message : ℕ → List ℕ → List ℕ
+not_utf8_message number word = concat
     (codes "error: argument " ∷ decimal number ∷ codes " is not UTF-8: " ∷ flat_map escaped_byte word ∷ codes "\n" ∷ [])
 
 -- a word that is refused is not UTF-8

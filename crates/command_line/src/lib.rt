@@ -8,7 +8,9 @@ mod printing;
 mod progress;
 mod words;
 
-pub use files::identity::{FileIdentity, FileStatus, Identities, are_one, lead_to_one};
+pub use files::identity::{
+    FileIdentity, FileStatus, Identities, are_same_file, paths_are_same_file,
+};
 pub use files::null_files::{NULL_DEVICE, NullFiles};
 pub use files::opening::{is_folder, open_measured, open_readable, open_writable};
 pub use options::algorithms::algorithm_or_default;

@@ -9,7 +9,7 @@ use Rattle.verity_format.proofs.KnownLemmas.{appends_twice}
 use Rattle.verity_plan.specs.Settings.{Settings}
 use Rattle.fsverity.specs.Texts.Lines.{line}
 use Rattle.fsverity.specs.Openers.Opening.{OpenerChange}
-use Rattle.fsverity.specs.Runs.Digest.{HasReason, IsLargeAt, Run, IsWrittenFront, WritesUpTo, file_line, has_digest, lines, first_without_digest}
+use Rattle.fsverity.specs.Runs.Digest.{HasReason, IsLargeAt, DigestInput, IsWrittenFront, WritesUpTo, file_line, has_digest, lines, first_without_digest}
 use Rattle.fsverity.specs.Runs.DigestSteps.{HasDigestAt, Step, StopsStep, WritesLine, WritesFront, WritesStep}
 use Rattle.fsverity.specs.declared.runs.digest_fault.DigestFault.TheVariants.{TooLarge, SourceShort, SourceFailed, DeviceFailed, Memory}
 use Rattle.fsverity.specs.declared.runs.run_fault.RunFault.{RunFault}
@@ -85,7 +85,7 @@ wrote_nothing step (Err fault) held below err =
     }
 
 -- one more line
-pub line_more : (run : Run) (files : List (Option (List ℕ))) (i : ℕ) (name : List ℕ)
+pub line_more : (run : DigestInput) (files : List (Option (List ℕ))) (i : ℕ) (name : List ℕ)
     (old mid new : Option (List ℕ)) → slice_get run.names i ≡ Some name →
     Appends old mid (lines run.settings run.form (take i (zip run.names files))) →
     WritesLine (record { settings = run.settings; form = run.form; name = name; files = files; index = i }) mid new →
@@ -99,7 +99,7 @@ line_more run files i name old mid new named so_far line =
     so_far line.written)
 
 -- the lines before a file that ends the run, and what is written of its own
-pub front_more : (run : Run) (files : List (Option (List ℕ))) (i : ℕ) (fault : RunFault) (name : List ℕ)
+pub front_more : (run : DigestInput) (files : List (Option (List ℕ))) (i : ℕ) (fault : RunFault) (name : List ℕ)
     (old mid new : Option (List ℕ)) → slice_get run.names i ≡ Some name →
     Appends old mid (lines run.settings run.form (take i (zip run.names files))) →
     WritesFront (record { settings = run.settings; form = run.form; name = name; files = files; index = i }) mid new fault →

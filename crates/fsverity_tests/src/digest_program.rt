@@ -21,14 +21,18 @@ pub fn disk(alloc: Global) -> io::Result<Disk> {
     Ok(disk)
 }
 
-/// Runs the program over a disk with the words of a command line.
-pub fn run(alloc: Global, disk: &Disk, words: &str) -> Said {
-    let memory = MemoryRuntime::new(alloc, disk, words);
+/// Runs the program.
+fn said_by(alloc: Global, runtime: &MemoryRuntime<'_>) -> Said {
     let mut out = Vec::new(alloc);
     let mut msgs = Vec::new(alloc);
-    let progress = ProgressLine::new(&memory);
-    let status = run_program(&memory, &progress, &mut out, &mut msgs);
+    let progress = ProgressLine::new(runtime);
+    let status = run_program(runtime, &progress, &mut out, &mut msgs);
     Said { status, out, msgs }
+}
+
+/// Runs the program over a disk with the words of a command line.
+pub fn run(alloc: Global, disk: &Disk, words: &str) -> Said {
+    said_by(alloc, &MemoryRuntime::new(alloc, disk, words))
 }
 
 /// The tree block, the descriptor and the digits of the digest of the file of 4097 bytes.
@@ -73,9 +77,7 @@ fn refused_lines_open_nothing(rt: HostRuntime) -> Result<(), Fail> {
         let disk = disk(alloc)?;
         let said = run(alloc, &disk, words);
         let text = format!(in alloc; "{start}{end}")?;
-        assert_eq!(rt; said.status, 2, "at {words}");
-        assert!(rt; said.out.is_empty(), "at {words}");
-        assert_eq!(rt; said.msgs.as_slice(), text.as_bytes(), "at {words}");
+        assert_eq!(rt; said.differs(2, b"", text.as_bytes()), None, "at {words}");
         assert_eq!(rt; disk.opened()?.as_str(), "", "at {words}");
         assert!(rt; !disk.has("made")?, "at {words}");
     }
@@ -89,14 +91,9 @@ fn a_word_that_is_no_text_is_refused(rt: HostRuntime) -> Result<(), Fail> {
     let mut memory = MemoryRuntime::new(alloc, &disk, "fsverity digest");
     let (word, shown) = NOT_UTF8;
     memory.last_word = Some(word);
-    let mut out = Vec::new(alloc);
-    let mut msgs = Vec::new(alloc);
-    let progress = ProgressLine::new(&memory);
-    let status = run_program(&memory, &progress, &mut out, &mut msgs);
+    let said = said_by(alloc, &memory);
     let text = format!(in alloc; "error: argument 2 is not UTF-8: {shown}\n")?;
-    assert_eq!(rt; status, 2);
-    assert_eq!(rt; msgs.as_slice(), text.as_bytes());
-    assert!(rt; out.is_empty());
+    assert_eq!(rt; said.differs(2, b"", text.as_bytes()), None);
     assert_eq!(rt; disk.opened()?.as_str(), "");
     Ok(())
 }

@@ -4,30 +4,33 @@ ghost use Rattle.std.specs.Prelude.{◌≡◌, length};
 use crate::digest::{DEFAULTS, EMPTY};
 use crate::digest_program::expected;
 use crate::stating_opener::StatingOpener;
-use fixtures::data;
+use fixtures::{Said, data};
 use fsverity::{
     Form, FusedOpener, MemoryOpener, OUT_OF_MEMORY, Opener, digest_settings, run_digest,
     run_digest_to,
 };
 use std::alloc::Global;
-use std::io::Write;
 use std::test::Fail;
 use verity_tree::{MemoryDevice, MemorySource};
 
-/// Runs digest with no option over some files. The answer is the status and the messages.
-fn run<O: Opener, W: Write>(
-    alloc: Global,
-    names: &[&str],
-    opener: &mut O,
-    out: &mut W,
-) -> Result<(u8, Vec<u8>), Fail>
+/// Runs digest with no option over some files.
+fn run<O: Opener>(alloc: Global, names: &[&str], opener: &mut O) -> Result<Said, Fail>
     requires names { length names.now ≡ O.count opener.old }
     requires first { O.next opener.old ≡ 0 }
 {
     let settings = digest_settings(&DEFAULTS)?;
+    let mut out = Vec::new(alloc);
     let mut msgs = Vec::new(alloc);
-    let status = run_digest(alloc, &settings, Form::Full, names, opener, out, &mut msgs);
-    Ok((status, msgs))
+    let status = run_digest(
+        alloc,
+        &settings,
+        Form::Full,
+        names,
+        opener,
+        &mut out,
+        &mut msgs,
+    );
+    Ok(Said { status, out, msgs })
 }
 
 #[test]
@@ -36,13 +39,10 @@ fn a_missing_file_ends_a_run(rt: HostRuntime) -> Result<(), Fail> {
     let names = ["first", "se cond", "third"];
     let files = [Some(b"".as_slice()), None, Some(b"")];
     let mut opener = MemoryOpener::new(&files);
-    let mut out = Vec::new(alloc);
-    let (status, msgs) = run(alloc, &names, &mut opener, &mut out)?;
+    let said = run(alloc, &names, &mut opener)?;
     let text = b"fsverity: cannot open se cond.\n";
     let line = format!(in alloc; "sha256:{EMPTY} first\n")?;
-    assert_eq!(rt; status, 1);
-    assert_eq!(rt; out.as_slice(), line.as_bytes());
-    assert_eq!(rt; msgs.as_slice(), text.as_slice());
+    assert_eq!(rt; said.differs(1, line.as_bytes(), text.as_slice()), None);
     Ok(())
 }
 
@@ -72,11 +72,8 @@ fn each_fault_of_a_file_has_its_message(rt: HostRuntime) -> Result<(), Fail> {
     for (file, more, text) in cases {
         let files = [file];
         let mut opener = StatingOpener::new(&files, more);
-        let mut out = Vec::new(alloc);
-        let (status, msgs) = run(alloc, &["a b"], &mut opener, &mut out)?;
-        assert_eq!(rt; msgs.as_slice(), text.as_bytes());
-        assert_eq!(rt; status, 1, "at {text}");
-        assert!(rt; out.is_empty(), "at {text}");
+        let said = run(alloc, &["a b"], &mut opener)?;
+        assert_eq!(rt; said.differs(1, b"", text.as_bytes()), None, "at {text}");
     }
     assert_eq!(rt; OUT_OF_MEMORY, "fsverity: out of memory.\n");
     Ok(())
@@ -93,13 +90,10 @@ fn a_failed_read_ends_a_run(rt: HostRuntime) -> Result<(), Fail> {
         Some(bytes.as_slice()),
     ];
     let mut opener = FusedOpener::new(MemoryOpener::new(&files), 2);
-    let mut out = Vec::new(alloc);
-    let (status, msgs) = run(alloc, &names, &mut opener, &mut out)?;
+    let said = run(alloc, &names, &mut opener)?;
     let text = b"fsverity: cannot read block 1: second.\n";
     let line = format!(in alloc; "sha256:{EMPTY} empty\n")?;
-    assert_eq!(rt; status, 1);
-    assert_eq!(rt; out.as_slice(), line.as_bytes());
-    assert_eq!(rt; msgs.as_slice(), text.as_slice());
+    assert_eq!(rt; said.differs(1, line.as_bytes(), text.as_slice()), None);
     Ok(())
 }
 

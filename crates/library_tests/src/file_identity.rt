@@ -1,5 +1,5 @@
 //! What the system says of files: two names of one file are found, and other files are told apart.
-use command_line::{FileIdentity, FileStatus, Identities, are_one};
+use command_line::{FileIdentity, FileStatus, Identities, are_same_file};
 use std::fs::File;
 use std::os::unix::fs::MetadataExt;
 use std::rt::Files;
@@ -21,9 +21,9 @@ fn the_system_tells_files_apart(rt: HostRuntime) -> Result<(), Fail> {
         inode: metadata.ino(),
     };
     assert_eq!(rt; rt.path_identity(PROGRAM), Some(identity));
-    assert!(rt; are_one(opened, rt.path_identity(PROGRAM)));
-    assert!(rt; !are_one(opened, rt.path_identity(EMPTY)));
-    assert!(rt; !are_one(opened, rt.path_identity("/proc/self/no file")));
+    assert!(rt; are_same_file(opened, rt.path_identity(PROGRAM)));
+    assert!(rt; !are_same_file(opened, rt.path_identity(EMPTY)));
+    assert!(rt; !are_same_file(opened, rt.path_identity("/proc/self/no file")));
     assert!(rt; rt.path_identity("/proc/self/no file").is_none());
     assert!(rt; rt.path_identity("/dev/null").is_none());
     assert!(rt; rt.path_identity("/").is_none());
@@ -34,7 +34,7 @@ fn the_system_tells_files_apart(rt: HostRuntime) -> Result<(), Fail> {
 fn an_empty_file_is_a_file(rt: HostRuntime) -> Result<(), Fail> {
     let empty = File::open(&rt, EMPTY)?;
     assert_eq!(rt; rt.metadata(EMPTY)?.len(), 0);
-    assert!(rt; are_one(rt.file_identity(&empty), rt.path_identity(EMPTY)));
+    assert!(rt; are_same_file(rt.file_identity(&empty), rt.path_identity(EMPTY)));
     Ok(())
 }
 

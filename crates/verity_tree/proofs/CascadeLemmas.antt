@@ -8,7 +8,9 @@ use Rattle.std.proofs.Math.Nat.{one-le-pow, pow-suc}
 use Rattle.verity_plan.specs.Settings.{Settings, hash, fan}
 use Rattle.verity_tree.specs.Levels.{blocks_up}
 use Rattle.verity_plan.specs.Plans.{level_count, level_size, place, byte_at, Planned}
-use Rattle.verity_tree.specs.TreeOnDevice.{closing, closes, stored_block, tree_block, device_with}
+use Rattle.verity_tree.specs.ClosingOrder.{closing, closes}
+use Rattle.verity_tree.specs.TreeOnDevice.{stored_block, tree_block, device_with}
+use Rattle.verity_tree.specs.ClosingOrder.{BlockIndex, block_index}
 use Rattle.verity_tree.specs.Steps.Cascade.{EndsBlock, first_closing}
 use Rattle.verity_tree.specs.Steps.OpenBlocks.{digests_under, open_block, open_block_with, IsReached, IsCarrying}
 use Rattle.verity_tree.specs.Steps.OpenBlocks.{IsNext}
@@ -17,7 +19,7 @@ use Rattle.verity_io.specs.Writing.{put}
 use Rattle.verity_tree.specs.Verdicts.{NoneDiffers, HoldsBlockAt}
 use Rattle.verity_tree.proofs.QuotientLemmas.{quotient-below, quotient-next, IsReached-full}
 use Rattle.verity_tree.proofs.OpenBlockSteps.{level_digest-below, level_digest-next, level_digest-root, place-first}
-use Rattle.verity_tree.proofs.OrderSplit.{closing-prefix, closing-all, closes-reached, closes-last, first_closing-more}
+use Rattle.verity_tree.proofs.OrderSplit.{closing-prefix, closes-reached, closes-last, first_closing-more}
 use Rattle.verity_tree.proofs.OrderSplit.{closes-none, device_with-more}
 use Rattle.std.proofs.lemmas.List.Elements.{All-append, All-cons, All-nil}
 
@@ -112,7 +114,7 @@ pub closing-kept : (s : Settings) (blocks : List (List ℕ)) (i m levels count i
     → i < count → m < levels → levels ≡ level_count (fan s) count → last ≡ eqb (i + 1) count → index ≡ i / fan s ^ m
     → count ≡ length blocks
     → IsKept s (arrival index block digest) last after → IsCarrying s blocks (cascade_state i m levels) store digest
-    → closing (fan s) count (i + 1) ≡ first_closing (fan s) i m
+    → closing (fan s) count i ≡ first_closing (fan s) i m
 closing-kept s blocks i m levels count index last block after store digest two below inside all l place many kept h =
     let f = fan s in
     let n = length blocks in
@@ -127,25 +129,24 @@ closing-kept s blocks i m levels count index last block after store digest two b
     let room : i / f ^ m % f + 1 < f = subst (λ (q : ℕ). q % f + 1 < f) place kept.room in
     let reached = h.reached more in
     let top : m ≤ level_count f n = omega (arith, inside, all, ap (level_count f) many) in
-    ap (λ (k : ℕ). closing f k (i + 1)) many
-    ∙ closing-prefix f n i m some top
+    ap (λ (k : ℕ). closing f k i) many
+    ∙ closing-prefix f n i m top
     (λ j low. closes-reached f n i j some (reached-down f i m (j + 1) some reached (omega (arith, low))))
-    (λ j high. closes-none f n i m j some reached room more high)
+    (λ j high within. closes-none f n i m j some reached room more high)
 
 -- all levels close
 pub closing-done : (s : Settings) (blocks : List (List ℕ)) (i levels count : ℕ) (store digest : List ℕ) → 2 ≤ fan s
     → i < count → levels ≡ level_count (fan s) count → count ≡ length blocks
     → IsCarrying s blocks (cascade_state i levels levels) store digest
-    → closing (fan s) count (i + 1) ≡ first_closing (fan s) i levels
+    → closing (fan s) count i ≡ first_closing (fan s) i levels
 closing-done s blocks i levels count store digest two below all many h =
     let f = fan s in
     let n = length blocks in
-    let some : 0 < f = omega arith in
     let top : levels ≡ level_count f n = all ∙ ap (level_count f) many in
     let done = level_digest-root s blocks i levels store digest two (omega (arith, below, many)) top h in
-    ap (λ (k : ℕ). closing f k (i + 1)) many
-    ∙ closing-all f n i some (λ j low. closes-last f n i j done.0)
-    ∙ ap (first_closing f i) (sym top)
+    ap (λ (k : ℕ). closing f k i) many
+    ∙ closing-prefix f n i levels (omega (arith, top)) (λ j low. closes-last f n i j done.0)
+    (λ j high within. absurd (omega (arith, high, within, top)))
 
 -- the block that closes with data block i is one of its level
 pub closing-below : (f count m i : ℕ) → 0 < f → i < count → i / f ^ (m + 1) < level_size f count m
@@ -161,7 +162,7 @@ pub closes-stopped : (s : Settings) (blocks : List (List ℕ)) (i m levels count
     (store digest : List ℕ) → 0 < fan s → i < count
     → last ≡ eqb (i + 1) count → index ≡ i / fan s ^ m → count ≡ length blocks
     → (index % fan s + 1 ≡ fan s) ⊎ (last ≡ true)
-    → IsCarrying s blocks (cascade_state i m levels) store digest → closes (fan s) (length blocks) (i + 1) m ≡ true
+    → IsCarrying s blocks (cascade_state i m levels) store digest → closes (fan s) (length blocks) i m ≡ true
 closes-stopped s blocks i m levels count index last store digest some below l place many ends h =
     let n = length blocks in
     elim ends [
@@ -185,7 +186,7 @@ pub closes-stopped_all : (s : Settings) (blocks : List (List ℕ)) (i m levels c
     → last ≡ eqb (i + 1) count → index ≡ i / fan s ^ m → count ≡ length blocks
     → (index % fan s + 1 ≡ fan s) ⊎ (last ≡ true)
     → IsCarrying s blocks (cascade_state i m levels) store digest → (k : ℕ) → k ≤ m
-    → closes (fan s) (length blocks) (i + 1) k ≡ true
+    → closes (fan s) (length blocks) i k ≡ true
 closes-stopped_all s blocks i m levels count index last store digest some below l place many ends h k le =
     let n = length blocks in
     elim (cases_lt k m) [
@@ -196,7 +197,7 @@ closes-stopped_all s blocks i m levels count index last store digest some below 
       ]
       | inr high ↦
           let same : m ≡ k = omega (arith, high, le) in
-          subst (λ (j : ℕ). closes (fan s) n (i + 1) j ≡ true) same
+          subst (λ (j : ℕ). closes (fan s) n i j ≡ true) same
           (closes-stopped s blocks i m levels count index last store digest some below l place many ends h)
     ]
 
@@ -207,10 +208,10 @@ pub none-differs-more : (p : Planned) (blocks : List (List ℕ)) (i m : ℕ) (de
     (i / fan p.settings ^ (m + 1))
     → NoneDiffers p blocks device (first_closing (fan p.settings) i (m + 1))
 none-differs-more p blocks i m device h here =
-    let pair : ℕ × ℕ = (m, i / fan p.settings ^ (m + 1)) in
+    let at : BlockIndex = block_index m (i / fan p.settings ^ (m + 1)) in
     subst (NoneDiffers p blocks device) (sym (first_closing-more (fan p.settings) i m))
-    (All-append (HoldsBlockAt p blocks device) (first_closing (fan p.settings) i m) (pair ∷ []) h
-    (All-cons (HoldsBlockAt p blocks device) pair [] here (All-nil (HoldsBlockAt p blocks device))))
+    (All-append (HoldsBlockAt p blocks device) (first_closing (fan p.settings) i m) (at ∷ []) h
+    (All-cons (HoldsBlockAt p blocks device) at [] here (All-nil (HoldsBlockAt p blocks device))))
 
 same_last : (i n : ℕ) → eqb (i + 1) n ≡ true → i + 1 ≡ n
 same_last i n is = elim (eqb_tells (i + 1) n) [

@@ -2,7 +2,7 @@
 use Rattle.std.proofs.Common.{◌≡◌, ℕ, ◌+◌, ◌-◌, ◌<◌, ◌≤◌, List, [], ◌++◌, length, take, drop, replicate}
 use Rattle.std.proofs.Common.{arith, sym, ◌∙◌, ap, subst, refl, append_assoc, length-drop, Ok, Err}
 use Rattle.std.proofs.lemmas.List.{append-nil, length-take, take-append-drop, drop-drop}
-use Rattle.verity_tree.specs.Steps.ClosedBlocks.{Closes, IsHashBlockFault, closed_block}
+use Rattle.verity_tree.specs.Steps.ClosedBlocks.{WritesOrCompares, IsHashBlockFault, closed_block}
 use Rattle.verity_plan.specs.Plans.{Planned, byte_of}
 use Rattle.verity_tree.specs.TreeOnDevice.{stored_block}
 use Rattle.verity_io.specs.Writing.{put, Spoiled}
@@ -37,35 +37,35 @@ pub Spoiled-none : (device : List ℕ) (at c : ℕ) → Spoiled device at c devi
 Spoiled-none device at c = record { no_shorter = omega arith; no_longer = omega arith; outside = λ i h. refl }
 
 -- a block that is closed is put at its place, or stands there
-pub Closes-put : (p : Planned) (task : Task) (l j : ℕ) (bytes before after : List ℕ) (done : Unit {0})
+pub WritesOrCompares-put : (p : Planned) (task : Task) (l j : ℕ) (bytes before after : List ℕ) (done : Unit {0})
     → 0 < p.settings.hash_block → length bytes ≡ p.settings.hash_block
-    → Closes p task (closed_block l j bytes) (Ok done) before after → after ≡ put before (byte_of p l j) bytes
-Closes-put p Write l j bytes before after done some size h = h
-Closes-put p Compare l j bytes before after done some size h =
+    → WritesOrCompares p task (closed_block l j bytes) (Ok done) before after → after ≡ put before (byte_of p l j) bytes
+WritesOrCompares-put p Write l j bytes before after done some size h = h
+WritesOrCompares-put p Compare l j bytes before after done some size h =
     h.0 ∙ put-same before bytes (byte_of p l j) p.settings.hash_block some size h.1
 
 -- a block that stops a pass spoils its range at most
-pub Closes-spoiled : (p : Planned) (task : Task) (l j : ℕ) (bytes before after : List ℕ) (fault : HashBlockFault)
-    → Closes p task (closed_block l j bytes) (Err fault) before after
+pub WritesOrCompares-spoiled : (p : Planned) (task : Task) (l j : ℕ) (bytes before after : List ℕ) (fault : HashBlockFault)
+    → WritesOrCompares p task (closed_block l j bytes) (Err fault) before after
     → Spoiled before (byte_of p l j) p.settings.hash_block after
-Closes-spoiled p Write l j bytes before after fault h = h
-Closes-spoiled p Compare l j bytes before after Failed h = subst (Spoiled before (byte_of p l j) p.settings.hash_block)
+WritesOrCompares-spoiled p Write l j bytes before after fault h = h
+WritesOrCompares-spoiled p Compare l j bytes before after Failed h = subst (Spoiled before (byte_of p l j) p.settings.hash_block)
     (sym h) (Spoiled-none before (byte_of p l j) p.settings.hash_block)
-Closes-spoiled p Compare l j bytes before after (Differs part) h =
+WritesOrCompares-spoiled p Compare l j bytes before after (Differs part) h =
     subst (Spoiled before (byte_of p l j) p.settings.hash_block) (sym h.0)
     (Spoiled-none before (byte_of p l j) p.settings.hash_block)
 
 -- a block that is compared and stands there
-pub Closes-same : (p : Planned) (task : Task) (l j : ℕ) (bytes before after : List ℕ) (done : Unit {0}) → task ≡ Compare
-    → Closes p task (closed_block l j bytes) (Ok done) before after → (after ≡ before)
+pub WritesOrCompares-same : (p : Planned) (task : Task) (l j : ℕ) (bytes before after : List ℕ) (done : Unit {0}) → task ≡ Compare
+    → WritesOrCompares p task (closed_block l j bytes) (Ok done) before after → (after ≡ before)
     × (stored_block p before l j ≡ bytes)
-Closes-same p Write l j bytes before after done compare h = cc
-Closes-same p Compare l j bytes before after done compare h = h
+WritesOrCompares-same p Write l j bytes before after done compare h = cc
+WritesOrCompares-same p Compare l j bytes before after done compare h = h
 
 -- a block that is compared and stops the pass
-pub Closes-fault : (p : Planned) (task : Task) (l j : ℕ) (bytes before after : List ℕ) (fault : HashBlockFault) → task ≡ Compare
-    → Closes p task (closed_block l j bytes) (Err fault) before after
+pub WritesOrCompares-fault : (p : Planned) (task : Task) (l j : ℕ) (bytes before after : List ℕ) (fault : HashBlockFault) → task ≡ Compare
+    → WritesOrCompares p task (closed_block l j bytes) (Err fault) before after
     → (after ≡ before) × IsHashBlockFault p (closed_block l j bytes) before fault
-Closes-fault p Write l j bytes before after fault compare h = cc
-Closes-fault p Compare l j bytes before after Failed compare h = (h, tt)
-Closes-fault p Compare l j bytes before after (Differs part) compare h = h
+WritesOrCompares-fault p Write l j bytes before after fault compare h = cc
+WritesOrCompares-fault p Compare l j bytes before after Failed compare h = (h, tt)
+WritesOrCompares-fault p Compare l j bytes before after (Differs part) compare h = h

@@ -14,7 +14,8 @@ use Rattle.verity_plan.specs.Plans.{Planned, IsPlanned}
 use Rattle.verity_plan.specs.Settings.{fan}
 use Rattle.verity_plan.proofs.CountLemmas.{le-div_ceil}
 use Rattle.verity_plan.proofs.FanLemmas.{fan-some, some_data}
-use Rattle.verity_tree.specs.TreeOnDevice.{order, times, tree_block, HoldsTree, stored_block}
+use Rattle.verity_tree.specs.ClosingOrder.{BlockIndex, block_index, order, times}
+use Rattle.verity_tree.specs.TreeOnDevice.{tree_block, HoldsTree, stored_block}
 use Rattle.verity_tree.specs.Levels.{root, data_blocks, whole_blocks}
 use Rattle.verity_tree.specs.Verdicts.{NoneDiffers, HoldsBlockAt, differs, verdict_by, verdict}
 use Rattle.verity_tree.specs.declared.comparing.CompareFault.{CompareFault}
@@ -22,66 +23,73 @@ use Rattle.verity_tree.proofs.DataBlockLemmas.{whole_blocks-all}
 use Rattle.verity_tree.proofs.JudgeLemmas.{judges-right}
 use Rattle.verity_tree.proofs.OrderLemmas.{ClosesOnce-all}
 
--- one more pair among those that are counted
-times-more : (l j : ℕ) (pair : ℕ × ℕ) (pairs : List (ℕ × ℕ))
-    → times l j (pair ∷ pairs) ≡ cond ((pair.0 == l) && (pair.1 == j)) 1 0 + times l j pairs
-times-more l j pair pairs = sum_by-cons (λ (p : ℕ × ℕ). cond ((p.0 == l) && (p.1 == j)) 1 0) pair pairs
+-- one more block among those that are counted
+times-more : (l j : ℕ) (at : BlockIndex) (hash_blocks : List BlockIndex)
+    → times l j (at ∷ hash_blocks) ≡ cond ((at.level == l) && (at.index == j)) 1 0 + times l j hash_blocks
+times-more l j at hash_blocks =
+    sum_by-cons (λ (b : BlockIndex). cond ((b.level == l) && (b.index == j)) 1 0) at hash_blocks
 
--- a pair that is counted is the first, or counted among the rest
-times-cases : (l j : ℕ) (pair : ℕ × ℕ) (pairs : List (ℕ × ℕ)) → 0 < times l j (pair ∷ pairs)
-    → ((pair.0 ≡ l) × (pair.1 ≡ j)) ⊎ (0 < times l j pairs)
-times-cases l j pair pairs some =
-    let skip : (pair.0 == l) && (pair.1 == j) ≡ false → 0 < times l j pairs = λ miss.
-    let fewer : times l j (pair ∷ pairs) ≡ 0 + times l j pairs =
-    times-more l j pair pairs ∙ ap (λ (b : Bool). cond b 1 0 + times l j pairs) miss in omega (arith, some, fewer) in
-    elim (eqb_tells pair.0 l) [
-      | inl left ↦ elim (eqb_tells pair.1 j) [
+-- a block that is counted is the first, or counted among the rest
+times-cases : (l j : ℕ) (at : BlockIndex) (hash_blocks : List BlockIndex) → 0 < times l j (at ∷ hash_blocks)
+    → ((at.level ≡ l) × (at.index ≡ j)) ⊎ (0 < times l j hash_blocks)
+times-cases l j at hash_blocks some =
+    let skip : (at.level == l) && (at.index == j) ≡ false → 0 < times l j hash_blocks = λ miss.
+    let fewer : times l j (at ∷ hash_blocks) ≡ 0 + times l j hash_blocks =
+    times-more l j at hash_blocks ∙ ap (λ (b : Bool). cond b 1 0 + times l j hash_blocks) miss in
+    omega (arith, some, fewer) in
+    elim (eqb_tells at.level l) [
+      | inl left ↦ elim (eqb_tells at.index j) [
         | inl right ↦ inl (left.1, right.1)
-        | inr other ↦ inr (skip (ap (λ (b : Bool). b && (pair.1 == j)) left.0 ∙ other.0))
+        | inr other ↦ inr (skip (ap (λ (b : Bool). b && (at.index == j)) left.0 ∙ other.0))
       ]
-      | inr other ↦ inr (skip (ap (λ (b : Bool). b && (pair.1 == j)) other.0))
+      | inr other ↦ inr (skip (ap (λ (b : Bool). b && (at.index == j)) other.0))
     ]
 
--- a pair that is counted among pairs of which none passes a test doesn't pass it
-times-none : (test : ℕ × ℕ → Bool) (l j : ℕ) (pairs : List (ℕ × ℕ)) → find test pairs ≡ None → 0 < times l j pairs
-    → test (l, j) ≡ false
+-- a block that is counted among blocks of which none passes a test doesn't pass it
+times-none : (test : BlockIndex → Bool) (l j : ℕ) (hash_blocks : List BlockIndex) → find test hash_blocks ≡ None
+    → 0 < times l j hash_blocks
+    → test (block_index l j) ≡ false
 times-none test l j [] none some = absurd (omega (arith, some))
-times-none test l j (pair ∷ pairs) none some = go (test pair) refl (times-none test l j pairs)
+times-none test l j (at ∷ hash_blocks) none some = go (test at) refl (times-none test l j hash_blocks)
   where
-    go : (b : Bool) → test pair ≡ b
-        → (find test pairs ≡ None → 0 < times l j pairs → test (l, j) ≡ false)
-        → test (l, j) ≡ false
+    go : (b : Bool) → test at ≡ b
+        → (find test hash_blocks ≡ None → 0 < times l j hash_blocks → test (block_index l j) ≡ false)
+        → test (block_index l j) ≡ false
     go true does rest =
-        let found : find test (pair ∷ pairs) ≡ Some pair =
-        ap (λ (b : Bool). cond b (Some pair) (find test pairs)) does in
-        absurd (none-some pair (sym none ∙ found))
+        let found : find test (at ∷ hash_blocks) ≡ Some at =
+        ap (λ (b : Bool). cond b (Some at) (find test hash_blocks)) does in
+        absurd (none-some at (sym none ∙ found))
     go false fails rest =
-        let passed : find test (pair ∷ pairs) ≡ find test pairs =
-        ap (λ (b : Bool). cond b (Some pair) (find test pairs)) fails in
-        elim (times-cases l j pair pairs some) [
-          | inl here ↦ ap (λ (k : ℕ). test (k, j)) (sym here.0) ∙ ap (λ (k : ℕ). test (pair.0, k)) (sym here.1) ∙ fails
+        let passed : find test (at ∷ hash_blocks) ≡ find test hash_blocks =
+        ap (λ (b : Bool). cond b (Some at) (find test hash_blocks)) fails in
+        elim (times-cases l j at hash_blocks some) [
+          | inl here ↦
+              ap (λ (k : ℕ). test (block_index k j)) (sym here.0)
+              ∙ ap (λ (k : ℕ). test (block_index at.level k)) (sym here.1)
+              ∙ fails
           | inr later ↦ rest (sym passed ∙ none) later
         ]
 
--- a pair is counted among pairs of which it is the first
-times-first : (pair : ℕ × ℕ) (pairs : List (ℕ × ℕ)) → 0 < times pair.0 pair.1 (pair ∷ pairs)
-times-first pair pairs =
-    let a : eqb pair.0 pair.0 ≡ true = grind (arith, nat_tests) in
-    let b : eqb pair.1 pair.1 ≡ true = grind (arith, nat_tests) in
-    let count : times pair.0 pair.1 (pair ∷ pairs) ≡ 1 + times pair.0 pair.1 pairs =
-    times-more pair.0 pair.1 pair pairs
-    ∙ ap (λ (b : Bool). cond (b && (pair.1 == pair.1)) 1 0 + times pair.0 pair.1 pairs) a
-    ∙ ap (λ (b : Bool). cond b 1 0 + times pair.0 pair.1 pairs) b in
+-- a block is counted among blocks of which it is the first
+times-first : (at : BlockIndex) (hash_blocks : List BlockIndex) → 0 < times at.level at.index (at ∷ hash_blocks)
+times-first at hash_blocks =
+    let a : eqb at.level at.level ≡ true = grind (arith, nat_tests) in
+    let b : eqb at.index at.index ≡ true = grind (arith, nat_tests) in
+    let count : times at.level at.index (at ∷ hash_blocks) ≡ 1 + times at.level at.index hash_blocks =
+    times-more at.level at.index at hash_blocks
+    ∙ ap (λ (b : Bool). cond (b && (at.index == at.index)) 1 0 + times at.level at.index hash_blocks) a
+    ∙ ap (λ (b : Bool). cond b 1 0 + times at.level at.index hash_blocks) b in
     omega (arith, count)
 
--- pairs that all stand there, each that is counted
-stands-counted : (p : Planned) (blocks : List (List ℕ)) (device : List ℕ) (pairs : List (ℕ × ℕ))
-    → ((l j : ℕ) → 0 < times l j pairs → HoldsBlockAt p blocks device (l, j))
-    → NoneDiffers p blocks device pairs
+-- blocks that all stand there, each that is counted
+stands-counted : (p : Planned) (blocks : List (List ℕ)) (device : List ℕ) (hash_blocks : List BlockIndex)
+    → ((l j : ℕ) → 0 < times l j hash_blocks → HoldsBlockAt p blocks device (block_index l j))
+    → NoneDiffers p blocks device hash_blocks
 stands-counted p blocks device [] each = All-nil (HoldsBlockAt p blocks device)
-stands-counted p blocks device (pair ∷ pairs) each =
-    All-cons (HoldsBlockAt p blocks device) pair pairs (each pair.0 pair.1 (times-first pair pairs))
-    (stands-counted p blocks device pairs (λ l j some. each l j (omega (arith, some, times-more l j pair pairs))))
+stands-counted p blocks device (at ∷ hash_blocks) each =
+    All-cons (HoldsBlockAt p blocks device) at hash_blocks (each at.level at.index (times-first at hash_blocks))
+    (stands-counted p blocks device hash_blocks
+    (λ l j some. each l j (omega (arith, some, times-more l j at hash_blocks))))
 
 -- data of which no block is short holds all that is wanted
 whole-enough : (p : Planned) → IsPlanned p → (bytes : List ℕ) → p.blocks ≤ whole_blocks p bytes → p.wanted ≤ length bytes
@@ -119,10 +127,10 @@ tests-right false true x y right = (refl, refl)
 tests-right false false x y right = cc
 
 -- a verdict that all is right: nothing differs, no block is missing, and the root hash is the tree's
-all-right : (p : Planned) (device bytes digest : List ℕ) (met : Option (ℕ × ℕ))
+all-right : (p : Planned) (device bytes digest : List ℕ) (met : Option BlockIndex)
     → verdict_by p device bytes met digest ≡ Ok tt
     → (met ≡ None) × (p.blocks ≤ whole_blocks p bytes) × (root p.settings (data_blocks p bytes) ≡ digest)
-all-right p device bytes digest (Some pair) right = cc
+all-right p device bytes digest (Some at) right = cc
 all-right p device bytes digest None right =
     let tests = tests-right (nat_lt (whole_blocks p bytes) p.blocks) (bytes_eq (root p.settings (data_blocks p bytes)) digest)
     _ _ right in
@@ -137,11 +145,11 @@ not-false true e = refl
 not-false false e = cc
 
 -- a block that doesn't differ stands there
-same-stands : (p : Planned) (blocks : List (List ℕ)) (device : List ℕ) (pair : ℕ × ℕ)
-    → differs p blocks device pair ≡ false
-    → HoldsBlockAt p blocks device pair
-same-stands p blocks device pair same =
-    (bytes_eq-Decides (stored_block p device pair.0 pair.1) (tree_block p.settings blocks pair.0 pair.1)).0
+same-stands : (p : Planned) (blocks : List (List ℕ)) (device : List ℕ) (at : BlockIndex)
+    → differs p blocks device at ≡ false
+    → HoldsBlockAt p blocks device at
+same-stands p blocks device at same =
+    (bytes_eq-Decides (stored_block p device at.level at.index) (tree_block p.settings blocks at.level at.index)).0
     (not-false _ same)
 
 -- a device with this verdict holds the tree, if the data is long enough
@@ -158,7 +166,7 @@ right-holds_enough p device bytes digest enough right =
     record {
       enough = enough;
       stands = λ l j here.
-          same-stands p blocks device (l, j)
+          same-stands p blocks device (block_index l j)
           (times-none (differs p blocks device) l j (order f p.blocks p.blocks) none
           (let one = (ClosesOnce-all f p.blocks (fan-some p.settings)).once l j here in omega (arith, one)));
       root_is = tests.2;

@@ -8,7 +8,8 @@ use Rattle.std.specs.Prelude.{find, not, nat_lt, Some, None, Option}
 use Rattle.std.proofs.lemmas.Bool.{not-true}
 use Rattle.std.specs.Str.{bytes_eq}
 use Rattle.verity_tree.specs.Reading.{EndsWithin}
-use Rattle.verity_tree.specs.TreeOnDevice.{order, tree_block, stored_block}
+use Rattle.verity_tree.specs.ClosingOrder.{BlockIndex, block_index, order}
+use Rattle.verity_tree.specs.TreeOnDevice.{tree_block, stored_block}
 use Rattle.verity_tree.specs.Comparing.{ComesTo, Judges}
 use Rattle.verity_tree.specs.Steps.OnePass.{fault_by, fault_of, StopsFor}
 use Rattle.verity_tree.specs.Levels.{root, data_blocks, whole_blocks}
@@ -26,30 +27,31 @@ use Rattle.verity_tree.proofs.OrderSplit.{order-prefix}
 use Rattle.verity_tree.proofs.DataBlockLemmas.{whole_blocks-above, whole_blocks-all}
 
 -- a block that stands there does not differ
-stands-same : (p : Planned) (blocks : List (List ℕ)) (device : List ℕ) (pair : ℕ × ℕ) → HoldsBlockAt p blocks device pair
-    → differs p blocks device pair ≡ false
-stands-same p blocks device pair h =
-    let same = (bytes_eq-Decides (stored_block p device pair.0 pair.1) (tree_block p.settings blocks pair.0 pair.1)).1 h
-    in
+stands-same : (p : Planned) (blocks : List (List ℕ)) (device : List ℕ) (at : BlockIndex)
+    → HoldsBlockAt p blocks device at
+    → differs p blocks device at ≡ false
+stands-same p blocks device at h =
+    let same =
+    (bytes_eq-Decides (stored_block p device at.level at.index) (tree_block p.settings blocks at.level at.index)).1 h in
     ap not same
 
 -- no first one that differs among blocks that stand there
-find-none : (p : Planned) (blocks : List (List ℕ)) (device : List ℕ) (pairs : List (ℕ × ℕ))
-    → NoneDiffers p blocks device pairs
-    → find (differs p blocks device) pairs ≡ None
+find-none : (p : Planned) (blocks : List (List ℕ)) (device : List ℕ) (hash_blocks : List BlockIndex)
+    → NoneDiffers p blocks device hash_blocks
+    → find (differs p blocks device) hash_blocks ≡ None
 find-none p blocks device [] h = refl
-find-none p blocks device (pair ∷ pairs) h =
-    let stands = stands-same p blocks device pair (All-head (HoldsBlockAt p blocks device) pair pairs h) in
-    rw stands (find-none p blocks device pairs (All-tail (HoldsBlockAt p blocks device) pair pairs h))
+find-none p blocks device (at ∷ hash_blocks) h =
+    let stands = stands-same p blocks device at (All-head (HoldsBlockAt p blocks device) at hash_blocks h) in
+    rw stands (find-none p blocks device hash_blocks (All-tail (HoldsBlockAt p blocks device) at hash_blocks h))
 
 -- the first one that differs comes after blocks that stand there
-find-first : (p : Planned) (blocks : List (List ℕ)) (device : List ℕ) (front rest : List (ℕ × ℕ)) (pair : ℕ × ℕ)
+find-first : (p : Planned) (blocks : List (List ℕ)) (device : List ℕ) (front rest : List BlockIndex) (at : BlockIndex)
     → NoneDiffers p blocks device front
-    → differs p blocks device pair ≡ true → find (differs p blocks device) (front ++ (pair ∷ rest)) ≡ Some pair
-find-first p blocks device [] rest pair h here = rw here refl
-find-first p blocks device (first ∷ front) rest pair h here =
+    → differs p blocks device at ≡ true → find (differs p blocks device) (front ++ (at ∷ rest)) ≡ Some at
+find-first p blocks device [] rest at h here = rw here refl
+find-first p blocks device (first ∷ front) rest at h here =
     let stands = stands-same p blocks device first (All-head (HoldsBlockAt p blocks device) first front h) in
-    rw stands (find-first p blocks device front rest pair (All-tail (HoldsBlockAt p blocks device) first front h) here)
+    rw stands (find-first p blocks device front rest at (All-tail (HoldsBlockAt p blocks device) first front h) here)
 
 -- bytes that are another's are not equal
 bytes-differ : (xs ys : List ℕ) → xs ≢ ys → not (bytes_eq xs ys) ≡ true
@@ -68,7 +70,7 @@ verdict_by-whole p device bytes digest enough none =
     ap (λ (m : ℕ). verdict_by p device bytes
     (find (differs p blocks device) (order (fan p.settings) p.blocks m)) digest)
     (whole_blocks-all p bytes enough)
-    ∙ ap (λ (met : Option (ℕ × ℕ)). verdict_by p device bytes met digest)
+    ∙ ap (λ (met : Option BlockIndex). verdict_by p device bytes met digest)
     (find-none p blocks device (order (fan p.settings) p.blocks p.blocks) none)
 
 -- if the root is the computed one, all is right
@@ -107,7 +109,7 @@ judges-short p device bytes after digest i ends none =
     ap (λ (m : ℕ). verdict_by p device bytes
     (find (differs p blocks device) (order (fan p.settings) p.blocks m)) digest)
     (sym ends.whole_is)
-    ∙ ap (λ (met : Option (ℕ × ℕ)). verdict_by p device bytes met digest)
+    ∙ ap (λ (met : Option BlockIndex). verdict_by p device bytes met digest)
     (find-none p blocks device (order (fan p.settings) p.blocks i) none)
     ∙ short
     ∙ ap (λ (m : ℕ). Err (SourceShort m)) (sym ends.whole_is)
@@ -127,18 +129,18 @@ judges-differs p planned device bytes digest stop part stops other is =
     whole_blocks-above p planned (stops.i + 1) bytes (omega (arith, stops.below)) stops.enough in
     let after = order-prefix f p.blocks (stops.i + 1) (m - (stops.i + 1)) in
     let e : m ≡ stops.i + 1 + (m - (stops.i + 1)) = omega arith in
-    let pair : ℕ × ℕ = (stop.level, stop.index) in
-    let split : order f p.blocks m ≡ stops.done ++ (pair ∷ (stops.next.rest ++ after.0)) =
-    ap (order f p.blocks) e ∙ after.1 ∙ ap (λ (ps : List (ℕ × ℕ)). ps ++ after.0) stops.next.in_order
+    let at : BlockIndex = block_index stop.level stop.index in
+    let split : order f p.blocks m ≡ stops.done ++ (at ∷ (stops.next.rest ++ after.0)) =
+    ap (order f p.blocks) e ∙ after.1 ∙ ap (λ (ps : List BlockIndex). ps ++ after.0) stops.next.in_order
     ∙ simp append_assoc in
-    ap (λ (ps : List (ℕ × ℕ)). verdict_by p device bytes (find (differs p blocks device) ps) digest) split
-    ∙ ap (λ (met : Option (ℕ × ℕ)). verdict_by p device bytes met digest)
-    (find-first p blocks device stops.done (stops.next.rest ++ after.0) pair stops.same (bytes-differ _ _ other))
+    ap (λ (ps : List BlockIndex). verdict_by p device bytes (find (differs p blocks device) ps) digest) split
+    ∙ ap (λ (met : Option BlockIndex). verdict_by p device bytes met digest)
+    (find-first p blocks device stops.done (stops.next.rest ++ after.0) at stops.same (bytes-differ _ _ other))
     ∙ ap (λ (q : Part). Err (F.Differs stop.level stop.index q)) (sym is)
 
 -- a failure at a block comes only if nothing before it differs
 comes-to : (p : Planned) (device bytes : List ℕ) (stop : Stop) → StopsFor p bytes device stop
-    → ComesTo p device bytes (stop.level, stop.index)
+    → ComesTo p device bytes (block_index stop.level stop.index)
 comes-to p device bytes stop stops =
     let f = fan p.settings in
     let after = order-prefix f p.blocks (stops.i + 1) (p.blocks - (stops.i + 1)) in
@@ -147,7 +149,7 @@ comes-to p device bytes stop stops =
       done = stops.done;
       next = record {
         rest = stops.next.rest ++ after.0;
-        in_order = ap (order f p.blocks) e ∙ after.1 ∙ ap (λ (ps : List (ℕ × ℕ)). ps ++ after.0) stops.next.in_order
+        in_order = ap (order f p.blocks) e ∙ after.1 ∙ ap (λ (ps : List BlockIndex). ps ++ after.0) stops.next.in_order
             ∙ simp append_assoc;
       };
       same = stops.same;

@@ -11,7 +11,9 @@ use Rattle.std.specs.Prelude.{Contains}
 use Rattle.verity_plan.proofs.CountLemmas.{mul_le}
 use Rattle.verity_plan.specs.Settings.{Settings, fan}
 use Rattle.verity_tree.specs.Levels.{hash_block_of, data_blocks}
-use Rattle.verity_tree.specs.TreeOnDevice.{closing, order, tree_block, device_with, tree_on_device_after, StopsAt}
+use Rattle.verity_tree.specs.ClosingOrder.{closing, order}
+use Rattle.verity_tree.specs.TreeOnDevice.{tree_block, device_with, tree_on_device_after, StopsAt}
+use Rattle.verity_tree.specs.ClosingOrder.{BlockIndex, block_index}
 use Rattle.verity_io.specs.Writing.{Spoiled}
 use Rattle.verity_tree.proofs.OrderSplit.{closing-front, order-front, order-more, device_with-append, device_with-order}
 use Rattle.verity_tree.specs.Reading.{ReadsUpTo, bytes_of}
@@ -65,16 +67,15 @@ HasOpenBlocks-after s blocks levels i a k store new place within h = λ l from t
     ∙ h l from to
 
 -- a data block that stopped at a level
-pub image-stopped : (p : Planned) (blocks : List (List ℕ)) (i l j : ℕ) (start device new : List ℕ) → 0 < fan p.settings
-    → i < p.blocks
+pub image-stopped : (p : Planned) (blocks : List (List ℕ)) (i l j : ℕ) (start device new : List ℕ) → i < p.blocks
     → ClosesWith p i l j → device ≡ tree_on_device_after p blocks i start
     → Spoiled (device_with p.settings blocks p.base (first_closing (fan p.settings) i l) device)
     (byte_of p l j) p.settings.hash_block new
-    → StopsAt p blocks (l, j) start new
-image-stopped p blocks i l j start device new some below with_it so_far h =
+    → StopsAt p blocks (block_index l j) start new
+image-stopped p blocks i l j start device new below with_it so_far h =
     let f = fan p.settings in
-    let front = order-front f p.blocks i l some below with_it.level_below with_it.all in
-    let pair : (l, i / f ^ (l + 1)) ≡ (l, j) = ap (λ (k : ℕ). (l, k)) (sym with_it.block_is) in
+    let front = order-front f p.blocks i l below with_it.level_below with_it.all in
+    let same : block_index l (i / f ^ (l + 1)) ≡ block_index l j = ap (block_index l) (sym with_it.block_is) in
     let e : device_with p.settings blocks p.base (first_closing f i l) device ≡ device_with p.settings blocks p.base
     (order f p.blocks i ++ first_closing f i l) start =
     ap (device_with p.settings blocks p.base (first_closing f i l)) so_far
@@ -83,65 +84,65 @@ image-stopped p blocks i l j start device new some below with_it so_far h =
       done = order f p.blocks i ++ first_closing f i l;
       next = record {
         rest = front.0;
-        in_order = front.1 ∙ ap (λ (q : ℕ × ℕ). (order f p.blocks i ++ first_closing f i l ++ q ∷ []) ++ front.0) pair;
+        in_order = front.1
+            ∙ ap (λ (q : BlockIndex). (order f p.blocks i ++ first_closing f i l ++ q ∷ []) ++ front.0) same;
       };
       spoiled = subst (λ (xs : List ℕ). Spoiled xs (byte_of p l j) p.settings.hash_block new) e h;
     }
 
 -- an element in the middle of a list is in it
-middle : (xs ys : List (ℕ × ℕ)) (x : ℕ × ℕ) → Contains (xs ++ x ∷ [] ++ ys) x
+middle : (xs ys : List BlockIndex) (x : BlockIndex) → Contains (xs ++ x ∷ [] ++ ys) x
 middle xs ys x = Contains-append_left (xs ++ x ∷ []) ys x (Contains-append_right xs (x ∷ []) x (0, omega arith, refl))
 
 -- the data blocks with which the block closes were read
-pub reads-up-to : (p : Planned) (i l j : ℕ) (before after : List ℕ) → 0 < fan p.settings → i < p.blocks
+pub reads-up-to : (p : Planned) (i l j : ℕ) (before after : List ℕ) → i < p.blocks
     → ClosesWith p i l j
     → HasRead (bytes_of p (i + 1)) before after → ReadsUpTo p l j before after
-reads-up-to p i l j before after some below with_it read =
+reads-up-to p i l j before after below with_it read =
     let f = fan p.settings in
-    let front = closing-front f p.blocks i l some with_it.level_below with_it.all in
-    let pairs = closing f p.blocks (i + 1) in
+    let front = closing-front f p.blocks i l with_it.level_below with_it.all in
+    let closed = closing f p.blocks i in
     record {
       i = i;
       below = below;
-      here = subst (λ (k : ℕ). Contains pairs (l, k)) (sym with_it.block_is)
-          (subst (λ (ps : List (ℕ × ℕ)). Contains ps (l, i / f ^ (l + 1))) (sym front.1)
-          (middle (first_closing f i l) front.0 (l, i / f ^ (l + 1))));
+      here = subst (λ (k : ℕ). Contains closed (block_index l k)) (sym with_it.block_is)
+          (subst (λ (ps : List BlockIndex). Contains ps (block_index l (i / f ^ (l + 1)))) (sym front.1)
+          (middle (first_closing f i l) front.0 (block_index l (i / f ^ (l + 1)))));
       read = read;
     }
 
 -- one data block more on the device
 pub image-next : (s : Settings) (blocks : List (List ℕ)) (base n i : ℕ) (start device new : List ℕ)
     → device ≡ device_with s blocks base (order (fan s) n i) start
-    → new ≡ device_with s blocks base (closing (fan s) n (i + 1)) device
+    → new ≡ device_with s blocks base (closing (fan s) n i) device
     → new ≡ device_with s blocks base (order (fan s) n (i + 1)) start
 image-next s blocks base n i start device new so_far is =
-    is ∙ ap (device_with s blocks base (closing (fan s) n (i + 1))) so_far
+    is ∙ ap (device_with s blocks base (closing (fan s) n i)) so_far
     ∙ sym (device_with-order s blocks base n i start)
 
 -- one data block more is compared
 pub none-differs-order : (p : Planned) (blocks : List (List ℕ)) (i : ℕ) (device : List ℕ)
     → NoneDiffers p blocks device (order (fan p.settings) p.blocks i)
-    → NoneDiffers p blocks device (closing (fan p.settings) p.blocks (i + 1))
+    → NoneDiffers p blocks device (closing (fan p.settings) p.blocks i)
     → NoneDiffers p blocks device (order (fan p.settings) p.blocks (i + 1))
 none-differs-order p blocks i device before h =
     subst (NoneDiffers p blocks device) (sym (order-more (fan p.settings) p.blocks i))
     (All-append (HoldsBlockAt p blocks device) (order (fan p.settings) p.blocks i)
-    (closing (fan p.settings) p.blocks (i + 1)) before h)
+    (closing (fan p.settings) p.blocks i) before h)
 
 -- a comparison that stops at a level of a data block
-pub stops-for : (p : Planned) (bytes : List ℕ) (i : ℕ) (device : List ℕ) (stop : Stop) → 0 < fan p.settings
-    → i < p.blocks
+pub stops-for : (p : Planned) (bytes : List ℕ) (i : ℕ) (device : List ℕ) (stop : Stop) → i < p.blocks
     → ClosesWith p i stop.level stop.index → bytes_of p (i + 1) ≤ length bytes
     → NoneDiffers p (data_blocks p bytes) device (order (fan p.settings) p.blocks i)
     → NoneDiffers p (data_blocks p bytes) device (first_closing (fan p.settings) i stop.level)
     → IsHashBlockFault p (closed_block stop.level stop.index (tree_block p.settings (data_blocks p bytes) stop.level stop.index))
     device stop.fault
     → StopsFor p bytes device stop
-stops-for p bytes i device stop some below with_it enough before h fault =
+stops-for p bytes i device stop below with_it enough before h fault =
     let f = fan p.settings in
     let l = stop.level in
     let blocks = data_blocks p bytes in
-    let front = closing-front f p.blocks i l some with_it.level_below with_it.all in
+    let front = closing-front f p.blocks i l with_it.level_below with_it.all in
     record {
       i = i;
       below = below;
@@ -149,8 +150,8 @@ stops-for p bytes i device stop some below with_it enough before h fault =
       done = order f p.blocks i ++ first_closing f i l;
       next = record {
         rest = front.0;
-        in_order = order-more f p.blocks i ∙ ap (λ (ps : List (ℕ × ℕ)). order f p.blocks i ++ ps) front.1
-            ∙ ap (λ (k : ℕ). order f p.blocks i ++ (first_closing f i l ++ (l, k) ∷ [] ++ front.0))
+        in_order = order-more f p.blocks i ∙ ap (λ (ps : List BlockIndex). order f p.blocks i ++ ps) front.1
+            ∙ ap (λ (k : ℕ). order f p.blocks i ++ (first_closing f i l ++ block_index l k ∷ [] ++ front.0))
             (sym with_it.block_is)
             ∙ simp append_assoc;
       };

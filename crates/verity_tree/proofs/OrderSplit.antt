@@ -6,17 +6,17 @@ use Rattle.std.proofs.lemmas.Nat.{div-add-mod', mod-mul-add}
 use Rattle.std.proofs.lemmas.List.FromFn.{map-range_with_len_more}
 use Rattle.std.proofs.lemmas.List.{append-nil, map-append}
 use Rattle.std.proofs.Math.Nat.{one-le-pow}
-use Rattle.std.specs.Int.{div_ceil}
 use Rattle.std.specs.List.{filter, range_with_len}
 use Rattle.std.specs.Prelude.{◌==◌, ◌||◌, slice_index_or}
 use Rattle.verity_plan.specs.Plans.{level_count, byte_at}
-use Rattle.verity_tree.specs.TreeOnDevice.{closes, closing, order, device_with}
+use Rattle.verity_tree.specs.ClosingOrder.{BlockIndex, block_index, closes, closing, order}
+use Rattle.verity_tree.specs.TreeOnDevice.{device_with}
 use Rattle.verity_tree.specs.Steps.Cascade.{first_closing}
 use Rattle.verity_plan.specs.Settings.{Settings, fan}
 use Rattle.verity_tree.specs.Steps.OpenBlocks.{IsReached}
 use Rattle.verity_tree.specs.Levels.{blocks_up}
 use Rattle.verity_io.specs.Writing.{put}
-use Rattle.verity_tree.proofs.QuotientLemmas.{div_ceil-last, quotient-stays}
+use Rattle.verity_tree.proofs.QuotientLemmas.{quotient-stays}
 
 -- a test that the first numbers pass and the others don't
 pub filter-prefix : (c : ℕ → Bool) (a n m : ℕ) → m ≤ n → ((l : ℕ) → a ≤ l → l < a + m → c l ≡ true)
@@ -35,36 +35,13 @@ filter-prefix c a (suc n) (suc m) le pass fail =
     (filter-prefix c (a + 1) n m (omega arith) (λ l from to. pass l (omega (arith, from)) (omega (arith, to)))
     (λ l from to. fail l (omega (arith, from)) (omega (arith, to))))
 
-map-same : (f g : ℕ → ℕ × ℕ) (xs : List ℕ) → ((x : ℕ) → f x ≡ g x) → map f xs ≡ map g xs
-map-same f g [] same = refl
-map-same f g (x ∷ xs) same =
-    ap (λ (y : ℕ × ℕ). y ∷ map f xs) (same x) ∙ ap (λ (ys : List (ℕ × ℕ)). g x ∷ ys) (map-same f g xs same)
-
 -- what closes with a data block is the levels below the first that doesn't close
-pub closing-prefix : (f n i m : ℕ) → 0 < f → m ≤ level_count f n → ((l : ℕ) → l < m → closes f n (i + 1) l ≡ true)
-    → ((l : ℕ) → m ≤ l → closes f n (i + 1) l ≡ false) → closing f n (i + 1) ≡ first_closing f i m
-closing-prefix f n i m some le pass fail =
-    ap (map (λ level. (level, div_ceil (i + 1) (f ^ (level + 1)) - 1)))
-    (filter-prefix (closes f n (i + 1)) 0 (level_count f n) m le (λ l from to. pass l (omega (arith, to)))
-    (λ l from to. fail l (omega (arith, from))))
-    ∙ map-same (λ level. (level, div_ceil (i + 1) (f ^ (level + 1)) - 1)) (λ level. (level, i / f ^ (level + 1)))
-    (range_with_len 0 m) (λ l.
-    let e : div_ceil (i + 1) (f ^ (l + 1)) - 1 ≡ i / f ^ (l + 1) =
-    omega (arith, div_ceil-last i (f ^ (l + 1)) (one-le-pow (l + 1) f some)) in
-    ap (λ (j : ℕ). (l, j)) e)
-
--- all levels close
-pub closing-all : (f n i : ℕ) → 0 < f → ((l : ℕ) → l < level_count f n → closes f n (i + 1) l ≡ true)
-    → closing f n (i + 1) ≡ first_closing f i (level_count f n)
-closing-all f n i some pass =
-    ap (map (λ level. (level, div_ceil (i + 1) (f ^ (level + 1)) - 1)))
-    (filter-prefix (closes f n (i + 1)) 0 (level_count f n) (level_count f n) (omega arith)
-    (λ l from to. pass l (omega (arith, to))) (λ l from to. absurd (omega (arith, from, to))))
-    ∙ map-same (λ level. (level, div_ceil (i + 1) (f ^ (level + 1)) - 1)) (λ level. (level, i / f ^ (level + 1)))
-    (range_with_len 0 (level_count f n)) (λ l.
-    let e : div_ceil (i + 1) (f ^ (l + 1)) - 1 ≡ i / f ^ (l + 1) =
-    omega (arith, div_ceil-last i (f ^ (l + 1)) (one-le-pow (l + 1) f some)) in
-    ap (λ (j : ℕ). (l, j)) e)
+pub closing-prefix : (f n i m : ℕ) → m ≤ level_count f n → ((l : ℕ) → l < m → closes f n i l ≡ true)
+    → ((l : ℕ) → m ≤ l → l < level_count f n → closes f n i l ≡ false) → closing f n i ≡ first_closing f i m
+closing-prefix f n i m le pass fail =
+    ap (map (λ level. block_index level (i / f ^ (level + 1))))
+    (filter-prefix (closes f n i) 0 (level_count f n) m le (λ l from to. pass l (omega (arith, to)))
+    (λ l from to. fail l (omega (arith, from)) (omega (arith, to))))
 
 or_right : (a b : Bool) → b ≡ true → (a || b) ≡ true
 or_right true b e = refl
@@ -79,7 +56,7 @@ eqb_same a b e = grind (arith, nat_tests, e)
 eqb_apart : (a b : ℕ) → (a ≡ b → ⊥) → eqb a b ≡ false
 eqb_apart a b h = elim (eqb_tells a b) [ inl same ↦ absurd (h same.1) | inr other ↦ other.0 ]
 
-pub closes-reached : (f n i l : ℕ) → 0 < f → IsReached f i (l + 1) → closes f n (i + 1) l ≡ true
+pub closes-reached : (f n i l : ℕ) → 0 < f → IsReached f i (l + 1) → closes f n i l ≡ true
 closes-reached f n i l some h =
     let wide : 0 < f ^ (l + 1) = one-le-pow (l + 1) f some in
     let e : i + 1 ≡ (i / f ^ (l + 1) + 1) * f ^ (l + 1) + 0 = omega (arith, h.whole) in
@@ -87,12 +64,12 @@ closes-reached f n i l some h =
     ap (λ (x : ℕ). x % f ^ (l + 1)) e ∙ mod-mul-add (i / f ^ (l + 1) + 1) (f ^ (l + 1)) 0 wide in
     ap (λ (b : Bool). b || (i + 1 == n)) (eqb_same ((i + 1) % f ^ (l + 1)) 0 whole)
 
-pub closes-last : (f n i l : ℕ) → i + 1 ≡ n → closes f n (i + 1) l ≡ true
+pub closes-last : (f n i l : ℕ) → i + 1 ≡ n → closes f n i l ≡ true
 closes-last f n i l last = or_right ((i + 1) % f ^ (l + 1) == 0) (i + 1 == n) (eqb_same (i + 1) n last)
 
 -- from a level that stays open none closes
 pub closes-none : (f n i m l : ℕ) → 0 < f → IsReached f i m → i / f ^ m % f + 1 < f → i + 1 < n → m ≤ l
-    → closes f n (i + 1) l ≡ false
+    → closes f n i l ≡ false
 closes-none f n i m l some h room more above =
     let w = f ^ (l + 1) in
     let stays : (i + 1) / w ≡ i / w = quotient-stays f i m (l + 1) some h room (omega arith) in
@@ -101,18 +78,21 @@ closes-none f n i m l some h room more above =
     or_none ((i + 1) % w == 0) (i + 1 == n) (eqb_apart ((i + 1) % w) 0 apart)
     (eqb_apart (i + 1) n (λ same. omega (arith, more, same)))
 
--- one pair more
-pub first_closing-more : (f i m : ℕ) → first_closing f i (m + 1) ≡ first_closing f i m ++ (m, i / f ^ (m + 1)) ∷ []
-first_closing-more f i m = map-range_with_len_more (λ level. (level, i / f ^ (level + 1))) 0 m m (omega arith)
+-- one block more
+pub first_closing-more : (f i m : ℕ)
+    → first_closing f i (m + 1) ≡ first_closing f i m ++ block_index m (i / f ^ (m + 1)) ∷ []
+first_closing-more f i m =
+    map-range_with_len_more (λ level. block_index level (i / f ^ (level + 1))) 0 m m (omega arith)
 
--- pairs after pairs
-pub device_with-append : (s : Settings) (blocks : List (List ℕ)) (base : ℕ) (ps qs : List (ℕ × ℕ)) (device : List ℕ)
+-- blocks after blocks
+pub device_with-append : (s : Settings) (blocks : List (List ℕ)) (base : ℕ) (ps qs : List BlockIndex) (device : List ℕ)
     → device_with s blocks base (ps ++ qs) device ≡ device_with s blocks base qs (device_with s blocks base ps device)
 unfolding device_with
 device_with-append s blocks base [] qs device = refl
 device_with-append s blocks base (p ∷ ps) qs device =
     device_with-append s blocks base ps qs
-    (put device (byte_at s (length blocks) base p.0 p.1) (slice_index_or (blocks_up s blocks (p.0 + 1)) p.1 []))
+    (put device (byte_at s (length blocks) base p.level p.index)
+    (slice_index_or (blocks_up s blocks (p.level + 1)) p.index []))
 
 pub device_with-more : (s : Settings) (blocks : List (List ℕ)) (base i m : ℕ) (device : List ℕ)
     → device_with s blocks base (first_closing (fan s) i (m + 1)) device
@@ -121,33 +101,33 @@ pub device_with-more : (s : Settings) (blocks : List (List ℕ)) (base i m : ℕ
     (slice_index_or (blocks_up s blocks (m + 1)) (i / fan s ^ (m + 1)) [])
 unfolding device_with
 device_with-more s blocks base i m device =
-    ap (λ (ps : List (ℕ × ℕ)). device_with s blocks base ps device) (first_closing-more (fan s) i m)
-    ∙ device_with-append s blocks base (first_closing (fan s) i m) ((m, i / fan s ^ (m + 1)) ∷ []) device
+    ap (λ (ps : List BlockIndex). device_with s blocks base ps device) (first_closing-more (fan s) i m)
+    ∙ device_with-append s blocks base (first_closing (fan s) i m) (block_index m (i / fan s ^ (m + 1)) ∷ []) device
 
--- one data block more
+-- one data block more in the closing order
+pub order-more : (f n i : ℕ) → order f n (i + 1) ≡ order f n i ++ closing f n i
+unfolding order
+order-more f n i = let one : i + 1 ≡ suc i = omega arith in ap (order f n) one
+
+-- one data block more on the device
 pub device_with-order : (s : Settings) (blocks : List (List ℕ)) (base n i : ℕ) (device : List ℕ)
     → device_with s blocks base (order (fan s) n (i + 1)) device
-    ≡ device_with s blocks base (closing (fan s) n (i + 1)) (device_with s blocks base (order (fan s) n i) device)
-unfolding order
+    ≡ device_with s blocks base (closing (fan s) n i) (device_with s blocks base (order (fan s) n i) device)
 device_with-order s blocks base n i device =
-    let e : i + 1 ≡ suc i = omega arith in
-    ap (λ (k : ℕ). device_with s blocks base (order (fan s) n k) device) e
-    ∙ device_with-append s blocks base (order (fan s) n i) (closing (fan s) n (suc i)) device
-    ∙ ap (λ (k : ℕ). device_with s blocks base (closing (fan s) n k)
-    (device_with s blocks base (order (fan s) n i) device))
-    (sym e)
+    ap (λ (ps : List BlockIndex). device_with s blocks base ps device) (order-more (fan s) n i)
+    ∙ device_with-append s blocks base (order (fan s) n i) (closing (fan s) n i) device
 
 -- what has closed stays at the front of the order
-pub order-prefix : (f n i k : ℕ) → (rest : List (ℕ × ℕ)) × (order f n (i + k) ≡ order f n i ++ rest)
+pub order-prefix : (f n i k : ℕ) → (rest : List BlockIndex) × (order f n (i + k) ≡ order f n i ++ rest)
 unfolding order
 order-prefix f n i zero = let e : i + 0 ≡ i = omega arith in ([], ap (order f n) e ∙ sym (append-nil (order f n i)))
 order-prefix f n i (suc k) =
     let e : i + suc k ≡ suc (i + k) = omega arith in
     let before = order-prefix f n i k in (
-      before.0 ++ closing f n (suc (i + k)),
+      before.0 ++ closing f n (i + k),
       ap (order f n) e
-          ∙ ap (λ (ps : List (ℕ × ℕ)). ps ++ closing f n (suc (i + k))) before.1
-          ∙ append_assoc (order f n i) before.0 (closing f n (suc (i + k))),
+          ∙ ap (λ (ps : List BlockIndex). ps ++ closing f n (i + k)) before.1
+          ∙ append_assoc (order f n i) before.0 (closing f n (i + k)),
     )
 
 -- the first numbers pass a test
@@ -164,45 +144,30 @@ filter-front c a (suc m) (suc n) pass le =
           ∙ ap (λ (xs : List ℕ). a ∷ xs) after.1,
     )
 
--- if the levels up to this one close, its pair comes after those of the levels below
-pub closing-front : (f n i m : ℕ) → 0 < f → m < level_count f n → ((l : ℕ) → l ≤ m → closes f n (i + 1) l ≡ true)
-    → (rest : List (ℕ × ℕ)) × (closing f n (i + 1) ≡ first_closing f i m ++ (m, i / f ^ (m + 1)) ∷ [] ++ rest)
-closing-front f n i m some below pass =
-    let front = filter-front (closes f n (i + 1)) 0 (m + 1) (level_count f n) (λ l from to. pass l (omega (arith, to)))
+-- if the levels up to this one close, its block comes after those of the levels below
+pub closing-front : (f n i m : ℕ) → m < level_count f n → ((l : ℕ) → l ≤ m → closes f n i l ≡ true)
+    → (rest : List BlockIndex) × (closing f n i ≡ first_closing f i m ++ block_index m (i / f ^ (m + 1)) ∷ [] ++ rest)
+closing-front f n i m below pass =
+    let front = filter-front (closes f n i) 0 (m + 1) (level_count f n) (λ l from to. pass l (omega (arith, to)))
     (omega (arith, below)) in
-    let g : ℕ → ℕ × ℕ = λ level. (level, div_ceil (i + 1) (f ^ (level + 1)) - 1) in
-    let h : ℕ → ℕ × ℕ = λ level. (level, i / f ^ (level + 1)) in (
+    let g : ℕ → BlockIndex = λ level. block_index level (i / f ^ (level + 1)) in (
       map g front.0,
       ap (map g) front.1
           ∙ map-append g (range_with_len 0 (m + 1)) front.0
-          ∙ ap (λ (ps : List (ℕ × ℕ)). ps ++ map g front.0) (map-same g h (range_with_len 0 (m + 1)) (λ l.
-          let e : div_ceil (i + 1) (f ^ (l + 1)) - 1 ≡ i / f ^ (l + 1) =
-          omega (arith, div_ceil-last i (f ^ (l + 1)) (one-le-pow (l + 1) f some)) in
-          ap (λ (j : ℕ). (l, j)) e))
-          ∙ ap (λ (ps : List (ℕ × ℕ)). ps ++ map g front.0) (first_closing-more f i m),
+          ∙ ap (λ (ps : List BlockIndex). ps ++ map g front.0) (first_closing-more f i m),
     )
 
 -- the blocks before a block that closes are the first ones of the order
-pub order-front : (f n i m : ℕ) → 0 < f → i < n → m < level_count f n → ((l : ℕ) → l ≤ m → closes f n (i + 1) l ≡ true)
-    → (rest : List (ℕ × ℕ)) × (order f n n ≡ (order f n i ++ first_closing f i m ++ (m, i / f ^ (m + 1)) ∷ []) ++ rest)
-unfolding order
-order-front f n i m some below inside pass =
-    let front = closing-front f n i m some inside pass in
+pub order-front : (f n i m : ℕ) → i < n → m < level_count f n → ((l : ℕ) → l ≤ m → closes f n i l ≡ true)
+    → (rest : List BlockIndex)
+    × (order f n n ≡ (order f n i ++ first_closing f i m ++ block_index m (i / f ^ (m + 1)) ∷ []) ++ rest)
+order-front f n i m below inside pass =
+    let front = closing-front f n i m inside pass in
     let after = order-prefix f n (i + 1) (n - (i + 1)) in
-    let e : n ≡ i + 1 + (n - (i + 1)) = omega arith in
-    let one : i + 1 ≡ suc i = omega arith in
-    let pair : List (ℕ × ℕ) = (m, i / f ^ (m + 1)) ∷ [] in (
+    let e : n ≡ i + 1 + (n - (i + 1)) = omega arith in (
       front.0 ++ after.0,
       ap (order f n) e ∙ after.1
-          ∙ ap (λ (ps : List (ℕ × ℕ)). ps ++ after.0)
-          (ap (order f n) one ∙ ap (λ (k : ℕ). order f n i ++ closing f n k) (sym one)
-          ∙ ap (λ (ps : List (ℕ × ℕ)). order f n i ++ ps) front.1)
+          ∙ ap (λ (ps : List BlockIndex). ps ++ after.0)
+          (order-more f n i ∙ ap (λ (ps : List BlockIndex). order f n i ++ ps) front.1)
           ∙ simp append_assoc,
     )
-
--- one data block more in the closing order
-pub order-more : (f n i : ℕ) → order f n (i + 1) ≡ order f n i ++ closing f n (i + 1)
-unfolding order
-order-more f n i =
-    let one : i + 1 ≡ suc i = omega arith in
-    ap (order f n) one ∙ ap (λ (k : ℕ). order f n i ++ closing f n k) (sym one)

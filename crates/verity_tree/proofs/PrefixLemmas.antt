@@ -6,7 +6,8 @@ use Rattle.std.proofs.lemmas.List.FromFn.{get_or-map-range_with_len}
 use Rattle.std.proofs.Math.Nat.{pow-zero, pow-suc, one-le-pow, mul-le-mul_right}
 use Rattle.std.specs.Fork.{slice_chunk}
 use Rattle.std.specs.Int.{div_ceil}
-use Rattle.verity_tree.specs.TreeOnDevice.{order, times, tree_block}
+use Rattle.verity_tree.specs.ClosingOrder.{order, times}
+use Rattle.verity_tree.specs.TreeOnDevice.{tree_block}
 use Rattle.verity_tree.proofs.OrderLemmas.{closed_time}
 use Rattle.verity_plan.specs.Settings.{Settings, hash, fan}
 use Rattle.verity_tree.specs.Levels.{pack, hash_block_of, blocks_up}

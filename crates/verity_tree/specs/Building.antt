@@ -3,6 +3,7 @@ use Rattle.std.specs.Prelude.{◌≡◌, ℕ, Bool, true, false, List, Result, O
 use Rattle.verity_hash.specs.declared.digest.Digest.{Digest}
 use Rattle.verity_io.specs.Reading.{HasRead}
 use Rattle.verity_plan.specs.Plans.{Planned}
+use Rattle.verity_tree.specs.ClosingOrder.{block_index}
 use Rattle.verity_tree.specs.TreeOnDevice.{tree_on_device, tree_on_device_after, StopsAt}
 use Rattle.verity_tree.specs.Levels.{data_blocks, root}
 use Rattle.verity_tree.specs.Reading.{EndsWithin, FailsWithin, ReadsUpTo}
@@ -21,7 +22,8 @@ abbrev pub BuildsOnDevice : Planned → List (List ℕ) → Result Digest BuildF
 BuildsOnDevice p blocks (Ok digest) before after = after ≡ tree_on_device p blocks before
 BuildsOnDevice p blocks (Err (SourceShort i)) before after = after ≡ tree_on_device_after p blocks i before
 BuildsOnDevice p blocks (Err (SourceFailed i)) before after = after ≡ tree_on_device_after p blocks i before
-BuildsOnDevice p blocks (Err (DeviceFailed level block)) before after = StopsAt p blocks (level, block) before after
+BuildsOnDevice p blocks (Err (DeviceFailed level block)) before after =
+    StopsAt p blocks (block_index level block) before after
 
 -- whether the answer is a failure of the source, or of the device
 abbrev pub source_failed : Result Digest BuildFault → Bool

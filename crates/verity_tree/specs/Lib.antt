@@ -1,4 +1,5 @@
 pub mod Levels
+pub mod ClosingOrder
 pub mod TreeOnDevice
 pub mod Reading
 pub mod Building

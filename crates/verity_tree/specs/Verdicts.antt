@@ -4,7 +4,8 @@ use Rattle.std.specs.Prelude.{◌≡◌, ℕ, ◌+◌, ◌-◌, ◌*◌, Bool, n
 use Rattle.std.specs.Prelude.{Option, Some, None, Result, Ok, Err, if◌then◌else◌}
 use Rattle.std.specs.List.{range_with_len}
 use Rattle.std.specs.Str.{bytes_eq}
-use Rattle.verity_tree.specs.TreeOnDevice.{order, tree_block, stored_block}
+use Rattle.verity_tree.specs.ClosingOrder.{BlockIndex, order}
+use Rattle.verity_tree.specs.TreeOnDevice.{tree_block, stored_block}
 use Rattle.verity_tree.specs.Levels.{root, data_blocks, whole_blocks}
 use Rattle.verity_plan.specs.Plans.{Planned, size_under}
 use Rattle.verity_plan.specs.Settings.{Settings, digest_len, fan, slot_width}
@@ -34,19 +35,20 @@ part_of p level block on_device computed = if nat_lt (length on_device) p.settin
     else (part_at (block * fan p.settings) (first_slot p level block on_device computed))
 
 -- the block that a device holds is not the tree's
-abbrev pub differs : Planned → List (List ℕ) → List ℕ → ℕ × ℕ → Bool
-differs p blocks device pair =
-    not (bytes_eq (stored_block p device pair.0 pair.1) (tree_block p.settings blocks pair.0 pair.1))
+abbrev pub differs : Planned → List (List ℕ) → List ℕ → BlockIndex → Bool
+differs p blocks device at =
+    not (bytes_eq (stored_block p device at.level at.index) (tree_block p.settings blocks at.level at.index))
 
 -- the fault at the first block that differs
-abbrev pub difference : Planned → List (List ℕ) → List ℕ → ℕ × ℕ → CompareFault
-difference p blocks device pair =
-    Differs pair.0 pair.1
-    (part_of p pair.0 pair.1 (stored_block p device pair.0 pair.1) (tree_block p.settings blocks pair.0 pair.1))
+abbrev pub difference : Planned → List (List ℕ) → List ℕ → BlockIndex → CompareFault
+difference p blocks device at =
+    Differs at.level at.index
+    (part_of p at.level at.index (stored_block p device at.level at.index)
+    (tree_block p.settings blocks at.level at.index))
 
 -- without a difference: short data, another root, or all is right
-abbrev pub verdict_by : Planned → List ℕ → List ℕ → Option (ℕ × ℕ) → List ℕ → Result Unit CompareFault
-verdict_by p device bytes (Some pair) digest = Err (difference p (data_blocks p bytes) device pair)
+abbrev pub verdict_by : Planned → List ℕ → List ℕ → Option BlockIndex → List ℕ → Result Unit CompareFault
+verdict_by p device bytes (Some at) digest = Err (difference p (data_blocks p bytes) device at)
 verdict_by p device bytes None digest =
     if nat_lt (whole_blocks p bytes) p.blocks then Err (SourceShort (whole_blocks p bytes))
     else (if bytes_eq (root p.settings (data_blocks p bytes)) digest then Ok tt
@@ -60,9 +62,10 @@ verdict p device bytes digest =
     (find (differs p (data_blocks p bytes) device) (order (fan p.settings) p.blocks (whole_blocks p bytes))) digest
 
 -- the device holds this block of the tree
-abbrev pub HoldsBlockAt : Planned → List (List ℕ) → List ℕ → ℕ × ℕ → Type 0
-HoldsBlockAt p blocks device pair = stored_block p device pair.0 pair.1 ≡ tree_block p.settings blocks pair.0 pair.1
+abbrev pub HoldsBlockAt : Planned → List (List ℕ) → List ℕ → BlockIndex → Type 0
+HoldsBlockAt p blocks device at =
+    stored_block p device at.level at.index ≡ tree_block p.settings blocks at.level at.index
 
 -- the device holds these blocks of the tree
-abbrev pub NoneDiffers : Planned → List (List ℕ) → List ℕ → List (ℕ × ℕ) → Type 0
-NoneDiffers p blocks device pairs = All (HoldsBlockAt p blocks device) pairs
+abbrev pub NoneDiffers : Planned → List (List ℕ) → List ℕ → List BlockIndex → Type 0
+NoneDiffers p blocks device hash_blocks = All (HoldsBlockAt p blocks device) hash_blocks

@@ -1,9 +1,12 @@
 //! Laws of the definitions of trees: each holds for all settings and data. Those of slots, counts and places are
 //! `verity_plan`'s, and stand here too.
-ghost use Rattle.std.specs.Prelude.{◌≡◌, ◌⊎◌, ℕ, ◌<◌, ◌≤◌, List, [], length, slice_index_or, Result, Ok};
+ghost use Rattle.std.specs.Prelude.{◌≡◌, ◌⊎◌, ℕ, ◌+◌, ◌-◌, ◌/◌, ◌^◌, ◌<◌, ◌≤◌, List, [], length, slice_index_or};
+ghost use Rattle.std.specs.Prelude.{Result, Ok};
+ghost use Rattle.std.specs.Int.{div_ceil};
 ghost use Rattle.verity_plan.specs.Plans.{level_count, level_size, Planned, IsPlanned, levels_of};
 ghost use Rattle.verity_plan.specs.Settings.{Settings, fan};
-ghost use Rattle.verity_tree.specs.TreeOnDevice.{ClosesOnce, order, times, tree_block, HoldsTree};
+ghost use Rattle.verity_tree.specs.ClosingOrder.{ClosesOnce, order, times};
+ghost use Rattle.verity_tree.specs.TreeOnDevice.{tree_block, HoldsTree};
 ghost use Rattle.verity_tree.specs.Levels.{data_blocks, level, height, root};
 ghost use Rattle.verity_tree.specs.Paths.{ChecksBlock, HasCollision, IsAccepted, true_path};
 ghost use Rattle.verity_tree.specs.Verdicts.{verdict};
@@ -22,6 +25,11 @@ pub fn levels_have_sizes()
 /// The number of levels by lists is the number by powers of the fan-out.
 pub fn level_counts_agree()
     ensures { (s : Settings) (blocks : List (List ℕ)) → height s blocks ≡ level_count (fan s) (length blocks) }
+{}
+
+/// The block of a level that closes with data block i is the last one above the first i + 1 data blocks.
+pub fn closing_blocks_by_count()
+    ensures { (fan i l : ℕ) → 0 < fan → div_ceil (i + 1) (fan ^ (l + 1)) - 1 ≡ i / fan ^ (l + 1) }
 {}
 
 /// The closing order has each block of the tree once.

@@ -4,8 +4,9 @@ use Rattle.std.specs.Io.KnownBytes.{Appends, Keeps}
 use Rattle.command_line.specs.Printing.{AppendsFront}
 use Rattle.verity_io.specs.Counting.{Change}
 use Rattle.veritysetup.specs.Options.VeritySettings.{VeritySettings}
-use Rattle.veritysetup.specs.Runs.Format.{FormatRun, PrintsReport, fault_status, fault_text}
-use Rattle.veritysetup.specs.Runs.Outcomes.{TextChange, message_of, status_of}
+use Rattle.veritysetup.specs.Runs.Format.{FormatRun, PrintsReport, fault_status, fault_message}
+use Rattle.veritysetup.specs.Runs.Outcomes.{message_of, status_of}
+use Rattle.veritysetup.specs.Texts.Reports.{TextChange}
 use Rattle.veritysetup.specs.Program.CommandRuns.{CommandRun, Grows}
 use Rattle.veritysetup.specs.declared.runs.format.FormatFault.{FormatFault}
 use Rattle.veritysetup.specs.declared.runs.format.FormatFault.TheVariants.{Store, Build, Superblock, Report}
@@ -65,7 +66,7 @@ PrintsReport-grows report (Err (Report Memory)) before after printed = Keeps-gro
 PrintsReport-grows report (Err (Report (Output count))) before after printed = (take count report, printed.1)
 
 quiet_when_done : (outcome : Result (Unit {0}) FormatFault) (before after : Option (List ℕ))
-    → AppendsFront (message_of fault_text outcome) before after → status_of fault_status outcome ≡ 0
+    → AppendsFront (message_of fault_message outcome) before after → status_of fault_status outcome ≡ 0
     → Keeps before after
 quiet_when_done (Ok done) before after front is_zero = Appends-take_nothing front.0 before after front.1
 quiet_when_done (Err Store) before after front is_zero = absurd (omega arith)

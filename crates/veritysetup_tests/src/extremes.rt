@@ -1,7 +1,7 @@
 //! Runs with the smallest image, and with the largest blocks, the longest salt and the longest path.
 use crate::images::image_of;
 use crate::options::DEFAULTS;
-use crate::program_runs::{differs, disk_of, run};
+use crate::program_runs::{disk_of, run};
 use fixtures::{REPORT_1, Report, Shape, one_block};
 use std::test::Fail;
 use verity_hash::Algorithm;
@@ -17,7 +17,7 @@ fn one_block_of_zeros_without_a_salt(rt: HostRuntime) -> Result<(), Fail> {
     let shape = Shape::new(alloc, Algorithm::Sha256, (4096, 4096), (128, 32));
     let tree = shape.tree(alloc, &[0; 4096], 0)?;
     let report = REPORT_1.with_root(alloc, tree.root.as_slice())?;
-    assert_eq!(rt; differs(&said, 0, report.as_bytes(), b""), None);
+    assert_eq!(rt; said.differs(0, report.as_bytes(), b""), None);
     let made = disk.bytes_of("hash.img")?;
     assert_eq!(rt; made.as_slice(), one_block().as_slice());
     Ok(())

@@ -1,6 +1,6 @@
 //! The program over files in memory: which files are opened when, and two names of one file.
 use crate::images::image_17;
-use crate::program_runs::{OPTIONS_17, differs, disk_of, run};
+use crate::program_runs::{OPTIONS_17, disk_of, run};
 use fixtures::{REPORT_17, filled, flip};
 use memory_runtime::{Call, Disk, Kind};
 use std::alloc::Global;
@@ -90,7 +90,7 @@ fn files_are_opened_in_order(rt: HostRuntime) -> Result<(), Fail> {
             b""
         };
         assert_eq!(rt;
-            differs(&said, status, out, message.as_bytes()),
+            said.differs(status, out, message.as_bytes()),
             None,
             "at {words}"
         );
@@ -164,7 +164,7 @@ fn a_folder_is_not_opened_as_a_file(rt: HostRuntime) -> Result<(), Fail> {
         disk.make("hash.img", [0; 8192].to_vec(alloc)?)?;
         let said = run(alloc, &disk, words)?;
         let message = b"Cannot open folder.\n".as_slice();
-        assert_eq!(rt; differs(&said, 4, b"", message), None, "at {words}");
+        assert_eq!(rt; said.differs(4, b"", message), None, "at {words}");
         assert!(rt; !disk.has("hash")?, "at {words}");
         assert_eq!(rt; disk.calls(Call::Read)?, 0, "at {words}");
     }
@@ -209,7 +209,7 @@ fn data_is_never_overwritten(rt: HostRuntime) -> Result<(), Fail> {
         let words = format!(in alloc; "format {OPTIONS_17} data {hash}")?;
         let said = run(alloc, &disk, words.as_str())?;
         let message = b"Data area and hash area overlap.\n".as_slice();
-        assert_eq!(rt; differs(&said, 1, b"", message), None, "at {words}");
+        assert_eq!(rt; said.differs(1, b"", message), None, "at {words}");
         let opened = format!(in alloc; "{NULL_FILES}data: read\n")?;
         assert_eq!(rt; disk.opened()?, opened, "at {words}");
     }
@@ -232,7 +232,7 @@ fn one_file_holds_data_and_tree(rt: HostRuntime) -> Result<(), Fail> {
         assert_eq!(rt; disk.bytes_of("data")?, both, "at {hash}");
         let words = format!(in alloc; "verify --hash-offset 8704 data {hash} {root}")?;
         let said = run(alloc, &disk, words.as_str())?;
-        assert_eq!(rt; differs(&said, 0, b"", b""), None, "at {hash}");
+        assert_eq!(rt; said.differs(0, b"", b""), None, "at {hash}");
     }
     Ok(())
 }
@@ -250,7 +250,7 @@ fn a_tree_is_dumped_and_verified(rt: HostRuntime) -> Result<(), Fail> {
     disk.make("changed", changed)?;
     let said = run(alloc, &disk, "dump hash.img")?;
     let report = REPORT_17.text(alloc)?;
-    assert_eq!(rt; differs(&said, 0, report.as_bytes(), b""), None);
+    assert_eq!(rt; said.differs(0, report.as_bytes(), b""), None);
     let other_root = format!(in alloc; "Verification failed: root hash is {root}.\n")?;
     for (files, given, status, message) in [
         // With a superblock no option but the hash offset is looked at.
@@ -271,7 +271,7 @@ fn a_tree_is_dumped_and_verified(rt: HostRuntime) -> Result<(), Fail> {
         let words = format!(in alloc; "verify {files} {given}")?;
         let said = run(alloc, &disk, words.as_str())?;
         assert_eq!(rt;
-            differs(&said, status, b"", message.as_bytes()),
+            said.differs(status, b"", message.as_bytes()),
             None,
             "at {words}"
         );

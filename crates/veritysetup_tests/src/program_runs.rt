@@ -34,19 +34,6 @@ pub fn run(alloc: Global, disk: &Disk, words: &str) -> io::Result<Said> {
     Ok(said_by(alloc, &MemoryRuntime::new(alloc, disk, words.as_str())))
 }
 
-/// What of a run isn't as expected.
-pub fn differs(said: &Said, status: u8, out: &[u8], msgs: &[u8]) -> Option<&'static str> {
-    if said.status != status {
-        Some("the status")
-    } else if said.msgs.as_slice() != msgs {
-        Some("the messages")
-    } else if said.out.as_slice() != out {
-        Some("the output")
-    } else {
-        None
-    }
-}
-
 /// Runs the program without random bytes.
 fn run_without_random<'a>(alloc: Global, disk: &'a Disk, words: &'a str) -> Said {
     let mut runtime = MemoryRuntime::new(alloc, disk, words);
@@ -65,7 +52,7 @@ fn no_random_bytes_make_no_file(rt: HostRuntime) -> Result<(), Fail> {
     ] {
         let said = run_without_random(alloc, &disk, words);
         let message = b"Cannot get random bytes.\n".as_slice();
-        assert_eq!(rt; differs(&said, 4, b"", message), None, "at {words}");
+        assert_eq!(rt; said.differs(4, b"", message), None, "at {words}");
         assert!(rt; !disk.has("hash")?, "at {words}");
     }
     Ok(())

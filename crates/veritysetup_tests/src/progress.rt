@@ -1,7 +1,7 @@
 //! The progress line of long work: it is shown only on a terminal, and erased before anything else is written there.
 use crate::program_runs::disk_of;
 use command_line::ProgressReader;
-use fixtures::{Shape, shown_before};
+use fixtures::{Shape, is_plain, shown_before};
 use memory_runtime::{Disk, MemoryRuntime, StandardError};
 use std::alloc::{AllocError, Global};
 use std::io;
@@ -98,14 +98,11 @@ fn check<R: Abort + AllocGlobal>(
 ) -> Result<(), Fail> {
     let alloc = rt.alloc();
     let (status, (count, total), start) = row;
-    let (ended, plain) = written(alloc, disk, words, None)?;
-    assert_eq!(rt; ended, status, "at {words}");
-    assert!(rt; plain.starts_with(start.as_bytes()), "at {words}");
-    assert_eq!(rt; plain.is_empty(), start.is_empty(), "at {words}");
-    assert!(rt; !plain.contains(&b'\r'), "at {words}");
+    let (piped, plain) = written(alloc, disk, words, None)?;
     let (ended, shown) = written(alloc, disk, words, Some(STEP))?;
     let expected = shown_before(alloc, count, total, plain.as_slice())?;
-    assert_eq!(rt; ended, status, "at {words}");
+    assert_eq!(rt; (piped, ended), (status, status), "at {words}");
+    assert!(rt; is_plain(plain.as_slice(), start), "at {words}");
     assert_eq!(rt; shown.as_slice(), expected.as_slice(), "at {words}");
     Ok(())
 }

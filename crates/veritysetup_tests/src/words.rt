@@ -1,5 +1,5 @@
 //! The command lines of veritysetup: what a line holds, and which lines are refused with which text.
-use crate::program_runs::{differs, disk_of, run, said_by};
+use crate::program_runs::{disk_of, run, said_by};
 use fixtures::{NOT_UTF8, words_of};
 use memory_runtime::MemoryRuntime;
 use std::alloc::{AllocError, Global};
@@ -146,7 +146,7 @@ fn refused_words_open_no_file(rt: HostRuntime) -> Result<(), Fail> {
         let said = run(alloc, &disk, words)?;
         let expected = format!(in alloc; "error: {text}\n{usage}")?;
         assert_eq!(rt;
-            differs(&said, 1, b"", expected.as_bytes()),
+            said.differs(1, b"", expected.as_bytes()),
             None,
             "at {words}"
         );
@@ -156,7 +156,7 @@ fn refused_words_open_no_file(rt: HostRuntime) -> Result<(), Fail> {
     runtime.last_word = Some(word);
     let said = said_by(alloc, &runtime);
     let expected = format!(in alloc; "error: argument 3 is not UTF-8: {shown}\n")?;
-    assert_eq!(rt; differs(&said, 1, b"", expected.as_bytes()), None);
+    assert_eq!(rt; said.differs(1, b"", expected.as_bytes()), None);
     assert!(rt; disk.opened()?.as_str().is_empty());
     Ok(())
 }

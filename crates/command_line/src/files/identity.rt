@@ -1,6 +1,6 @@
 //! Which file a path or an opened file is, so that two names of one file are recognized.
 ghost use Rattle.std.specs.Prelude.{◌≡◌, ◌↔◌, None, false, IsSome, IsTrue};
-ghost use Rattle.command_line.specs.FileIdentities.{LeadToOne, identity_of};
+ghost use Rattle.command_line.specs.FileIdentities.{PathsAreSameFile, identity_of};
 
 use std::fs::{Metadata, OpenFile};
 use std::os::unix::fs::{FileTypeExt, MetadataExt};
@@ -90,7 +90,7 @@ impl Identities for HostRuntime {
 }
 
 /// Whether the system says that two files are one.
-pub fn are_one(one: Option<FileIdentity>, other: Option<FileIdentity>) -> bool
+pub fn are_same_file(one: Option<FileIdentity>, other: Option<FileIdentity>) -> bool
     ensures known { one ≡ None → result ≡ false }
     ensures same { IsTrue result → one ≡ other }
     ensures equal { IsSome one → one ≡ other → IsTrue result }
@@ -100,13 +100,13 @@ pub fn are_one(one: Option<FileIdentity>, other: Option<FileIdentity>) -> bool
 
 /// Whether two paths lead to one file: the paths are equal, or the system says that the file that was opened at the
 /// first path is the one that the second path leads to.
-pub fn lead_to_one(
+pub fn paths_are_same_file(
     path: &str,
     other_path: &str,
     opened: Option<FileIdentity>,
     other: Option<FileIdentity>,
 ) -> bool
-    ensures { IsTrue result ↔ LeadToOne path.now other_path.now opened other }
+    ensures { IsTrue result ↔ PathsAreSameFile path.now other_path.now opened other }
 {
-    path == other_path || are_one(opened, other)
+    path == other_path || are_same_file(opened, other)
 }

@@ -1,7 +1,7 @@
 //! The words of the command line, as the system gives them.
 ghost use Rattle.std.specs.Prelude.{◌≡◌, ◌++◌, [], IfErr, IfOk, OnOk, string_bytes};
 ghost use Rattle.std.specs.List.{flat_map};
-ghost use Rattle.command_line.specs.SystemWords.{IsNotUtf8, not_utf8_text, escaped_byte};
+ghost use Rattle.command_line.specs.SystemWords.{IsNotUtf8, not_utf8_message, escaped_byte};
 
 use crate::words::word_list::{WordList, all_words};
 use std::alloc::{AllocError, AllocGlobal, Global};
@@ -69,7 +69,7 @@ pub fn given_words<R: Env + AllocGlobal>(rt: &R) -> Result<Vec<String>, WordsFau
 /// escaped: a byte that is not printable ASCII as two hexadecimal digits, as in `\xff`, and a backslash as two. The
 /// error is out of memory.
 pub fn not_utf8_message(alloc: Global, number: usize, word: &[u8]) -> Result<String, AllocError>
-    ensures { IfOk result (λ s. string_bytes s ≡ not_utf8_text number word.now) }
+    ensures { IfOk result (λ s. string_bytes s ≡ not_utf8_message number word.now) }
 {
     let escaped = escaped_word(alloc, word)?;
     format!(in alloc; "error: argument {number} is not UTF-8: {escaped}\n")

@@ -8,7 +8,7 @@ use Rattle.verity_io.specs.Counting.{Counts, Rose}
 use Rattle.verity_plan.specs.Settings.{Settings}
 use Rattle.fsverity.specs.Runs.FileDigest.{fault_of_source, file_digest_of, is_too_large}
 use Rattle.fsverity.specs.Texts.Lines.{line}
-use Rattle.fsverity.specs.Texts.Messages.{run_fault_text}
+use Rattle.fsverity.specs.Texts.Messages.{run_fault_message}
 use Rattle.fsverity.specs.Openers.Opening.{OpenerChange}
 use Rattle.fsverity.specs.declared.runs.digest_fault.DigestFault.TheVariants.{TooLarge, SourceShort, SourceFailed, DeviceFailed, Memory}
 use Rattle.fsverity.specs.declared.texts.digest_lines.Form.{Form}
@@ -61,13 +61,13 @@ IsWrittenFront whole front NotWritten = (k : ℕ) × (front ≡ take k whole)
 IsWrittenFront whole front fault = front ≡ []
 
 -- what a run gets beside its files: the settings, the form of the lines, and the files' names
-pub record Run : Type 0 where
+pub record DigestInput : Type 0 where
   pub settings : Settings
   pub form : Form
   pub names : List (List ℕ)
 
 -- the lines of all files before f, and what is written of f's own
-pub record WritesUpTo (run : Run) (files : List (Option (List ℕ))) (f : ℕ) (fault : RunFault)
+pub record WritesUpTo (run : DigestInput) (files : List (Option (List ℕ))) (f : ℕ) (fault : RunFault)
     (old new : Option (List ℕ)) : Type 0 where
   pub file : Option (List ℕ)
   pub is : slice_get files f ≡ Some file
@@ -83,7 +83,7 @@ CountsFault (Digest fault) before after = Counts (fault_of_source fault) before 
 CountsFault NotWritten before after = Counts false before after
 
 -- a run ended at file f, the next one is after it, and no file before it is absent or too large
-pub record EndsAt (run : Run) (opener : OpenerChange) (out out' msgs msgs' : Option (List ℕ)) : Type 0 where
+pub record EndsAt (run : DigestInput) (opener : OpenerChange) (out out' msgs msgs' : Option (List ℕ)) : Type 0 where
   pub f : ℕ
   pub fault : RunFault
   pub has_name : f < length run.names
@@ -91,5 +91,5 @@ pub record EndsAt (run : Run) (opener : OpenerChange) (out out' msgs msgs' : Opt
   pub within : opener.told → f ≤ first_without_digest run.settings opener.files
   pub reason : HasReason run.settings opener f fault
   pub counted : CountsFault fault opener.failures_before opener.failures_after
-  pub message : AppendsFront (run_fault_text fault (slice_index_or run.names f [])) msgs msgs'
+  pub message : AppendsFront (run_fault_message fault (slice_index_or run.names f [])) msgs msgs'
   pub written : opener.told → WritesUpTo run opener.files f fault out out'

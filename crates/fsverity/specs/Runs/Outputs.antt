@@ -9,7 +9,7 @@ use Rattle.verity_io.specs.Reading.{HasRead}
 use Rattle.verity_plan.specs.Settings.{Settings}
 use Rattle.fsverity.specs.Runs.FileDigest.{FaultsIn, Stands, descriptor_of, device_failed, is_too_large, root_of_file, source_failed, with_tree}
 use Rattle.fsverity.specs.Texts.Lines.{line}
-use Rattle.fsverity.specs.Texts.Messages.{output_fault_text}
+use Rattle.fsverity.specs.Texts.Messages.{output_fault_message}
 use Rattle.fsverity.specs.declared.runs.digest_fault.DigestFault.{DigestFault}
 use Rattle.fsverity.specs.declared.runs.digest_fault.DigestFault.TheVariants.{TooLarge}
 use Rattle.fsverity.specs.declared.texts.digest_lines.Form.{Form}
@@ -71,7 +71,7 @@ status_of (Err fault) = 1
 -- the message of an outcome
 abbrev pub message_of : Outcome → List ℕ → List ℕ
 message_of (Ok done) name = []
-message_of (Err fault) name = output_fault_text fault name
+message_of (Err fault) name = output_fault_message fault name
 
 -- the digest's part of an outcome
 abbrev pub digest_result : Outcome → Result (Unit {0}) DigestFault

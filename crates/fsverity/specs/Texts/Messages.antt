@@ -3,7 +3,7 @@
 use Rattle.std.specs.Prelude.{ℕ, List, [], ◌∷◌, codes}
 use Rattle.std.specs.List.{concat}
 use Rattle.std.specs.Fmt.{decimal}
-use Rattle.command_line.specs.SystemWords.{not_utf8_text}
+use Rattle.command_line.specs.SystemWords.{not_utf8_message}
 use Rattle.command_line.specs.declared.words.system_words.WordsFault.{WordsFault}
 use Rattle.command_line.specs.declared.words.system_words.WordsFault.TheVariants.{NotUtf8, Memory as NoMemory}
 use Rattle.fsverity.specs.declared.runs.digest_fault.DigestFault.{DigestFault}
@@ -17,40 +17,40 @@ use Rattle.fsverity.specs.declared.options.option_fault.FsOptionFault.{FsOptionF
 use Rattle.fsverity.specs.declared.options.option_fault.FsOptionFault.TheVariants.{UnknownHash, BadBlockSize, BadSalt, OneFileOnly}
 
 -- why a file of this name has no digest
-abbrev pub fault_text : DigestFault → List ℕ → List ℕ
-fault_text TooLarge name = concat (codes "fsverity: file is too large: " ∷ name ∷ codes ".\n" ∷ [])
-fault_text (SourceShort i) name =
+abbrev pub digest_message : DigestFault → List ℕ → List ℕ
+digest_message TooLarge name = concat (codes "fsverity: file is too large: " ∷ name ∷ codes ".\n" ∷ [])
+digest_message (SourceShort i) name =
     concat (codes "fsverity: file ends before the end of block " ∷ decimal i ∷ codes ": " ∷ name ∷ codes ".\n" ∷ [])
-fault_text (SourceFailed i) name =
+digest_message (SourceFailed i) name =
     concat (codes "fsverity: cannot read block " ∷ decimal i ∷ codes ": " ∷ name ∷ codes ".\n" ∷ [])
-fault_text (DeviceFailed level block) name = concat
+digest_message (DeviceFailed level block) name = concat
     (codes "fsverity: cannot write tree block " ∷ decimal block ∷ codes " of level " ∷ decimal level ∷ codes ".\n" ∷ [])
-fault_text Memory name = codes "fsverity: out of memory.\n"
+digest_message Memory name = codes "fsverity: out of memory.\n"
 
 -- why a run over files ended at the file of this name
-abbrev pub run_fault_text : RunFault → List ℕ → List ℕ
-run_fault_text run.NotOpened name = concat (codes "fsverity: cannot open " ∷ name ∷ codes ".\n" ∷ [])
-run_fault_text (run.Digest fault) name = fault_text fault name
-run_fault_text run.NotWritten name = codes "fsverity: cannot write output.\n"
+abbrev pub run_fault_message : RunFault → List ℕ → List ℕ
+run_fault_message run.NotOpened name = concat (codes "fsverity: cannot open " ∷ name ∷ codes ".\n" ∷ [])
+run_fault_message (run.Digest fault) name = digest_message fault name
+run_fault_message run.NotWritten name = codes "fsverity: cannot write output.\n"
 
 -- why a run with output files stopped at the file of this name
-abbrev pub output_fault_text : OutputFault → List ℕ → List ℕ
-output_fault_text (output.Digest fault) name = fault_text fault name
-output_fault_text (output.Descriptor count) name = codes "fsverity: cannot write descriptor.\n"
-output_fault_text (output.Line print.Memory) name = codes "fsverity: out of memory.\n"
-output_fault_text (output.Line (print.Output count)) name = codes "fsverity: cannot write output.\n"
+abbrev pub output_fault_message : OutputFault → List ℕ → List ℕ
+output_fault_message (output.Digest fault) name = digest_message fault name
+output_fault_message (output.Descriptor count) name = codes "fsverity: cannot write descriptor.\n"
+output_fault_message (output.Line print.Memory) name = codes "fsverity: out of memory.\n"
+output_fault_message (output.Line (print.Output count)) name = codes "fsverity: cannot write output.\n"
 
 -- why the options are refused
-abbrev pub option_text : FsOptionFault → List ℕ
-option_text UnknownHash = codes "fsverity: unknown hash algorithm.\n"
-option_text BadBlockSize = codes "fsverity: block size is not valid.\n"
-option_text BadSalt = codes "fsverity: salt is not valid.\n"
-option_text OneFileOnly = codes "fsverity: output files need exactly one input file.\n"
+abbrev pub option_message : FsOptionFault → List ℕ
+option_message UnknownHash = codes "fsverity: unknown hash algorithm.\n"
+option_message BadBlockSize = codes "fsverity: block size is not valid.\n"
+option_message BadSalt = codes "fsverity: salt is not valid.\n"
+option_message OneFileOnly = codes "fsverity: output files need exactly one input file.\n"
 
 -- why the words of the command line can't be read, and the status that goes with it
-abbrev pub words_text : WordsFault → List ℕ
-words_text (NotUtf8 number word) = not_utf8_text number word.items
-words_text NoMemory = codes "fsverity: out of memory.\n"
+abbrev pub words_message : WordsFault → List ℕ
+words_message (NotUtf8 number word) = not_utf8_message number word.items
+words_message NoMemory = codes "fsverity: out of memory.\n"
 
 abbrev pub words_status : WordsFault → ℕ
 words_status (NotUtf8 number word) = 2

@@ -3,11 +3,11 @@ ghost use Rattle.std.specs.Prelude.{◌≡◌, ◌⊎◌, ◌≤◌, IfErr, IfOk
 ghost use Rattle.command_line.specs.LineFaults.{IsMemory};
 ghost use Rattle.command_line.specs.Printing.{AppendsFront};
 ghost use Rattle.fsverity.specs.Words.CommandLines.{line_settings};
-ghost use Rattle.fsverity.specs.Texts.Messages.{option_text, run_fault_text, words_status, words_text};
+ghost use Rattle.fsverity.specs.Texts.Messages.{option_message, run_fault_message, words_status, words_message};
 ghost use Rattle.fsverity.specs.declared.runs.run_fault.RunFault.TheVariants.{NotOpened};
 
 use crate::program::output_files::OutputNames;
-use crate::program::outputs::{OutputRequest, digest_to};
+use crate::program::outputs::{OutputRequest, digest_with_outputs};
 use crate::words::reading::USAGE;
 use crate::{
     FileOpener, Line, LineFault, OUT_OF_MEMORY, RunFault, digest_settings, option_message,
@@ -72,7 +72,7 @@ fn given_line<R: Env + AllocGlobal, M: Write>(rt: &R, msgs: &mut M) -> Result<Li
 fn refuse_words<M: Write>(alloc: Global, fault: &WordsFault, msgs: &mut M) -> u8
     ensures status { result ≡ words_status fault.now }
     ensures refusal { (result ≡ 1) ⊎ (result ≡ 2) }
-    ensures message { AppendsFront (words_text fault.now) (M.contents msgs.old) (M.contents msgs.new) }
+    ensures message { AppendsFront (words_message fault.now) (M.contents msgs.old) (M.contents msgs.new) }
 {
     match fault {
         WordsFault::NotUtf8(number, word) => {
@@ -109,7 +109,7 @@ fn run_line<R: Identities + ProgressRuntime + AllocGlobal, O: Write, M: Write>(
     ensures status { result ≤ 2 }
     ensures quiet { result ≡ 0 → msgs.new ≡ msgs.old }
     ensures refused { IfErr (line_settings line.now) (λ fault. (result ≡ 2) × (out.new ≡ out.old)
-        × AppendsFront (option_text fault) (M.contents msgs.old) (M.contents msgs.new)) }
+        × AppendsFront (option_message fault) (M.contents msgs.old) (M.contents msgs.new)) }
     ensures accepted { IfOk (line_settings line.now) (λ _. result ≤ 1) }
 {
     let settings = match digest_settings(&line.options()) {
@@ -132,7 +132,7 @@ fn run_line<R: Identities + ProgressRuntime + AllocGlobal, O: Write, M: Write>(
                 name,
                 outputs,
             };
-            digest_to(rt, progress, request, out, msgs)
+            digest_with_outputs(rt, progress, request, out, msgs)
         }
         names => {
             let mut opener = FileOpener::new(rt, progress, names);
@@ -152,7 +152,7 @@ fn run_line<R: Identities + ProgressRuntime + AllocGlobal, O: Write, M: Write>(
 /// Says that a file can't be opened. The answer is the status.
 pub(crate) fn stop_for_unopened_file<M: Write>(alloc: Global, name: &str, msgs: &mut M) -> u8
     ensures status { result ≡ 1 }
-    ensures message { AppendsFront (run_fault_text NotOpened name.now) (M.contents msgs.old) (M.contents msgs.new) }
+    ensures message { AppendsFront (run_fault_message NotOpened name.now) (M.contents msgs.old) (M.contents msgs.new) }
 {
     RunFault::NotOpened.write_message(alloc, name, msgs);
     FAILED

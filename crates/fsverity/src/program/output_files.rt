@@ -3,7 +3,7 @@ ghost use Rattle.std.specs.Prelude.{◌≡◌, ◌⊎◌, ◌||◌, None, Some, 
 ghost use Rattle.std.specs.Prelude.{option_map, option_copied, string_bytes};
 
 use crate::Line;
-use command_line::{FileIdentity, Identities, are_one, is_folder, text_of};
+use command_line::{FileIdentity, Identities, are_same_file, is_folder, text_of};
 use std::fs::File;
 use std::rt::Files;
 
@@ -63,7 +63,7 @@ impl<F> OutputFiles<F> {
         let tree = open_output(rt, names.tree)?;
         // The file exists now, so the system can say whether the other name leads to it too.
         if let (Some(file), Some(name)) = (&tree, names.descriptor)
-            && are_one(rt.file_identity(file), rt.path_identity(name))
+            && are_same_file(rt.file_identity(file), rt.path_identity(name))
         {
             return Err(name);
         }
@@ -104,9 +104,9 @@ fn file_named_twice<'a, R: Identities>(
     let opened = rt.file_identity(input);
     let tree = identity_of(rt, names.tree);
     let descriptor = identity_of(rt, names.descriptor);
-    if are_one(tree, opened) {
+    if are_same_file(tree, opened) {
         names.tree
-    } else if are_one(descriptor, opened) || are_one(descriptor, tree) {
+    } else if are_same_file(descriptor, opened) || are_same_file(descriptor, tree) {
         names.descriptor
     } else {
         None

@@ -39,7 +39,11 @@ struct Outputs<D, F> {
 
 /// `fsverity digest` of one file, with output files: the input file is opened and its length is found, and then the
 /// output files are opened.
-pub(crate) fn digest_to<R: Identities + ProgressRuntime + AllocGlobal, O: Write, M: Write>(
+pub(crate) fn digest_with_outputs<
+    R: Identities + ProgressRuntime + AllocGlobal,
+    O: Write,
+    M: Write,
+>(
     rt: &R,
     progress: &ProgressLine<'_, R>,
     request: OutputRequest<'_>,
@@ -60,11 +64,11 @@ pub(crate) fn digest_to<R: Identities + ProgressRuntime + AllocGlobal, O: Write,
         Err(refused) => return stop_for_unopened_file(alloc, refused, msgs),
     };
     let source = FileSource::new(ProgressReader::new(file, size, progress), size);
-    write_to(alloc, request, Input { size, source }, files, out, msgs)
+    run_with_files(alloc, request, Input { size, source }, files, out, msgs)
 }
 
 /// Digests the input file, and writes its tree and its descriptor to those output files that there are.
-fn write_to<S: Source + Drop, F: Read + Write + Seek + Drop, O: Write, M: Write>(
+fn run_with_files<S: Source + Drop, F: Read + Write + Seek + Drop, O: Write, M: Write>(
     alloc: Global,
     request: OutputRequest<'_>,
     input: Input<S>,
@@ -84,7 +88,7 @@ fn write_to<S: Source + Drop, F: Read + Write + Seek + Drop, O: Write, M: Write>
                 tree: FileDevice::new(file),
                 descriptor,
             };
-            digest_into(alloc, request, input, outputs, out, msgs)
+            run_with_devices(alloc, request, input, outputs, out, msgs)
         }
         None => {
             let outputs = Outputs {
@@ -92,13 +96,13 @@ fn write_to<S: Source + Drop, F: Read + Write + Seek + Drop, O: Write, M: Write>
                 tree: Nowhere,
                 descriptor,
             };
-            digest_into(alloc, request, input, outputs, out, msgs)
+            run_with_devices(alloc, request, input, outputs, out, msgs)
         }
     }
 }
 
 /// Digests the input file, and writes its tree if it is wanted, and its descriptor if there is a file for it.
-fn digest_into<S: Source + Drop, D: Device + Drop, F: Write + Drop, O: Write, M: Write>(
+fn run_with_devices<S: Source + Drop, D: Device + Drop, F: Write + Drop, O: Write, M: Write>(
     alloc: Global,
     request: OutputRequest<'_>,
     input: Input<S>,

@@ -104,7 +104,7 @@ pub fn run_digest<O: Opener, W: Write, M: Write>(
     // Status 0: all files have lines.
     ensures done { result ≡ 0 → O.next opener.new ≡ length names.now }
     ensures quiet { result ≡ 0 → msgs.new ≡ msgs.old }
-    ensures calm { result ≡ 0 → O.failures opener.new ≡ O.failures opener.old }
+    ensures no_failure { result ≡ 0 → O.failures opener.new ≡ O.failures opener.old }
     ensures all { O.tells opener.old → result ≡ 0 → first_without_digest settings.now (O.files opener.old) ≡ length names.now }
     ensures lines { O.tells opener.old → result ≡ 0
         → Appends (W.contents out.old) (W.contents out.new)

@@ -2,7 +2,7 @@
 ghost use Rattle.std.specs.Prelude.{◌≡◌, IfOk, IsTrue, string_bytes};
 ghost use Rattle.std.specs.Io.KnownBytes.{Appends};
 ghost use Rattle.command_line.specs.Printing.{AppendsFront};
-ghost use Rattle.fsverity.specs.Texts.Messages.{fault_text, option_text, output_fault_text, run_fault_text};
+ghost use Rattle.fsverity.specs.Texts.Messages.{digest_message, option_message, output_fault_message, run_fault_message};
 
 use crate::{DigestFault, FsOptionFault, OutputFault, PrintFault, RunFault};
 use command_line::{write_message, write_pieces, write_text};
@@ -17,7 +17,7 @@ const OUTPUT_UNWRITTEN: &str = "fsverity: cannot write output.\n";
 
 /// The message of a refused option: one line, with its newline.
 pub fn option_message(fault: &FsOptionFault) -> &'static str
-    ensures { result.now ≡ option_text fault.now }
+    ensures { result.now ≡ option_message fault.now }
 {
     match fault {
         FsOptionFault::UnknownHash => "fsverity: unknown hash algorithm.\n",
@@ -29,7 +29,7 @@ pub fn option_message(fault: &FsOptionFault) -> &'static str
 
 /// The message of a fault at the file of this name: one line, with its newline. The error is out of memory.
 pub fn digest_message(alloc: Global, fault: &DigestFault, name: &str) -> Result<String, AllocError>
-    ensures { IfOk result (λ text. string_bytes text ≡ fault_text fault.now name.now) }
+    ensures { IfOk result (λ text. string_bytes text ≡ digest_message fault.now name.now) }
 {
     match fault {
         DigestFault::TooLarge => format!(in alloc; "fsverity: file is too large: {name}.\n"),
@@ -51,8 +51,8 @@ impl RunFault {
     /// that a file can't be opened needs no memory. The answer says whether the writer took all of it.
     pub(crate) fn write_message<W: Write>(&self, alloc: Global, name: &str, msgs: &mut W) -> bool
         ensures whole { IsTrue result
-            → Appends (W.contents msgs.old) (W.contents msgs.new) (run_fault_text self.now name.now) }
-        ensures front { AppendsFront (run_fault_text self.now name.now) (W.contents msgs.old) (W.contents msgs.new) }
+            → Appends (W.contents msgs.old) (W.contents msgs.new) (run_fault_message self.now name.now) }
+        ensures front { AppendsFront (run_fault_message self.now name.now) (W.contents msgs.old) (W.contents msgs.new) }
     {
         match self {
             RunFault::NotOpened => write_pieces(&["fsverity: cannot open ", name, ".\n"], msgs),
@@ -68,8 +68,8 @@ impl OutputFault {
     /// whether the writer took all of it.
     pub(crate) fn write_message<W: Write>(&self, alloc: Global, name: &str, msgs: &mut W) -> bool
         ensures whole { IsTrue result
-            → Appends (W.contents msgs.old) (W.contents msgs.new) (output_fault_text self.now name.now) }
-        ensures front { AppendsFront (output_fault_text self.now name.now) (W.contents msgs.old) (W.contents msgs.new) }
+            → Appends (W.contents msgs.old) (W.contents msgs.new) (output_fault_message self.now name.now) }
+        ensures front { AppendsFront (output_fault_message self.now name.now) (W.contents msgs.old) (W.contents msgs.new) }
     {
         match self {
             OutputFault::Digest(DigestFault::Memory) => write_text(OUT_OF_MEMORY, msgs),

@@ -4,7 +4,9 @@ use Rattle.std.specs.Prelude.{◌≡◌, ◌⊎◌, ℕ, ◌+◌, ◌/◌, ◌%�
 use Rattle.std.specs.List.{range_with_len}
 use Rattle.verity_hash.specs.declared.digest.Digest.{Digest}
 use Rattle.verity_plan.specs.Settings.{Settings, hash, fan}
-use Rattle.verity_tree.specs.TreeOnDevice.{closing, closes, tree_block, device_with, stored_block}
+use Rattle.verity_tree.specs.ClosingOrder.{closing, closes}
+use Rattle.verity_tree.specs.TreeOnDevice.{tree_block, device_with, stored_block}
+use Rattle.verity_tree.specs.ClosingOrder.{BlockIndex, block_index}
 use Rattle.verity_plan.specs.Plans.{Planned, byte_of, levels_of}
 use Rattle.verity_tree.specs.declared.pass.cascade.Stop.{Stop}
 use Rattle.verity_tree.specs.declared.pass.closed_block.Task.{Task}
@@ -15,11 +17,11 @@ use Rattle.verity_io.specs.Writing.{put, Spoiled}
 use Rattle.verity_tree.specs.declared.pass.cascade.LevelStep.{LevelStep}
 use Rattle.verity_tree.specs.declared.pass.cascade.LevelStep.TheVariants.{Open, Closed, Stopped}
 
--- the blocks of the levels below m that close with data block i, counted from 0, if all of them do
-abbrev pub first_closing : ℕ → ℕ → ℕ → List (ℕ × ℕ)
-first_closing fan i m = map (λ level. (level, i / fan ^ (level + 1))) (range_with_len 0 m)
+-- the blocks of the levels below m that close with data block i, if all of them do
+abbrev pub first_closing : ℕ → ℕ → ℕ → List BlockIndex
+first_closing fan i m = map (λ level. block_index level (i / fan ^ (level + 1))) (range_with_len 0 m)
 
--- data block i, counted from 0, is the last below a block of level 0
+-- data block i is the last below a block of level 0
 abbrev pub EndsBlock : ℕ → ℕ → ℕ → Type 0
 EndsBlock fan n i = (i % fan + 1 ≡ fan) ⊎ (i + 1 ≡ n)
 
@@ -59,11 +61,11 @@ abbrev pub carry_failed : Task → Result Digest Stop → Bool
 carry_failed task (Ok digest) = false
 carry_failed task (Err stop) = call_failed task stop.fault
 
--- the block that closes with data block i, counted from 0, after those of the levels below it
+-- the block that closes with data block i after those of the levels below it
 pub record ClosesWith (p : Planned) (i level block : ℕ) : Type 0 where
   pub level_below : level < levels_of p
   pub block_is : block ≡ i / fan p.settings ^ (level + 1)
-  pub all : (k : ℕ) → k ≤ level → closes (fan p.settings) p.blocks (i + 1) k ≡ true
+  pub all : (k : ℕ) → k ≤ level → closes (fan p.settings) p.blocks i k ≡ true
 
 -- data block i has come to all levels that close, or stopped at one whose block could not be written
 abbrev pub Carries : Planned → List (List ℕ) → ℕ → Result Digest Stop → List ℕ → Type 0
@@ -73,7 +75,7 @@ Carries p blocks i (Err stop) store = ClosesWith p i stop.level stop.index
 -- the blocks that close with a data block are put at their places, up to the one that stops the pass
 abbrev pub CarriesDevice : Planned → List (List ℕ) → ℕ → Result Digest Stop → List ℕ → List ℕ → Type 0
 CarriesDevice p blocks i (Ok digest) before after =
-    after ≡ device_with p.settings blocks p.base (closing (fan p.settings) p.blocks (i + 1)) before
+    after ≡ device_with p.settings blocks p.base (closing (fan p.settings) p.blocks i) before
 CarriesDevice p blocks i (Err stop) before after =
     Spoiled (device_with p.settings blocks p.base (first_closing (fan p.settings) i stop.level) before)
     (byte_of p stop.level stop.index) p.settings.hash_block after
@@ -81,7 +83,7 @@ CarriesDevice p blocks i (Err stop) before after =
 -- the blocks that close with a data block do not differ from what the device holds, up to the one that stops the pass
 abbrev pub CarriesCompared : Planned → List (List ℕ) → ℕ → Result Digest Stop → List ℕ → List ℕ → Type 0
 CarriesCompared p blocks i (Ok digest) before after =
-    (after ≡ before) × NoneDiffers p blocks before (closing (fan p.settings) p.blocks (i + 1))
+    (after ≡ before) × NoneDiffers p blocks before (closing (fan p.settings) p.blocks i)
 CarriesCompared p blocks i (Err stop) before after = (after ≡ before)
     × NoneDiffers p blocks before (first_closing (fan p.settings) i stop.level)
     × IsHashBlockFault p

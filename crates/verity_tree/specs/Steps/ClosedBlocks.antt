@@ -34,14 +34,14 @@ IsHashBlockFault p computed device (Differs part) = (stored_block p device compu
     (stored_block p device computed.level computed.index) computed.bytes)
 
 -- the device before and after a closed block is written or compared
-abbrev pub Closes : Planned → Task → ClosedBlock → Result Unit HashBlockFault → List ℕ → List ℕ → Type 0
-Closes p Write closed (Ok _) before after = after ≡ put before (byte_of p closed.level closed.index) closed.bytes
-Closes p Write closed (Err fault) before after =
+abbrev pub WritesOrCompares : Planned → Task → ClosedBlock → Result Unit HashBlockFault → List ℕ → List ℕ → Type 0
+WritesOrCompares p Write closed (Ok _) before after = after ≡ put before (byte_of p closed.level closed.index) closed.bytes
+WritesOrCompares p Write closed (Err fault) before after =
     Spoiled before (byte_of p closed.level closed.index) p.settings.hash_block after
-Closes p Compare closed (Err Failed) before after = after ≡ before
-Closes p Compare closed (Ok done) before after =
+WritesOrCompares p Compare closed (Err Failed) before after = after ≡ before
+WritesOrCompares p Compare closed (Ok done) before after =
     (after ≡ before) × ComparesBlock p closed (stored_block p before closed.level closed.index) (Ok done)
-Closes p Compare closed (Err (Differs part)) before after =
+WritesOrCompares p Compare closed (Err (Differs part)) before after =
     (after ≡ before) × ComparesBlock p closed (stored_block p before closed.level closed.index) (Err (Differs part))
 
 -- whether a call of the device failed
@@ -50,6 +50,6 @@ call_failed Write fault = true
 call_failed Compare Failed = true
 call_failed Compare (Differs part) = false
 
-abbrev pub close_failed : Task → Result Unit HashBlockFault → Bool
-close_failed task (Ok _) = false
-close_failed task (Err fault) = call_failed task fault
+abbrev pub write_or_compare_failed : Task → Result Unit HashBlockFault → Bool
+write_or_compare_failed task (Ok _) = false
+write_or_compare_failed task (Err fault) = call_failed task fault

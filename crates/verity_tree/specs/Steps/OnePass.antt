@@ -4,7 +4,8 @@ use Rattle.std.specs.Prelude.{◌≡◌, ℕ, ◌+◌, ◌<◌, ◌≤◌, Bool,
 use Rattle.verity_hash.specs.declared.digest.Digest.{Digest}
 use Rattle.verity_tree.specs.Building.{Builds, BuildsOnDevice}
 use Rattle.verity_tree.specs.Reading.{bytes_of}
-use Rattle.verity_tree.specs.TreeOnDevice.{tree_block, ComesNext, order}
+use Rattle.verity_tree.specs.ClosingOrder.{BlockIndex, block_index, ComesNext, order}
+use Rattle.verity_tree.specs.TreeOnDevice.{tree_block}
 use Rattle.verity_tree.specs.Steps.ClosedBlocks.{IsHashBlockFault, call_failed, closed_block}
 use Rattle.verity_tree.specs.Levels.{data_blocks}
 use Rattle.verity_plan.specs.Plans.{Planned}
@@ -41,8 +42,8 @@ pub record StopsFor (p : Planned) (bytes device : List ℕ) (stop : Stop) : Type
   pub i : ℕ
   pub below : i < p.blocks
   pub enough : bytes_of p (i + 1) ≤ length bytes
-  pub done : List (ℕ × ℕ)
-  pub next : ComesNext (order (fan p.settings) p.blocks (i + 1)) done (stop.level, stop.index)
+  pub done : List BlockIndex
+  pub next : ComesNext (order (fan p.settings) p.blocks (i + 1)) done (block_index stop.level stop.index)
   pub same : NoneDiffers p (data_blocks p bytes) device done
   pub fault_is : IsHashBlockFault p
       (closed_block stop.level stop.index

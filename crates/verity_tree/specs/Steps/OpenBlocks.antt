@@ -20,7 +20,7 @@ HasOpenBlocks s blocks from to i store =
     (l : ℕ) → from ≤ l → l < to
     → slice_chunk store s.hash_block l ≡ open_block s (digests_under s blocks l) (i / fan s ^ l)
 
--- the digest that comes to level m with data block i, counted from 0
+-- the digest that comes to level m with data block i
 abbrev pub level_digest : Settings → List (List ℕ) → ℕ → ℕ → List ℕ
 level_digest s blocks i m = hash s (slice_index_or (blocks_up s blocks m) (i / fan s ^ m) [])
 
@@ -28,11 +28,11 @@ level_digest s blocks i m = hash s (slice_index_or (blocks_up s blocks m) (i / f
 abbrev pub open_block_with : Settings → List (List ℕ) → ℕ → List ℕ
 open_block_with s digests q = hash_block_of s (take (q % fan s + 1) (drop (q / fan s * fan s) digests))
 
--- data block i, counted from 0, is the last below a block of level m - 1
+-- data block i is the last below a block of level m - 1
 pub record IsReached (f i m : ℕ) : Type 0 where
   pub whole : i + 1 ≡ (i / f ^ m + 1) * f ^ m
 
--- how far a data block's digest has come: the data block, counted from 0, the level, and the number of levels
+-- how far a data block's digest has come: the data block, the level, and the number of levels
 pub record CascadeState : Type 0 where
   pub i : ℕ
   pub level : ℕ

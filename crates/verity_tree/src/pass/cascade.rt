@@ -14,7 +14,7 @@ use verity_hash::Digest;
 use verity_io::Device;
 
 /// What became of a level's open block.
-#[derive(Clone, Copy, Debug, PartialEq, Eq)]
+#[derive(Clone, Copy)]
 pub(crate) enum LevelStep {
     /// It has room for more digests.
     Open,
@@ -25,7 +25,7 @@ pub(crate) enum LevelStep {
 }
 
 /// The hash block that stops a pass.
-#[derive(Clone, Copy, Debug, PartialEq, Eq)]
+#[derive(Clone, Copy)]
 pub(crate) struct Stop {
     pub level: usize,
     pub index: u64,

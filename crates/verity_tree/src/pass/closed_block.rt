@@ -1,7 +1,7 @@
 //! What is done with a hash block when it has closed.
 ghost use Rattle.std.specs.Prelude.{◌≡◌, ◌+◌, ◌*◌, ◌≤◌, length, take};
 ghost use Rattle.verity_io.specs.Counting.{Counts};
-ghost use Rattle.verity_tree.specs.Steps.ClosedBlocks.{Closes, ComparesBlock, close_failed, closed_block};
+ghost use Rattle.verity_tree.specs.Steps.ClosedBlocks.{WritesOrCompares, ComparesBlock, write_or_compare_failed, closed_block};
 ghost use Rattle.verity_plan.specs.Plans.{HasBlock};
 
 use crate::part::{Part, part_between};
@@ -9,7 +9,7 @@ use verity_io::Device;
 use verity_plan::Plan;
 
 /// What is done with a hash block when it has closed.
-#[derive(Clone, Copy, Debug, PartialEq, Eq)]
+#[derive(Clone, Copy)]
 pub(crate) enum Task {
     /// It is written at its place.
     Write,
@@ -18,14 +18,14 @@ pub(crate) enum Task {
 }
 
 /// What a pass over the data has to do: for which plan, and what with each hash block.
-#[derive(Clone, Copy, Debug, PartialEq, Eq)]
+#[derive(Clone, Copy)]
 pub(crate) struct Job {
     pub plan: Plan,
     pub task: Task,
 }
 
 /// Why a pass stops at a hash block.
-#[derive(Clone, Copy, Debug, PartialEq, Eq)]
+#[derive(Clone, Copy)]
 pub(crate) enum HashBlockFault {
     /// The device failed.
     Failed,
@@ -46,9 +46,9 @@ pub(crate) fn write_or_compare<D: Device>(
     requires size { length bytes.now ≡ job.now.plan.settings.hash_block }
     requires stored { length stored.old ≡ job.now.plan.settings.hash_block }
     ensures told { D.tells device.old → D.tells device.new }
-    ensures count { Counts (close_failed job.now.task result) (D.failures device.old) (D.failures device.new) }
+    ensures count { Counts (write_or_compare_failed job.now.task result) (D.failures device.old) (D.failures device.new) }
     ensures device { D.tells device.old
-        → Closes job.now.plan job.now.task (closed_block level index bytes.now)
+        → WritesOrCompares job.now.plan job.now.task (closed_block level index bytes.now)
         result (D.content device.old) (D.content device.new) }
 {
     let at = job.plan.byte(level, index);

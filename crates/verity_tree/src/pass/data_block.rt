@@ -13,7 +13,7 @@ use verity_io::{Source, read_block};
 use verity_plan::Plan;
 
 /// Why a data block isn't read.
-#[derive(Clone, Copy, Debug, PartialEq, Eq)]
+#[derive(Clone, Copy)]
 pub(crate) enum BlockFault {
     /// The source ended before the block's end.
     Short,

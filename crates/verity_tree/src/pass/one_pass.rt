@@ -17,7 +17,7 @@ use verity_io::{Device, Source};
 use verity_plan::Plan;
 
 /// Why a pass ends early; data blocks are counted from 0.
-#[derive(Clone, Copy, Debug, PartialEq, Eq)]
+#[derive(Clone, Copy)]
 pub(crate) enum PassFault {
     /// The source ended before the end of this data block.
     SourceShort(u64),

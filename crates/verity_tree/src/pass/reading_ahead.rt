@@ -27,7 +27,7 @@ const LEAST_ROWS: usize = 3;
 pub(crate) const WINDOW: usize = 131_072;
 
 /// Data blocks that were read and hashed before their turn.
-#[derive(Clone, Copy, Debug, PartialEq, Eq)]
+#[derive(Clone, Copy)]
 pub(crate) struct Ahead {
     /// The digest of each block from `first` on and below `end`; those after them count for nothing.
     digests: [Digest; ROWS],

@@ -3,10 +3,10 @@ use Rattle.std.specs.Prelude.{◌≡◌, ℕ, Bool, false, List, Option, None, R
 use Rattle.std.specs.Io.KnownBytes.{Keeps}
 use Rattle.verity_format.specs.Superblocks.{SuperblockFields, IsSuperblock}
 use Rattle.verity_io.specs.Counting.{Change, Counts}
-use Rattle.veritysetup.specs.Texts.Messages.{super_text, unread_superblock_text, memory_text, unwritten_output_text}
-use Rattle.veritysetup.specs.Runs.Outcomes.{TextChange, status_of, message_of}
+use Rattle.veritysetup.specs.Texts.Messages.{super_message, unread_superblock_message, memory_message, unwritten_output_message}
+use Rattle.veritysetup.specs.Runs.Outcomes.{status_of, message_of}
+use Rattle.veritysetup.specs.Texts.Reports.{TextChange, report_text, uuid_text}
 use Rattle.command_line.specs.Printing.{AppendsFront, Prints}
-use Rattle.veritysetup.specs.Texts.Reports.{report_text, uuid_text}
 use Rattle.veritysetup.specs.Runs.HashDevice.{superblock_at, ReadsSuperblock, is_unread}
 use Rattle.veritysetup.specs.declared.runs.dump.DumpFault.{DumpFault}
 use Rattle.veritysetup.specs.declared.runs.dump.DumpFault.TheVariants.{Superblock, Report}
@@ -22,11 +22,11 @@ fault_status (Report Memory) = 3
 fault_status (Report (Output count)) = 4
 
 -- its message
-abbrev pub fault_text : DumpFault → List ℕ
-fault_text (Superblock (Refused fault)) = super_text fault
-fault_text (Superblock Unread) = unread_superblock_text
-fault_text (Report Memory) = memory_text
-fault_text (Report (Output count)) = unwritten_output_text
+abbrev pub fault_message : DumpFault → List ℕ
+fault_message (Superblock (Refused fault)) = super_message fault
+fault_message (Superblock Unread) = unread_superblock_message
+fault_message (Report Memory) = memory_message
+fault_message (Report (Output count)) = unwritten_output_message
 
 -- the report of the superblock at an offset of the device is printed, without a root hash
 abbrev pub ReportsSuperblock : ℕ → List ℕ → Change → Result (Unit {0}) PrintFault → Option (List ℕ)
@@ -53,5 +53,5 @@ pub record DumpRun (offset : ℕ) (path : List ℕ) (status : ℕ) (device : Cha
   pub outcome : Result (Unit {0}) DumpFault
   pub status_is : status ≡ status_of fault_status outcome
   pub printed : DumpsTo offset path device outcome texts.out_before texts.out_after
-  pub message : AppendsFront (message_of fault_text outcome) texts.msgs_before texts.msgs_after
+  pub message : AppendsFront (message_of fault_message outcome) texts.msgs_before texts.msgs_after
   pub counted : Counts (device_failed outcome) device.failures_before device.failures_after

@@ -12,10 +12,10 @@ use Rattle.verity_tree.specs.Building as building
 use Rattle.verity_tree.specs.Levels.{root, data_blocks}
 use Rattle.veritysetup.specs.Options.VeritySettings.{VeritySettings}
 use Rattle.veritysetup.specs.Runs.HashDevice.{formatted_device, superblock_for}
-use Rattle.veritysetup.specs.Texts.Messages.{build_text, memory_text, unwritten_output_text, unwritten_superblock_text}
-use Rattle.veritysetup.specs.Runs.Outcomes.{TextChange, status_of, message_of}
+use Rattle.veritysetup.specs.Texts.Messages.{build_message, memory_message, unwritten_output_message, unwritten_superblock_message}
+use Rattle.veritysetup.specs.Runs.Outcomes.{status_of, message_of}
+use Rattle.veritysetup.specs.Texts.Reports.{TextChange, no_uuid_text, report_text, uuid_text}
 use Rattle.command_line.specs.Printing.{AppendsFront, Prints}
-use Rattle.veritysetup.specs.Texts.Reports.{no_uuid_text, report_text, uuid_text}
 use Rattle.veritysetup.specs.declared.runs.format.FormatFault.{FormatFault}
 use Rattle.veritysetup.specs.declared.runs.format.FormatFault.TheVariants.{Store, Build, Superblock, Report}
 use Rattle.command_line.specs.declared.printing.print_fault.PrintFault.TheVariants.{Memory, Output}
@@ -29,12 +29,12 @@ fault_status (Report Memory) = 3
 fault_status (Report (Output count)) = 4
 
 -- its message
-abbrev pub fault_text : FormatFault → List ℕ
-fault_text Store = memory_text
-fault_text (Build fault) = build_text fault
-fault_text Superblock = unwritten_superblock_text
-fault_text (Report Memory) = memory_text
-fault_text (Report (Output count)) = unwritten_output_text
+abbrev pub fault_message : FormatFault → List ℕ
+fault_message Store = memory_message
+fault_message (Build fault) = build_message fault
+fault_message Superblock = unwritten_superblock_message
+fault_message (Report Memory) = memory_message
+fault_message (Report (Output count)) = unwritten_output_message
 
 -- the root hash of the tree above some data
 abbrev pub root_above : VeritySettings → List ℕ → List ℕ
@@ -90,7 +90,7 @@ pub record FormatRun (s : VeritySettings) (path : List ℕ) (status : ℕ) (sour
   pub root_hash : List ℕ
   pub root_is : source.told → root_hash ≡ root_above s source.before
   pub printed : PrintsReport (format_report s path root_hash) outcome texts.out_before texts.out_after
-  pub message : AppendsFront (message_of fault_text outcome) texts.msgs_before texts.msgs_after
+  pub message : AppendsFront (message_of fault_message outcome) texts.msgs_before texts.msgs_after
   pub source_counted : Counts (source_failed outcome) source.failures_before source.failures_after
   pub device_counted : Counts (device_failed outcome) device.failures_before device.failures_after
 

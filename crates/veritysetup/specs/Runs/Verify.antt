@@ -11,7 +11,7 @@ use Rattle.verity_tree.specs.TreeOnDevice.{HoldsTree}
 use Rattle.verity_tree.specs.declared.comparing.CompareFault.{CompareFault}
 use Rattle.verity_tree.specs.declared.comparing.CompareFault.TheVariants as fault
 use Rattle.veritysetup.specs.Options.VeritySettings.{plan_at, read_root}
-use Rattle.veritysetup.specs.Texts.Messages.{compare_text, memory_text, option_text, super_text, too_large_text, unread_superblock_text}
+use Rattle.veritysetup.specs.Texts.Messages.{compare_message, memory_message, option_message, super_message, too_large_message, unread_superblock_message}
 use Rattle.veritysetup.specs.Runs.Outcomes.{status_of, message_of}
 use Rattle.command_line.specs.Printing.{AppendsFront}
 use Rattle.veritysetup.specs.Runs.HashDevice.{ReadsSuperblock, superblock_at, is_unread}
@@ -40,11 +40,11 @@ input_status TooLarge = 1
 input_status BadRoot = 1
 
 -- its message
-abbrev pub input_text : InputFault → List ℕ
-input_text (Superblock (Refused cause)) = super_text cause
-input_text (Superblock Unread) = unread_superblock_text
-input_text TooLarge = too_large_text
-input_text BadRoot = option_text option.BadRoot
+abbrev pub input_message : InputFault → List ℕ
+input_message (Superblock (Refused cause)) = super_message cause
+input_message (Superblock Unread) = unread_superblock_message
+input_message TooLarge = too_large_message
+input_message BadRoot = option_message option.BadRoot
 
 -- the status of a fault
 abbrev pub fault_status : VerifyFault → ℕ
@@ -53,10 +53,10 @@ fault_status Store = 3
 fault_status (Compare fault) = compare_status fault
 
 -- its message
-abbrev pub fault_text : VerifyFault → List ℕ
-fault_text (Input fault) = input_text fault
-fault_text Store = memory_text
-fault_text (Compare fault) = compare_text fault
+abbrev pub fault_message : VerifyFault → List ℕ
+fault_message (Input fault) = input_message fault
+fault_message Store = memory_message
+fault_message (Compare fault) = compare_message fault
 
 -- the plan of the tree that a superblock at this offset describes: its hash blocks stand after the superblock
 abbrev pub plan_of : ℕ → SuperblockFields → Result Planned PlanFault
@@ -149,6 +149,6 @@ pub record VerifyRun (input : VerifyInput) (status : ℕ) (source device : Chang
   pub outcome : Result (Unit {0}) VerifyFault
   pub status_is : status ≡ status_of fault_status outcome
   pub verdict : source.told → device.told → Verifies input device.before source.before source.after outcome
-  pub message : AppendsFront (message_of fault_text outcome) msgs_before msgs_after
+  pub message : AppendsFront (message_of fault_message outcome) msgs_before msgs_after
   pub source_counted : Counts (source_failed outcome) source.failures_before source.failures_after
   pub device_counted : Counts (device_failed outcome) device.failures_before device.failures_after

@@ -24,74 +24,74 @@ option_name HashBlockSize = codes "hash-block-size"
 option_name DataBlocks = codes "data-blocks"
 option_name HashOffset = codes "hash-offset"
 
-abbrev pub no_data_text : List ℕ
-no_data_text = codes "No data blocks.\n"
+abbrev pub no_data_message : List ℕ
+no_data_message = codes "No data blocks.\n"
 
-abbrev pub too_large_text : List ℕ
-too_large_text = codes "Data or hash area is too large.\n"
+abbrev pub too_large_message : List ℕ
+too_large_message = codes "Data or hash area is too large.\n"
 
-abbrev pub memory_text : List ℕ
-memory_text = codes "Out of memory.\n"
+abbrev pub memory_message : List ℕ
+memory_message = codes "Out of memory.\n"
 
-abbrev pub unread_superblock_text : List ℕ
-unread_superblock_text = codes "Cannot read superblock.\n"
+abbrev pub unread_superblock_message : List ℕ
+unread_superblock_message = codes "Cannot read superblock.\n"
 
-abbrev pub unwritten_superblock_text : List ℕ
-unwritten_superblock_text = codes "Cannot write superblock.\n"
+abbrev pub unwritten_superblock_message : List ℕ
+unwritten_superblock_message = codes "Cannot write superblock.\n"
 
-abbrev pub unwritten_output_text : List ℕ
-unwritten_output_text = codes "Cannot write output.\n"
+abbrev pub unwritten_output_message : List ℕ
+unwritten_output_message = codes "Cannot write output.\n"
 
 -- a refused option
-abbrev pub option_text : OptionFault → List ℕ
-option_text (BadNumber option) = concat (codes "Option --" ∷ option_name option ∷ codes " is not a number.\n" ∷ [])
-option_text UnknownHash = codes "Unknown hash algorithm.\n"
-option_text BadHashType = codes "Hash type must be 0 or 1.\n"
-option_text (BadBlockSize option) =
+abbrev pub option_message : OptionFault → List ℕ
+option_message (BadNumber option) = concat (codes "Option --" ∷ option_name option ∷ codes " is not a number.\n" ∷ [])
+option_message UnknownHash = codes "Unknown hash algorithm.\n"
+option_message BadHashType = codes "Hash type must be 0 or 1.\n"
+option_message (BadBlockSize option) =
     concat (codes "Option --" ∷ option_name option ∷ codes " is not a valid block size.\n" ∷ [])
-option_text BadSalt = codes "Salt is not valid.\n"
-option_text BadUuid = codes "UUID is not valid.\n"
-option_text BadHashOffset = codes "Hash offset is not valid.\n"
-option_text NoData = no_data_text
-option_text TooLarge = too_large_text
-option_text Overlap = codes "Data area and hash area overlap.\n"
-option_text BadRoot = codes "Root hash is not valid.\n"
+option_message BadSalt = codes "Salt is not valid.\n"
+option_message BadUuid = codes "UUID is not valid.\n"
+option_message BadHashOffset = codes "Hash offset is not valid.\n"
+option_message NoData = no_data_message
+option_message TooLarge = too_large_message
+option_message Overlap = codes "Data area and hash area overlap.\n"
+option_message BadRoot = codes "Root hash is not valid.\n"
 
 -- a number in a superblock that is refused
-abbrev pub refused_text : List ℕ → ℕ → List ℕ → List ℕ
-refused_text field number adjective =
+abbrev pub refused_number_message : List ℕ → ℕ → List ℕ → List ℕ
+refused_number_message field number adjective =
     concat (codes "Superblock " ∷ field ∷ codes " " ∷ decimal number ∷ codes " is not " ∷ adjective ∷ codes ".\n" ∷ [])
 
 -- bytes that are no superblock
-abbrev pub super_text : SuperFault → List ℕ
-super_text super.Short = codes "Superblock is too short.\n"
-super_text super.Signature = codes "No verity superblock.\n"
-super_text (super.Version version) = refused_text (codes "version") version (codes "supported")
-super_text (super.HashType number) = refused_text (codes "hash type") number (codes "supported")
-super_text (super.DataBlockSize size) = refused_text (codes "data block size") size (codes "valid")
-super_text (super.HashBlockSize size) = refused_text (codes "hash block size") size (codes "valid")
-super_text super.Algorithm = codes "Superblock hash algorithm is not supported.\n"
-super_text (super.SaltSize size) = refused_text (codes "salt size") size (codes "valid")
-super_text super.NoData = no_data_text
-super_text super.TooLarge = too_large_text
+abbrev pub super_message : SuperFault → List ℕ
+super_message super.Short = codes "Superblock is too short.\n"
+super_message super.Signature = codes "No verity superblock.\n"
+super_message (super.Version version) = refused_number_message (codes "version") version (codes "supported")
+super_message (super.HashType number) = refused_number_message (codes "hash type") number (codes "supported")
+super_message (super.DataBlockSize size) = refused_number_message (codes "data block size") size (codes "valid")
+super_message (super.HashBlockSize size) = refused_number_message (codes "hash block size") size (codes "valid")
+super_message super.Algorithm = codes "Superblock hash algorithm is not supported.\n"
+super_message (super.SaltSize size) = refused_number_message (codes "salt size") size (codes "valid")
+super_message super.NoData = no_data_message
+super_message super.TooLarge = too_large_message
 
 -- data that ends too early, and a data block that can't be read
-abbrev pub short_text : ℕ → List ℕ
-short_text block = concat (codes "Data ends before the end of block " ∷ decimal block ∷ codes ".\n" ∷ [])
+abbrev pub short_message : ℕ → List ℕ
+short_message block = concat (codes "Data ends before the end of block " ∷ decimal block ∷ codes ".\n" ∷ [])
 
-abbrev pub unread_text : ℕ → List ℕ
-unread_text block = concat (codes "Cannot read data block " ∷ decimal block ∷ codes ".\n" ∷ [])
+abbrev pub unread_message : ℕ → List ℕ
+unread_message block = concat (codes "Cannot read data block " ∷ decimal block ∷ codes ".\n" ∷ [])
 
 -- a hash block that can't be written, or read
-abbrev pub hash_block_text : List ℕ → ℕ → ℕ → List ℕ
-hash_block_text attempt level block =
+abbrev pub hash_block_message : List ℕ → ℕ → ℕ → List ℕ
+hash_block_message attempt level block =
     concat (attempt ∷ codes " hash block " ∷ decimal block ∷ codes " of level " ∷ decimal level ∷ codes ".\n" ∷ [])
 
 -- a tree that can't be built
-abbrev pub build_text : BuildFault → List ℕ
-build_text (build.SourceShort block) = short_text block
-build_text (build.SourceFailed block) = unread_text block
-build_text (build.DeviceFailed level block) = hash_block_text (codes "Cannot write") level block
+abbrev pub build_message : BuildFault → List ℕ
+build_message (build.SourceShort block) = short_message block
+build_message (build.SourceFailed block) = unread_message block
+build_message (build.DeviceFailed level block) = hash_block_message (codes "Cannot write") level block
 
 -- what differs in a stored hash block
 abbrev pub part_text : Part → List ℕ
@@ -100,15 +100,15 @@ part_text (Child child) = concat (codes ", child " ∷ decimal child ∷ codes "
 part_text Spare = codes ", spare bytes.\n"
 
 -- a stored hash block that is not the computed one
-abbrev pub difference_text : ℕ → ℕ → Part → List ℕ
-difference_text level block part =
+abbrev pub difference_message : ℕ → ℕ → Part → List ℕ
+difference_message level block part =
     concat (codes "Verification failed: level " ∷ decimal level ∷ codes " block " ∷ decimal block ∷ part_text part ∷ [])
 
 -- a tree that can't be compared, or is another one
-abbrev pub compare_text : CompareFault → List ℕ
-compare_text (compare.SourceShort block) = short_text block
-compare_text (compare.SourceFailed block) = unread_text block
-compare_text (compare.DeviceFailed level block) = hash_block_text (codes "Cannot read") level block
-compare_text (compare.Differs level block part) = difference_text level block part
-compare_text (compare.RootDiffers root) =
+abbrev pub compare_message : CompareFault → List ℕ
+compare_message (compare.SourceShort block) = short_message block
+compare_message (compare.SourceFailed block) = unread_message block
+compare_message (compare.DeviceFailed level block) = hash_block_message (codes "Cannot read") level block
+compare_message (compare.Differs level block part) = difference_message level block part
+compare_message (compare.RootDiffers root) =
     concat (codes "Verification failed: root hash is " ∷ encode_lower root ∷ codes ".\n" ∷ [])

@@ -3,9 +3,9 @@ ghost use Rattle.std.specs.Prelude.{◌≡◌, ◌<◌, ◌≤◌, ℕ, List, le
 ghost use Rattle.command_line.specs.Printing.{AppendsFront};
 ghost use Rattle.verity_tree.specs.Levels.{whole_blocks};
 ghost use Rattle.veritysetup.specs.Options.Choices.{settings_of};
-ghost use Rattle.veritysetup.specs.Texts.Messages.{short_text};
+ghost use Rattle.veritysetup.specs.Texts.Messages.{short_message};
 ghost use Rattle.veritysetup.specs.Options.OptionTexts.{option_texts};
-ghost use Rattle.veritysetup.specs.Runs.Outcomes.{text_change};
+ghost use Rattle.veritysetup.specs.Texts.Reports.{text_change};
 ghost use Rattle.veritysetup.specs.Program.CommandRuns.{CommandRun};
 ghost use Rattle.veritysetup.specs.Program.Refusals.{EndsRefused};
 
@@ -15,13 +15,13 @@ use crate::options::settings::{Settings, settings_of};
 use crate::program::data_file::{DataFile, open_data};
 use crate::program::file_paths::FilePaths;
 use crate::program::random_bytes::draw;
-use crate::program::syncing::{is_missing, keep};
+use crate::program::syncing::{is_missing, sync_hash_device};
 use crate::runs::format::run_format;
 use crate::texts::program_messages::{
     refuse_option, stop_for_short_data, stop_for_unopened_file, stop_for_unwritten_file,
     stop_without_random_bytes,
 };
-use command_line::{Identities, ProgressLine, ProgressRuntime, lead_to_one, open_writable};
+use command_line::{Identities, ProgressLine, ProgressRuntime, open_writable, paths_are_same_file};
 use rand::rngs::StdRng;
 use std::alloc::AllocGlobal;
 use std::io;
@@ -60,7 +60,12 @@ where
         Err(_) => return stop_for_unopened_file(paths.data, msgs),
     };
     let opened = rt.file_identity(&data_file.file);
-    let raw = line.raw(lead_to_one(paths.data, paths.hash, opened, rt.path_identity(paths.hash)));
+    let raw = line.raw(paths_are_same_file(
+        paths.data,
+        paths.hash,
+        opened,
+        rt.path_identity(paths.hash),
+    ));
     let random = match draw_if_missing(rt, &raw) {
         Ok(random) => random,
         Err(_) => return stop_without_random_bytes(msgs),
@@ -120,7 +125,7 @@ where
     ensures run { CommandRun result (text_change O.contents M.contents out.old out.new msgs.old msgs.new) }
     ensures short { data_file.entry.length < settings.now.plan.wanted → (bytes : List ℕ)
         → length bytes ≡ data_file.entry.length → (result ≡ 4) × (out.new ≡ out.old)
-        × AppendsFront (short_text (whole_blocks settings.now.plan bytes)) (M.contents msgs.old) (M.contents msgs.new) }
+        × AppendsFront (short_message (whole_blocks settings.now.plan bytes)) (M.contents msgs.old) (M.contents msgs.new) }
 {
     if let Some(block) = missing_block(settings.plan(), data_file.length) {
         return stop_for_short_data(rt.alloc(), block, msgs);
@@ -176,7 +181,7 @@ where
     if status != 0 {
         return status;
     }
-    match keep(rt, &device, hash, is_new) {
+    match sync_hash_device(rt, &device, hash, is_new) {
         Ok(()) => 0,
         Err(Failed) => stop_for_unwritten_file(hash, msgs),
     }

@@ -14,7 +14,7 @@ pub(crate) fn is_missing<R: Files>(rt: &R, path: &str) -> bool {
 
 /// Asks the system to keep what was written to the file at this path (fsync(2)) and, if the file is new, its name in
 /// its folder. It fails if the system refuses.
-pub(crate) fn keep<R: Files>(
+pub(crate) fn sync_hash_device<R: Files>(
     rt: &R,
     device: &FileDevice<R::File>,
     path: &str,
@@ -22,13 +22,13 @@ pub(crate) fn keep<R: Files>(
 ) -> Result<(), Failed> {
     device.sync()?;
     if is_new {
-        keep_names(rt, folder_of(path))?;
+        sync_names(rt, folder_of(path))?;
     }
     Ok(())
 }
 
 /// Asks the system to keep the names of a folder's files. It succeeds too if the folder may not be opened for reading.
-fn keep_names<R: Files>(rt: &R, folder: &str) -> Result<(), Failed> {
+fn sync_names<R: Files>(rt: &R, folder: &str) -> Result<(), Failed> {
     match File::open(rt, folder) {
         Ok(opened) => FileDevice::new(opened).sync(),
         Err(_) => Ok(()),

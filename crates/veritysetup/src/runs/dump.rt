@@ -2,8 +2,8 @@
 ghost use Rattle.std.specs.Prelude.{◌≡◌, IsTrue};
 ghost use Rattle.std.specs.Io.KnownBytes.{Appends};
 ghost use Rattle.verity_io.specs.Counting.{Counts, change};
-ghost use Rattle.veritysetup.specs.Runs.Dump.{DumpRun, DumpsTo, device_failed, fault_status, fault_text};
-ghost use Rattle.veritysetup.specs.Runs.Outcomes.{text_change};
+ghost use Rattle.veritysetup.specs.Runs.Dump.{DumpRun, DumpsTo, device_failed, fault_status, fault_message};
+ghost use Rattle.veritysetup.specs.Texts.Reports.{text_change};
 ghost use Rattle.command_line.specs.Printing.{AppendsFront};
 
 use crate::runs::stored_superblock::{StoredFault, stored_superblock};
@@ -15,7 +15,7 @@ use std::io::Write;
 use verity_tree::Device;
 
 /// Why dump stops.
-#[derive(Clone, Copy, Debug, PartialEq, Eq)]
+#[derive(Clone, Copy)]
 pub enum DumpFault {
     /// There is no superblock.
     Superblock(StoredFault),
@@ -38,8 +38,8 @@ impl DumpFault {
 
     /// Writes the message of the fault. The answer says whether the writer took all of it.
     fn write_message<M: Write>(&self, alloc: Global, msgs: &mut M) -> bool
-        ensures whole { IsTrue result → Appends (M.contents msgs.old) (M.contents msgs.new) (fault_text self.now) }
-        ensures front { AppendsFront (fault_text self.now) (M.contents msgs.old) (M.contents msgs.new) }
+        ensures whole { IsTrue result → Appends (M.contents msgs.old) (M.contents msgs.new) (fault_message self.now) }
+        ensures front { AppendsFront (fault_message self.now) (M.contents msgs.old) (M.contents msgs.new) }
     {
         match self {
             DumpFault::Superblock(StoredFault::Refused(fault)) => write_message(

@@ -6,10 +6,10 @@ ghost use Rattle.verity_io.specs.Writing.{Spoiled};
 ghost use Rattle.verity_plan.specs.Plans.{superblock_size};
 ghost use Rattle.verity_tree.specs.Levels.{data_blocks};
 ghost use Rattle.veritysetup.specs.Runs.Format.{FormatRun, IsFormatted, PrintsReport, Reads, Writes};
-ghost use Rattle.veritysetup.specs.Runs.Format.{device_failed, fault_status, fault_text, format_report, root_above};
+ghost use Rattle.veritysetup.specs.Runs.Format.{device_failed, fault_status, fault_message, format_report, root_above};
 ghost use Rattle.veritysetup.specs.Runs.Format.{source_failed};
 ghost use Rattle.veritysetup.specs.Runs.HashDevice.{with_superblock};
-ghost use Rattle.veritysetup.specs.Runs.Outcomes.{text_change};
+ghost use Rattle.veritysetup.specs.Texts.Reports.{text_change};
 ghost use Rattle.command_line.specs.Printing.{AppendsFront};
 
 use crate::options::settings::Settings;
@@ -25,7 +25,7 @@ use verity_hash::Digest;
 use verity_tree::{BuildFault, Device, Failed, Source, Store, build};
 
 /// Why format stops, in the order of its steps.
-#[derive(Clone, Copy, Debug, PartialEq, Eq)]
+#[derive(Clone, Copy)]
 pub enum FormatFault {
     /// There is no memory for the store.
     Store,
@@ -53,8 +53,8 @@ impl FormatFault {
 
     /// Writes the message of the fault. The answer says whether the writer took all of it.
     fn write_message<M: Write>(&self, alloc: Global, msgs: &mut M) -> bool
-        ensures whole { IsTrue result → Appends (M.contents msgs.old) (M.contents msgs.new) (fault_text self.now) }
-        ensures front { AppendsFront (fault_text self.now) (M.contents msgs.old) (M.contents msgs.new) }
+        ensures whole { IsTrue result → Appends (M.contents msgs.old) (M.contents msgs.new) (fault_message self.now) }
+        ensures front { AppendsFront (fault_message self.now) (M.contents msgs.old) (M.contents msgs.new) }
     {
         match self {
             FormatFault::Build(fault) => write_message(build_message(alloc, fault), msgs),

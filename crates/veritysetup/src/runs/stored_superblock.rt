@@ -8,7 +8,7 @@ use verity_plan::SUPERBLOCK_SIZE;
 use verity_tree::{Device, Failed};
 
 /// Why there is no superblock.
-#[derive(Clone, Copy, Debug, PartialEq, Eq)]
+#[derive(Clone, Copy)]
 pub enum StoredFault {
     /// The device could not be read.
     Unread,

@@ -2,7 +2,7 @@
 ghost use Rattle.std.specs.Prelude.{◌≡◌, IsTrue};
 ghost use Rattle.std.specs.Io.KnownBytes.{Appends};
 ghost use Rattle.command_line.specs.Printing.{AppendsFront};
-ghost use Rattle.veritysetup.specs.Runs.Verify.{compare_status, fault_status, fault_text, input_status, input_text};
+ghost use Rattle.veritysetup.specs.Runs.Verify.{compare_status, fault_status, fault_message, input_status, input_message};
 
 use crate::options::raw_options::OptionFault;
 use crate::runs::stored_superblock::StoredFault;
@@ -15,7 +15,7 @@ use std::io::Write;
 use verity_tree::CompareFault;
 
 /// Why nothing is compared, in the order of the steps.
-#[derive(Clone, Copy, Debug, PartialEq, Eq)]
+#[derive(Clone, Copy)]
 pub enum InputFault {
     /// There is no superblock.
     Superblock(StoredFault),
@@ -26,7 +26,7 @@ pub enum InputFault {
 }
 
 /// Why verify stops, in the order of its steps.
-#[derive(Clone, Copy, Debug, PartialEq, Eq)]
+#[derive(Clone, Copy)]
 pub enum VerifyFault {
     /// Nothing is compared.
     Input(InputFault),
@@ -51,8 +51,8 @@ impl InputFault {
 
     /// Writes the message of the fault. The answer says whether the writer took all of it.
     fn write_message<M: Write>(&self, alloc: Global, msgs: &mut M) -> bool
-        ensures whole { IsTrue result → Appends (M.contents msgs.old) (M.contents msgs.new) (input_text self.now) }
-        ensures front { AppendsFront (input_text self.now) (M.contents msgs.old) (M.contents msgs.new) }
+        ensures whole { IsTrue result → Appends (M.contents msgs.old) (M.contents msgs.new) (input_message self.now) }
+        ensures front { AppendsFront (input_message self.now) (M.contents msgs.old) (M.contents msgs.new) }
     {
         match self {
             InputFault::Superblock(StoredFault::Refused(fault)) => write_message(
@@ -96,8 +96,8 @@ impl VerifyFault {
 
     /// Writes the message of the fault. The answer says whether the writer took all of it.
     pub fn write_message<M: Write>(&self, alloc: Global, msgs: &mut M) -> bool
-        ensures whole { IsTrue result → Appends (M.contents msgs.old) (M.contents msgs.new) (fault_text self.now) }
-        ensures front { AppendsFront (fault_text self.now) (M.contents msgs.old) (M.contents msgs.new) }
+        ensures whole { IsTrue result → Appends (M.contents msgs.old) (M.contents msgs.new) (fault_message self.now) }
+        ensures front { AppendsFront (fault_message self.now) (M.contents msgs.old) (M.contents msgs.new) }
     {
         match self {
             VerifyFault::Input(fault) => fault.write_message(alloc, msgs),

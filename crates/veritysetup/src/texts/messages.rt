@@ -1,7 +1,7 @@
 //! Messages, one line each.
 ghost use Rattle.std.specs.Prelude.{◌≡◌, IfOk, string_bytes};
-ghost use Rattle.veritysetup.specs.Texts.Messages.{option_text, super_text, short_text, unread_text, build_text};
-ghost use Rattle.veritysetup.specs.Texts.Messages.{difference_text, compare_text};
+ghost use Rattle.veritysetup.specs.Texts.Messages.{option_message, super_message, short_message, unread_message, build_message};
+ghost use Rattle.veritysetup.specs.Texts.Messages.{difference_message, compare_message};
 
 use crate::{OptionFault, OptionName};
 use std::alloc::{AllocError, Global};
@@ -28,7 +28,7 @@ pub const OUTPUT_UNWRITTEN: &str = "Cannot write output.\n";
 
 /// The message of a refused option.
 pub fn option_message(alloc: Global, fault: &OptionFault) -> Result<String, AllocError>
-    ensures { IfOk result (λ s. string_bytes s ≡ option_text fault.now) }
+    ensures { IfOk result (λ s. string_bytes s ≡ option_message fault.now) }
 {
     let text = match fault {
         OptionFault::BadNumber(option) => {
@@ -52,7 +52,7 @@ pub fn option_message(alloc: Global, fault: &OptionFault) -> Result<String, Allo
 
 /// The message of bytes that are no superblock.
 pub fn super_message(alloc: Global, fault: &SuperFault) -> Result<String, AllocError>
-    ensures { IfOk result (λ s. string_bytes s ≡ super_text fault.now) }
+    ensures { IfOk result (λ s. string_bytes s ≡ super_message fault.now) }
 {
     let text = match fault {
         SuperFault::Version(version) => {
@@ -81,7 +81,7 @@ pub fn super_message(alloc: Global, fault: &SuperFault) -> Result<String, AllocE
 
 /// The message of a tree that could not be built.
 pub fn build_message(alloc: Global, fault: &BuildFault) -> Result<String, AllocError>
-    ensures { IfOk result (λ s. string_bytes s ≡ build_text fault.now) }
+    ensures { IfOk result (λ s. string_bytes s ≡ build_message fault.now) }
 {
     match fault {
         BuildFault::SourceShort(block) => short_message(alloc, *block),
@@ -94,7 +94,7 @@ pub fn build_message(alloc: Global, fault: &BuildFault) -> Result<String, AllocE
 
 /// The message of a comparison that could not be made, or that found a difference.
 pub fn compare_message(alloc: Global, fault: &CompareFault) -> Result<String, AllocError>
-    ensures { IfOk result (λ s. string_bytes s ≡ compare_text fault.now) }
+    ensures { IfOk result (λ s. string_bytes s ≡ compare_message fault.now) }
 {
     match fault {
         CompareFault::SourceShort(block) => short_message(alloc, *block),
@@ -114,14 +114,14 @@ pub fn compare_message(alloc: Global, fault: &CompareFault) -> Result<String, Al
 
 /// The message of data that ends before the end of a block.
 fn short_message(alloc: Global, block: u64) -> Result<String, AllocError>
-    ensures { IfOk result (λ s. string_bytes s ≡ short_text block) }
+    ensures { IfOk result (λ s. string_bytes s ≡ short_message block) }
 {
     format!(in alloc; "Data ends before the end of block {block}.\n")
 }
 
 /// The message of a data block that could not be read.
 fn unread_message(alloc: Global, block: u64) -> Result<String, AllocError>
-    ensures { IfOk result (λ s. string_bytes s ≡ unread_text block) }
+    ensures { IfOk result (λ s. string_bytes s ≡ unread_message block) }
 {
     format!(in alloc; "Cannot read data block {block}.\n")
 }
@@ -133,7 +133,7 @@ fn difference_message(
     block: u64,
     part: Part,
 ) -> Result<String, AllocError>
-    ensures { IfOk result (λ s. string_bytes s ≡ difference_text level block part) }
+    ensures { IfOk result (λ s. string_bytes s ≡ difference_message level block part) }
 {
     match part {
         Part::Missing => {

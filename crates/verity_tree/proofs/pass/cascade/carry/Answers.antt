@@ -1,7 +1,8 @@
 use Rattle.std.proofs.Common.{List, ap, arith, eqb, length, refl, subst, sym, true, ℕ, ◌*◌, ◌+◌, ◌-◌, ◌/◌, ◌<◌, ◌^◌}
 use Rattle.std.proofs.Common.{◌∙◌}
 use Rattle.std.proofs.Common.{◌≡◌, ◌≤◌}
-use Rattle.verity_tree.specs.TreeOnDevice.{closing, closes, tree_block, device_with, stored_block}
+use Rattle.verity_tree.specs.ClosingOrder.{BlockIndex, closing, closes}
+use Rattle.verity_tree.specs.TreeOnDevice.{tree_block, device_with, stored_block}
 use Rattle.verity_tree.specs.Steps.Cascade.{first_closing}
 use Rattle.verity_plan.specs.Plans.{level_count, byte_at, byte_of, levels_of}
 use Rattle.verity_tree.specs.Steps.OpenBlocks.{IsCarrying, digests_under, open_block_with, cascade_state}
@@ -137,8 +138,8 @@ returns-in-Open-clause-device g c = λ tells blocks many first stands.
     (ap (λ (n : ℕ). level_count (fan s) n) (sym last)) refl inv.place (last ∙ many)
     c.in-Open.ensures.level (inv.carries blocks many first stands) in
     c.in-Open.ensures.device (inv.told tells) ∙ inv.image tells blocks many first stands
-    ∙ ap (λ (ps : List (ℕ × ℕ)). device_with s blocks p.base ps (g.D.Device.content c.args.device.now))
-    (sym kept ∙ ap (λ (n : ℕ). closing (fan s) n (c.args.i + 1)) last)
+    ∙ ap (λ (ps : List BlockIndex). device_with s blocks p.base ps (g.D.Device.content c.args.device.now))
+    (sym kept ∙ ap (λ (n : ℕ). closing (fan s) n c.args.i) last)
 
 pub returns-in-Open-clause-compared : goal.returns-in-Open-clause-compared
 returns-in-Open-clause-compared g c = λ compare tells blocks many first stands.
@@ -155,7 +156,7 @@ returns-in-Open-clause-compared g c = λ compare tells blocks many first stands.
     c.in-Open.ensures.level (inv.carries blocks many first stands) in (
       c.in-Open.ensures.compared compare (inv.told tells) ∙ before.0,
       subst (NoneDiffers p blocks (g.D.Device.content c.args.device.now))
-          (sym kept ∙ ap (λ (n : ℕ). closing (fan s) n (c.args.i + 1)) last) before.1,
+          (sym kept ∙ ap (λ (n : ℕ). closing (fan s) n c.args.i) last) before.1,
     )
 
 pub returns-in-Stopped-clause-compared : goal.returns-in-Stopped-clause-compared
@@ -205,7 +206,7 @@ returns-in-Stopped-clause-carries g c = λ blocks many first stands.
     record {
       level_below = omega (arith, c.loop-level-test.true, c.levels-level-end.ensures);
       block_is = closing-place (fan s) c.args.i m c.loop-level.index c.fan-fan.result inv.place c.fan-fan.ensures.value;
-      all = λ k low. subst (λ (n : ℕ). closes (fan s) n (c.args.i + 1) k ≡ true) (sym many)
+      all = λ k low. subst (λ (n : ℕ). closes (fan s) n c.args.i k ≡ true) (sym many)
           (closes-stopped_all s blocks c.args.i m (levels_of p) c.blocks-blocks.result c.loop-level.index _ _ _ some
           (omega (arith, last, c.requires.below)) refl inv.place (last ∙ many)
           c.in-Stopped.ensures.level (inv.carries blocks many first stands) k low);
@@ -253,7 +254,7 @@ returns-clause-device g c = λ tells blocks many first stands.
     (subst (λ (m : ℕ). IsCarrying s blocks (cascade_state c.args.i m (levels_of p)) c.loop-level.opened c.loop-level.current)
     all (inv.carries blocks many first stands)) in
     inv.image tells blocks many first stands
-    ∙ ap (λ (ps : List (ℕ × ℕ)). device_with s blocks p.base ps (g.D.Device.content c.args.device.now))
+    ∙ ap (λ (ps : List BlockIndex). device_with s blocks p.base ps (g.D.Device.content c.args.device.now))
     (ap (first_closing (fan s) c.args.i) all ∙ sym done)
 
 pub returns-clause-compared : goal.returns-clause-compared

@@ -7,7 +7,7 @@ use Rattle.verity_tree.proofs.OpenBlockSteps.{slot-room, open_block_with-put, sl
 use Rattle.verity_tree.specs.Steps.ClosedBlocks.{IsHashBlockFault, closed_block}
 use Rattle.verity_plan.specs.Plans.{byte_of}
 use Rattle.verity_tree.specs.TreeOnDevice.{stored_block}
-use Rattle.verity_tree.proofs.ClosedBlockLemmas.{Closes-fault, Closes-put, Closes-same, Closes-spoiled}
+use Rattle.verity_tree.proofs.ClosedBlockLemmas.{WritesOrCompares-fault, WritesOrCompares-put, WritesOrCompares-same, WritesOrCompares-spoiled}
 use Rattle.verity_tree.proofs.pass.cascade.step_level.Goals.{else-slot-fan-via-then-slot-fan+else-not-next}
 use Rattle.verity_tree.proofs.pass.cascade.step_level.Goals.{else-slot-fan-via-else-slot-fan}
 use Rattle.verity_tree.proofs.pass.cascade.step_level.Goals as goal
@@ -64,7 +64,7 @@ returns-in-Ok-clause-device g c = λ tells below next.
     let s = p.settings in
     let before = g.D.Device.content c.args.device.now in
     let size : length c.put_slot.new.block ≡ s.hash_block = c.put_slot.auto.block ∙ c.requires.size in
-    Closes-put p c.args.job.now.task c.args.level (c.args.next.now.index / c.fan-fan.result) c.put_slot.new.block before
+    WritesOrCompares-put p c.args.job.now.task c.args.level (c.args.next.now.index / c.fan-fan.result) c.put_slot.new.block before
     (g.D.Device.content c.write_or_compare.new.device) c.in-Ok.field-0
     (hash_block-some s (omega (arith, c.fan-fan.ensures.two, c.fan-fan.ensures.value)) c.fan-fan.ensures.fits) size
     (c.in-Ok.ensures.device tells)
@@ -82,7 +82,7 @@ returns-in-Err-clause-device g c = λ tells.
     subst (λ (n : ℕ). Spoiled (g.D.Device.content c.args.device.now)
     (byte_of p c.args.level (c.args.next.now.index / n))
     p.settings.hash_block (g.D.Device.content c.write_or_compare.new.device)) c.fan-fan.ensures.value
-    (Closes-spoiled p c.args.job.now.task c.args.level
+    (WritesOrCompares-spoiled p c.args.job.now.task c.args.level
     (c.args.next.now.index / c.fan-fan.result) c.put_slot.new.block _ _ c.in-Err.fault
     (c.in-Err.ensures.device tells))
 
@@ -91,7 +91,7 @@ returns-in-Ok-clause-compared g c = λ compare tells.
     let p = c.args.job.now.plan in
     let s = p.settings in
     let before = g.D.Device.content c.args.device.now in
-    let same = Closes-same p c.args.job.now.task c.args.level
+    let same = WritesOrCompares-same p c.args.job.now.task c.args.level
     (c.args.next.now.index / c.fan-fan.result) c.put_slot.new.block before
     (g.D.Device.content c.write_or_compare.new.device) c.in-Ok.field-0
     compare (c.in-Ok.ensures.device tells) in (
@@ -111,7 +111,7 @@ returns-in-Err-clause-compared g c = λ compare tells.
     let p = c.args.job.now.plan in
     let s = p.settings in
     let before = g.D.Device.content c.args.device.now in
-    let stop = Closes-fault p c.args.job.now.task c.args.level
+    let stop = WritesOrCompares-fault p c.args.job.now.task c.args.level
     (c.args.next.now.index / c.fan-fan.result) c.put_slot.new.block before
     (g.D.Device.content c.write_or_compare.new.device) c.in-Err.fault
     compare (c.in-Err.ensures.device tells) in (

@@ -1,5 +1,6 @@
 use Rattle.std.proofs.Common.{List, arith, length, refl, rules, subst, sym, ℕ, ◌+◌, ◌<◌, ◌∙◌, ◌≡◌}
-use Rattle.verity_tree.specs.TreeOnDevice.{closing, order, tree_block, device_with}
+use Rattle.verity_tree.specs.ClosingOrder.{closing, order}
+use Rattle.verity_tree.specs.TreeOnDevice.{tree_block, device_with}
 use Rattle.verity_tree.specs.Steps.Cascade.{first_closing}
 use Rattle.verity_tree.specs.Levels.{data_blocks}
 use Rattle.verity_plan.specs.Plans.{levels_of}
@@ -78,7 +79,7 @@ loop-i-preserved g c =
           (c.in-Ok.ensures.opened blocks (inv.opened tells below)) in (
             step.0 ∙ before.0,
             none-differs-order p blocks c.loop-i.i (g.D.Device.content c.args.device.now) before.1
-                (subst (λ (xs : List ℕ). NoneDiffers p blocks xs (closing (fan s) p.blocks (c.loop-i.i + 1))) before.0
+                (subst (λ (xs : List ℕ). NoneDiffers p blocks xs (closing (fan s) p.blocks c.loop-i.i)) before.0
                 step.1),
           );
     }
@@ -93,7 +94,7 @@ returns-in-Err-clause-read g c = λ tells.
     let next = c.in-Ok.ensures.read (inv.source_told tells) bytes (inv.read tells) in
     let still = settled p c.loop-i.i c.take_next.new.ahead c.in-Ok.ensures.within c.in-Err.ensures.ends in
     reads-up-to p c.loop-i.i c.in-Err.stop.level c.in-Err.stop.index bytes _
-    (fan-pos p.settings c.blocks-i-end.ensures.planned.valid) below
+    below
     (c.in-Err.ensures.carries blocks (sym (length-cut p.settings p.blocks p.wanted bytes)) next.1
     (c.in-Ok.ensures.opened blocks (inv.opened tells below)))
     (read-to p (c.loop-i.i + 1) (c.loop-i.i + 1) bytes c.take_next.new.ahead _ still.0 still.1 next.0)
@@ -109,7 +110,7 @@ returns-in-Err-clause-stands g c = λ tells told.
     let next = c.in-Ok.ensures.read (inv.source_told tells) bytes (inv.read tells) in
     let opened = c.in-Ok.ensures.opened blocks (inv.opened tells below) in
     image-stopped p blocks c.loop-i.i c.in-Err.stop.level c.in-Err.stop.index _ _ _
-    (fan-pos p.settings c.blocks-i-end.ensures.planned.valid) below
+    below
     (c.in-Err.ensures.carries blocks many next.1 opened) (inv.stands tells told)
     (c.in-Err.ensures.device (inv.device_told told) blocks many next.1 opened)
 
@@ -129,7 +130,7 @@ returns-in-Err-clause-compared g c = λ compare tells told.
     let step = c.in-Err.ensures.compared compare (inv.device_told told) blocks many next.1 opened in (
       step.0 ∙ before.0,
       stops-for p bytes c.loop-i.i (g.D.Device.content c.args.device.now) c.in-Err.stop
-          (fan-pos p.settings c.blocks-i-end.ensures.planned.valid) below
+          below
           (c.in-Err.ensures.carries blocks many next.1 opened) read.enough before.1
           (subst (λ (xs : List ℕ). NoneDiffers p blocks xs
           (first_closing (fan p.settings) c.loop-i.i c.in-Err.stop.level))

@@ -1,6 +1,7 @@
 use Rattle.std.proofs.Common.{◌≡◌, ◌<◌, length}
 use Rattle.verity_io.specs.Counting.{Counts}
-use Rattle.verity_tree.specs.TreeOnDevice.{tree_on_device_after, order}
+use Rattle.verity_tree.specs.ClosingOrder.{order}
+use Rattle.verity_tree.specs.TreeOnDevice.{tree_on_device_after}
 use Rattle.verity_tree.specs.Levels.{root, data_blocks}
 use Rattle.verity_tree.specs.Steps.OpenBlocks.{HasOpenBlocks}
 use Rattle.verity_tree.specs.Steps.ReadingAhead.{IsAhead, IsWithinHashBlock, ahead_failed}

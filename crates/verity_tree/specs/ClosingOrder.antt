@@ -1,0 +1,43 @@
+-- The closing order, in which hash blocks close, and so are written and compared, as the data blocks come one after
+-- another: a block closes when it is full, or with the last data block. That order is this project's own; the kernel's
+-- pages leave it open.
+use Rattle.std.specs.Prelude.{◌≡◌, ◌<◌, ℕ, zero, suc, ◌+◌, ◌/◌, ◌%◌, ◌^◌, Bool, ◌||◌, ◌&&◌, ◌==◌, List, [], ◌∷◌, ◌++◌}
+use Rattle.std.specs.Prelude.{map, filter}
+use Rattle.std.specs.List.{range_with_len, count_by}
+use Rattle.verity_plan.specs.Plans.{level_count, IsTreeBlock}
+
+-- a hash block of a tree, by its level and its index in the level
+pub record BlockIndex : Type 0 where
+  pub level : ℕ
+  pub index : ℕ
+
+abbrev pub block_index : ℕ → ℕ → BlockIndex
+block_index level index = record { level = level; index = index }
+
+-- data block i, counted from 0, is the last below a block of this level
+abbrev pub closes : ℕ → ℕ → ℕ → ℕ → Bool
+closes fan n i level = ((i + 1) % fan ^ (level + 1) == 0) || (i + 1 == n)
+
+-- the blocks that close with data block i, counted from 0, in rising order of level
+abbrev pub closing : ℕ → ℕ → ℕ → List BlockIndex
+closing fan n i = map (λ level. block_index level (i / fan ^ (level + 1)))
+    (filter (closes fan n i) (range_with_len 0 (level_count fan n)))
+
+-- the blocks that have closed after i data blocks, in order
+unfoldable pub order : ℕ → ℕ → ℕ → List BlockIndex
+order fan n zero = []
+order fan n (suc i) = order fan n i ++ closing fan n i
+
+-- a block that comes in an order after those that are done
+pub record ComesNext (all done : List BlockIndex) (next : BlockIndex) : Type 0 where
+  pub rest : List BlockIndex
+  pub in_order : all ≡ (done ++ next ∷ []) ++ rest
+
+-- how often a block of a level stands in a list
+abbrev pub times : ℕ → ℕ → List BlockIndex → ℕ
+times level index hash_blocks = count_by (λ at. (at.level == level) && (at.index == index)) hash_blocks
+
+-- the closing order has each block of the tree once, and nothing else
+pub record ClosesOnce (fan n : ℕ) : Type 0 where
+  pub once : (l j : ℕ) → IsTreeBlock fan n l j → times l j (order fan n n) ≡ 1
+  pub only : (l j : ℕ) → 0 < times l j (order fan n n) → IsTreeBlock fan n l j

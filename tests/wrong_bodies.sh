@@ -1,0 +1,46 @@
+#!/bin/bash
+# Tries each wrong body by itself that shares its file with others. Of a file in crates/CRATE/must-fail the gate sees
+# only that the prover refuses all of its wrong bodies together. Here each of them, which begins with a line `# NAME`,
+# is put into the code alone, and the prover has to refuse it. Given names of crates, it tries only theirs.
+set -u
+cd "$(dirname "$0")/.."
+. tests/checks.sh
+if ! command -v rt >/dev/null; then
+    echo "$0: the Rattle toolchain's rt is not on the PATH" >&2
+    exit 1
+fi
+
+# A copy of the repository, with a file for each wrong body in place of the files that have several.
+mkdir "$scratch/crates"
+cp crates.txt HANDLES "$scratch"
+for crate in crates/*/; do
+    name=$(basename "$crate")
+    mkdir "$scratch/crates/$name"
+    for folder in src specs proofs; do
+        if [ -e "$crate$folder" ]; then cp -r "$crate$folder" "$scratch/crates/$name"; fi
+    done
+done
+names=("$@")
+if [ $# -eq 0 ]; then
+    while IFS= read -r name; do names+=("$name"); done < <(grep -l '^# ' crates/*/must-fail/*.edit | cut -d/ -f2 | sort -u)
+fi
+bodies=0
+for name in "${names[@]}"; do
+    into=$scratch/crates/$name/must-fail
+    mkdir "$into"
+    for file in "crates/$name"/must-fail/*.edit; do
+        if ! grep -q '^# ' "$file"; then continue; fi
+        awk -v into="$into/$(basename "$file" .edit)" '
+            /^# / { close(to); to = into "." $2 ".edit"; next }
+            { print > to }' "$file"
+        bodies=$((bodies + $(grep -c '^# ' "$file")))
+    done
+done
+
+# A refusal counts only if a contract isn't met, and not if a proof names something that the change took away.
+(cd "$scratch" && rt must-fail "${names[@]}") 2>&1 | tee "$scratch/said"
+refused=$(grep -c '^\(rt: \)\?must-fail .*: refused, as it must be' "$scratch/said")
+empty=$(grep -c 'only because a proof file names what the edit took away' "$scratch/said")
+passed=$((refused - empty))
+echo "$passed passed, $((bodies - passed)) failed"
+[ "$passed" -eq "$bodies" ] && [ "$bodies" -gt 0 ]
