@@ -1,4 +1,4 @@
-pub mod Fronts
+pub mod Prefixes
 pub mod Usages
 pub mod Chains
 pub mod Named

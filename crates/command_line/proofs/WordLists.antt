@@ -23,4 +23,4 @@ pub map-push-take : {X : Type 0} (f : X → List ℕ) (xs more : List X) (x : X)
 map-push-take f xs more x words i word so_far is same pushed =
     let next : take (i + 1) words ≡ take i words ++ word ∷ [] = rw add-one (take-more words i word is) in
     ap (map f) pushed ∙ map-append f xs (x ∷ [])
-    ∙ ap₂ (λ (front : List (List ℕ)) (last : List ℕ). front ++ last ∷ []) so_far same ∙ sym next
+    ∙ ap₂ (λ (prefix : List (List ℕ)) (last : List ℕ). prefix ++ last ∷ []) so_far same ∙ sym next

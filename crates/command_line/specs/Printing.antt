@@ -5,8 +5,8 @@ use Rattle.command_line.specs.declared.printing.print_fault.PrintFault.{PrintFau
 use Rattle.command_line.specs.declared.printing.print_fault.PrintFault.TheVariants.{Memory, Output}
 
 -- some of the text's first bytes are added, perhaps none and perhaps all
-abbrev pub AppendsFront : List ℕ → Option (List ℕ) → Option (List ℕ) → Type 0
-AppendsFront text before after = (count : ℕ) × Appends before after (take count text)
+abbrev pub AppendsPrefix : List ℕ → Option (List ℕ) → Option (List ℕ) → Type 0
+AppendsPrefix text before after = (count : ℕ) × Appends before after (take count text)
 
 -- the text is added whole; without memory nothing is added; only its first bytes if a write fails
 abbrev pub Prints : Result (Unit {0}) PrintFault → List ℕ → Option (List ℕ) → Option (List ℕ) → Type 0

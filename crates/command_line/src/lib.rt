@@ -22,7 +22,7 @@ pub use progress::progress_line::{ErasingWriter, ProgressLine};
 pub use progress::progress_reader::ProgressReader;
 pub use progress::progress_runtime::ProgressRuntime;
 pub use words::arguments::{flag, option, positional, positionals, program};
+pub use words::borrowed::{text_of, texts_of};
 pub use words::copies::{copied_value, copied_values, is_given};
 pub use words::line_fault::LineFault;
 pub use words::system_words::{WordsFault, given_words, not_utf8_message};
-pub use words::texts::{text_of, texts_of};

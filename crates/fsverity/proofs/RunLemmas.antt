@@ -4,13 +4,13 @@ use Rattle.std.specs.Prelude.{◌↔◌, IsErr, slice_get}
 use Rattle.std.proofs.lemmas.Option.{get_or_from_slice_get}
 use Rattle.std.specs.List.{zip, prefix_len}
 use Rattle.std.specs.Io.KnownBytes.{Appends}
-use Rattle.command_line.proofs.Fronts.{appends_nothing, pieces_more}
+use Rattle.command_line.proofs.Prefixes.{appends_nothing, pieces_more}
 use Rattle.verity_format.proofs.KnownLemmas.{appends_twice}
 use Rattle.verity_plan.specs.Settings.{Settings}
 use Rattle.fsverity.specs.Texts.Lines.{line}
 use Rattle.fsverity.specs.Openers.Opening.{OpenerChange}
-use Rattle.fsverity.specs.Runs.Digest.{HasReason, IsLargeAt, DigestInput, IsWrittenFront, WritesUpTo, file_line, has_digest, lines, first_without_digest}
-use Rattle.fsverity.specs.Runs.DigestSteps.{HasDigestAt, Step, StopsStep, WritesLine, WritesFront, WritesStep}
+use Rattle.fsverity.specs.Runs.Digest.{HasReason, IsLargeAt, DigestInput, IsWrittenPrefix, WritesUpTo, file_line, has_digest, lines, first_without_digest}
+use Rattle.fsverity.specs.Runs.DigestSteps.{HasDigestAt, Step, StopsStep, WritesLine, WritesPrefix, WritesStep}
 use Rattle.fsverity.specs.declared.runs.digest_fault.DigestFault.TheVariants.{TooLarge, SourceShort, SourceFailed, DeviceFailed, Memory}
 use Rattle.fsverity.specs.declared.runs.run_fault.RunFault.{RunFault}
 use Rattle.fsverity.specs.declared.runs.run_fault.RunFault.TheVariants.{NotOpened, Digest, NotWritten}
@@ -64,7 +64,7 @@ element_at (x ∷ xs) zero below = (x, refl)
 element_at (x ∷ xs) (suc i) below = element_at xs i (omega arith)
 
 -- nothing of a line may be written, whatever ended the run
-stands_nothing : (whole : List ℕ) (fault : RunFault) → IsWrittenFront whole [] fault
+stands_nothing : (whole : List ℕ) (fault : RunFault) → IsWrittenPrefix whole [] fault
 stands_nothing whole NotOpened = refl
 stands_nothing whole (Digest fault) = refl
 stands_nothing whole NotWritten = (0, refl)
@@ -79,7 +79,7 @@ wrote_nothing step (Err fault) held below err =
     record {
       file = file.0;
       is = file.1;
-      front = [];
+      prefix = [];
       stands = stands_nothing (file_line step.settings step.form step.name file.0) fault;
       written = appends_nothing held;
     }
@@ -99,18 +99,19 @@ line_more run files i name old mid new named so_far line =
     so_far line.written)
 
 -- the lines before a file that ends the run, and what is written of its own
-pub front_more : (run : DigestInput) (files : List (Option (List ℕ))) (i : ℕ) (fault : RunFault) (name : List ℕ)
+pub prefix_more : (run : DigestInput) (files : List (Option (List ℕ))) (i : ℕ) (fault : RunFault) (name : List ℕ)
     (old mid new : Option (List ℕ)) → slice_get run.names i ≡ Some name →
     Appends old mid (lines run.settings run.form (take i (zip run.names files))) →
-    WritesFront (record { settings = run.settings; form = run.form; name = name; files = files; index = i }) mid new fault →
+    WritesPrefix (record { settings = run.settings; form = run.form; name = name; files = files; index = i }) mid new
+    fault →
     WritesUpTo run files i fault old new
-front_more run files i fault name old mid new named so_far front = record {
-  file = front.file;
-  is = front.is;
-  front = front.front;
-  stands = rw (get_or_from_slice_get run.names i name [] named) front.stands;
-  written = appends_twice old mid new (lines run.settings run.form (take i (zip run.names files))) front.front
-      so_far front.written;
+prefix_more run files i fault name old mid new named so_far prefix = record {
+  file = prefix.file;
+  is = prefix.is;
+  prefix = prefix.prefix;
+  stands = rw (get_or_from_slice_get run.names i name [] named) prefix.stands;
+  written = appends_twice old mid new (lines run.settings run.form (take i (zip run.names files))) prefix.prefix
+      so_far prefix.written;
 }
 
 -- a file that has a digest is before the first that has none, if no file before it is absent or too large

@@ -7,21 +7,21 @@ use Rattle.std.proofs.Math.Nat.{mul-le-mul_right}
 use Rattle.std.specs.Fork.{slice_chunk}
 use borrow.Rule.Slice.PartMut.{put_mid}
 use Rattle.verity_hash.specs.Hashing.{with_zeros}
-use Rattle.verity_plan.specs.Plans.{Planned, byte_of}
+use Rattle.verity_plan.specs.Plans.{Planned, start_byte_of}
 use Rattle.verity_plan.specs.Settings.{fan}
 use Rattle.verity_tree.proofs.OpenBlockSteps.{chunk-other, chunk-same}
 use Rattle.read_one_block.specs.Reading.{stored_above}
 
 -- the bytes that were read are those stored above the data block
 pub read-stored : (p : Planned) (i l at n j : ℕ) (device before : List ℕ) → n ≡ p.settings.hash_block
-    → at ≡ byte_of p l j → j ≡ i / fan p.settings ^ (l + 1)
+    → at ≡ start_byte_of p l j → j ≡ i / fan p.settings ^ (l + 1)
     → before ≡ device → with_zeros n (take n (drop at before)) ≡ stored_above p i device l
 read-stored p i l at n j device before size place index same =
     ap (λ (k : ℕ). with_zeros k (take k (drop at before))) size
     ∙ ap (λ (k : ℕ). with_zeros p.settings.hash_block (take p.settings.hash_block (drop k before)))
-    (place ∙ ap (byte_of p l) index)
+    (place ∙ ap (start_byte_of p l) index)
     ∙ ap (λ (xs : List ℕ). with_zeros p.settings.hash_block
-    (take p.settings.hash_block (drop (byte_of p l (i / fan p.settings ^ (l + 1))) xs))) same
+    (take p.settings.hash_block (drop (start_byte_of p l (i / fan p.settings ^ (l + 1))) xs))) same
 
 -- the hash block of a level lies within the path
 pub run-within : (path : List ℕ) (l levels size : ℕ) → l < levels → length path ≡ levels * size

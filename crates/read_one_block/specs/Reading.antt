@@ -2,7 +2,7 @@
 use Rattle.std.specs.Prelude.{◌≡◌, ◌⊎◌, ◌<◌, ⊤, ℕ, ◌+◌, ◌*◌, ◌/◌, ◌^◌, Bool, true, false, List, [], length}
 use Rattle.std.specs.Prelude.{slice_index_or, Result, Ok, Err}
 use Rattle.std.specs.Fork.{slice_chunk}
-use Rattle.verity_plan.specs.Plans.{Planned, levels_of}
+use Rattle.verity_plan.specs.Plans.{Planned, level_count_of}
 use Rattle.verity_plan.specs.Settings.{fan}
 use Rattle.verity_hash.specs.Hashing.{with_zeros}
 use Rattle.verity_tree.specs.Levels.{data_blocks}
@@ -17,8 +17,8 @@ stored_above p i device l = with_zeros p.settings.hash_block (stored_block p dev
 
 -- the blocks of a path are those that a device holds above data block i
 pub record IsPathOn (p : Planned) (i : ℕ) (device path : List ℕ) : Type 0 where
-  pub whole : length path ≡ levels_of p * p.settings.hash_block
-  pub each : (l : ℕ) → l < levels_of p → slice_chunk path p.settings.hash_block l ≡ stored_above p i device l
+  pub whole : length path ≡ level_count_of p * p.settings.hash_block
+  pub each : (l : ℕ) → l < level_count_of p → slice_chunk path p.settings.hash_block l ≡ stored_above p i device l
 
 -- the block is data block i of these bytes; or at some level the path and the tree have different blocks with the same
 -- salted hash
@@ -30,7 +30,7 @@ IsRight p bytes i block path =
 abbrev pub Answers : Planned → ℕ → List ℕ → List ℕ → List ℕ → Result Unit ReadFault → Type 0
 Answers p i block path root (Ok _) = IsAccepted p i block path root
 Answers p i block path root (Err DataFailed) = i < p.blocks
-Answers p i block path root (Err (TreeFailed level)) = (i < p.blocks) × (level < levels_of p)
+Answers p i block path root (Err (TreeFailed level)) = (i < p.blocks) × (level < level_count_of p)
 Answers p i block path root (Err (Refused fault)) = ChecksBlock p i block path root (Err fault)
 
 -- a fact if nothing failed

@@ -1,7 +1,7 @@
 //! An image with a trusted root hash, of which single blocks are read.
 ghost use Rattle.std.specs.Prelude.{◌≡◌, ◌*◌, ◌<◌, ℕ, List, length, take, drop, IfErr, OnOk};
 ghost use Rattle.verity_io.specs.Counting.{Counts, CountsFailure};
-ghost use Rattle.verity_plan.specs.Plans.{levels_of};
+ghost use Rattle.verity_plan.specs.Plans.{level_count_of};
 ghost use Rattle.verity_hash.specs.Hashing.{with_zeros};
 ghost use Rattle.verity_tree.specs.Levels.{block_at, data_blocks, root};
 ghost use Rattle.read_one_block.specs.Reading.{Answers, IsPathOn, IsRight, WasRead, data_failed, is_failure};
@@ -61,7 +61,7 @@ impl<A: Device, B: Device> Image<A, B> {
     /// different blocks with the same salted hash have been found.
     pub fn read(&mut self, i: u64, block: &mut [u8], path: &mut [u8]) -> Result<(), ReadFault>
         requires block { length block.old ≡ self.old.plan.settings.data_block }
-        requires path { length path.old ≡ levels_of self.old.plan * self.old.plan.settings.hash_block }
+        requires path { length path.old ≡ level_count_of self.old.plan * self.old.plan.settings.hash_block }
         ensures plan { self.new.plan ≡ self.old.plan }
         ensures root { self.new.root ≡ self.old.root }
 
@@ -103,7 +103,7 @@ impl<A: Device, B: Device> Image<A, B> {
 
 /// The length of a path in bytes: a hash block for each level.
 pub fn path_length(plan: &Plan) -> usize
-    ensures { result ≡ levels_of plan.now * plan.now.settings.hash_block }
+    ensures { result ≡ level_count_of plan.now * plan.now.settings.hash_block }
 {
     // Called for the proof: its contract says that the plan is valid, so it has few levels.
     let _blocks = plan.blocks();
@@ -119,11 +119,11 @@ pub fn read_path<D: Device>(
     path: &mut [u8],
 ) -> Result<(), usize>
     requires index { i < plan.now.blocks }
-    requires path { length path.old ≡ levels_of plan.now * plan.now.settings.hash_block }
+    requires path { length path.old ≡ level_count_of plan.now * plan.now.settings.hash_block }
     ensures told { D.tells device.old → D.tells device.new }
     ensures same { D.tells device.old → D.content device.new ≡ D.content device.old }
     ensures count { Counts (is_failure result) (D.failures device.old) (D.failures device.new) }
-    ensures level { IfErr result (λ level. level < levels_of plan.now) }
+    ensures level { IfErr result (λ level. level < level_count_of plan.now) }
     ensures read { D.tells device.old → OnOk result (IsPathOn plan.now i (D.content device.old) path.new) }
 {
     let fan = plan.fan() as u64;

@@ -16,7 +16,7 @@ pub struct PutFault(pub usize);
 pub fn put_all<W: Write>(writer: &mut W, text: &[u8]) -> Result<(), PutFault>
     ensures whole { OnOk result (Appends (W.contents writer.old) (W.contents writer.new) text.now) }
     ensures fewer { IfErr result (λ fault. bytes_taken fault < length text.now) }
-    ensures front { IfErr result
+    ensures prefix { IfErr result
         (λ fault. Appends (W.contents writer.old) (W.contents writer.new) (take (bytes_taken fault) text.now)) }
 {
     let mut taken = 0;
@@ -38,7 +38,7 @@ pub fn put_all<W: Write>(writer: &mut W, text: &[u8]) -> Result<(), PutFault>
 /// the writer's own, or says that every try was interrupted.
 fn write_retrying<W: Write>(writer: &mut W, text: &[u8]) -> io::Result<usize>
     ensures bound { IfOk result (λ count. count ≤ length text.now) }
-    ensures front { WriteAppends (W.contents writer.old) (W.contents writer.new) result text.now }
+    ensures prefix { WriteAppends (W.contents writer.old) (W.contents writer.new) result text.now }
     ensures retried { IfErr result (λ error. error_kind error ≢ ErrorKind.Interrupted) }
 {
     for _ in 0..u64::MAX {

@@ -9,7 +9,7 @@ use Rattle.std.proofs.lemmas.Bool.Decides.{nat_tests}
 use Rattle.std.proofs.lemmas.Nat.{div-add-mod', mod_below}
 use Rattle.std.specs.Prelude.{◌==◌, Bool, nat_le, nat_eq, true, false, Ok, Err}
 use Rattle.verity_io.specs.Writing.{most_bytes}
-use Rattle.verity_plan.specs.Plans.{checked_plan, Planned, IsPlanned, HasBlock, byte_of, place_of, levels_of, end_of}
+use Rattle.verity_plan.specs.Plans.{checked_plan, Planned, IsPlanned, HasBlock, start_byte_of, place_of, level_count_of, end_place_of}
 use Rattle.verity_plan.specs.Plans.{store_length_of, has_room, level_count, level_size}
 use Rattle.verity_plan.specs.declared.plan_fault.PlanFault.TheVariants.{NoData, TooLarge}
 use Rattle.std.specs.Int.{div_ceil}
@@ -72,11 +72,11 @@ blocks_few p h =
     omega (arith, mul-le-mul_left p.blocks some, h.data_most)
 
 -- a plan has at most 63 levels
-pub levels_few : (p : Planned) → IsPlanned p → levels_of p ≤ 63
+pub levels_few : (p : Planned) → IsPlanned p → level_count_of p ≤ 63
 levels_few p h =
     let two = fan-two p.settings h.valid in
     let count = IsLevelCount-level_count (fan p.settings) p.blocks two in
-    elim (cases_lt 63 (levels_of p)) [
+    elim (cases_lt 63 (level_count_of p)) [
       | inl more ↦ absurd (omega (arith, count.least 63 more, pow-le-pow_left two 63, blocks_few p h))
       | inr few ↦ few
     ]
@@ -91,7 +91,7 @@ pub within-quotient : (m d n : ℕ) → n ≤ m / d → n * d ≤ m
 within-quotient m d n within = omega (arith, mul-le-mul_right d within, div-mul-le_self m d)
 
 -- the place after all blocks is not before the first
-pub base-le-end : (p : Planned) → p.base ≤ end_of p
+pub base-le-end : (p : Planned) → p.base ≤ end_place_of p
 base-le-end p = omega arith
 
 -- no plan for areas past the limit
@@ -103,9 +103,9 @@ checked_plan-large p some none =
 pub has_room-data : (p : Planned) → most_bytes < p.blocks * p.settings.data_block → has_room p ≡ false
 has_room-data p past = grind (arith, nat_tests, past)
 
-pub has_room-hash : (p : Planned) → most_bytes < end_of p * p.settings.hash_block → has_room p ≡ false
+pub has_room-hash : (p : Planned) → most_bytes < end_place_of p * p.settings.hash_block → has_room p ≡ false
 has_room-hash p past =
-    let tested : nat_le (end_of p * p.settings.hash_block) most_bytes ≡ false = grind (arith, nat_tests, past) in
+    let tested : nat_le (end_place_of p * p.settings.hash_block) most_bytes ≡ false = grind (arith, nat_tests, past) in
     rw tested (and-false _)
 
 -- a hash block has a byte
@@ -113,8 +113,8 @@ pub some_hash : (p : Planned) → IsPlanned p → 1 ≤ p.settings.hash_block
 some_hash p h = omega (arith, two_slots p.settings h.valid, digest_len_of-pos p.settings.algorithm)
 
 -- the end fits a number of 63 bits
-pub end_few : (p : Planned) → IsPlanned p → end_of p ≤ most_bytes
-end_few p h = omega (arith, mul-le-mul_left (end_of p) (some_hash p h), h.hash_most)
+pub end_few : (p : Planned) → IsPlanned p → end_place_of p ≤ most_bytes
+end_few p h = omega (arith, mul-le-mul_left (end_place_of p) (some_hash p h), h.hash_most)
 
 -- a store's length is a small number
 pub store_few : (p : Planned) → IsPlanned p → store_length_of p ≤ 2 ^ 26
@@ -133,10 +133,10 @@ some_wanted (suc wanted) size blocks is some = omega arith
 
 -- a hash block is within the limit
 pub byte-room : (p : Planned) → IsPlanned p → (l j : ℕ) → HasBlock p l j
-    → byte_of p l j + p.settings.hash_block ≤ most_bytes
+    → start_byte_of p l j + p.settings.hash_block ≤ most_bytes
 byte-room p h l j here =
     let within = (PlacesAreOnce-all (fan p.settings) p.blocks p.base).within l j here in
-    let step : place_of p l j + 1 ≤ end_of p = omega (arith, within.1) in
+    let step : place_of p l j + 1 ≤ end_place_of p = omega (arith, within.1) in
     omega (arith, mul-le-mul_right p.settings.hash_block step, h.hash_most)
 
 -- a plan that is made is the one that was asked for

@@ -1,7 +1,7 @@
 -- A plan's fields come back from its value: the number of levels and the end are computed once.
 -- For the private steps; not needed to read a public contract.
 use Rattle.std.proofs.Common.{◌≡◌, ℕ, sym, ap, ◌∙◌}
-use Rattle.verity_plan.specs.Plans.{Planned, IsPlanned, levels_of, end_of}
+use Rattle.verity_plan.specs.Plans.{Planned, IsPlanned, level_count_of, end_place_of}
 use Rattle.verity_plan.specs.declared.plan.Plan.TheInside.{Inside}
 
 -- what the fields say
@@ -11,8 +11,8 @@ planned_of p = record { settings = p.settings; blocks = p.blocks; wanted = p.wan
 -- levels and end are those of the plan
 pub record IsComputed (p : Inside) : Type 0 where
   pub planned : IsPlanned (planned_of p)
-  pub levels_are : p.levels ≡ levels_of (planned_of p)
-  pub end_is : p.end ≡ end_of (planned_of p)
+  pub levels_are : p.levels ≡ level_count_of (planned_of p)
+  pub end_is : p.end ≡ end_place_of (planned_of p)
 
 -- fields with these levels and this end
 abbrev pub fields_from : Planned → ℕ → ℕ → Inside
@@ -21,10 +21,10 @@ fields_from p levels end =
 
 -- the inverse of the view
 abbrev pub fields_of : Planned → Inside
-fields_of p = fields_from p (levels_of p) (end_of p)
+fields_of p = fields_from p (level_count_of p) (end_place_of p)
 
 -- the view forgets nothing
 pub fields_back : (p : Inside) → IsComputed p → fields_of (planned_of p) ≡ p
 fields_back p h =
-    ap (λ (levels : ℕ). fields_from (planned_of p) levels (end_of (planned_of p))) (sym h.levels_are)
+    ap (λ (levels : ℕ). fields_from (planned_of p) levels (end_place_of (planned_of p))) (sym h.levels_are)
     ∙ ap (λ (end : ℕ). fields_from (planned_of p) p.levels end) (sym h.end_is)

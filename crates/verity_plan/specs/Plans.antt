@@ -44,8 +44,8 @@ abbrev pub end_place : ℕ → ℕ → ℕ → ℕ
 end_place fan n base = base + blocks_from fan n 0 (level_count fan n)
 
 -- the byte at which a block of a level stands
-abbrev pub byte_at : Settings → ℕ → ℕ → ℕ → ℕ → ℕ
-byte_at s n base level block = place (fan s) n base level block * s.hash_block
+abbrev pub start_byte : Settings → ℕ → ℕ → ℕ → ℕ → ℕ
+start_byte s n base level block = place (fan s) n base level block * s.hash_block
 
 -- the places are base to the end, each that of one block
 pub record PlacesAreOnce (fan n base : ℕ) : Type 0 where
@@ -79,15 +79,15 @@ base_of offset true hash_block =
     if nat_le (offset + superblock_size) most_bytes then Some (div_ceil (offset + superblock_size) hash_block) else None
 base_of offset false hash_block = if nat_le offset most_bytes then Some (offset / hash_block) else None
 
--- the number of levels
-abbrev pub levels_of : Planned → ℕ
-levels_of p = level_count (fan p.settings) p.blocks
+-- of a plan, the number of levels
+abbrev pub level_count_of : Planned → ℕ
+level_count_of p = level_count (fan p.settings) p.blocks
 
 -- the number of blocks of a level
-abbrev pub size_of_level : Planned → ℕ → ℕ
-size_of_level p level = level_size (fan p.settings) p.blocks level
+abbrev pub level_size_of : Planned → ℕ → ℕ
+level_size_of p level = level_size (fan p.settings) p.blocks level
 
--- the number of blocks one level below a level: the data blocks below level 0
+-- the number of blocks one level below a level: below level 0 they are the data blocks
 abbrev pub size_under : Planned → ℕ → ℕ
 size_under p level = div_ceil p.blocks (fan p.settings ^ level)
 
@@ -95,12 +95,12 @@ size_under p level = div_ceil p.blocks (fan p.settings ^ level)
 abbrev pub place_of : Planned → ℕ → ℕ → ℕ
 place_of p level block = place (fan p.settings) p.blocks p.base level block
 
-abbrev pub end_of : Planned → ℕ
-end_of p = end_place (fan p.settings) p.blocks p.base
+abbrev pub end_place_of : Planned → ℕ
+end_place_of p = end_place (fan p.settings) p.blocks p.base
 
--- the byte at which a block of a level stands
-abbrev pub byte_of : Planned → ℕ → ℕ → ℕ
-byte_of p level block = byte_at p.settings p.blocks p.base level block
+-- the byte at which a block of a plan's level stands
+abbrev pub start_byte_of : Planned → ℕ → ℕ → ℕ
+start_byte_of p level block = start_byte p.settings p.blocks p.base level block
 
 -- the tree has this block of this level
 abbrev pub HasBlock : Planned → ℕ → ℕ → Type 0
@@ -108,12 +108,12 @@ HasBlock p level block = IsTreeBlock (fan p.settings) p.blocks level block
 
 -- room for one open block a level, a data block and a stored block to compare with, in bytes
 abbrev pub store_length_of : Planned → ℕ
-store_length_of p = levels_of p * p.settings.hash_block + p.settings.data_block + p.settings.hash_block
+store_length_of p = level_count_of p * p.settings.hash_block + p.settings.data_block + p.settings.hash_block
 
 -- both areas are within the limit
 abbrev pub has_room : Planned → Bool
 has_room p = nat_le (p.blocks * p.settings.data_block) most_bytes
-    && nat_le (end_of p * p.settings.hash_block) most_bytes
+    && nat_le (end_place_of p * p.settings.hash_block) most_bytes
 
 -- a plan that can be carried out
 pub record IsPlanned (p : Planned) : Type 0 where
@@ -121,7 +121,7 @@ pub record IsPlanned (p : Planned) : Type 0 where
   pub some : 0 < p.wanted
   pub blocks_are : p.blocks ≡ block_count p.settings p.wanted
   pub data_most : p.blocks * p.settings.data_block ≤ most_bytes
-  pub hash_most : end_of p * p.settings.hash_block ≤ most_bytes
+  pub hash_most : end_place_of p * p.settings.hash_block ≤ most_bytes
 
 -- the plan, or why there is none
 abbrev pub checked_plan : Planned → Result Planned PlanFault

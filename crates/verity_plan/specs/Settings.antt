@@ -150,10 +150,5 @@ verity_settings algorithm hash_type salt data_block hash_block = checked_setting
 abbrev pub fsverity_settings : Algorithm → List ℕ → ℕ → Result Settings SettingFault
 fsverity_settings algorithm salt block =
     if not (is_of_fsverity algorithm) then Err OtherAlgorithm
-    else (checked_settings (record {
-      algorithm = algorithm;
-      rule = PaddedBefore;
-      salt = salt;
-      data_block = block;
-      hash_block = block;
-    }))
+    else (checked_settings
+    (record { algorithm = algorithm; rule = PaddedBefore; salt = salt; data_block = block; hash_block = block }))

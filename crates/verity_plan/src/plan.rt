@@ -2,7 +2,7 @@
 ghost use Rattle.std.specs.Prelude.{◌≡◌, ℕ, ◌+◌, ◌-◌, ◌*◌, ◌^◌, ◌≤◌, ◌<◌, [], length, slice_index_or};
 ghost use Rattle.std.specs.Fork.{slice_chunk};
 ghost use Rattle.verity_io.specs.Writing.{most_bytes};
-ghost use Rattle.verity_plan.specs.Plans.{Planned, IsPlanned, byte_of, levels_of, size_of_level, place_of, end_of};
+ghost use Rattle.verity_plan.specs.Plans.{Planned, IsPlanned, start_byte_of, level_count_of, level_size_of, place_of, end_place_of};
 ghost use Rattle.verity_plan.specs.Plans.{store_length_of, size_under, HasBlock, checked_plan, plan_for_blocks};
 ghost use Rattle.verity_plan.specs.Plans.{plan_for_bytes, level_count, blocks_from};
 ghost use Rattle.verity_plan.specs.Settings.{digest_len, fan, hash, slot_width};
@@ -25,7 +25,7 @@ pub struct Plan {
 }
 
 impl Model for Plan {
-    ghost use Rattle.verity_plan.specs.Plans.{Planned, IsPlanned, byte_of, levels_of, end_of};
+    ghost use Rattle.verity_plan.specs.Plans.{Planned, IsPlanned, start_byte_of, level_count_of, end_place_of};
     ghost use Rattle.std.specs.Prelude.{◌≡◌};
 
     ghost Value = { Planned };
@@ -135,7 +135,7 @@ impl Plan {
 
     /// The number of levels: 0 for a single data block (Linux kernel, dm-verity page, "Hash Tree").
     pub fn levels(&self) -> usize
-        ensures { result ≡ levels_of self.now }
+        ensures { result ≡ level_count_of self.now }
     {
         self.levels
     }
@@ -152,7 +152,7 @@ impl Plan {
     /// The byte at which a block of a level stands.
     pub fn byte(&self, level: usize, block: u64) -> u64
         requires { HasBlock self.now level block }
-        ensures value { result ≡ byte_of self.now level block }
+        ensures value { result ≡ start_byte_of self.now level block }
         ensures room { result + self.now.settings.hash_block ≤ most_bytes }
     {
         self.place(level, block) * u64::from(self.settings.hash_block())
@@ -207,7 +207,7 @@ impl Plan {
 
     /// The place after the last hash block, counted in hash blocks.
     pub fn end(&self) -> u64
-        ensures { result ≡ end_of self.now }
+        ensures { result ≡ end_place_of self.now }
     {
         self.end
     }
@@ -223,15 +223,15 @@ impl Plan {
 
     /// The number of blocks of a level of the tree, level 0 next to the data. The level is below the number of levels.
     pub fn level_size(&self, level: usize) -> u64
-        requires { level < levels_of self.now }
-        ensures { result ≡ size_of_level self.now level }
+        requires { level < level_count_of self.now }
+        ensures { result ≡ level_size_of self.now level }
     {
         self.size_under(level).div_ceil(self.fan() as u64)
     }
 
     /// The number of blocks one level below a level: the data blocks below level 0.
     pub fn size_under(&self, level: usize) -> u64
-        requires { level ≤ levels_of self.now }
+        requires { level ≤ level_count_of self.now }
         ensures { result ≡ size_under self.now level }
     {
         let fan = self.settings.fan() as u64;

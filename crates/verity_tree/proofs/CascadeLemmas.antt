@@ -7,8 +7,8 @@ use Rattle.std.proofs.lemmas.Nat.{div-add-mod', div-mul-add}
 use Rattle.std.proofs.Math.Nat.{one-le-pow, pow-suc}
 use Rattle.verity_plan.specs.Settings.{Settings, hash, fan}
 use Rattle.verity_tree.specs.Levels.{blocks_up}
-use Rattle.verity_plan.specs.Plans.{level_count, level_size, place, byte_at, Planned}
-use Rattle.verity_tree.specs.ClosingOrder.{closing, closes}
+use Rattle.verity_plan.specs.Plans.{level_count, level_size, place, start_byte, Planned}
+use Rattle.verity_tree.specs.ClosingOrder.{closing_with, closes}
 use Rattle.verity_tree.specs.TreeOnDevice.{stored_block, tree_block, device_with}
 use Rattle.verity_tree.specs.ClosingOrder.{BlockIndex, block_index}
 use Rattle.verity_tree.specs.Steps.Cascade.{EndsBlock, first_closing}
@@ -95,7 +95,7 @@ closed-block s blocks i m count index last some below l place many ends =
 -- a block that closed is put at its place
 pub device-closed : (s : Settings) (blocks : List (List ℕ)) (base i m index target : ℕ) (start device new : List ℕ)
     → open_block_with s (digests_under s blocks m) index ≡ tree_block s blocks m (i / fan s ^ (m + 1))
-    → target ≡ byte_at s (length blocks) base m (i / fan s ^ (m + 1))
+    → target ≡ start_byte s (length blocks) base m (i / fan s ^ (m + 1))
     → device ≡ device_with s blocks base (first_closing (fan s) i m) start
     → new ≡ put device target (open_block_with s (digests_under s blocks m) index)
     → new ≡ device_with s blocks base (first_closing (fan s) i (m + 1)) start
@@ -105,7 +105,7 @@ device-closed s blocks base i m index target start device new block to so_far pu
     ∙ ap (λ (n : ℕ). put (device_with s blocks base (first_closing (fan s) i m) start) n
     (open_block_with s (digests_under s blocks m) index)) to
     ∙ ap (put (device_with s blocks base (first_closing (fan s) i m) start)
-    (byte_at s (length blocks) base m (i / fan s ^ (m + 1)))) block
+    (start_byte s (length blocks) base m (i / fan s ^ (m + 1)))) block
     ∙ sym (device_with-more s blocks base i m start)
 
 -- a level that stays open ends the data block's list
@@ -114,7 +114,7 @@ pub closing-kept : (s : Settings) (blocks : List (List ℕ)) (i m levels count i
     → i < count → m < levels → levels ≡ level_count (fan s) count → last ≡ eqb (i + 1) count → index ≡ i / fan s ^ m
     → count ≡ length blocks
     → IsKept s (arrival index block digest) last after → IsCarrying s blocks (cascade_state i m levels) store digest
-    → closing (fan s) count i ≡ first_closing (fan s) i m
+    → closing_with (fan s) count i ≡ first_closing (fan s) i m
 closing-kept s blocks i m levels count index last block after store digest two below inside all l place many kept h =
     let f = fan s in
     let n = length blocks in
@@ -129,7 +129,7 @@ closing-kept s blocks i m levels count index last block after store digest two b
     let room : i / f ^ m % f + 1 < f = subst (λ (q : ℕ). q % f + 1 < f) place kept.room in
     let reached = h.reached more in
     let top : m ≤ level_count f n = omega (arith, inside, all, ap (level_count f) many) in
-    ap (λ (k : ℕ). closing f k i) many
+    ap (λ (k : ℕ). closing_with f k i) many
     ∙ closing-prefix f n i m top
     (λ j low. closes-reached f n i j some (reached-down f i m (j + 1) some reached (omega (arith, low))))
     (λ j high within. closes-none f n i m j some reached room more high)
@@ -138,13 +138,13 @@ closing-kept s blocks i m levels count index last block after store digest two b
 pub closing-done : (s : Settings) (blocks : List (List ℕ)) (i levels count : ℕ) (store digest : List ℕ) → 2 ≤ fan s
     → i < count → levels ≡ level_count (fan s) count → count ≡ length blocks
     → IsCarrying s blocks (cascade_state i levels levels) store digest
-    → closing (fan s) count i ≡ first_closing (fan s) i levels
+    → closing_with (fan s) count i ≡ first_closing (fan s) i levels
 closing-done s blocks i levels count store digest two below all many h =
     let f = fan s in
     let n = length blocks in
     let top : levels ≡ level_count f n = all ∙ ap (level_count f) many in
     let done = level_digest-root s blocks i levels store digest two (omega (arith, below, many)) top h in
-    ap (λ (k : ℕ). closing f k i) many
+    ap (λ (k : ℕ). closing_with f k i) many
     ∙ closing-prefix f n i levels (omega (arith, top)) (λ j low. closes-last f n i j done.0)
     (λ j high within. absurd (omega (arith, high, within, top)))
 

@@ -3,7 +3,7 @@ use Rattle.std.proofs.Common.{◌≡◌, ℕ, ◌+◌, ◌-◌, ◌<◌, ◌≤�
 use Rattle.std.proofs.Common.{arith, sym, ◌∙◌, ap, subst, refl, append_assoc, length-drop, Ok, Err}
 use Rattle.std.proofs.lemmas.List.{append-nil, length-take, take-append-drop, drop-drop}
 use Rattle.verity_tree.specs.Steps.ClosedBlocks.{WritesOrCompares, IsHashBlockFault, closed_block}
-use Rattle.verity_plan.specs.Plans.{Planned, byte_of}
+use Rattle.verity_plan.specs.Plans.{Planned, start_byte_of}
 use Rattle.verity_tree.specs.TreeOnDevice.{stored_block}
 use Rattle.verity_io.specs.Writing.{put, Spoiled}
 use Rattle.verity_tree.specs.declared.pass.closed_block.HashBlockFault.{HashBlockFault}
@@ -39,21 +39,23 @@ Spoiled-none device at c = record { no_shorter = omega arith; no_longer = omega 
 -- a block that is closed is put at its place, or stands there
 pub WritesOrCompares-put : (p : Planned) (task : Task) (l j : ℕ) (bytes before after : List ℕ) (done : Unit {0})
     → 0 < p.settings.hash_block → length bytes ≡ p.settings.hash_block
-    → WritesOrCompares p task (closed_block l j bytes) (Ok done) before after → after ≡ put before (byte_of p l j) bytes
+    → WritesOrCompares p task (closed_block l j bytes) (Ok done) before after → after
+    ≡ put before (start_byte_of p l j) bytes
 WritesOrCompares-put p Write l j bytes before after done some size h = h
 WritesOrCompares-put p Compare l j bytes before after done some size h =
-    h.0 ∙ put-same before bytes (byte_of p l j) p.settings.hash_block some size h.1
+    h.0 ∙ put-same before bytes (start_byte_of p l j) p.settings.hash_block some size h.1
 
 -- a block that stops a pass spoils its range at most
 pub WritesOrCompares-spoiled : (p : Planned) (task : Task) (l j : ℕ) (bytes before after : List ℕ) (fault : HashBlockFault)
     → WritesOrCompares p task (closed_block l j bytes) (Err fault) before after
-    → Spoiled before (byte_of p l j) p.settings.hash_block after
+    → Spoiled before (start_byte_of p l j) p.settings.hash_block after
 WritesOrCompares-spoiled p Write l j bytes before after fault h = h
-WritesOrCompares-spoiled p Compare l j bytes before after Failed h = subst (Spoiled before (byte_of p l j) p.settings.hash_block)
-    (sym h) (Spoiled-none before (byte_of p l j) p.settings.hash_block)
+WritesOrCompares-spoiled p Compare l j bytes before after Failed h =
+    subst (Spoiled before (start_byte_of p l j) p.settings.hash_block)
+    (sym h) (Spoiled-none before (start_byte_of p l j) p.settings.hash_block)
 WritesOrCompares-spoiled p Compare l j bytes before after (Differs part) h =
-    subst (Spoiled before (byte_of p l j) p.settings.hash_block) (sym h.0)
-    (Spoiled-none before (byte_of p l j) p.settings.hash_block)
+    subst (Spoiled before (start_byte_of p l j) p.settings.hash_block) (sym h.0)
+    (Spoiled-none before (start_byte_of p l j) p.settings.hash_block)
 
 -- a block that is compared and stands there
 pub WritesOrCompares-same : (p : Planned) (task : Task) (l j : ℕ) (bytes before after : List ℕ) (done : Unit {0}) → task ≡ Compare

@@ -14,7 +14,7 @@ use Rattle.verity_plan.specs.Plans.{Planned, IsPlanned}
 use Rattle.verity_plan.specs.Settings.{fan}
 use Rattle.verity_plan.proofs.CountLemmas.{le-div_ceil}
 use Rattle.verity_plan.proofs.FanLemmas.{fan-some, some_data}
-use Rattle.verity_tree.specs.ClosingOrder.{BlockIndex, block_index, order, times}
+use Rattle.verity_tree.specs.ClosingOrder.{BlockIndex, block_index, closed_after, times}
 use Rattle.verity_tree.specs.TreeOnDevice.{tree_block, HoldsTree, stored_block}
 use Rattle.verity_tree.specs.Levels.{root, data_blocks, whole_blocks}
 use Rattle.verity_tree.specs.Verdicts.{NoneDiffers, HoldsBlockAt, differs, verdict_by, verdict}
@@ -114,7 +114,7 @@ pub holds-right : (p : Planned) (device bytes digest : List ℕ) → HoldsTree p
 holds-right p device bytes digest holds =
     let once = ClosesOnce-all (fan p.settings) p.blocks (fan-some p.settings) in
     judges-right p device bytes (root p.settings (data_blocks p bytes)) digest holds.enough
-    (stands-counted p (data_blocks p bytes) device (order (fan p.settings) p.blocks p.blocks)
+    (stands-counted p (data_blocks p bytes) device (closed_after (fan p.settings) p.blocks p.blocks)
     (λ l j some. holds.stands l j (once.only l j some)))
     refl holds.root_is
 
@@ -160,14 +160,16 @@ right-holds_enough p device bytes digest enough right =
     let blocks = data_blocks p bytes in
     let f = fan p.settings in
     let tests =
-    all-right p device bytes digest (find (differs p blocks device) (order f p.blocks (whole_blocks p bytes))) right in
-    let none : find (differs p blocks device) (order f p.blocks p.blocks) ≡ None =
-    ap (λ (m : ℕ). find (differs p blocks device) (order f p.blocks m)) (sym (whole_blocks-all p bytes enough)) ∙ tests.0 in
+    all-right p device bytes digest
+    (find (differs p blocks device) (closed_after f p.blocks (whole_blocks p bytes))) right in
+    let none : find (differs p blocks device) (closed_after f p.blocks p.blocks) ≡ None =
+    ap (λ (m : ℕ). find (differs p blocks device) (closed_after f p.blocks m))
+    (sym (whole_blocks-all p bytes enough)) ∙ tests.0 in
     record {
       enough = enough;
       stands = λ l j here.
           same-stands p blocks device (block_index l j)
-          (times-none (differs p blocks device) l j (order f p.blocks p.blocks) none
+          (times-none (differs p blocks device) l j (closed_after f p.blocks p.blocks) none
           (let one = (ClosesOnce-all f p.blocks (fan-some p.settings)).once l j here in omega (arith, one)));
       root_is = tests.2;
     }
@@ -177,6 +179,6 @@ pub right-holds : (p : Planned) (device bytes digest : List ℕ) → IsPlanned p
     → HoldsTree p device bytes digest
 right-holds p device bytes digest planned right =
     let met =
-    find (differs p (data_blocks p bytes) device) (order (fan p.settings) p.blocks (whole_blocks p bytes)) in
+    find (differs p (data_blocks p bytes) device) (closed_after (fan p.settings) p.blocks (whole_blocks p bytes)) in
     right-holds_enough p device bytes digest
     (whole-enough p planned bytes (all-right p device bytes digest met right).1) right

@@ -8,7 +8,7 @@ use Rattle.std.specs.Prelude.{find, not, nat_lt, Some, None, Option}
 use Rattle.std.proofs.lemmas.Bool.{not-true}
 use Rattle.std.specs.Str.{bytes_eq}
 use Rattle.verity_tree.specs.Reading.{EndsWithin}
-use Rattle.verity_tree.specs.ClosingOrder.{BlockIndex, block_index, order}
+use Rattle.verity_tree.specs.ClosingOrder.{BlockIndex, block_index, closed_after}
 use Rattle.verity_tree.specs.TreeOnDevice.{tree_block, stored_block}
 use Rattle.verity_tree.specs.Comparing.{ComesTo, Judges}
 use Rattle.verity_tree.specs.Steps.OnePass.{fault_by, fault_of, StopsFor}
@@ -23,7 +23,7 @@ use Rattle.verity_tree.specs.declared.pass.closed_block.HashBlockFault.{HashBloc
 use Rattle.verity_tree.specs.declared.pass.closed_block.HashBlockFault.TheVariants.{Failed, Differs}
 use Rattle.verity_tree.specs.Steps.ClosedBlocks.{IsHashBlockFault, closed_block}
 use Rattle.verity_tree.specs.declared.part.Part.{Part}
-use Rattle.verity_tree.proofs.OrderSplit.{order-prefix}
+use Rattle.verity_tree.proofs.OrderSplit.{closed_after-prefix}
 use Rattle.verity_tree.proofs.DataBlockLemmas.{whole_blocks-above, whole_blocks-all}
 
 -- a block that stands there does not differ
@@ -63,19 +63,19 @@ bytes-differ xs ys other = go (bytes_eq xs ys) (bytes_eq-Decides xs ys).0
 
 -- all stands there, and the data is whole
 verdict_by-whole : (p : Planned) (device bytes digest : List ℕ) → p.wanted ≤ length bytes
-    → NoneDiffers p (data_blocks p bytes) device (order (fan p.settings) p.blocks p.blocks)
+    → NoneDiffers p (data_blocks p bytes) device (closed_after (fan p.settings) p.blocks p.blocks)
     → verdict p device bytes digest ≡ verdict_by p device bytes None digest
 verdict_by-whole p device bytes digest enough none =
     let blocks = data_blocks p bytes in
     ap (λ (m : ℕ). verdict_by p device bytes
-    (find (differs p blocks device) (order (fan p.settings) p.blocks m)) digest)
+    (find (differs p blocks device) (closed_after (fan p.settings) p.blocks m)) digest)
     (whole_blocks-all p bytes enough)
     ∙ ap (λ (met : Option BlockIndex). verdict_by p device bytes met digest)
-    (find-none p blocks device (order (fan p.settings) p.blocks p.blocks) none)
+    (find-none p blocks device (closed_after (fan p.settings) p.blocks p.blocks) none)
 
 -- if the root is the computed one, all is right
 pub judges-right : (p : Planned) (device bytes computed digest : List ℕ) → p.wanted ≤ length bytes
-    → NoneDiffers p (data_blocks p bytes) device (order (fan p.settings) p.blocks p.blocks)
+    → NoneDiffers p (data_blocks p bytes) device (closed_after (fan p.settings) p.blocks p.blocks)
     → computed ≡ root p.settings (data_blocks p bytes) → computed ≡ digest → verdict p device bytes digest ≡ Ok tt
 judges-right p device bytes computed digest enough none is same =
     let all : nat_lt (whole_blocks p bytes) p.blocks ≡ false =
@@ -85,7 +85,7 @@ judges-right p device bytes computed digest enough none is same =
 
 -- if it is another, the computed one is named
 pub judges-root : (p : Planned) (device bytes computed digest : List ℕ) → p.wanted ≤ length bytes
-    → NoneDiffers p (data_blocks p bytes) device (order (fan p.settings) p.blocks p.blocks)
+    → NoneDiffers p (data_blocks p bytes) device (closed_after (fan p.settings) p.blocks p.blocks)
     → computed ≡ root p.settings (data_blocks p bytes) → computed ≢ digest
     → verdict p device bytes digest ≡ Err (RootDiffers computed)
 judges-root p device bytes computed digest enough none is other =
@@ -99,7 +99,7 @@ judges-root p device bytes computed digest enough none is other =
 
 -- if the data ends early, the block that it ends in is named
 pub judges-short : (p : Planned) (device bytes after digest : List ℕ) (i : ℕ) → EndsWithin p i bytes after
-    → NoneDiffers p (data_blocks p bytes) device (order (fan p.settings) p.blocks i)
+    → NoneDiffers p (data_blocks p bytes) device (closed_after (fan p.settings) p.blocks i)
     → verdict p device bytes digest ≡ Err (SourceShort i)
 judges-short p device bytes after digest i ends none =
     let blocks = data_blocks p bytes in
@@ -107,10 +107,10 @@ judges-short p device bytes after digest i ends none =
     let less : nat_lt (whole_blocks p bytes) p.blocks ≡ true =
     let below = ends.below in let e = ends.whole_is in grind (arith, nat_tests, below, e) in rw less refl in
     ap (λ (m : ℕ). verdict_by p device bytes
-    (find (differs p blocks device) (order (fan p.settings) p.blocks m)) digest)
+    (find (differs p blocks device) (closed_after (fan p.settings) p.blocks m)) digest)
     (sym ends.whole_is)
     ∙ ap (λ (met : Option BlockIndex). verdict_by p device bytes met digest)
-    (find-none p blocks device (order (fan p.settings) p.blocks i) none)
+    (find-none p blocks device (closed_after (fan p.settings) p.blocks i) none)
     ∙ short
     ∙ ap (λ (m : ℕ). Err (SourceShort m)) (sym ends.whole_is)
 
@@ -127,11 +127,11 @@ judges-differs p planned device bytes digest stop part stops other is =
     let m = whole_blocks p bytes in
     let within : stops.i + 1 ≤ m =
     whole_blocks-above p planned (stops.i + 1) bytes (omega (arith, stops.below)) stops.enough in
-    let after = order-prefix f p.blocks (stops.i + 1) (m - (stops.i + 1)) in
+    let after = closed_after-prefix f p.blocks (stops.i + 1) (m - (stops.i + 1)) in
     let e : m ≡ stops.i + 1 + (m - (stops.i + 1)) = omega arith in
     let at : BlockIndex = block_index stop.level stop.index in
-    let split : order f p.blocks m ≡ stops.done ++ (at ∷ (stops.next.rest ++ after.0)) =
-    ap (order f p.blocks) e ∙ after.1 ∙ ap (λ (ps : List BlockIndex). ps ++ after.0) stops.next.in_order
+    let split : closed_after f p.blocks m ≡ stops.done ++ (at ∷ (stops.next.rest ++ after.0)) =
+    ap (closed_after f p.blocks) e ∙ after.1 ∙ ap (λ (ps : List BlockIndex). ps ++ after.0) stops.next.in_order
     ∙ simp append_assoc in
     ap (λ (ps : List BlockIndex). verdict_by p device bytes (find (differs p blocks device) ps) digest) split
     ∙ ap (λ (met : Option BlockIndex). verdict_by p device bytes met digest)
@@ -143,13 +143,14 @@ comes-to : (p : Planned) (device bytes : List ℕ) (stop : Stop) → StopsFor p 
     → ComesTo p device bytes (block_index stop.level stop.index)
 comes-to p device bytes stop stops =
     let f = fan p.settings in
-    let after = order-prefix f p.blocks (stops.i + 1) (p.blocks - (stops.i + 1)) in
+    let after = closed_after-prefix f p.blocks (stops.i + 1) (p.blocks - (stops.i + 1)) in
     let e : p.blocks ≡ stops.i + 1 + (p.blocks - (stops.i + 1)) = omega (arith, stops.below) in
     record {
       done = stops.done;
       next = record {
         rest = stops.next.rest ++ after.0;
-        in_order = ap (order f p.blocks) e ∙ after.1 ∙ ap (λ (ps : List BlockIndex). ps ++ after.0) stops.next.in_order
+        in_order = ap (closed_after f p.blocks) e ∙ after.1
+            ∙ ap (λ (ps : List BlockIndex). ps ++ after.0) stops.next.in_order
             ∙ simp append_assoc;
       };
       same = stops.same;

@@ -11,15 +11,15 @@ use Rattle.std.specs.Prelude.{Contains}
 use Rattle.verity_plan.proofs.CountLemmas.{mul_le}
 use Rattle.verity_plan.specs.Settings.{Settings, fan}
 use Rattle.verity_tree.specs.Levels.{hash_block_of, data_blocks}
-use Rattle.verity_tree.specs.ClosingOrder.{closing, order}
+use Rattle.verity_tree.specs.ClosingOrder.{closing_with, closed_after}
 use Rattle.verity_tree.specs.TreeOnDevice.{tree_block, device_with, tree_on_device_after, StopsAt}
 use Rattle.verity_tree.specs.ClosingOrder.{BlockIndex, block_index}
 use Rattle.verity_io.specs.Writing.{Spoiled}
-use Rattle.verity_tree.proofs.OrderSplit.{closing-front, order-front, order-more, device_with-append, device_with-order}
+use Rattle.verity_tree.proofs.OrderSplit.{closing-front, closed_after-front, closed_after-more, device_with-append, device_with-closed_after}
 use Rattle.verity_tree.specs.Reading.{ReadsUpTo, bytes_of}
 use Rattle.verity_io.specs.Reading.{HasRead}
 use Rattle.verity_tree.specs.Steps.Cascade.{first_closing, ClosesWith}
-use Rattle.verity_plan.specs.Plans.{Planned, byte_of}
+use Rattle.verity_plan.specs.Plans.{Planned, start_byte_of}
 use Rattle.verity_tree.specs.Steps.OpenBlocks.{digests_under, open_block, HasOpenBlocks}
 use Rattle.verity_tree.proofs.OpenBlockSteps.{hash_block_of-none}
 use Rattle.verity_tree.specs.Steps.ClosedBlocks.{IsHashBlockFault, closed_block}
@@ -70,24 +70,24 @@ HasOpenBlocks-after s blocks levels i a k store new place within h = λ l from t
 pub image-stopped : (p : Planned) (blocks : List (List ℕ)) (i l j : ℕ) (start device new : List ℕ) → i < p.blocks
     → ClosesWith p i l j → device ≡ tree_on_device_after p blocks i start
     → Spoiled (device_with p.settings blocks p.base (first_closing (fan p.settings) i l) device)
-    (byte_of p l j) p.settings.hash_block new
+    (start_byte_of p l j) p.settings.hash_block new
     → StopsAt p blocks (block_index l j) start new
 image-stopped p blocks i l j start device new below with_it so_far h =
     let f = fan p.settings in
-    let front = order-front f p.blocks i l below with_it.level_below with_it.all in
+    let front = closed_after-front f p.blocks i l below with_it.level_below with_it.all in
     let same : block_index l (i / f ^ (l + 1)) ≡ block_index l j = ap (block_index l) (sym with_it.block_is) in
     let e : device_with p.settings blocks p.base (first_closing f i l) device ≡ device_with p.settings blocks p.base
-    (order f p.blocks i ++ first_closing f i l) start =
+    (closed_after f p.blocks i ++ first_closing f i l) start =
     ap (device_with p.settings blocks p.base (first_closing f i l)) so_far
-    ∙ sym (device_with-append p.settings blocks p.base (order f p.blocks i) (first_closing f i l) start) in
+    ∙ sym (device_with-append p.settings blocks p.base (closed_after f p.blocks i) (first_closing f i l) start) in
     record {
-      done = order f p.blocks i ++ first_closing f i l;
+      done = closed_after f p.blocks i ++ first_closing f i l;
       next = record {
         rest = front.0;
         in_order = front.1
-            ∙ ap (λ (q : BlockIndex). (order f p.blocks i ++ first_closing f i l ++ q ∷ []) ++ front.0) same;
+            ∙ ap (λ (q : BlockIndex). (closed_after f p.blocks i ++ first_closing f i l ++ q ∷ []) ++ front.0) same;
       };
-      spoiled = subst (λ (xs : List ℕ). Spoiled xs (byte_of p l j) p.settings.hash_block new) e h;
+      spoiled = subst (λ (xs : List ℕ). Spoiled xs (start_byte_of p l j) p.settings.hash_block new) e h;
     }
 
 -- an element in the middle of a list is in it
@@ -101,11 +101,11 @@ pub reads-up-to : (p : Planned) (i l j : ℕ) (before after : List ℕ) → i < 
 reads-up-to p i l j before after below with_it read =
     let f = fan p.settings in
     let front = closing-front f p.blocks i l with_it.level_below with_it.all in
-    let closed = closing f p.blocks i in
+    let closing = closing_with f p.blocks i in
     record {
       i = i;
       below = below;
-      here = subst (λ (k : ℕ). Contains closed (block_index l k)) (sym with_it.block_is)
+      here = subst (λ (k : ℕ). Contains closing (block_index l k)) (sym with_it.block_is)
           (subst (λ (ps : List BlockIndex). Contains ps (block_index l (i / f ^ (l + 1)))) (sym front.1)
           (middle (first_closing f i l) front.0 (block_index l (i / f ^ (l + 1)))));
       read = read;
@@ -113,27 +113,27 @@ reads-up-to p i l j before after below with_it read =
 
 -- one data block more on the device
 pub image-next : (s : Settings) (blocks : List (List ℕ)) (base n i : ℕ) (start device new : List ℕ)
-    → device ≡ device_with s blocks base (order (fan s) n i) start
-    → new ≡ device_with s blocks base (closing (fan s) n i) device
-    → new ≡ device_with s blocks base (order (fan s) n (i + 1)) start
+    → device ≡ device_with s blocks base (closed_after (fan s) n i) start
+    → new ≡ device_with s blocks base (closing_with (fan s) n i) device
+    → new ≡ device_with s blocks base (closed_after (fan s) n (i + 1)) start
 image-next s blocks base n i start device new so_far is =
-    is ∙ ap (device_with s blocks base (closing (fan s) n i)) so_far
-    ∙ sym (device_with-order s blocks base n i start)
+    is ∙ ap (device_with s blocks base (closing_with (fan s) n i)) so_far
+    ∙ sym (device_with-closed_after s blocks base n i start)
 
 -- one data block more is compared
-pub none-differs-order : (p : Planned) (blocks : List (List ℕ)) (i : ℕ) (device : List ℕ)
-    → NoneDiffers p blocks device (order (fan p.settings) p.blocks i)
-    → NoneDiffers p blocks device (closing (fan p.settings) p.blocks i)
-    → NoneDiffers p blocks device (order (fan p.settings) p.blocks (i + 1))
-none-differs-order p blocks i device before h =
-    subst (NoneDiffers p blocks device) (sym (order-more (fan p.settings) p.blocks i))
-    (All-append (HoldsBlockAt p blocks device) (order (fan p.settings) p.blocks i)
-    (closing (fan p.settings) p.blocks i) before h)
+pub none-differs-closed_after : (p : Planned) (blocks : List (List ℕ)) (i : ℕ) (device : List ℕ)
+    → NoneDiffers p blocks device (closed_after (fan p.settings) p.blocks i)
+    → NoneDiffers p blocks device (closing_with (fan p.settings) p.blocks i)
+    → NoneDiffers p blocks device (closed_after (fan p.settings) p.blocks (i + 1))
+none-differs-closed_after p blocks i device before h =
+    subst (NoneDiffers p blocks device) (sym (closed_after-more (fan p.settings) p.blocks i))
+    (All-append (HoldsBlockAt p blocks device) (closed_after (fan p.settings) p.blocks i)
+    (closing_with (fan p.settings) p.blocks i) before h)
 
 -- a comparison that stops at a level of a data block
 pub stops-for : (p : Planned) (bytes : List ℕ) (i : ℕ) (device : List ℕ) (stop : Stop) → i < p.blocks
     → ClosesWith p i stop.level stop.index → bytes_of p (i + 1) ≤ length bytes
-    → NoneDiffers p (data_blocks p bytes) device (order (fan p.settings) p.blocks i)
+    → NoneDiffers p (data_blocks p bytes) device (closed_after (fan p.settings) p.blocks i)
     → NoneDiffers p (data_blocks p bytes) device (first_closing (fan p.settings) i stop.level)
     → IsHashBlockFault p (closed_block stop.level stop.index (tree_block p.settings (data_blocks p bytes) stop.level stop.index))
     device stop.fault
@@ -147,14 +147,15 @@ stops-for p bytes i device stop below with_it enough before h fault =
       i = i;
       below = below;
       enough = enough;
-      done = order f p.blocks i ++ first_closing f i l;
+      done = closed_after f p.blocks i ++ first_closing f i l;
       next = record {
         rest = front.0;
-        in_order = order-more f p.blocks i ∙ ap (λ (ps : List BlockIndex). order f p.blocks i ++ ps) front.1
-            ∙ ap (λ (k : ℕ). order f p.blocks i ++ (first_closing f i l ++ block_index l k ∷ [] ++ front.0))
+        in_order = closed_after-more f p.blocks i
+            ∙ ap (λ (ps : List BlockIndex). closed_after f p.blocks i ++ ps) front.1
+            ∙ ap (λ (k : ℕ). closed_after f p.blocks i ++ (first_closing f i l ++ block_index l k ∷ [] ++ front.0))
             (sym with_it.block_is)
             ∙ simp append_assoc;
       };
-      same = All-append (HoldsBlockAt p blocks device) (order f p.blocks i) (first_closing f i l) before h;
+      same = All-append (HoldsBlockAt p blocks device) (closed_after f p.blocks i) (first_closing f i l) before h;
       fault_is = fault;
     }

@@ -11,7 +11,7 @@ use Rattle.std.specs.Int.{div_ceil}
 use Rattle.std.specs.List.{filter, range_with_len}
 use Rattle.std.specs.Prelude.{◌==◌, ◌&&◌, ◌⊎◌}
 use Rattle.verity_plan.specs.Plans.{level_count, level_size, IsTreeBlock}
-use Rattle.verity_tree.specs.ClosingOrder.{BlockIndex, block_index, closes, closing, order, times, ClosesOnce}
+use Rattle.verity_tree.specs.ClosingOrder.{BlockIndex, block_index, closes, closing_with, closed_after, times, ClosesOnce}
 use Rattle.verity_plan.proofs.CountLemmas.{div_ceil-le}
 use Rattle.verity_tree.proofs.QuotientLemmas.{quotient-below, div_ceil-last}
 
@@ -131,10 +131,10 @@ closes-time fan n l j i pos below inside =
     (Decides-eqb (closing_time fan n l j) (i + 1))
 
 -- a block has closed once from its time on
-pub times-order : (fan n l j i : ℕ) → 0 < fan → i ≤ n → IsTreeBlock fan n l j
-    → times l j (order fan n i) ≡ cond (leb (closing_time fan n l j) i) 1 0
-unfolding order
-times-order fan n l j zero pos most block =
+pub times-closed_after : (fan n l j i : ℕ) → 0 < fan → i ≤ n → IsTreeBlock fan n l j
+    → times l j (closed_after fan n i) ≡ cond (leb (closing_time fan n l j) i) 1 0
+unfolding closed_after
+times-closed_after fan n l j zero pos most block =
     let width = fan ^ (l + 1) in
     let wide : 0 < width = one-le-pow (l + 1) fan pos in
     let blocks : 0 < n = elim (cases_lt 0 n) [
@@ -145,10 +145,11 @@ times-order fan n l j zero pos most block =
     let later : 0 < closing_time fan n l j = omega (arith, blocks, wide, mul-le-mul_right width at_least) in
     let fail : leb (closing_time fan n l j) 0 ≡ false = grind (arith, nat_tests, later) in
     ap bit (sym fail)
-times-order fan n l j (suc i) pos most block =
+times-closed_after fan n l j (suc i) pos most block =
     let f : ℕ → ℕ = λ level. i / fan ^ (level + 1) in
-    sum_by-append (λ (at : BlockIndex). cond ((at.level == l) && (at.index == j)) 1 0) (order fan n i) (closing fan n i)
-    ∙ ap (λ (x : ℕ). x + times l j (closing fan n i)) (times-order fan n l j i pos (omega arith) block)
+    sum_by-append (λ (at : BlockIndex). cond ((at.level == l) && (at.index == j)) 1 0) (closed_after fan n i)
+    (closing_with fan n i)
+    ∙ ap (λ (x : ℕ). x + times l j (closing_with fan n i)) (times-closed_after fan n l j i pos (omega arith) block)
     ∙ ap (λ (x : ℕ). cond (leb (closing_time fan n l j) i) 1 0 + x)
     (times_inside l j 0 (level_count fan n) f (closes fan n i) (omega arith) (omega (arith, block.level_below)))
     ∙ ap (λ (b : Bool). cond (leb (closing_time fan n l j) i) 1 0 + cond b 1 0)
@@ -156,7 +157,7 @@ times-order fan n l j (suc i) pos most block =
     ∙ one_more (closing_time fan n l j) i
 
 times-closing_none : (fan n l j i : ℕ) → 0 < fan → i < n → (level_count fan n ≤ l) ⊎ (level_size fan n l ≤ j)
-    → times l j (closing fan n i) ≡ 0
+    → times l j (closing_with fan n i) ≡ 0
 times-closing_none fan n l j i pos below none =
     let f : ℕ → ℕ = λ level. i / fan ^ (level + 1) in
     let width = fan ^ (l + 1) in
@@ -172,13 +173,14 @@ times-closing_none fan n l j i pos below none =
     ]
 
 -- what is no block of the tree doesn't close
-times-order_none : (fan n l j i : ℕ) → 0 < fan → i ≤ n → (level_count fan n ≤ l) ⊎ (level_size fan n l ≤ j)
-    → times l j (order fan n i) ≡ 0
-unfolding order
-times-order_none fan n l j zero pos most none = refl
-times-order_none fan n l j (suc i) pos most none =
-    sum_by-append (λ (at : BlockIndex). cond ((at.level == l) && (at.index == j)) 1 0) (order fan n i) (closing fan n i)
-    ∙ ap (λ (x : ℕ). x + times l j (closing fan n i)) (times-order_none fan n l j i pos (omega arith) none)
+times-closed_after_none : (fan n l j i : ℕ) → 0 < fan → i ≤ n → (level_count fan n ≤ l) ⊎ (level_size fan n l ≤ j)
+    → times l j (closed_after fan n i) ≡ 0
+unfolding closed_after
+times-closed_after_none fan n l j zero pos most none = refl
+times-closed_after_none fan n l j (suc i) pos most none =
+    sum_by-append (λ (at : BlockIndex). cond ((at.level == l) && (at.index == j)) 1 0) (closed_after fan n i)
+    (closing_with fan n i)
+    ∙ ap (λ (x : ℕ). x + times l j (closing_with fan n i)) (times-closed_after_none fan n l j i pos (omega arith) none)
     ∙ zero-add _
     ∙ times-closing_none fan n l j i pos (omega (arith, most)) none
 
@@ -188,32 +190,32 @@ ClosesOnce-all fan n pos = record {
   once = λ l j block.
       let le : closing_time fan n l j ≤ n = omega arith in
       let pass : leb (closing_time fan n l j) n ≡ true = grind (arith, nat_tests, le) in
-      times-order fan n l j n pos (omega arith) block ∙ ap bit pass;
+      times-closed_after fan n l j n pos (omega arith) block ∙ ap bit pass;
   only = λ l j some. elim (cases_lt l (level_count fan n)) [
     | inl low ↦ elim (cases_lt j (level_size fan n l)) [
       | inl here ↦ record { level_below = low; block_below = here }
-      | inr past ↦ absurd (omega (arith, some, times-order_none fan n l j n pos (omega arith) (inr past)))
+      | inr past ↦ absurd (omega (arith, some, times-closed_after_none fan n l j n pos (omega arith) (inr past)))
     ]
-    | inr past ↦ absurd (omega (arith, some, times-order_none fan n l j n pos (omega arith) (inl past)))
+    | inr past ↦ absurd (omega (arith, some, times-closed_after_none fan n l j n pos (omega arith) (inl past)))
   ];
 }
 
-closed_time_at : (fan n l j i : ℕ) → 0 < fan → i ≤ n → 0 < times l j (order fan n i) → IsTreeBlock fan n l j
+closed_time_at : (fan n l j i : ℕ) → 0 < fan → i ≤ n → 0 < times l j (closed_after fan n i) → IsTreeBlock fan n l j
     → IsTreeBlock fan n l j × (min ((j + 1) * fan ^ (l + 1)) n ≤ i)
 closed_time_at fan n l j i pos most some block =
     elim (leb_tells (closing_time fan n l j) i) [
       | inl come ↦ (block, come.1)
-      | inr later ↦ absurd (omega (arith, some, times-order fan n l j i pos most block, ap bit later.0))
+      | inr later ↦ absurd (omega (arith, some, times-closed_after fan n l j i pos most block, ap bit later.0))
     ]
 
 -- what has closed is a block of the tree whose time has come
-pub closed_time : (fan n l j i : ℕ) → 0 < fan → i ≤ n → 0 < times l j (order fan n i)
+pub closed_time : (fan n l j i : ℕ) → 0 < fan → i ≤ n → 0 < times l j (closed_after fan n i)
     → IsTreeBlock fan n l j × (min ((j + 1) * fan ^ (l + 1)) n ≤ i)
 closed_time fan n l j i pos most some =
     elim (cases_lt l (level_count fan n)) [
       | inl low ↦ elim (cases_lt j (level_size fan n l)) [
         | inl here ↦ closed_time_at fan n l j i pos most some (record { level_below = low; block_below = here })
-        | inr past ↦ absurd (omega (arith, some, times-order_none fan n l j i pos most (inr past)))
+        | inr past ↦ absurd (omega (arith, some, times-closed_after_none fan n l j i pos most (inr past)))
       ]
-      | inr past ↦ absurd (omega (arith, some, times-order_none fan n l j i pos most (inl past)))
+      | inr past ↦ absurd (omega (arith, some, times-closed_after_none fan n l j i pos most (inl past)))
     ]

@@ -8,8 +8,8 @@ use Rattle.std.proofs.lemmas.List.{append-nil, map-append}
 use Rattle.std.proofs.Math.Nat.{one-le-pow}
 use Rattle.std.specs.List.{filter, range_with_len}
 use Rattle.std.specs.Prelude.{◌==◌, ◌||◌, slice_index_or}
-use Rattle.verity_plan.specs.Plans.{level_count, byte_at}
-use Rattle.verity_tree.specs.ClosingOrder.{BlockIndex, block_index, closes, closing, order}
+use Rattle.verity_plan.specs.Plans.{level_count, start_byte}
+use Rattle.verity_tree.specs.ClosingOrder.{BlockIndex, block_index, closes, closing_with, closed_after}
 use Rattle.verity_tree.specs.TreeOnDevice.{device_with}
 use Rattle.verity_tree.specs.Steps.Cascade.{first_closing}
 use Rattle.verity_plan.specs.Settings.{Settings, fan}
@@ -37,7 +37,7 @@ filter-prefix c a (suc n) (suc m) le pass fail =
 
 -- what closes with a data block is the levels below the first that doesn't close
 pub closing-prefix : (f n i m : ℕ) → m ≤ level_count f n → ((l : ℕ) → l < m → closes f n i l ≡ true)
-    → ((l : ℕ) → m ≤ l → l < level_count f n → closes f n i l ≡ false) → closing f n i ≡ first_closing f i m
+    → ((l : ℕ) → m ≤ l → l < level_count f n → closes f n i l ≡ false) → closing_with f n i ≡ first_closing f i m
 closing-prefix f n i m le pass fail =
     ap (map (λ level. block_index level (i / f ^ (level + 1))))
     (filter-prefix (closes f n i) 0 (level_count f n) m le (λ l from to. pass l (omega (arith, to)))
@@ -91,13 +91,13 @@ unfolding device_with
 device_with-append s blocks base [] qs device = refl
 device_with-append s blocks base (p ∷ ps) qs device =
     device_with-append s blocks base ps qs
-    (put device (byte_at s (length blocks) base p.level p.index)
+    (put device (start_byte s (length blocks) base p.level p.index)
     (slice_index_or (blocks_up s blocks (p.level + 1)) p.index []))
 
 pub device_with-more : (s : Settings) (blocks : List (List ℕ)) (base i m : ℕ) (device : List ℕ)
     → device_with s blocks base (first_closing (fan s) i (m + 1)) device
     ≡ put (device_with s blocks base (first_closing (fan s) i m) device)
-    (byte_at s (length blocks) base m (i / fan s ^ (m + 1)))
+    (start_byte s (length blocks) base m (i / fan s ^ (m + 1)))
     (slice_index_or (blocks_up s blocks (m + 1)) (i / fan s ^ (m + 1)) [])
 unfolding device_with
 device_with-more s blocks base i m device =
@@ -105,29 +105,32 @@ device_with-more s blocks base i m device =
     ∙ device_with-append s blocks base (first_closing (fan s) i m) (block_index m (i / fan s ^ (m + 1)) ∷ []) device
 
 -- one data block more in the closing order
-pub order-more : (f n i : ℕ) → order f n (i + 1) ≡ order f n i ++ closing f n i
-unfolding order
-order-more f n i = let one : i + 1 ≡ suc i = omega arith in ap (order f n) one
+pub closed_after-more : (f n i : ℕ) → closed_after f n (i + 1) ≡ closed_after f n i ++ closing_with f n i
+unfolding closed_after
+closed_after-more f n i = let one : i + 1 ≡ suc i = omega arith in ap (closed_after f n) one
 
 -- one data block more on the device
-pub device_with-order : (s : Settings) (blocks : List (List ℕ)) (base n i : ℕ) (device : List ℕ)
-    → device_with s blocks base (order (fan s) n (i + 1)) device
-    ≡ device_with s blocks base (closing (fan s) n i) (device_with s blocks base (order (fan s) n i) device)
-device_with-order s blocks base n i device =
-    ap (λ (ps : List BlockIndex). device_with s blocks base ps device) (order-more (fan s) n i)
-    ∙ device_with-append s blocks base (order (fan s) n i) (closing (fan s) n i) device
+pub device_with-closed_after : (s : Settings) (blocks : List (List ℕ)) (base n i : ℕ) (device : List ℕ)
+    → device_with s blocks base (closed_after (fan s) n (i + 1)) device
+    ≡ device_with s blocks base (closing_with (fan s) n i)
+    (device_with s blocks base (closed_after (fan s) n i) device)
+device_with-closed_after s blocks base n i device =
+    ap (λ (ps : List BlockIndex). device_with s blocks base ps device) (closed_after-more (fan s) n i)
+    ∙ device_with-append s blocks base (closed_after (fan s) n i) (closing_with (fan s) n i) device
 
 -- what has closed stays at the front of the order
-pub order-prefix : (f n i k : ℕ) → (rest : List BlockIndex) × (order f n (i + k) ≡ order f n i ++ rest)
-unfolding order
-order-prefix f n i zero = let e : i + 0 ≡ i = omega arith in ([], ap (order f n) e ∙ sym (append-nil (order f n i)))
-order-prefix f n i (suc k) =
+pub closed_after-prefix : (f n i k : ℕ)
+    → (rest : List BlockIndex) × (closed_after f n (i + k) ≡ closed_after f n i ++ rest)
+unfolding closed_after
+closed_after-prefix f n i zero =
+    let e : i + 0 ≡ i = omega arith in ([], ap (closed_after f n) e ∙ sym (append-nil (closed_after f n i)))
+closed_after-prefix f n i (suc k) =
     let e : i + suc k ≡ suc (i + k) = omega arith in
-    let before = order-prefix f n i k in (
-      before.0 ++ closing f n (i + k),
-      ap (order f n) e
-          ∙ ap (λ (ps : List BlockIndex). ps ++ closing f n (i + k)) before.1
-          ∙ append_assoc (order f n i) before.0 (closing f n (i + k)),
+    let before = closed_after-prefix f n i k in (
+      before.0 ++ closing_with f n (i + k),
+      ap (closed_after f n) e
+          ∙ ap (λ (ps : List BlockIndex). ps ++ closing_with f n (i + k)) before.1
+          ∙ append_assoc (closed_after f n i) before.0 (closing_with f n (i + k)),
     )
 
 -- the first numbers pass a test
@@ -146,7 +149,8 @@ filter-front c a (suc m) (suc n) pass le =
 
 -- if the levels up to this one close, its block comes after those of the levels below
 pub closing-front : (f n i m : ℕ) → m < level_count f n → ((l : ℕ) → l ≤ m → closes f n i l ≡ true)
-    → (rest : List BlockIndex) × (closing f n i ≡ first_closing f i m ++ block_index m (i / f ^ (m + 1)) ∷ [] ++ rest)
+    → (rest : List BlockIndex)
+    × (closing_with f n i ≡ first_closing f i m ++ block_index m (i / f ^ (m + 1)) ∷ [] ++ rest)
 closing-front f n i m below pass =
     let front = filter-front (closes f n i) 0 (m + 1) (level_count f n) (λ l from to. pass l (omega (arith, to)))
     (omega (arith, below)) in
@@ -158,16 +162,17 @@ closing-front f n i m below pass =
     )
 
 -- the blocks before a block that closes are the first ones of the order
-pub order-front : (f n i m : ℕ) → i < n → m < level_count f n → ((l : ℕ) → l ≤ m → closes f n i l ≡ true)
+pub closed_after-front : (f n i m : ℕ) → i < n → m < level_count f n → ((l : ℕ) → l ≤ m → closes f n i l ≡ true)
     → (rest : List BlockIndex)
-    × (order f n n ≡ (order f n i ++ first_closing f i m ++ block_index m (i / f ^ (m + 1)) ∷ []) ++ rest)
-order-front f n i m below inside pass =
+    × (closed_after f n n
+    ≡ (closed_after f n i ++ first_closing f i m ++ block_index m (i / f ^ (m + 1)) ∷ []) ++ rest)
+closed_after-front f n i m below inside pass =
     let front = closing-front f n i m inside pass in
-    let after = order-prefix f n (i + 1) (n - (i + 1)) in
+    let after = closed_after-prefix f n (i + 1) (n - (i + 1)) in
     let e : n ≡ i + 1 + (n - (i + 1)) = omega arith in (
       front.0 ++ after.0,
-      ap (order f n) e ∙ after.1
+      ap (closed_after f n) e ∙ after.1
           ∙ ap (λ (ps : List BlockIndex). ps ++ after.0)
-          (order-more f n i ∙ ap (λ (ps : List BlockIndex). order f n i ++ ps) front.1)
+          (closed_after-more f n i ∙ ap (λ (ps : List BlockIndex). closed_after f n i ++ ps) front.1)
           ∙ simp append_assoc,
     )

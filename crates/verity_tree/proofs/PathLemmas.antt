@@ -5,7 +5,7 @@ use Rattle.std.proofs.lemmas.Bool.{cases_lt}
 use Rattle.std.proofs.lemmas.Slice.Eq.{bytes_eq-Decides}
 use Rattle.std.specs.Prelude.{Result, Ok, Err}
 use Rattle.std.specs.Str.{bytes_eq}
-use Rattle.verity_plan.specs.Plans.{level_count, Planned, IsPlanned, levels_of}
+use Rattle.verity_plan.specs.Plans.{level_count, Planned, IsPlanned, level_count_of}
 use Rattle.verity_tree.specs.Levels.{data_blocks, root}
 use Rattle.verity_tree.specs.Paths.{ChecksBlock, HasCollision, HoldsAt, IsAccepted, chain, true_chain, true_path}
 use Rattle.verity_tree.specs.declared.path.PathFault.{PathFault}
@@ -23,8 +23,8 @@ use Rattle.verity_tree.proofs.PieceLemmas.{length-pieces, piece}
 -- collision at that level or below
 collides-by : (p : Planned) (blocks : List (List ℕ)) (i : ℕ) (block path digest : List ℕ) → 2 ≤ fan p.settings
     → i < length blocks
-    → ((m : ℕ) → m ≤ levels_of p → HoldsAt p i block path digest m)
-    → (l : ℕ) → l ≤ levels_of p
+    → ((m : ℕ) → m ≤ level_count_of p → HoldsAt p i block path digest m)
+    → (l : ℕ) → l ≤ level_count_of p
     → hash p.settings (chain p.settings block path l) ≡ hash p.settings (true_chain p.settings blocks i l)
     → (b : Bool) → bytes_eq (chain p.settings block path l) (true_chain p.settings blocks i l) ≡ b
     → (block ≡ get_or blocks i []) ⊎ HasCollision p blocks i block path
@@ -35,8 +35,8 @@ collides-by p blocks i block path digest two below holds zero within one true sa
 collides-by p blocks i block path digest two below holds (suc l) within one true same =
     let s = p.settings in
     let equal = (bytes_eq-Decides (chain s block path (suc l)) (true_chain s blocks i (suc l))).0 same in
-    let less : l < levels_of p = omega (arith, within) in
-    let low : l ≤ levels_of p = omega (arith, within) in
+    let less : l < level_count_of p = omega (arith, within) in
+    let low : l ≤ level_count_of p = omega (arith, within) in
     let lower : hash s (chain s block path l) ≡ hash s (true_chain s blocks i l) =
     holds l low ∙ digest_above-below p i path digest l less
     ∙ ap (λ (xs : List ℕ). digest_in s xs (i / fan s ^ l % fan s)) equal
@@ -54,40 +54,42 @@ accepted-true p bytes i block path planned h =
     let two = fan-two s planned.valid in
     let many : length blocks ≡ p.blocks = length-cut s p.blocks p.wanted bytes in
     let below : i < length blocks = omega (arith, h.index, many) in
-    let top : levels_of p ≤ levels_of p = omega arith in
-    collides-by p blocks i block path (root s blocks) two below h.holds (levels_of p) top
-    (h.holds (levels_of p) top ∙ digest_above-top p i path (root s blocks) (levels_of p) top
+    let top : level_count_of p ≤ level_count_of p = omega arith in
+    collides-by p blocks i block path (root s blocks) two below h.holds (level_count_of p) top
+    (h.holds (level_count_of p) top ∙ digest_above-top p i path (root s blocks) (level_count_of p) top
     ∙ sym (true_chain-root s blocks i two below)
     ∙ ap (λ (n : ℕ). hash s (true_chain s blocks i (level_count (fan s) n))) many) _ refl
 
 -- a true chain is the chain of the true path
-chain-true : (p : Planned) (blocks : List (List ℕ)) (i l : ℕ) → IsValid p.settings → i < length blocks → l ≤ levels_of p
-    → chain p.settings (get_or blocks i []) (true_path p.settings blocks i (levels_of p)) l
+chain-true : (p : Planned) (blocks : List (List ℕ)) (i l : ℕ) → IsValid p.settings → i < length blocks
+    → l ≤ level_count_of p
+    → chain p.settings (get_or blocks i []) (true_path p.settings blocks i (level_count_of p)) l
     ≡ true_chain p.settings blocks i l
 chain-true p blocks i zero valid below within = refl
 chain-true p blocks i (suc l) valid below within =
     let none : 0 + l ≡ l = omega arith in
-    piece (λ m. true_chain p.settings blocks i (suc m)) p.settings.hash_block 0 (levels_of p) l (omega (arith, within))
+    piece (λ m. true_chain p.settings blocks i (suc m)) p.settings.hash_block 0 (level_count_of p) l
+    (omega (arith, within))
     (λ m a b. length-true_chain p.settings blocks i m (digest-slot p.settings) (fan-pos p.settings valid)
     (fan-fits p.settings valid) below)
     ∙ ap (λ (m : ℕ). true_chain p.settings blocks i (suc m)) none
 
 -- the true path holds at each level
 holds-true : (p : Planned) (blocks : List (List ℕ)) (i : ℕ) → IsValid p.settings → length blocks ≡ p.blocks
-    → i < length blocks → (l : ℕ) → l ≤ levels_of p
-    → HoldsAt p i (get_or blocks i []) (true_path p.settings blocks i (levels_of p)) (root p.settings blocks) l
+    → i < length blocks → (l : ℕ) → l ≤ level_count_of p
+    → HoldsAt p i (get_or blocks i []) (true_path p.settings blocks i (level_count_of p)) (root p.settings blocks) l
 holds-true p blocks i valid many below l within =
     let s = p.settings in
-    let path = true_path s blocks i (levels_of p) in
+    let path = true_path s blocks i (level_count_of p) in
     ap (hash s) (chain-true p blocks i l valid below within)
-    ∙ elim (cases_lt l (levels_of p)) [
+    ∙ elim (cases_lt l (level_count_of p)) [
       | inl less ↦
           true_chain-up s blocks i l (digest-slot s) (fan-pos s valid) below
           ∙ ap (λ (xs : List ℕ). digest_in s xs (i / fan s ^ l % fan s))
           (sym (chain-true p blocks i (suc l) valid below (omega (arith, less))))
           ∙ sym (digest_above-below p i path (root s blocks) l less)
       | inr most ↦
-          let top : l ≡ levels_of p = omega (arith, within, most) in
+          let top : l ≡ level_count_of p = omega (arith, within, most) in
           ap (λ (m : ℕ). hash s (true_chain s blocks i m)) (top ∙ sym (ap (level_count (fan s)) many))
           ∙ true_chain-root s blocks i (fan-two s valid) below
           ∙ sym (digest_above-top p i path (root s blocks) l most)
@@ -95,7 +97,8 @@ holds-true p blocks i valid many below l within =
 
 -- the true path is accepted
 pub true-accepted : (p : Planned) (bytes : List ℕ) (i : ℕ) → IsPlanned p → i < p.blocks
-    → IsAccepted p i (get_or (data_blocks p bytes) i []) (true_path p.settings (data_blocks p bytes) i (levels_of p))
+    → IsAccepted p i (get_or (data_blocks p bytes) i [])
+    (true_path p.settings (data_blocks p bytes) i (level_count_of p))
     (root p.settings (data_blocks p bytes))
 true-accepted p bytes i planned index =
     let s = p.settings in
@@ -106,7 +109,7 @@ true-accepted p bytes i planned index =
       index = index;
       lengths = record {
         of_block = length-data s p.blocks p.wanted bytes i index;
-        of_path = length-pieces (λ m. true_chain s blocks i (suc m)) s.hash_block 0 (levels_of p)
+        of_path = length-pieces (λ m. true_chain s blocks i (suc m)) s.hash_block 0 (level_count_of p)
             (λ m a b. length-true_chain s blocks i m (digest-slot s) (fan-pos s planned.valid)
             (fan-fits s planned.valid) below);
       };

@@ -10,7 +10,7 @@ use Rattle.std.specs.Fork.{slice_chunk}
 use Rattle.std.specs.Prelude.{nat_lt}
 use Rattle.std.specs.Str.{bytes_eq}
 use Rattle.verity_tree.specs.Paths.{HasLengths, chain, digest_above}
-use Rattle.verity_plan.specs.Plans.{Planned, levels_of}
+use Rattle.verity_plan.specs.Plans.{Planned, level_count_of}
 use Rattle.verity_plan.specs.Settings.{Settings, digest_len, fan, slot_width}
 use Rattle.verity_tree.specs.Verdicts.{digest_in}
 use Rattle.verity_tree.proofs.VerdictLemmas.{digest-room}
@@ -28,20 +28,20 @@ range-block path l size all e =
     ap (λ (n : ℕ). take n (drop (l * size) path)) same ∙ ap (λ (n : ℕ). slice_chunk path n l) e
 
 -- below the top a digest in its slot
-pub digest_above-below : (p : Planned) (i : ℕ) (path root : List ℕ) (l : ℕ) → l < levels_of p
+pub digest_above-below : (p : Planned) (i : ℕ) (path root : List ℕ) (l : ℕ) → l < level_count_of p
     → digest_above p i path root l ≡ digest_in p.settings (slice_chunk path p.settings.hash_block l)
     (i / fan p.settings ^ l % fan p.settings)
 digest_above-below p i path root l below =
-    let tested : nat_lt l (levels_of p) ≡ true = grind (arith, nat_tests, below) in rw tested refl
+    let tested : nat_lt l (level_count_of p) ≡ true = grind (arith, nat_tests, below) in rw tested refl
 
 -- at the top the root
-pub digest_above-top : (p : Planned) (i : ℕ) (path root : List ℕ) (l : ℕ) → levels_of p ≤ l
+pub digest_above-top : (p : Planned) (i : ℕ) (path root : List ℕ) (l : ℕ) → level_count_of p ≤ l
     → digest_above p i path root l ≡ root
 digest_above-top p i path root l top =
-    let tested : nat_lt l (levels_of p) ≡ false = grind (arith, nat_tests, top) in rw tested refl
+    let tested : nat_lt l (level_count_of p) ≡ false = grind (arith, nat_tests, top) in rw tested refl
 
 -- the digest that the code reads is the digest above
-pub read-is : (p : Planned) (i : ℕ) (path root above : List ℕ) (l slot index f : ℕ) → l < levels_of p
+pub read-is : (p : Planned) (i : ℕ) (path root above : List ℕ) (l slot index f : ℕ) → l < level_count_of p
     → above ≡ slice_chunk path p.settings.hash_block l
     → f ≡ fan p.settings → index ≡ i / fan p.settings ^ l → slot ≡ index % f
     → digest_in p.settings above slot ≡ digest_above p i path root l
@@ -54,13 +54,13 @@ read-is p i path root above l slot index f below above_is f_is index_is slot_is 
 -- a level's block of a whole path has a digest's room in each slot
 pub slot-in-block : (p : Planned) (path above : List ℕ) (l index f : ℕ)
     → fan p.settings * slot_width p.settings ≤ p.settings.hash_block
-    → l < levels_of p → levels_of p * p.settings.hash_block ≤ length path
+    → l < level_count_of p → level_count_of p * p.settings.hash_block ≤ length path
     → above ≡ slice_chunk path p.settings.hash_block l
     → f ≡ fan p.settings → 2 ≤ f
     → index % f * slot_width p.settings + digest_len p.settings ≤ length above
 slot-in-block p path above l index f fits below whole above_is f_is two =
     let size = p.settings.hash_block in
-    let next : l + 1 ≤ levels_of p = omega arith in
+    let next : l + 1 ≤ level_count_of p = omega arith in
     let left : size ≤ length (drop (l * size) path) =
     omega (arith, length-drop (l * size) path, whole, mul-le-mul_right size next) in
     let len : length above ≡ size = ap length above_is ∙ length-take-le size (drop (l * size) path) left in
@@ -78,9 +78,9 @@ bytes_eq-false xs ys apart same = let equal = (bytes_eq-Decides xs ys).1 same in
 
 -- the lengths that the code reads are the plan's
 pub HasLengths-read : (p : Planned) (block path : List ℕ) (wide levels size : ℕ) → wide ≡ p.settings.data_block
-    → levels ≡ levels_of p → size ≡ p.settings.hash_block
+    → levels ≡ level_count_of p → size ≡ p.settings.hash_block
     → length block ≡ wide → length path ≡ levels * size → HasLengths p block path
 HasLengths-read p block path wide levels size wide_is levels_is size_is of_block of_path = record {
   of_block = of_block ∙ wide_is;
-  of_path = of_path ∙ ap (λ (n : ℕ). n * size) levels_is ∙ ap (λ (n : ℕ). levels_of p * n) size_is;
+  of_path = of_path ∙ ap (λ (n : ℕ). n * size) levels_is ∙ ap (λ (n : ℕ). level_count_of p * n) size_is;
 }

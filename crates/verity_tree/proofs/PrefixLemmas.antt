@@ -6,7 +6,7 @@ use Rattle.std.proofs.lemmas.List.FromFn.{get_or-map-range_with_len}
 use Rattle.std.proofs.Math.Nat.{pow-zero, pow-suc, one-le-pow, mul-le-mul_right}
 use Rattle.std.specs.Fork.{slice_chunk}
 use Rattle.std.specs.Int.{div_ceil}
-use Rattle.verity_tree.specs.ClosingOrder.{order, times}
+use Rattle.verity_tree.specs.ClosingOrder.{closed_after, times}
 use Rattle.verity_tree.specs.TreeOnDevice.{tree_block}
 use Rattle.verity_tree.proofs.OrderLemmas.{closed_time}
 use Rattle.verity_plan.specs.Settings.{Settings, hash, fan}
@@ -93,8 +93,8 @@ blocks_up-prefix s xs ys i (suc l) j pos same each below time =
 -- what has closed after i data blocks depends on these alone
 pub closed-prefix : (s : Settings) (xs ys : List (List ℕ)) (i l j : ℕ) → 0 < fan s → length xs ≡ length ys
     → i ≤ length xs
-    → ((k : ℕ) → k < i → get_or xs k [] ≡ get_or ys k []) → 0 < times l j (order (fan s) (length xs) i)
+    → ((k : ℕ) → k < i → get_or xs k [] ≡ get_or ys k []) → 0 < times l j (closed_after (fan s) (length xs) i)
     → tree_block s xs l j ≡ tree_block s ys l j
 closed-prefix s xs ys i l j pos same most each some =
-    let closed = closed_time (fan s) (length xs) l j i pos most some in
-    blocks_up-prefix s xs ys i (l + 1) j pos same each closed.0.block_below closed.1
+    let block = closed_time (fan s) (length xs) l j i pos most some in
+    blocks_up-prefix s xs ys i (l + 1) j pos same each block.0.block_below block.1

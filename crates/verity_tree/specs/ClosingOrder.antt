@@ -19,25 +19,25 @@ abbrev pub closes : ℕ → ℕ → ℕ → ℕ → Bool
 closes fan n i level = ((i + 1) % fan ^ (level + 1) == 0) || (i + 1 == n)
 
 -- the blocks that close with data block i, counted from 0, in rising order of level
-abbrev pub closing : ℕ → ℕ → ℕ → List BlockIndex
-closing fan n i = map (λ level. block_index level (i / fan ^ (level + 1)))
+abbrev pub closing_with : ℕ → ℕ → ℕ → List BlockIndex
+closing_with fan n i = map (λ level. block_index level (i / fan ^ (level + 1)))
     (filter (closes fan n i) (range_with_len 0 (level_count fan n)))
 
--- the blocks that have closed after i data blocks, in order
-unfoldable pub order : ℕ → ℕ → ℕ → List BlockIndex
-order fan n zero = []
-order fan n (suc i) = order fan n i ++ closing fan n i
+-- the blocks that have closed after i data blocks, in closing order
+unfoldable pub closed_after : ℕ → ℕ → ℕ → List BlockIndex
+closed_after fan n zero = []
+closed_after fan n (suc i) = closed_after fan n i ++ closing_with fan n i
 
--- a block that comes in an order after those that are done
+-- the block that comes next in a list after those that are done
 pub record ComesNext (all done : List BlockIndex) (next : BlockIndex) : Type 0 where
   pub rest : List BlockIndex
   pub in_order : all ≡ (done ++ next ∷ []) ++ rest
 
 -- how often a block of a level stands in a list
 abbrev pub times : ℕ → ℕ → List BlockIndex → ℕ
-times level index hash_blocks = count_by (λ at. (at.level == level) && (at.index == index)) hash_blocks
+times level index hash_blocks = count_by (λ block. (block.level == level) && (block.index == index)) hash_blocks
 
 -- the closing order has each block of the tree once, and nothing else
 pub record ClosesOnce (fan n : ℕ) : Type 0 where
-  pub once : (l j : ℕ) → IsTreeBlock fan n l j → times l j (order fan n n) ≡ 1
-  pub only : (l j : ℕ) → 0 < times l j (order fan n n) → IsTreeBlock fan n l j
+  pub once : (l j : ℕ) → IsTreeBlock fan n l j → times l j (closed_after fan n n) ≡ 1
+  pub only : (l j : ℕ) → 0 < times l j (closed_after fan n n) → IsTreeBlock fan n l j

@@ -3,7 +3,7 @@ use Rattle.std.specs.Prelude.{◌≡◌, ℕ, Bool, true, false, List, Result, O
 use Rattle.verity_io.specs.Reading.{HasRead}
 use Rattle.verity_plan.specs.Plans.{Planned}
 use Rattle.verity_plan.specs.Settings.{fan}
-use Rattle.verity_tree.specs.ClosingOrder.{BlockIndex, block_index, ComesNext, order}
+use Rattle.verity_tree.specs.ClosingOrder.{BlockIndex, block_index, ComesNext, closed_after}
 use Rattle.verity_tree.specs.Levels.{data_blocks}
 use Rattle.verity_tree.specs.Reading.{EndsWithin, FailsWithin, ReadsUpTo}
 use Rattle.verity_tree.specs.Verdicts.{NoneDiffers, verdict}
@@ -12,15 +12,15 @@ use Rattle.verity_tree.specs.declared.comparing.CompareFault.TheVariants.{Source
 use Rattle.verity_tree.specs.declared.comparing.CompareFault.TheVariants.{Differs, RootDiffers}
 
 -- no block before this one in closing order differs
-pub record ComesTo (p : Planned) (device bytes : List ℕ) (at : BlockIndex) : Type 0 where
+pub record ComesTo (p : Planned) (device bytes : List ℕ) (block : BlockIndex) : Type 0 where
   pub done : List BlockIndex
-  pub next : ComesNext (order (fan p.settings) p.blocks p.blocks) done at
+  pub next : ComesNext (closed_after (fan p.settings) p.blocks p.blocks) done block
   pub same : NoneDiffers p (data_blocks p bytes) device done
 
 -- the answer is a failure before which nothing differs, or else the verdict
 abbrev pub Judges : Planned → List ℕ → List ℕ → List ℕ → Result Unit CompareFault → Type 0
 Judges p device bytes digest (Err (SourceFailed i)) =
-    NoneDiffers p (data_blocks p bytes) device (order (fan p.settings) p.blocks i)
+    NoneDiffers p (data_blocks p bytes) device (closed_after (fan p.settings) p.blocks i)
 Judges p device bytes digest (Err (DeviceFailed level block)) = ComesTo p device bytes (block_index level block)
 Judges p device bytes digest answer = verdict p device bytes digest ≡ answer
 

@@ -5,7 +5,7 @@ use Rattle.std.specs.Prelude.{slice_index_or, if◌then◌else◌, Result, Ok, E
 use Rattle.std.specs.Fork.{slice_chunk}
 use Rattle.std.specs.List.{flat_map, range_with_len}
 use Rattle.verity_tree.specs.TreeOnDevice.{tree_block}
-use Rattle.verity_plan.specs.Plans.{Planned, levels_of}
+use Rattle.verity_plan.specs.Plans.{Planned, level_count_of}
 use Rattle.verity_plan.specs.Settings.{Settings, fan, hash}
 use Rattle.verity_tree.specs.Verdicts.{digest_in}
 use Rattle.verity_tree.specs.declared.path.PathFault.{PathFault}
@@ -18,7 +18,7 @@ chain s block path (suc l) = slice_chunk path s.hash_block l
 
 -- what the hash of a block of the chain has to be: the digest in its slot of the block above, and at the top the root
 abbrev pub digest_above : Planned → ℕ → List ℕ → List ℕ → ℕ → List ℕ
-digest_above p i path root l = if nat_lt l (levels_of p)
+digest_above p i path root l = if nat_lt l (level_count_of p)
     then digest_in p.settings (slice_chunk path p.settings.hash_block l) (i / fan p.settings ^ l % fan p.settings)
     else root
 
@@ -29,19 +29,19 @@ HoldsAt p i block path root l = hash p.settings (chain p.settings block path l) 
 -- a data block, and a hash block for each level
 pub record HasLengths (p : Planned) (block path : List ℕ) : Type 0 where
   pub of_block : length block ≡ p.settings.data_block
-  pub of_path : length path ≡ levels_of p * p.settings.hash_block
+  pub of_path : length path ≡ level_count_of p * p.settings.hash_block
 
 -- the path holds at every level and at the root
 pub record IsAccepted (p : Planned) (i : ℕ) (block path root : List ℕ) : Type 0 where
   pub index : i < p.blocks
   pub lengths : HasLengths p block path
-  pub holds : (l : ℕ) → l ≤ levels_of p → HoldsAt p i block path root l
+  pub holds : (l : ℕ) → l ≤ level_count_of p → HoldsAt p i block path root l
 
 -- this is the lowest level at which the path does not hold
 pub record IsLowest (p : Planned) (i : ℕ) (block path root : List ℕ) (l : ℕ) : Type 0 where
   pub index : i < p.blocks
   pub lengths : HasLengths p block path
-  pub within : l ≤ levels_of p
+  pub within : l ≤ level_count_of p
   pub below : (m : ℕ) → m < l → HoldsAt p i block path root m
   pub fails : ¬ HoldsAt p i block path root l
 
@@ -64,7 +64,7 @@ true_path s blocks i levels = flat_map (λ l. true_chain s blocks i (suc l)) (ra
 -- at some level the chain and the true chain have different blocks with one salted hash
 pub record HasCollision (p : Planned) (blocks : List (List ℕ)) (i : ℕ) (block path : List ℕ) : Type 0 where
   pub level : ℕ
-  pub within : level ≤ levels_of p
+  pub within : level ≤ level_count_of p
   pub differ : chain p.settings block path level ≢ true_chain p.settings blocks i level
   pub one_hash : hash p.settings (chain p.settings block path level)
       ≡ hash p.settings (true_chain p.settings blocks i level)

@@ -3,7 +3,7 @@ use Rattle.std.specs.Prelude.{◌≡◌, ℕ, ◌+◌, ◌*◌, ◌<◌, ◌≤�
 use Rattle.verity_io.specs.Reading.{HasRead}
 use Rattle.verity_plan.specs.Plans.{Planned}
 use Rattle.verity_plan.specs.Settings.{fan}
-use Rattle.verity_tree.specs.ClosingOrder.{block_index, closing}
+use Rattle.verity_tree.specs.ClosingOrder.{block_index, closing_with}
 use Rattle.verity_tree.specs.Levels.{whole_blocks}
 
 -- the bytes of i data blocks, or all that are wanted
@@ -30,5 +30,5 @@ pub record FailsWithin (p : Planned) (i : ℕ) (before after : List ℕ) : Type 
 pub record ReadsUpTo (p : Planned) (level block : ℕ) (before after : List ℕ) : Type 0 where
   pub i : ℕ
   pub below : i < p.blocks
-  pub here : Contains (closing (fan p.settings) p.blocks i) (block_index level block)
+  pub here : Contains (closing_with (fan p.settings) p.blocks i) (block_index level block)
   pub read : HasRead (bytes_of p (i + 1)) before after

@@ -4,7 +4,7 @@ use Rattle.std.specs.Prelude.{◌≡◌, ℕ, ◌+◌, ◌-◌, ◌*◌, Bool, n
 use Rattle.std.specs.Prelude.{Option, Some, None, Result, Ok, Err, if◌then◌else◌}
 use Rattle.std.specs.List.{range_with_len}
 use Rattle.std.specs.Str.{bytes_eq}
-use Rattle.verity_tree.specs.ClosingOrder.{BlockIndex, order}
+use Rattle.verity_tree.specs.ClosingOrder.{BlockIndex, closed_after}
 use Rattle.verity_tree.specs.TreeOnDevice.{tree_block, stored_block}
 use Rattle.verity_tree.specs.Levels.{root, data_blocks, whole_blocks}
 use Rattle.verity_plan.specs.Plans.{Planned, size_under}
@@ -36,19 +36,20 @@ part_of p level block on_device computed = if nat_lt (length on_device) p.settin
 
 -- the block that a device holds is not the tree's
 abbrev pub differs : Planned → List (List ℕ) → List ℕ → BlockIndex → Bool
-differs p blocks device at =
-    not (bytes_eq (stored_block p device at.level at.index) (tree_block p.settings blocks at.level at.index))
+differs p blocks device block =
+    not (bytes_eq (stored_block p device block.level block.index)
+    (tree_block p.settings blocks block.level block.index))
 
 -- the fault at the first block that differs
 abbrev pub difference : Planned → List (List ℕ) → List ℕ → BlockIndex → CompareFault
-difference p blocks device at =
-    Differs at.level at.index
-    (part_of p at.level at.index (stored_block p device at.level at.index)
-    (tree_block p.settings blocks at.level at.index))
+difference p blocks device block =
+    Differs block.level block.index
+    (part_of p block.level block.index (stored_block p device block.level block.index)
+    (tree_block p.settings blocks block.level block.index))
 
 -- without a difference: short data, another root, or all is right
 abbrev pub verdict_by : Planned → List ℕ → List ℕ → Option BlockIndex → List ℕ → Result Unit CompareFault
-verdict_by p device bytes (Some at) digest = Err (difference p (data_blocks p bytes) device at)
+verdict_by p device bytes (Some block) digest = Err (difference p (data_blocks p bytes) device block)
 verdict_by p device bytes None digest =
     if nat_lt (whole_blocks p bytes) p.blocks then Err (SourceShort (whole_blocks p bytes))
     else (if bytes_eq (root p.settings (data_blocks p bytes)) digest then Ok tt
@@ -59,12 +60,13 @@ verdict_by p device bytes None digest =
 abbrev pub verdict : Planned → List ℕ → List ℕ → List ℕ → Result Unit CompareFault
 verdict p device bytes digest =
     verdict_by p device bytes
-    (find (differs p (data_blocks p bytes) device) (order (fan p.settings) p.blocks (whole_blocks p bytes))) digest
+    (find (differs p (data_blocks p bytes) device) (closed_after (fan p.settings) p.blocks (whole_blocks p bytes)))
+    digest
 
 -- the device holds this block of the tree
 abbrev pub HoldsBlockAt : Planned → List (List ℕ) → List ℕ → BlockIndex → Type 0
-HoldsBlockAt p blocks device at =
-    stored_block p device at.level at.index ≡ tree_block p.settings blocks at.level at.index
+HoldsBlockAt p blocks device block =
+    stored_block p device block.level block.index ≡ tree_block p.settings blocks block.level block.index
 
 -- the device holds these blocks of the tree
 abbrev pub NoneDiffers : Planned → List (List ℕ) → List ℕ → List BlockIndex → Type 0

@@ -3,9 +3,9 @@
 ghost use Rattle.std.specs.Prelude.{◌≡◌, ◌⊎◌, ℕ, ◌+◌, ◌-◌, ◌/◌, ◌^◌, ◌<◌, ◌≤◌, List, [], length, slice_index_or};
 ghost use Rattle.std.specs.Prelude.{Result, Ok};
 ghost use Rattle.std.specs.Int.{div_ceil};
-ghost use Rattle.verity_plan.specs.Plans.{level_count, level_size, Planned, IsPlanned, levels_of};
+ghost use Rattle.verity_plan.specs.Plans.{level_count, level_size, Planned, IsPlanned, level_count_of};
 ghost use Rattle.verity_plan.specs.Settings.{Settings, fan};
-ghost use Rattle.verity_tree.specs.ClosingOrder.{ClosesOnce, order, times};
+ghost use Rattle.verity_tree.specs.ClosingOrder.{ClosesOnce, closed_after, times};
 ghost use Rattle.verity_tree.specs.TreeOnDevice.{tree_block, HoldsTree};
 ghost use Rattle.verity_tree.specs.Levels.{data_blocks, level, height, root};
 ghost use Rattle.verity_tree.specs.Paths.{ChecksBlock, HasCollision, IsAccepted, true_path};
@@ -41,7 +41,7 @@ pub fn closing_order_is_once()
 pub fn closed_blocks_stay()
     ensures { (s : Settings) (xs ys : List (List ℕ)) (i l j : ℕ) → length xs ≡ length ys → i ≤ length xs
         → ((k : ℕ) → k < i → slice_index_or xs k [] ≡ slice_index_or ys k [])
-        → 0 < times l j (order (fan s) (length xs) i)
+        → 0 < times l j (closed_after (fan s) (length xs) i)
         → tree_block s xs l j ≡ tree_block s ys l j }
 {}
 
@@ -70,6 +70,6 @@ pub fn accepted_blocks_are_true()
 pub fn true_paths_are_accepted()
     ensures { (p : Planned) (bytes : List ℕ) (i : ℕ) → IsPlanned p → i < p.blocks
         → IsAccepted p i (slice_index_or (data_blocks p bytes) i [])
-        (true_path p.settings (data_blocks p bytes) i (levels_of p))
+        (true_path p.settings (data_blocks p bytes) i (level_count_of p))
         (root p.settings (data_blocks p bytes)) }
 {}

@@ -1,7 +1,7 @@
 -- What a command's run leaves in its writers, by how it ended.
 use Rattle.std.proofs.Common.{◌≡◌, ◌∙◌, ◌≤◌, ℕ, zero, suc, arith, append-nil, ap, refl, sym, List, [], ◌++◌, take, Option, Some, None, Result, Ok, Err}
 use Rattle.std.specs.Io.KnownBytes.{Appends, Keeps}
-use Rattle.command_line.specs.Printing.{AppendsFront}
+use Rattle.command_line.specs.Printing.{AppendsPrefix}
 use Rattle.verity_io.specs.Counting.{Change}
 use Rattle.veritysetup.specs.Options.VeritySettings.{VeritySettings}
 use Rattle.veritysetup.specs.Runs.Format.{FormatRun, PrintsReport, fault_status, fault_message}
@@ -33,18 +33,18 @@ Appends-take_nothing count (Some xs) None added = absurd added
 Appends-take_nothing count (Some xs) (Some ys) added =
     added ∙ ap (λ (zs : List ℕ). xs ++ zs) (take-nothing count [] refl) ∙ append-nil xs
 
-AppendsFront-grows : (text : List ℕ) (before after : Option (List ℕ)) → AppendsFront text before after
+AppendsPrefix-grows : (text : List ℕ) (before after : Option (List ℕ)) → AppendsPrefix text before after
     → Grows before after
-AppendsFront-grows text before after front = (take front.0 text, front.1)
+AppendsPrefix-grows text before after prefix = (take prefix.0 text, prefix.1)
 
 -- a message is written, and nothing else
 pub CommandRun-message : (status : ℕ) (text : List ℕ) (out before after : Option (List ℕ)) → status ≡ 1
-    → AppendsFront text before after
+    → AppendsPrefix text before after
     → CommandRun status (record { out_before = out; out_after = out; msgs_before = before; msgs_after = after })
-CommandRun-message status text out before after one front = record {
+CommandRun-message status text out before after one prefix = record {
   status_is = omega arith;
   out = ([], Appends-nothing out);
-  msgs = AppendsFront-grows text before after front;
+  msgs = AppendsPrefix-grows text before after prefix;
   quiet = λ is_zero. absurd (omega arith);
 }
 
@@ -66,14 +66,14 @@ PrintsReport-grows report (Err (Report Memory)) before after printed = Keeps-gro
 PrintsReport-grows report (Err (Report (Output count))) before after printed = (take count report, printed.1)
 
 quiet_when_done : (outcome : Result (Unit {0}) FormatFault) (before after : Option (List ℕ))
-    → AppendsFront (message_of fault_message outcome) before after → status_of fault_status outcome ≡ 0
+    → AppendsPrefix (message_of fault_message outcome) before after → status_of fault_status outcome ≡ 0
     → Keeps before after
-quiet_when_done (Ok done) before after front is_zero = Appends-take_nothing front.0 before after front.1
-quiet_when_done (Err Store) before after front is_zero = absurd (omega arith)
-quiet_when_done (Err (Build fault)) before after front is_zero = absurd (omega arith)
-quiet_when_done (Err Superblock) before after front is_zero = absurd (omega arith)
-quiet_when_done (Err (Report Memory)) before after front is_zero = absurd (omega arith)
-quiet_when_done (Err (Report (Output count))) before after front is_zero = absurd (omega arith)
+quiet_when_done (Ok done) before after prefix is_zero = Appends-take_nothing prefix.0 before after prefix.1
+quiet_when_done (Err Store) before after prefix is_zero = absurd (omega arith)
+quiet_when_done (Err (Build fault)) before after prefix is_zero = absurd (omega arith)
+quiet_when_done (Err Superblock) before after prefix is_zero = absurd (omega arith)
+quiet_when_done (Err (Report Memory)) before after prefix is_zero = absurd (omega arith)
+quiet_when_done (Err (Report (Output count))) before after prefix is_zero = absurd (omega arith)
 
 -- a run of format is a command's run
 pub CommandRun-format : (s : VeritySettings) (path : List ℕ) (status : ℕ) (source device : Change) (texts : TextChange)
@@ -83,17 +83,17 @@ CommandRun-format s path status source device texts run =
     record {
       status_is = omega (arith, run.status_is);
       out = PrintsReport-grows _ run.outcome _ _ run.printed;
-      msgs = AppendsFront-grows _ _ _ run.message;
+      msgs = AppendsPrefix-grows _ _ _ run.message;
       quiet = λ is_zero. quiet_when_done run.outcome _ _ run.message (sym run.status_is ∙ is_zero);
     }
 
 Keeps-appends : (text : List ℕ) (before middle after : Option (List ℕ)) → Keeps before middle
-    → AppendsFront text middle after → Grows before after
-Keeps-appends text None middle after kept front = ([], tt)
-Keeps-appends text (Some xs) None after kept front = absurd kept
-Keeps-appends text (Some xs) (Some ys) None kept front = absurd front.1
-Keeps-appends text (Some xs) (Some ys) (Some zs) kept front =
-    (take front.0 text, front.1 ∙ ap (λ (bytes : List ℕ). bytes ++ take front.0 text) kept)
+    → AppendsPrefix text middle after → Grows before after
+Keeps-appends text None middle after kept prefix = ([], tt)
+Keeps-appends text (Some xs) None after kept prefix = absurd kept
+Keeps-appends text (Some xs) (Some ys) None kept prefix = absurd prefix.1
+Keeps-appends text (Some xs) (Some ys) (Some zs) kept prefix =
+    (take prefix.0 text, prefix.1 ∙ ap (λ (bytes : List ℕ). bytes ++ take prefix.0 text) kept)
 
 -- a run that ends with status 0
 pub CommandRun-done : (ran : ℕ) (texts : TextChange) → CommandRun ran texts → ran ≡ 0 → CommandRun 0 texts
@@ -101,11 +101,11 @@ CommandRun-done ran texts run is_zero = rw is_zero at run
 
 -- a run that ends with status 0, and after which the file can't be kept
 pub CommandRun-unwritten : (ran status : ℕ) (text : List ℕ) (texts : TextChange) (after : Option (List ℕ))
-    → CommandRun ran texts → ran ≡ 0 → status ≡ 4 → AppendsFront text texts.msgs_after after
+    → CommandRun ran texts → ran ≡ 0 → status ≡ 4 → AppendsPrefix text texts.msgs_after after
     → CommandRun status (record texts { msgs_after = after })
-CommandRun-unwritten ran status text texts after run is_zero four front = record {
+CommandRun-unwritten ran status text texts after run is_zero four prefix = record {
   status_is = omega arith;
   out = run.out;
-  msgs = Keeps-appends text texts.msgs_before texts.msgs_after after (run.quiet is_zero) front;
+  msgs = Keeps-appends text texts.msgs_before texts.msgs_after after (run.quiet is_zero) prefix;
   quiet = λ none. absurd (omega arith);
 }

@@ -10,7 +10,8 @@ mod words;
 
 pub use command_line::{ErasingWriter, LineFault, ProgressLine};
 pub use options::hash_offset::offset_of;
-pub use options::raw_options::{OptionFault, OptionName, RawOptions};
+pub use options::option_fault::{OptionFault, OptionName};
+pub use options::raw_options::RawOptions;
 pub use options::settings::{Settings, settings_of};
 pub use program::entry::run_program;
 pub use program::random_bytes::draw;

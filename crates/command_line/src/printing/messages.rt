@@ -1,7 +1,7 @@
 //! Printing messages, as far as the writer takes them.
 ghost use Rattle.std.specs.Prelude.{◌≡◌, ℕ, List, IfOk, IsTrue, flat_map, string_bytes};
 ghost use Rattle.std.specs.Io.KnownBytes.{Appends};
-ghost use Rattle.command_line.specs.Printing.{AppendsFront};
+ghost use Rattle.command_line.specs.Printing.{AppendsPrefix};
 
 use std::alloc::AllocError;
 use std::io::Write;
@@ -10,7 +10,7 @@ use verity_format::put_all;
 /// Writes a text as far as the writer takes it. The answer says whether it took all of it.
 pub fn write_text<W: Write>(text: &str, msgs: &mut W) -> bool
     ensures whole { IsTrue result → Appends (W.contents msgs.old) (W.contents msgs.new) text.now }
-    ensures front { AppendsFront text.now (W.contents msgs.old) (W.contents msgs.new) }
+    ensures prefix { AppendsPrefix text.now (W.contents msgs.old) (W.contents msgs.new) }
 {
     match put_all(msgs, text.as_bytes()) {
         Ok(()) => true,
@@ -23,8 +23,8 @@ pub fn write_text<W: Write>(text: &str, msgs: &mut W) -> bool
 pub fn write_message<W: Write>(message: Result<String, AllocError>, msgs: &mut W) -> bool
     ensures whole { (text : List ℕ) → IfOk message (λ s. string_bytes s ≡ text)
         → IsTrue result → Appends (W.contents msgs.old) (W.contents msgs.new) text }
-    ensures front { (text : List ℕ) → IfOk message (λ s. string_bytes s ≡ text)
-        → AppendsFront text (W.contents msgs.old) (W.contents msgs.new) }
+    ensures prefix { (text : List ℕ) → IfOk message (λ s. string_bytes s ≡ text)
+        → AppendsPrefix text (W.contents msgs.old) (W.contents msgs.new) }
 {
     match message {
         Ok(text) => write_text(text.as_str(), msgs),
@@ -37,7 +37,7 @@ pub fn write_message<W: Write>(message: Result<String, AllocError>, msgs: &mut W
 pub fn write_pieces<W: Write>(pieces: &[&str], msgs: &mut W) -> bool
     ensures whole { IsTrue result
         → Appends (W.contents msgs.old) (W.contents msgs.new) (flat_map (λ p. p.now) pieces.now) }
-    ensures front { AppendsFront (flat_map (λ p. p.now) pieces.now) (W.contents msgs.old) (W.contents msgs.new) }
+    ensures prefix { AppendsPrefix (flat_map (λ p. p.now) pieces.now) (W.contents msgs.old) (W.contents msgs.new) }
 {
     for piece in pieces {
         match put_all(msgs, piece.as_bytes()) {

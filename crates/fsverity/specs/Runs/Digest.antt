@@ -3,7 +3,7 @@
 use Rattle.std.specs.Prelude.{◌≡◌, ◌⊎◌, ℕ, ◌+◌, ◌<◌, ◌≤◌, Bool, true, false, not, List, [], ◌++◌, length, take, Option, Some, None, slice_get, slice_index_or, if◌then◌else◌}
 use Rattle.std.specs.List.{zip, flat_map, prefix_len}
 use Rattle.std.specs.Io.KnownBytes.{Appends}
-use Rattle.command_line.specs.Printing.{AppendsFront}
+use Rattle.command_line.specs.Printing.{AppendsPrefix}
 use Rattle.verity_io.specs.Counting.{Counts, Rose}
 use Rattle.verity_plan.specs.Settings.{Settings}
 use Rattle.fsverity.specs.Runs.FileDigest.{fault_of_source, file_digest_of, is_too_large}
@@ -56,9 +56,9 @@ HasReason s opener f (Digest Memory) = opener.told → f < first_without_digest 
 HasReason s opener f NotWritten = opener.told → f < first_without_digest s opener.files
 
 -- what is written of the file's line: its first bytes if it could not be written whole, and otherwise nothing
-abbrev pub IsWrittenFront : List ℕ → List ℕ → RunFault → Type 0
-IsWrittenFront whole front NotWritten = (k : ℕ) × (front ≡ take k whole)
-IsWrittenFront whole front fault = front ≡ []
+abbrev pub IsWrittenPrefix : List ℕ → List ℕ → RunFault → Type 0
+IsWrittenPrefix whole prefix NotWritten = (k : ℕ) × (prefix ≡ take k whole)
+IsWrittenPrefix whole prefix fault = prefix ≡ []
 
 -- what a run gets beside its files: the settings, the form of the lines, and the files' names
 pub record DigestInput : Type 0 where
@@ -71,9 +71,9 @@ pub record WritesUpTo (run : DigestInput) (files : List (Option (List ℕ))) (f 
     (old new : Option (List ℕ)) : Type 0 where
   pub file : Option (List ℕ)
   pub is : slice_get files f ≡ Some file
-  pub front : List ℕ
-  pub stands : IsWrittenFront (file_line run.settings run.form (slice_index_or run.names f []) file) front fault
-  pub written : Appends old new (lines run.settings run.form (take f (zip run.names files)) ++ front)
+  pub prefix : List ℕ
+  pub stands : IsWrittenPrefix (file_line run.settings run.form (slice_index_or run.names f []) file) prefix fault
+  pub written : Appends old new (lines run.settings run.form (take f (zip run.names files)) ++ prefix)
 
 -- how the opener's count changes with a fault: a failed read raises it by one, and otherwise only a file that is not
 -- opened may raise it
@@ -91,5 +91,5 @@ pub record EndsAt (run : DigestInput) (opener : OpenerChange) (out out' msgs msg
   pub within : opener.told → f ≤ first_without_digest run.settings opener.files
   pub reason : HasReason run.settings opener f fault
   pub counted : CountsFault fault opener.failures_before opener.failures_after
-  pub message : AppendsFront (run_fault_message fault (slice_index_or run.names f [])) msgs msgs'
+  pub message : AppendsPrefix (run_fault_message fault (slice_index_or run.names f [])) msgs msgs'
   pub written : opener.told → WritesUpTo run opener.files f fault out out'

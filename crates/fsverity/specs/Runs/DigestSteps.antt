@@ -8,7 +8,7 @@ use Rattle.verity_io.specs.Reading.{HasRead}
 use Rattle.verity_plan.specs.Settings.{Settings}
 use Rattle.fsverity.specs.Runs.FileDigest.{FaultsIn, IsFileDigest, root_of_file}
 use Rattle.fsverity.specs.Openers.Opening.{OpenerChange}
-use Rattle.fsverity.specs.Runs.Digest.{IsLargeAt, IsWrittenFront, file_line, has_digest}
+use Rattle.fsverity.specs.Runs.Digest.{IsLargeAt, IsWrittenPrefix, file_line, has_digest}
 use Rattle.fsverity.specs.declared.runs.file_digest.FileDigest.{FileDigest}
 use Rattle.fsverity.specs.declared.texts.digest_lines.Form.{Form}
 use Rattle.fsverity.specs.declared.runs.digest_fault.DigestFault.{DigestFault}
@@ -61,13 +61,13 @@ pub record WritesLine (step : Step) (old new : Option (List ℕ)) : Type 0 where
   pub written : Appends old new (file_line step.settings step.form step.name file)
 
 -- the line of the step's file was not written, or only its first bytes
-pub record WritesFront (step : Step) (old new : Option (List ℕ)) (fault : RunFault) : Type 0 where
+pub record WritesPrefix (step : Step) (old new : Option (List ℕ)) (fault : RunFault) : Type 0 where
   pub file : Option (List ℕ)
   pub is : slice_get step.files step.index ≡ Some file
-  pub front : List ℕ
-  pub stands : IsWrittenFront (file_line step.settings step.form step.name file) front fault
-  pub written : Appends old new front
+  pub prefix : List ℕ
+  pub stands : IsWrittenPrefix (file_line step.settings step.form step.name file) prefix fault
+  pub written : Appends old new prefix
 
 -- what a step writes
 abbrev pub WritesStep : Step → Result (Unit {0}) RunFault → Option (List ℕ) → Option (List ℕ) → Type 0
-WritesStep step result old new = MatchResult result (λ _. WritesLine step old new) (WritesFront step old new)
+WritesStep step result old new = MatchResult result (λ _. WritesLine step old new) (WritesPrefix step old new)

@@ -81,7 +81,7 @@ abbrev pub GivesDigest : Settings → ℕ → Result FileDigest DigestFault → 
 GivesDigest s size result before after = MatchResult result
     (λ made. IsFileDigest s size before made × HasRead size before after) (FaultsIn s size before after)
 
--- what stands on the tree's device after a fault, above the first size of these bytes: the hash blocks that closed
+-- what stands on the tree's device after a fault: of the tree above the first `size` bytes, the hash blocks that closed
 -- before it
 abbrev pub StandsAfter : Settings → ℕ → List ℕ → List ℕ → List ℕ → DigestFault → Type 0
 StandsAfter s size bytes before after fault = MatchOption (build_fault fault) (after ≡ before)
@@ -111,5 +111,5 @@ device_failed (Ok made) = false
 device_failed (Err fault) = fault_of_device fault
 
 -- a fault that comes before any read
-abbrev pub ComesFirst : DigestFault → Type 0
-ComesFirst fault = IsNone (build_fault fault)
+abbrev pub ComesBeforeReading : DigestFault → Type 0
+ComesBeforeReading fault = IsNone (build_fault fault)

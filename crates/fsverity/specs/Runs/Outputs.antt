@@ -2,7 +2,7 @@
 -- the tree, then the descriptor, then the line. Nothing that comes after the first fault is written.
 use Rattle.std.specs.Prelude.{◌≡◌, ◌↔◌, ℕ, ◌<◌, Bool, MatchBool, List, [], length, take, Option, Result, Ok, Err, IsTrue}
 use Rattle.std.specs.Io.KnownBytes.{Appends, Keeps}
-use Rattle.command_line.specs.Printing.{AppendsFront, Prints}
+use Rattle.command_line.specs.Printing.{AppendsPrefix, Prints}
 use Rattle.verity_format.specs.Descriptors.{descriptor_bytes, digest_of_file}
 use Rattle.verity_io.specs.Counting.{Change, Counts}
 use Rattle.verity_io.specs.Reading.{HasRead}
@@ -94,8 +94,8 @@ AddsDescriptor task root before after = MatchBool task.wants_descriptor
     (Appends before after (descriptor_bytes (descriptor_of task.settings task.size root))) (Keeps before after)
 
 -- only this many of its first bytes are added
-abbrev pub AddsFront : OutputTask → List ℕ → ℕ → Option (List ℕ) → Option (List ℕ) → Type 0
-AddsFront task root count before after = MatchBool task.wants_descriptor
+abbrev pub AddsPrefix : OutputTask → List ℕ → ℕ → Option (List ℕ) → Option (List ℕ) → Type 0
+AddsPrefix task root count before after = MatchBool task.wants_descriptor
     ((count < length (descriptor_bytes (descriptor_of task.settings task.size root)))
     × Appends before after (take count (descriptor_bytes (descriptor_of task.settings task.size root)))) ⊥
 
@@ -103,7 +103,7 @@ AddsFront task root count before after = MatchBool task.wants_descriptor
 abbrev pub WritesDescriptor : OutputTask → List ℕ → Outcome → Option (List ℕ) → Option (List ℕ) → Type 0
 WritesDescriptor task root (Ok done) before after = AddsDescriptor task root before after
 WritesDescriptor task root (Err (Digest fault)) before after = Keeps before after
-WritesDescriptor task root (Err (Descriptor count)) before after = AddsFront task root count before after
+WritesDescriptor task root (Err (Descriptor count)) before after = AddsPrefix task root count before after
 WritesDescriptor task root (Err (Line fault)) before after = AddsDescriptor task root before after
 
 -- the line for this root hash
@@ -133,7 +133,7 @@ pub record OutputRun (task : OutputTask) (status : ℕ) (source tree : Change) (
   pub read : source.told → Reads task (digest_result outcome) source.before source.after
   pub stands : source.told → tree.told → WritesTree task source.before (digest_result outcome) tree.before tree.after
   pub outputs_written : WritesOutputs task outcome source.told source.before writers.outputs
-  pub message : AppendsFront (message_of outcome task.name) writers.msgs_before writers.msgs_after
+  pub message : AppendsPrefix (message_of outcome task.name) writers.msgs_before writers.msgs_after
   pub source_counted : Counts (source_failed (digest_result outcome)) source.failures_before source.failures_after
   pub tree_counted : Counts (device_failed (digest_result outcome)) tree.failures_before tree.failures_after
 

@@ -1,7 +1,7 @@
 //! The program, over any runtime.
 ghost use Rattle.std.specs.Prelude.{◌≡◌, ◌⊎◌, ◌≤◌, IfErr, IfOk, codes};
 ghost use Rattle.command_line.specs.LineFaults.{IsMemory};
-ghost use Rattle.command_line.specs.Printing.{AppendsFront};
+ghost use Rattle.command_line.specs.Printing.{AppendsPrefix};
 ghost use Rattle.fsverity.specs.Words.CommandLines.{line_settings};
 ghost use Rattle.fsverity.specs.Texts.Messages.{option_message, run_fault_message, words_status, words_message};
 ghost use Rattle.fsverity.specs.declared.runs.run_fault.RunFault.TheVariants.{NotOpened};
@@ -72,7 +72,7 @@ fn given_line<R: Env + AllocGlobal, M: Write>(rt: &R, msgs: &mut M) -> Result<Li
 fn refuse_words<M: Write>(alloc: Global, fault: &WordsFault, msgs: &mut M) -> u8
     ensures status { result ≡ words_status fault.now }
     ensures refusal { (result ≡ 1) ⊎ (result ≡ 2) }
-    ensures message { AppendsFront (words_message fault.now) (M.contents msgs.old) (M.contents msgs.new) }
+    ensures message { AppendsPrefix (words_message fault.now) (M.contents msgs.old) (M.contents msgs.new) }
 {
     match fault {
         WordsFault::NotUtf8(number, word) => {
@@ -88,7 +88,7 @@ fn refuse_words<M: Write>(alloc: Global, fault: &WordsFault, msgs: &mut M) -> u8
 fn refuse_line<M: Write>(fault: &LineFault, msgs: &mut M) -> u8
     ensures status { (result ≡ 1) ⊎ (result ≡ 2) }
     ensures memory { IsMemory fault.now → (result ≡ 1)
-        × AppendsFront (codes "fsverity: out of memory.\n") (M.contents msgs.old) (M.contents msgs.new) }
+        × AppendsPrefix (codes "fsverity: out of memory.\n") (M.contents msgs.old) (M.contents msgs.new) }
     ensures refused { (IsMemory fault.now → ⊥) → result ≡ 2 }
 {
     if fault.is_memory() {
@@ -109,7 +109,7 @@ fn run_line<R: Identities + ProgressRuntime + AllocGlobal, O: Write, M: Write>(
     ensures status { result ≤ 2 }
     ensures quiet { result ≡ 0 → msgs.new ≡ msgs.old }
     ensures refused { IfErr (line_settings line.now) (λ fault. (result ≡ 2) × (out.new ≡ out.old)
-        × AppendsFront (option_message fault) (M.contents msgs.old) (M.contents msgs.new)) }
+        × AppendsPrefix (option_message fault) (M.contents msgs.old) (M.contents msgs.new)) }
     ensures accepted { IfOk (line_settings line.now) (λ _. result ≤ 1) }
 {
     let settings = match digest_settings(&line.options()) {
@@ -152,7 +152,7 @@ fn run_line<R: Identities + ProgressRuntime + AllocGlobal, O: Write, M: Write>(
 /// Says that a file can't be opened. The answer is the status.
 pub(crate) fn stop_for_unopened_file<M: Write>(alloc: Global, name: &str, msgs: &mut M) -> u8
     ensures status { result ≡ 1 }
-    ensures message { AppendsFront (run_fault_message NotOpened name.now) (M.contents msgs.old) (M.contents msgs.new) }
+    ensures message { AppendsPrefix (run_fault_message NotOpened name.now) (M.contents msgs.old) (M.contents msgs.new) }
 {
     RunFault::NotOpened.write_message(alloc, name, msgs);
     FAILED
@@ -161,7 +161,7 @@ pub(crate) fn stop_for_unopened_file<M: Write>(alloc: Global, name: &str, msgs: 
 /// Writes a message, as far as the writer takes it. The answer is the status.
 fn stop_with<M: Write>(status: u8, message: &str, msgs: &mut M) -> u8
     ensures status { result ≡ status }
-    ensures message { AppendsFront message.now (M.contents msgs.old) (M.contents msgs.new) }
+    ensures message { AppendsPrefix message.now (M.contents msgs.old) (M.contents msgs.new) }
 {
     write_text(message, msgs);
     status

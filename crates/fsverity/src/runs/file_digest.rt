@@ -20,7 +20,7 @@ pub struct FileDigest {
 
 ghost use Rattle.verity_plan.specs.Settings.{digest_len};
 ghost use Rattle.verity_io.specs.Counting.{Counts};
-ghost use Rattle.fsverity.specs.Runs.FileDigest.{GivesDigest, ComesFirst, IsDigestOfSource, IsDigestOfRoot, Stands};
+ghost use Rattle.fsverity.specs.Runs.FileDigest.{GivesDigest, ComesBeforeReading, IsDigestOfSource, IsDigestOfRoot, Stands};
 ghost use Rattle.fsverity.specs.Runs.FileDigest.{device_failed, is_too_large, source_failed};
 ghost use Rattle.fsverity.specs.Runs.DigestSteps.{GivesRoot};
 
@@ -39,7 +39,7 @@ pub fn digest_file<S: Source>(
     requires { settings.now.rule ≡ PaddedBefore }
     ensures told { S.tells source.old → S.tells source.new }
     ensures too_large { (result ≡ Err TooLarge) ↔ IsTrue (is_too_large settings.now size) }
-    ensures first { IfErr result (λ fault. ComesFirst fault → source.new ≡ source.old) }
+    ensures unread { IfErr result (λ fault. ComesBeforeReading fault → source.new ≡ source.old) }
     ensures empty { size ≡ 0 → IsOk result × (source.new ≡ source.old) }
     ensures described { IfOk result
         (IsDigestOfSource settings.now size (S.tells source.old) (S.remaining source.old)) }
@@ -69,8 +69,8 @@ pub fn digest_file_with_tree<S: Source, D: Device>(
     ensures source_told { S.tells source.old → S.tells source.new }
     ensures tree_told { D.tells tree.old → D.tells tree.new }
     ensures too_large { (result ≡ Err TooLarge) ↔ IsTrue (is_too_large settings.now size) }
-    ensures first { IfErr result (λ fault.
-        ComesFirst fault → (source.new ≡ source.old) × (tree.new ≡ tree.old)) }
+    ensures unread { IfErr result (λ fault.
+        ComesBeforeReading fault → (source.new ≡ source.old) × (tree.new ≡ tree.old)) }
     ensures empty { size ≡ 0 → IsOk result × (source.new ≡ source.old) × (tree.new ≡ tree.old) }
     ensures described { IfOk result
         (IsDigestOfSource settings.now size (S.tells source.old) (S.remaining source.old)) }
@@ -102,8 +102,8 @@ fn root_of_source<S: Source, D: Device>(
     ensures source_told { S.tells source.old → S.tells source.new }
     ensures tree_told { D.tells tree.old → D.tells tree.new }
     ensures too_large { (result ≡ Err TooLarge) ↔ IsTrue (is_too_large settings.now size) }
-    ensures first { IfErr result (λ fault.
-        ComesFirst fault → (source.new ≡ source.old) × (tree.new ≡ tree.old)) }
+    ensures unread { IfErr result (λ fault.
+        ComesBeforeReading fault → (source.new ≡ source.old) × (tree.new ≡ tree.old)) }
     ensures length { IfOk result (λ root. length root ≡ digest_len settings.now) }
     ensures source_count { Counts (source_failed result) (S.failures source.old) (S.failures source.new) }
     ensures tree_count { Counts (device_failed result) (D.failures tree.old) (D.failures tree.new) }

@@ -1,7 +1,7 @@
 //! Messages, one line each.
 ghost use Rattle.std.specs.Prelude.{◌≡◌, IfOk, IsTrue, string_bytes};
 ghost use Rattle.std.specs.Io.KnownBytes.{Appends};
-ghost use Rattle.command_line.specs.Printing.{AppendsFront};
+ghost use Rattle.command_line.specs.Printing.{AppendsPrefix};
 ghost use Rattle.fsverity.specs.Texts.Messages.{digest_message, option_message, output_fault_message, run_fault_message};
 
 use crate::{DigestFault, FsOptionFault, OutputFault, PrintFault, RunFault};
@@ -52,7 +52,8 @@ impl RunFault {
     pub(crate) fn write_message<W: Write>(&self, alloc: Global, name: &str, msgs: &mut W) -> bool
         ensures whole { IsTrue result
             → Appends (W.contents msgs.old) (W.contents msgs.new) (run_fault_message self.now name.now) }
-        ensures front { AppendsFront (run_fault_message self.now name.now) (W.contents msgs.old) (W.contents msgs.new) }
+        ensures prefix { AppendsPrefix (run_fault_message self.now name.now)
+            (W.contents msgs.old) (W.contents msgs.new) }
     {
         match self {
             RunFault::NotOpened => write_pieces(&["fsverity: cannot open ", name, ".\n"], msgs),
@@ -69,7 +70,8 @@ impl OutputFault {
     pub(crate) fn write_message<W: Write>(&self, alloc: Global, name: &str, msgs: &mut W) -> bool
         ensures whole { IsTrue result
             → Appends (W.contents msgs.old) (W.contents msgs.new) (output_fault_message self.now name.now) }
-        ensures front { AppendsFront (output_fault_message self.now name.now) (W.contents msgs.old) (W.contents msgs.new) }
+        ensures prefix { AppendsPrefix (output_fault_message self.now name.now)
+            (W.contents msgs.old) (W.contents msgs.new) }
     {
         match self {
             OutputFault::Digest(DigestFault::Memory) => write_text(OUT_OF_MEMORY, msgs),

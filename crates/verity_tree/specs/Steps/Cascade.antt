@@ -4,10 +4,10 @@ use Rattle.std.specs.Prelude.{◌≡◌, ◌⊎◌, ℕ, ◌+◌, ◌/◌, ◌%�
 use Rattle.std.specs.List.{range_with_len}
 use Rattle.verity_hash.specs.declared.digest.Digest.{Digest}
 use Rattle.verity_plan.specs.Settings.{Settings, hash, fan}
-use Rattle.verity_tree.specs.ClosingOrder.{closing, closes}
+use Rattle.verity_tree.specs.ClosingOrder.{closing_with, closes}
 use Rattle.verity_tree.specs.TreeOnDevice.{tree_block, device_with, stored_block}
 use Rattle.verity_tree.specs.ClosingOrder.{BlockIndex, block_index}
-use Rattle.verity_plan.specs.Plans.{Planned, byte_of, levels_of}
+use Rattle.verity_plan.specs.Plans.{Planned, start_byte_of, level_count_of}
 use Rattle.verity_tree.specs.declared.pass.cascade.Stop.{Stop}
 use Rattle.verity_tree.specs.declared.pass.closed_block.Task.{Task}
 use Rattle.verity_tree.specs.Steps.ClosedBlocks.{IsHashBlockFault, call_failed, closed_block}
@@ -35,10 +35,10 @@ StepsLevel s a last after (Stopped fault) = (a.index % fan s + 1 ≡ fan s) ⊎ 
 abbrev pub StepsDevice : Planned → ℕ → Arrival → LevelStep → List ℕ → List ℕ → Type 0
 StepsDevice p level a Open before after = after ≡ before
 StepsDevice p level a (Closed above) before after = (below : List (List ℕ)) → IsNext p.settings below a
-    → after ≡ put before (byte_of p level (a.index / fan p.settings))
+    → after ≡ put before (start_byte_of p level (a.index / fan p.settings))
     (open_block_with p.settings (map (hash p.settings) below) a.index)
 StepsDevice p level a (Stopped fault) before after =
-    Spoiled before (byte_of p level (a.index / fan p.settings)) p.settings.hash_block after
+    Spoiled before (start_byte_of p level (a.index / fan p.settings)) p.settings.hash_block after
 
 -- whether a level's closed block stands at its place; the device stays
 abbrev pub StepsCompared : Planned → ℕ → Arrival → LevelStep → List ℕ → List ℕ → Type 0
@@ -63,27 +63,27 @@ carry_failed task (Err stop) = call_failed task stop.fault
 
 -- the block that closes with data block i after those of the levels below it
 pub record ClosesWith (p : Planned) (i level block : ℕ) : Type 0 where
-  pub level_below : level < levels_of p
+  pub level_below : level < level_count_of p
   pub block_is : block ≡ i / fan p.settings ^ (level + 1)
   pub all : (k : ℕ) → k ≤ level → closes (fan p.settings) p.blocks i k ≡ true
 
 -- data block i has come to all levels that close, or stopped at one whose block could not be written
 abbrev pub Carries : Planned → List (List ℕ) → ℕ → Result Digest Stop → List ℕ → Type 0
-Carries p blocks i (Ok digest) store = IsCarriedOn p.settings blocks i (levels_of p) store digest
+Carries p blocks i (Ok digest) store = IsCarriedOn p.settings blocks i (level_count_of p) store digest
 Carries p blocks i (Err stop) store = ClosesWith p i stop.level stop.index
 
 -- the blocks that close with a data block are put at their places, up to the one that stops the pass
 abbrev pub CarriesDevice : Planned → List (List ℕ) → ℕ → Result Digest Stop → List ℕ → List ℕ → Type 0
 CarriesDevice p blocks i (Ok digest) before after =
-    after ≡ device_with p.settings blocks p.base (closing (fan p.settings) p.blocks i) before
+    after ≡ device_with p.settings blocks p.base (closing_with (fan p.settings) p.blocks i) before
 CarriesDevice p blocks i (Err stop) before after =
     Spoiled (device_with p.settings blocks p.base (first_closing (fan p.settings) i stop.level) before)
-    (byte_of p stop.level stop.index) p.settings.hash_block after
+    (start_byte_of p stop.level stop.index) p.settings.hash_block after
 
 -- the blocks that close with a data block do not differ from what the device holds, up to the one that stops the pass
 abbrev pub CarriesCompared : Planned → List (List ℕ) → ℕ → Result Digest Stop → List ℕ → List ℕ → Type 0
 CarriesCompared p blocks i (Ok digest) before after =
-    (after ≡ before) × NoneDiffers p blocks before (closing (fan p.settings) p.blocks i)
+    (after ≡ before) × NoneDiffers p blocks before (closing_with (fan p.settings) p.blocks i)
 CarriesCompared p blocks i (Err stop) before after = (after ≡ before)
     × NoneDiffers p blocks before (first_closing (fan p.settings) i stop.level)
     × IsHashBlockFault p

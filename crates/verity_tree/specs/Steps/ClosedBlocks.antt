@@ -2,7 +2,7 @@
 -- place. For the private steps; not needed to read a public contract.
 use Rattle.std.specs.Prelude.{◌≡◌, ◌≢◌, ℕ, Bool, true, false, List, Result, Ok, Err}
 use Rattle.verity_io.specs.Writing.{put, Spoiled}
-use Rattle.verity_plan.specs.Plans.{Planned, byte_of}
+use Rattle.verity_plan.specs.Plans.{Planned, start_byte_of}
 use Rattle.verity_tree.specs.Verdicts.{part_of}
 use Rattle.verity_tree.specs.TreeOnDevice.{stored_block}
 use Rattle.verity_tree.specs.declared.pass.closed_block.HashBlockFault.{HashBlockFault}
@@ -35,14 +35,16 @@ IsHashBlockFault p computed device (Differs part) = (stored_block p device compu
 
 -- the device before and after a closed block is written or compared
 abbrev pub WritesOrCompares : Planned → Task → ClosedBlock → Result Unit HashBlockFault → List ℕ → List ℕ → Type 0
-WritesOrCompares p Write closed (Ok _) before after = after ≡ put before (byte_of p closed.level closed.index) closed.bytes
-WritesOrCompares p Write closed (Err fault) before after =
-    Spoiled before (byte_of p closed.level closed.index) p.settings.hash_block after
-WritesOrCompares p Compare closed (Err Failed) before after = after ≡ before
-WritesOrCompares p Compare closed (Ok done) before after =
-    (after ≡ before) × ComparesBlock p closed (stored_block p before closed.level closed.index) (Ok done)
-WritesOrCompares p Compare closed (Err (Differs part)) before after =
-    (after ≡ before) × ComparesBlock p closed (stored_block p before closed.level closed.index) (Err (Differs part))
+WritesOrCompares p Write computed (Ok _) before after =
+    after ≡ put before (start_byte_of p computed.level computed.index) computed.bytes
+WritesOrCompares p Write computed (Err fault) before after =
+    Spoiled before (start_byte_of p computed.level computed.index) p.settings.hash_block after
+WritesOrCompares p Compare computed (Err Failed) before after = after ≡ before
+WritesOrCompares p Compare computed (Ok done) before after =
+    (after ≡ before) × ComparesBlock p computed (stored_block p before computed.level computed.index) (Ok done)
+WritesOrCompares p Compare computed (Err (Differs part)) before after =
+    (after ≡ before)
+    × ComparesBlock p computed (stored_block p before computed.level computed.index) (Err (Differs part))
 
 -- whether a call of the device failed
 abbrev pub call_failed : Task → HashBlockFault → Bool

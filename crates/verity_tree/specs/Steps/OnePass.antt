@@ -4,7 +4,7 @@ use Rattle.std.specs.Prelude.{◌≡◌, ℕ, ◌+◌, ◌<◌, ◌≤◌, Bool,
 use Rattle.verity_hash.specs.declared.digest.Digest.{Digest}
 use Rattle.verity_tree.specs.Building.{Builds, BuildsOnDevice}
 use Rattle.verity_tree.specs.Reading.{bytes_of}
-use Rattle.verity_tree.specs.ClosingOrder.{BlockIndex, block_index, ComesNext, order}
+use Rattle.verity_tree.specs.ClosingOrder.{BlockIndex, block_index, ComesNext, closed_after}
 use Rattle.verity_tree.specs.TreeOnDevice.{tree_block}
 use Rattle.verity_tree.specs.Steps.ClosedBlocks.{IsHashBlockFault, call_failed, closed_block}
 use Rattle.verity_tree.specs.Levels.{data_blocks}
@@ -43,7 +43,7 @@ pub record StopsFor (p : Planned) (bytes device : List ℕ) (stop : Stop) : Type
   pub below : i < p.blocks
   pub enough : bytes_of p (i + 1) ≤ length bytes
   pub done : List BlockIndex
-  pub next : ComesNext (order (fan p.settings) p.blocks (i + 1)) done (block_index stop.level stop.index)
+  pub next : ComesNext (closed_after (fan p.settings) p.blocks (i + 1)) done (block_index stop.level stop.index)
   pub same : NoneDiffers p (data_blocks p bytes) device done
   pub fault_is : IsHashBlockFault p
       (closed_block stop.level stop.index
@@ -52,11 +52,11 @@ pub record StopsFor (p : Planned) (bytes device : List ℕ) (stop : Stop) : Type
 -- a comparison leaves the device as it is, and goes on as long as nothing differs
 abbrev pub PassesCompared : Planned → List ℕ → Result Digest PassFault → List ℕ → List ℕ → Type 0
 PassesCompared p bytes (Ok digest) before after =
-    (after ≡ before) × NoneDiffers p (data_blocks p bytes) before (order (fan p.settings) p.blocks p.blocks)
+    (after ≡ before) × NoneDiffers p (data_blocks p bytes) before (closed_after (fan p.settings) p.blocks p.blocks)
 PassesCompared p bytes (Err (SourceShort i)) before after =
-    (after ≡ before) × NoneDiffers p (data_blocks p bytes) before (order (fan p.settings) p.blocks i)
+    (after ≡ before) × NoneDiffers p (data_blocks p bytes) before (closed_after (fan p.settings) p.blocks i)
 PassesCompared p bytes (Err (SourceFailed i)) before after =
-    (after ≡ before) × NoneDiffers p (data_blocks p bytes) before (order (fan p.settings) p.blocks i)
+    (after ≡ before) × NoneDiffers p (data_blocks p bytes) before (closed_after (fan p.settings) p.blocks i)
 PassesCompared p bytes (Err (Stopped stop)) before after = (after ≡ before) × StopsFor p bytes before stop
 
 -- whether the source failed, or the device

@@ -6,7 +6,7 @@ ghost use Rattle.verity_tree.specs.Steps.Cascade.{Carries, CarriesCompared, Carr
 ghost use Rattle.verity_tree.specs.Steps.Cascade.{EndsBlock, StepsLevel, carry_failed, step_failed};
 ghost use Rattle.verity_tree.specs.declared.pass.closed_block.Task.TheVariants.{Compare};
 ghost use Rattle.verity_tree.specs.Steps.OpenBlocks.{HasOpenBlocks, arrival, level_digest};
-ghost use Rattle.verity_plan.specs.Plans.{Planned, HasBlock, levels_of};
+ghost use Rattle.verity_plan.specs.Plans.{Planned, HasBlock, level_count_of};
 ghost use Rattle.verity_plan.specs.Settings.{digest_len, fan};
 
 use crate::pass::closed_block::{HashBlockFault, Job, write_or_compare};
@@ -27,8 +27,11 @@ pub(crate) enum LevelStep {
 /// The hash block that stops a pass.
 #[derive(Clone, Copy)]
 pub(crate) struct Stop {
+    /// Its level, counted from 0 next to the data.
     pub level: usize,
+    /// Its index in the level, counted from 0.
     pub index: u64,
+    /// Why it stops the pass.
     pub fault: HashBlockFault,
 }
 
@@ -102,7 +105,7 @@ pub(crate) fn carry<D: Device>(
     digest: Digest,
     device: &mut D,
 ) -> Result<Digest, Stop>
-    requires room { levels_of job.now.plan * job.now.plan.settings.hash_block ≤ length opened.old }
+    requires room { level_count_of job.now.plan * job.now.plan.settings.hash_block ≤ length opened.old }
     requires stored { length stored.old ≡ job.now.plan.settings.hash_block }
     requires digest { length digest ≡ digest_len job.now.plan.settings }
     requires below { i < job.now.plan.blocks }
@@ -112,17 +115,17 @@ pub(crate) fn carry<D: Device>(
     ensures count { Counts (carry_failed job.now.task result) (D.failures device.old) (D.failures device.new) }
     ensures carries { (blocks : List (List ℕ)) → job.now.plan.blocks ≡ length blocks
         → digest ≡ level_digest job.now.plan.settings blocks i 0
-        → HasOpenBlocks job.now.plan.settings blocks 0 (levels_of job.now.plan) i opened.old
+        → HasOpenBlocks job.now.plan.settings blocks 0 (level_count_of job.now.plan) i opened.old
         → Carries job.now.plan blocks i result opened.new }
     ensures device { D.tells device.old → (blocks : List (List ℕ)) → job.now.plan.blocks ≡ length blocks
         → digest ≡ level_digest job.now.plan.settings blocks i 0
-        → HasOpenBlocks job.now.plan.settings blocks 0 (levels_of job.now.plan) i opened.old
+        → HasOpenBlocks job.now.plan.settings blocks 0 (level_count_of job.now.plan) i opened.old
         → CarriesDevice job.now.plan blocks i result (D.content device.old) (D.content device.new) }
     ensures stays { job.now.task ≡ Compare → D.tells device.old → D.content device.new ≡ D.content device.old }
     ensures compared { job.now.task ≡ Compare → D.tells device.old
         → (blocks : List (List ℕ)) → job.now.plan.blocks ≡ length blocks
         → digest ≡ level_digest job.now.plan.settings blocks i 0
-        → HasOpenBlocks job.now.plan.settings blocks 0 (levels_of job.now.plan) i opened.old
+        → HasOpenBlocks job.now.plan.settings blocks 0 (level_count_of job.now.plan) i opened.old
         → CarriesCompared job.now.plan blocks i result (D.content device.old) (D.content device.new) }
 {
     let plan = &job.plan;

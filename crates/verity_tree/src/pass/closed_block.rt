@@ -8,7 +8,7 @@ use crate::part::{Part, part_between};
 use verity_io::Device;
 use verity_plan::Plan;
 
-/// What is done with a hash block when it has closed.
+/// What a pass does with each hash block that closes.
 #[derive(Clone, Copy)]
 pub(crate) enum Task {
     /// It is written at its place.

@@ -2,7 +2,7 @@
 ghost use Rattle.std.specs.Prelude.{◌≡◌, ℕ, ◌+◌, ◌*◌, ◌-◌, ◌<◌, ◌≤◌, ◌++◌, List, length, take, replicate, IfOk};
 ghost use Rattle.verity_io.specs.Counting.{Counts};
 ghost use Rattle.verity_io.specs.Reading.{HasRead};
-ghost use Rattle.verity_plan.specs.Plans.{levels_of};
+ghost use Rattle.verity_plan.specs.Plans.{level_count_of};
 ghost use Rattle.verity_plan.specs.Settings.{digest_len};
 ghost use Rattle.verity_tree.specs.Reading.{bytes_of};
 ghost use Rattle.verity_tree.specs.Steps.DataBlocks.{ReadsBlock, TakesDataBlock, read_failed};
@@ -52,13 +52,15 @@ pub(crate) fn take_data_block<S: Source>(
     i: u64,
     source: &mut S,
 ) -> Result<Digest, BlockFault>
-    requires room { levels_of plan.now * plan.now.settings.hash_block + plan.now.settings.data_block ≤ length work.old }
+    requires room { level_count_of plan.now * plan.now.settings.hash_block + plan.now.settings.data_block
+        ≤ length work.old }
     requires below { i < plan.now.blocks }
     ensures size { IfOk result (λ digest. length digest ≡ digest_len plan.now.settings) }
     ensures told { S.tells source.old → S.tells source.new }
     ensures count { Counts (read_failed result) (S.failures source.old) (S.failures source.new) }
-    ensures opened { (blocks : List (List ℕ)) → HasOpenBlocks plan.now.settings blocks 0 (levels_of plan.now) i work.old
-        → HasOpenBlocks plan.now.settings blocks 0 (levels_of plan.now) i work.new }
+    ensures opened { (blocks : List (List ℕ))
+        → HasOpenBlocks plan.now.settings blocks 0 (level_count_of plan.now) i work.old
+        → HasOpenBlocks plan.now.settings blocks 0 (level_count_of plan.now) i work.new }
     ensures read { S.tells source.old → (bytes : List ℕ) → HasRead (bytes_of plan.now i) bytes (S.remaining source.old)
         → TakesDataBlock plan.now i bytes result (S.remaining source.new) }
 {

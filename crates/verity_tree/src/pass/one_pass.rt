@@ -3,7 +3,7 @@ ghost use Rattle.std.specs.Prelude.{◌≡◌, ℕ, ◌+◌, ◌*◌, ◌<◌, �
 ghost use Rattle.verity_io.specs.Counting.{Counts};
 ghost use Rattle.verity_tree.specs.Steps.OnePass.{Passes, PassesCompared, PassesOnDevice, device_failed};
 ghost use Rattle.verity_tree.specs.Steps.OnePass.{source_failed};
-ghost use Rattle.verity_plan.specs.Plans.{IsPlanned, Planned, levels_of, store_length_of};
+ghost use Rattle.verity_plan.specs.Plans.{IsPlanned, Planned, level_count_of, store_length_of};
 ghost use Rattle.verity_tree.specs.Levels.{data_blocks};
 ghost use Rattle.verity_plan.specs.Settings.{digest_len};
 ghost use Rattle.verity_tree.specs.declared.pass.closed_block.Task.TheVariants.{Compare};
@@ -58,8 +58,9 @@ pub(crate) fn pass<S: Source, D: Device>(
     pass_with_window(&job, work, stored, &mut [], source, device)
 }
 
-/// The pass, with a window into which data blocks that are hashed side by side are read as far as it has room; into an
-/// empty one none are. The open blocks and the data block are in `work`, and a hash block to compare with in `stored`.
+/// The pass. Data blocks that are hashed side by side are read into the window, as many as it has room for; with an
+/// empty window each is read and hashed alone. The open blocks and the data block are in `work`, and a hash block to
+/// compare with in `stored`.
 fn pass_with_window<S: Source, D: Device>(
     job: &Job,
     work: &mut [u8],
@@ -68,8 +69,8 @@ fn pass_with_window<S: Source, D: Device>(
     source: &mut S,
     device: &mut D,
 ) -> Result<Digest, PassFault>
-    requires room { levels_of job.now.plan * job.now.plan.settings.hash_block + job.now.plan.settings.data_block ≤
-        length work.old }
+    requires room { level_count_of job.now.plan * job.now.plan.settings.hash_block + job.now.plan.settings.data_block
+        ≤ length work.old }
     requires stored { length stored.old ≡ job.now.plan.settings.hash_block }
     ensures planned { IsPlanned job.now.plan }
     ensures size { IfOk result (λ root. length root ≡ digest_len job.now.plan.settings) }

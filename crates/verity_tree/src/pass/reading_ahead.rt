@@ -3,7 +3,7 @@ ghost use Rattle.std.specs.Prelude.{◌≡◌, ℕ, ◌+◌, ◌*◌, ◌<◌, �
 ghost use Rattle.std.specs.Fork.{slice_chunk};
 ghost use Rattle.verity_io.specs.Counting.{Counts};
 ghost use Rattle.verity_io.specs.Reading.{HasRead};
-ghost use Rattle.verity_plan.specs.Plans.{levels_of};
+ghost use Rattle.verity_plan.specs.Plans.{level_count_of};
 ghost use Rattle.verity_plan.specs.Settings.{digest_len};
 ghost use Rattle.verity_tree.specs.Reading.{bytes_of};
 ghost use Rattle.verity_tree.specs.Steps.DataBlocks.{read_failed};
@@ -68,7 +68,8 @@ pub(crate) fn take_next<S: Source>(
     source: &mut S,
     ahead: &mut Ahead,
 ) -> Result<Digest, BlockFault>
-    requires room { levels_of plan.now * plan.now.settings.hash_block + plan.now.settings.data_block ≤ length work.old }
+    requires room { level_count_of plan.now * plan.now.settings.hash_block + plan.now.settings.data_block
+        ≤ length work.old }
     requires below { i < plan.now.blocks }
     requires within { IsWithinHashBlock plan.now i ahead.old }
     ensures size { IfOk result (λ digest. length digest ≡ digest_len plan.now.settings) }
@@ -76,8 +77,9 @@ pub(crate) fn take_next<S: Source>(
     ensures within { IfOk result (λ digest. IsWithinHashBlock plan.now (i + 1) ahead.new) }
     ensures count { (start : ℕ) → Counts (ahead_failed ahead.old) start (S.failures source.old)
         → Counts (next_failed result ahead.new) start (S.failures source.new) }
-    ensures opened { (blocks : List (List ℕ)) → HasOpenBlocks plan.now.settings blocks 0 (levels_of plan.now) i work.old
-        → HasOpenBlocks plan.now.settings blocks 0 (levels_of plan.now) i work.new }
+    ensures opened { (blocks : List (List ℕ))
+        → HasOpenBlocks plan.now.settings blocks 0 (level_count_of plan.now) i work.old
+        → HasOpenBlocks plan.now.settings blocks 0 (level_count_of plan.now) i work.new }
     ensures read { S.tells source.old → (bytes : List ℕ) → IsAhead plan.now i bytes ahead.old (S.remaining source.old)
         → TakesDigest plan.now i bytes result ahead.new (S.remaining source.new) }
 {
@@ -125,17 +127,19 @@ fn read_ahead<S: Source>(
     i: u64,
     source: &mut S,
 ) -> Ahead
-    requires room { levels_of plan.now * plan.now.settings.hash_block + plan.now.settings.data_block ≤ length work.old }
+    requires room { level_count_of plan.now * plan.now.settings.hash_block + plan.now.settings.data_block
+        ≤ length work.old }
     requires below { i < plan.now.blocks }
     ensures told { S.tells source.old → S.tells source.new }
     ensures next { HasNext plan.now i result }
     ensures count { Counts (ahead_failed result) (S.failures source.old) (S.failures source.new) }
-    ensures opened { (blocks : List (List ℕ)) → HasOpenBlocks plan.now.settings blocks 0 (levels_of plan.now) i work.old
-        → HasOpenBlocks plan.now.settings blocks 0 (levels_of plan.now) i work.new }
+    ensures opened { (blocks : List (List ℕ))
+        → HasOpenBlocks plan.now.settings blocks 0 (level_count_of plan.now) i work.old
+        → HasOpenBlocks plan.now.settings blocks 0 (level_count_of plan.now) i work.new }
     ensures ahead { S.tells source.old → (bytes : List ℕ) → HasRead (bytes_of plan.now i) bytes (S.remaining source.old)
         → IsAhead plan.now i bytes result (S.remaining source.new) }
 {
-    // Called for the proof: its contract says that the number of data blocks is a `u64`.
+    // Called for the proof: by its contract there are fewer than 2^64 data blocks.
     let _blocks = plan.blocks();
     let count = rows_from(plan, window.len(), i);
     if count > 1 {
@@ -182,7 +186,7 @@ fn read_batch<S: Source>(
     ensures ahead { S.tells source.old → (bytes : List ℕ) → HasRead (bytes_of plan.now i) bytes (S.remaining source.old)
         → IsAhead plan.now i bytes result (S.remaining source.new) }
 {
-    // Called for the proof: its contract says that the number of data blocks is a `u64`.
+    // Called for the proof: by its contract there are fewer than 2^64 data blocks.
     let _blocks = plan.blocks();
     let (read, fault) = read_rows(plan, rows, i, count, source);
     Ahead {
@@ -211,7 +215,7 @@ fn read_rows<S: Source>(
     ensures read { S.tells source.old → (bytes : List ℕ) → HasRead (bytes_of plan.now i) bytes (S.remaining source.old)
         → SourceStandsAt plan.now (i + result.0) bytes result.1 (S.remaining source.new) }
 {
-    // Called for the proof: its contract says that the number of data blocks is a `u64`.
+    // Called for the proof: by its contract there are fewer than 2^64 data blocks.
     let _blocks = plan.blocks();
     for row in 0..count {
         match read_row(plan, rows, i + row as u64, row, source) {

@@ -5,9 +5,9 @@ use Rattle.std.specs.Prelude.{ℕ, ◌/◌, ◌&&◌, Bool, not, nat_lt, List, O
 use Rattle.verity_plan.specs.Settings.{rule_of, type_of_number}
 use Rattle.command_line.specs.Options.{algorithm_or_default, default_block_size, number_or, ◌>>=◌}
 use Rattle.veritysetup.specs.Options.OptionTexts.{OptionTexts, superblock_uuid, block_size_of, multiple_of, number_if_given, offset_unit, root_if_given, salt_or_random, uuid_or_random}
-use Rattle.veritysetup.specs.declared.options.raw_options.OptionName.TheVariants.{Format, DataBlockSize, HashBlockSize, DataBlocks, HashOffset}
-use Rattle.veritysetup.specs.declared.options.raw_options.OptionFault.{OptionFault}
-use Rattle.veritysetup.specs.declared.options.raw_options.OptionFault.TheVariants.{BadNumber, UnknownHash, BadHashType, BadBlockSize, BadSalt, BadUuid, BadHashOffset, NoData, TooLarge, Overlap, BadRoot}
+use Rattle.veritysetup.specs.declared.options.option_fault.OptionName.TheVariants.{Format, DataBlockSize, HashBlockSize, DataBlocks, HashOffset}
+use Rattle.veritysetup.specs.declared.options.option_fault.OptionFault.{OptionFault}
+use Rattle.veritysetup.specs.declared.options.option_fault.OptionFault.TheVariants.{BadNumber, UnknownHash, BadHashType, BadBlockSize, BadSalt, BadUuid, BadHashOffset, NoData, TooLarge, Overlap, BadRoot}
 use Rattle.verity_plan.specs.Plans.{Planned, superblock_size}
 use Rattle.verity_plan.specs.declared.plan_fault.PlanFault.{PlanFault}
 use Rattle.verity_plan.specs.declared.plan_fault.PlanFault.TheVariants as plan

@@ -6,7 +6,7 @@ use Rattle.verity_io.specs.Counting.{Change, Counts}
 use Rattle.veritysetup.specs.Texts.Messages.{super_message, unread_superblock_message, memory_message, unwritten_output_message}
 use Rattle.veritysetup.specs.Runs.Outcomes.{status_of, message_of}
 use Rattle.veritysetup.specs.Texts.Reports.{TextChange, report_text, uuid_text}
-use Rattle.command_line.specs.Printing.{AppendsFront, Prints}
+use Rattle.command_line.specs.Printing.{AppendsPrefix, Prints}
 use Rattle.veritysetup.specs.Runs.HashDevice.{superblock_at, ReadsSuperblock, is_unread}
 use Rattle.veritysetup.specs.declared.runs.dump.DumpFault.{DumpFault}
 use Rattle.veritysetup.specs.declared.runs.dump.DumpFault.TheVariants.{Superblock, Report}
@@ -53,5 +53,5 @@ pub record DumpRun (offset : ℕ) (path : List ℕ) (status : ℕ) (device : Cha
   pub outcome : Result (Unit {0}) DumpFault
   pub status_is : status ≡ status_of fault_status outcome
   pub printed : DumpsTo offset path device outcome texts.out_before texts.out_after
-  pub message : AppendsFront (message_of fault_message outcome) texts.msgs_before texts.msgs_after
+  pub message : AppendsPrefix (message_of fault_message outcome) texts.msgs_before texts.msgs_after
   pub counted : Counts (device_failed outcome) device.failures_before device.failures_after

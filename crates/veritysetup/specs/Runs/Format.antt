@@ -15,7 +15,7 @@ use Rattle.veritysetup.specs.Runs.HashDevice.{formatted_device, superblock_for}
 use Rattle.veritysetup.specs.Texts.Messages.{build_message, memory_message, unwritten_output_message, unwritten_superblock_message}
 use Rattle.veritysetup.specs.Runs.Outcomes.{status_of, message_of}
 use Rattle.veritysetup.specs.Texts.Reports.{TextChange, no_uuid_text, report_text, uuid_text}
-use Rattle.command_line.specs.Printing.{AppendsFront, Prints}
+use Rattle.command_line.specs.Printing.{AppendsPrefix, Prints}
 use Rattle.veritysetup.specs.declared.runs.format.FormatFault.{FormatFault}
 use Rattle.veritysetup.specs.declared.runs.format.FormatFault.TheVariants.{Store, Build, Superblock, Report}
 use Rattle.command_line.specs.declared.printing.print_fault.PrintFault.TheVariants.{Memory, Output}
@@ -90,7 +90,7 @@ pub record FormatRun (s : VeritySettings) (path : List ℕ) (status : ℕ) (sour
   pub root_hash : List ℕ
   pub root_is : source.told → root_hash ≡ root_above s source.before
   pub printed : PrintsReport (format_report s path root_hash) outcome texts.out_before texts.out_after
-  pub message : AppendsFront (message_of fault_message outcome) texts.msgs_before texts.msgs_after
+  pub message : AppendsPrefix (message_of fault_message outcome) texts.msgs_before texts.msgs_after
   pub source_counted : Counts (source_failed outcome) source.failures_before source.failures_after
   pub device_counted : Counts (device_failed outcome) device.failures_before device.failures_after
 

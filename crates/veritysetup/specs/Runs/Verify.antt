@@ -13,9 +13,9 @@ use Rattle.verity_tree.specs.declared.comparing.CompareFault.TheVariants as faul
 use Rattle.veritysetup.specs.Options.VeritySettings.{plan_at, read_root}
 use Rattle.veritysetup.specs.Texts.Messages.{compare_message, memory_message, option_message, super_message, too_large_message, unread_superblock_message}
 use Rattle.veritysetup.specs.Runs.Outcomes.{status_of, message_of}
-use Rattle.command_line.specs.Printing.{AppendsFront}
+use Rattle.command_line.specs.Printing.{AppendsPrefix}
 use Rattle.veritysetup.specs.Runs.HashDevice.{ReadsSuperblock, superblock_at, is_unread}
-use Rattle.veritysetup.specs.declared.options.raw_options.OptionFault.TheVariants as option
+use Rattle.veritysetup.specs.declared.options.option_fault.OptionFault.TheVariants as option
 use Rattle.veritysetup.specs.declared.runs.stored_superblock.StoredFault.TheVariants.{Unread, Refused}
 use Rattle.veritysetup.specs.declared.runs.verify_fault.InputFault.{InputFault}
 use Rattle.veritysetup.specs.declared.runs.verify_fault.InputFault.TheVariants.{Superblock, TooLarge, BadRoot}
@@ -149,6 +149,6 @@ pub record VerifyRun (input : VerifyInput) (status : ℕ) (source device : Chang
   pub outcome : Result (Unit {0}) VerifyFault
   pub status_is : status ≡ status_of fault_status outcome
   pub verdict : source.told → device.told → Verifies input device.before source.before source.after outcome
-  pub message : AppendsFront (message_of fault_message outcome) msgs_before msgs_after
+  pub message : AppendsPrefix (message_of fault_message outcome) msgs_before msgs_after
   pub source_counted : Counts (source_failed outcome) source.failures_before source.failures_after
   pub device_counted : Counts (device_failed outcome) device.failures_before device.failures_after

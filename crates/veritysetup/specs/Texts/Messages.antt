@@ -11,10 +11,10 @@ use Rattle.verity_tree.specs.declared.part.Part.{Part}
 use Rattle.verity_tree.specs.declared.part.Part.TheVariants.{Missing, Child, Spare}
 use Rattle.verity_format.specs.declared.super_fault.SuperFault.{SuperFault}
 use Rattle.verity_format.specs.declared.super_fault.SuperFault.TheVariants as super
-use Rattle.veritysetup.specs.declared.options.raw_options.OptionName.{OptionName}
-use Rattle.veritysetup.specs.declared.options.raw_options.OptionName.TheVariants.{Format, DataBlockSize, HashBlockSize, DataBlocks, HashOffset}
-use Rattle.veritysetup.specs.declared.options.raw_options.OptionFault.{OptionFault}
-use Rattle.veritysetup.specs.declared.options.raw_options.OptionFault.TheVariants.{BadNumber, UnknownHash, BadHashType, BadBlockSize, BadSalt, BadUuid, BadHashOffset, NoData, TooLarge, Overlap, BadRoot}
+use Rattle.veritysetup.specs.declared.options.option_fault.OptionName.{OptionName}
+use Rattle.veritysetup.specs.declared.options.option_fault.OptionName.TheVariants.{Format, DataBlockSize, HashBlockSize, DataBlocks, HashOffset}
+use Rattle.veritysetup.specs.declared.options.option_fault.OptionFault.{OptionFault}
+use Rattle.veritysetup.specs.declared.options.option_fault.OptionFault.TheVariants.{BadNumber, UnknownHash, BadHashType, BadBlockSize, BadSalt, BadUuid, BadHashOffset, NoData, TooLarge, Overlap, BadRoot}
 
 -- an option's long name
 abbrev pub option_name : OptionName → List ℕ

@@ -3,7 +3,8 @@ ghost use Rattle.std.specs.Prelude.{◌≡◌, ◌<◌, option_copied};
 ghost use Rattle.veritysetup.specs.Options.Choices.{offset_of};
 ghost use Rattle.veritysetup.specs.Options.OptionTexts.{multiple_of, offset_unit};
 
-use crate::options::raw_options::{OptionFault, OptionName, RawOptions};
+use crate::options::option_fault::{OptionFault, OptionName};
+use crate::options::raw_options::RawOptions;
 use command_line::number_or;
 use verity_plan::SUPERBLOCK_SIZE;
 use verity_tree::TreeSettings;

@@ -2,6 +2,7 @@
 
 pub(crate) mod hash_offset;
 pub(crate) mod numbers;
+pub(crate) mod option_fault;
 pub(crate) mod parameters;
 pub(crate) mod raw_options;
 pub(crate) mod root_hash;

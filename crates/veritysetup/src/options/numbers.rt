@@ -3,7 +3,8 @@ ghost use Rattle.std.specs.Prelude.{◌≡◌, option_map};
 ghost use Rattle.veritysetup.specs.Options.Choices.{numbers};
 ghost use Rattle.veritysetup.specs.Options.OptionTexts.{number_if_given, option_texts};
 
-use crate::options::raw_options::{OptionFault, OptionName, RawOptions};
+use crate::options::option_fault::{OptionFault, OptionName};
+use crate::options::raw_options::RawOptions;
 use command_line::{DEFAULT_BLOCK_SIZE, number_or, read_number};
 
 /// The numbers that the texts of options stand for.

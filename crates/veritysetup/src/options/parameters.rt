@@ -7,7 +7,8 @@ ghost use Rattle.veritysetup.specs.Options.Choices.{parameters};
 
 use crate::options::hash_offset::{multiple_of, offset_unit};
 use crate::options::numbers::OptionNumbers;
-use crate::options::raw_options::{OptionFault, OptionName, RawOptions};
+use crate::options::option_fault::{OptionFault, OptionName};
+use crate::options::raw_options::RawOptions;
 use crate::options::uuids::{random_uuid, read_uuid};
 use command_line::{algorithm_or_default, read_salt};
 use uuid::Uuid;

@@ -6,8 +6,9 @@ ghost use Rattle.veritysetup.specs.Options.Choices.{settings_of};
 ghost use Rattle.veritysetup.specs.Runs.HashDevice.{superblock_for};
 ghost use Rattle.veritysetup.specs.Options.OptionTexts.{option_texts};
 
+use crate::options::option_fault::OptionFault;
 use crate::options::parameters::Parameters;
-use crate::options::raw_options::{OptionFault, RawOptions};
+use crate::options::raw_options::RawOptions;
 use crate::options::root_hash::root_if_given;
 use crate::options::tree_plan::plan_at;
 use std::marker::Model;

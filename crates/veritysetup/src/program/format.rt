@@ -1,6 +1,6 @@
 //! `veritysetup format` over the files of a runtime.
 ghost use Rattle.std.specs.Prelude.{◌≡◌, ◌<◌, ◌≤◌, ℕ, List, length, IfErr, IfNone, IfSome};
-ghost use Rattle.command_line.specs.Printing.{AppendsFront};
+ghost use Rattle.command_line.specs.Printing.{AppendsPrefix};
 ghost use Rattle.verity_tree.specs.Levels.{whole_blocks};
 ghost use Rattle.veritysetup.specs.Options.Choices.{settings_of};
 ghost use Rattle.veritysetup.specs.Texts.Messages.{short_message};
@@ -125,7 +125,8 @@ where
     ensures run { CommandRun result (text_change O.contents M.contents out.old out.new msgs.old msgs.new) }
     ensures short { data_file.entry.length < settings.now.plan.wanted → (bytes : List ℕ)
         → length bytes ≡ data_file.entry.length → (result ≡ 4) × (out.new ≡ out.old)
-        × AppendsFront (short_message (whole_blocks settings.now.plan bytes)) (M.contents msgs.old) (M.contents msgs.new) }
+        × AppendsPrefix (short_message (whole_blocks settings.now.plan bytes))
+        (M.contents msgs.old) (M.contents msgs.new) }
 {
     if let Some(block) = missing_block(settings.plan(), data_file.length) {
         return stop_for_short_data(rt.alloc(), block, msgs);

@@ -4,7 +4,7 @@ ghost use Rattle.std.specs.Io.KnownBytes.{Appends};
 ghost use Rattle.verity_io.specs.Counting.{Counts, change};
 ghost use Rattle.veritysetup.specs.Runs.Dump.{DumpRun, DumpsTo, device_failed, fault_status, fault_message};
 ghost use Rattle.veritysetup.specs.Texts.Reports.{text_change};
-ghost use Rattle.command_line.specs.Printing.{AppendsFront};
+ghost use Rattle.command_line.specs.Printing.{AppendsPrefix};
 
 use crate::runs::stored_superblock::{StoredFault, stored_superblock};
 use crate::texts::messages::{OUT_OF_MEMORY, OUTPUT_UNWRITTEN, SUPERBLOCK_UNREAD, super_message};
@@ -39,7 +39,7 @@ impl DumpFault {
     /// Writes the message of the fault. The answer says whether the writer took all of it.
     fn write_message<M: Write>(&self, alloc: Global, msgs: &mut M) -> bool
         ensures whole { IsTrue result → Appends (M.contents msgs.old) (M.contents msgs.new) (fault_message self.now) }
-        ensures front { AppendsFront (fault_message self.now) (M.contents msgs.old) (M.contents msgs.new) }
+        ensures prefix { AppendsPrefix (fault_message self.now) (M.contents msgs.old) (M.contents msgs.new) }
     {
         match self {
             DumpFault::Superblock(StoredFault::Refused(fault)) => write_message(

@@ -10,7 +10,7 @@ ghost use Rattle.veritysetup.specs.Runs.Format.{device_failed, fault_status, fau
 ghost use Rattle.veritysetup.specs.Runs.Format.{source_failed};
 ghost use Rattle.veritysetup.specs.Runs.HashDevice.{with_superblock};
 ghost use Rattle.veritysetup.specs.Texts.Reports.{text_change};
-ghost use Rattle.command_line.specs.Printing.{AppendsFront};
+ghost use Rattle.command_line.specs.Printing.{AppendsPrefix};
 
 use crate::options::settings::Settings;
 use crate::texts::messages::{
@@ -54,7 +54,7 @@ impl FormatFault {
     /// Writes the message of the fault. The answer says whether the writer took all of it.
     fn write_message<M: Write>(&self, alloc: Global, msgs: &mut M) -> bool
         ensures whole { IsTrue result → Appends (M.contents msgs.old) (M.contents msgs.new) (fault_message self.now) }
-        ensures front { AppendsFront (fault_message self.now) (M.contents msgs.old) (M.contents msgs.new) }
+        ensures prefix { AppendsPrefix (fault_message self.now) (M.contents msgs.old) (M.contents msgs.new) }
     {
         match self {
             FormatFault::Build(fault) => write_message(build_message(alloc, fault), msgs),
@@ -75,7 +75,7 @@ fn put_superblock<D: Device>(settings: &Settings, device: &mut D) -> Result<(), 
         OnErr result (Spoiled (D.content device.old) settings.now.offset superblock_size (D.content device.new)) }
     ensures count { CountsFailure (D.failures device.old) (D.failures device.new) result }
 {
-    // For the proof alone: the contract of `plan` says that the parts of the settings agree.
+    // Called for the proof: by its contract the parts of the settings agree.
     let _plan = settings.plan();
     if settings.has_superblock() {
         device.write_at(settings.offset(), &write_superblock(&settings.superblock()))

@@ -1,10 +1,10 @@
 //! Why verify stops, with its statuses and messages.
 ghost use Rattle.std.specs.Prelude.{◌≡◌, IsTrue};
 ghost use Rattle.std.specs.Io.KnownBytes.{Appends};
-ghost use Rattle.command_line.specs.Printing.{AppendsFront};
+ghost use Rattle.command_line.specs.Printing.{AppendsPrefix};
 ghost use Rattle.veritysetup.specs.Runs.Verify.{compare_status, fault_status, fault_message, input_status, input_message};
 
-use crate::options::raw_options::OptionFault;
+use crate::options::option_fault::OptionFault;
 use crate::runs::stored_superblock::StoredFault;
 use crate::texts::messages::{
     OUT_OF_MEMORY, SUPERBLOCK_UNREAD, TOO_LARGE, compare_message, option_message, super_message,
@@ -52,7 +52,7 @@ impl InputFault {
     /// Writes the message of the fault. The answer says whether the writer took all of it.
     fn write_message<M: Write>(&self, alloc: Global, msgs: &mut M) -> bool
         ensures whole { IsTrue result → Appends (M.contents msgs.old) (M.contents msgs.new) (input_message self.now) }
-        ensures front { AppendsFront (input_message self.now) (M.contents msgs.old) (M.contents msgs.new) }
+        ensures prefix { AppendsPrefix (input_message self.now) (M.contents msgs.old) (M.contents msgs.new) }
     {
         match self {
             InputFault::Superblock(StoredFault::Refused(fault)) => write_message(
@@ -97,7 +97,7 @@ impl VerifyFault {
     /// Writes the message of the fault. The answer says whether the writer took all of it.
     pub fn write_message<M: Write>(&self, alloc: Global, msgs: &mut M) -> bool
         ensures whole { IsTrue result → Appends (M.contents msgs.old) (M.contents msgs.new) (fault_message self.now) }
-        ensures front { AppendsFront (fault_message self.now) (M.contents msgs.old) (M.contents msgs.new) }
+        ensures prefix { AppendsPrefix (fault_message self.now) (M.contents msgs.old) (M.contents msgs.new) }
     {
         match self {
             VerifyFault::Input(fault) => fault.write_message(alloc, msgs),

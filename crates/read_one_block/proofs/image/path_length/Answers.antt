@@ -1,5 +1,5 @@
 use Rattle.std.proofs.Common.{ℕ, ◌*◌, arith, ap}
-use Rattle.verity_plan.specs.Plans.{levels_of}
+use Rattle.verity_plan.specs.Plans.{level_count_of}
 use Rattle.verity_plan.proofs.PlanLemmas.{store_few}
 use Rattle.read_one_block.proofs.image.path_length.Goals as goal
 
@@ -10,5 +10,5 @@ overflow_mul-result c =
       arith,
       store_few p c.blocks-blocks.ensures.planned,
       ap (λ (n : ℕ). n * c.hash_block.result) c.levels.ensures,
-      ap (λ (n : ℕ). levels_of p * n) c.hash_block.ensures,
+      ap (λ (n : ℕ). level_count_of p * n) c.hash_block.ensures,
     )

@@ -1,5 +1,5 @@
 use Rattle.std.proofs.Common.{◌≡◌, ℕ, ◌*◌, ◌<◌, length, arith, ap, sym, ◌∙◌}
-use Rattle.verity_plan.specs.Plans.{levels_of}
+use Rattle.verity_plan.specs.Plans.{level_count_of}
 use Rattle.verity_plan.specs.Settings.{fan}
 use Rattle.verity_tree.proofs.CascadeLemmas.{closing-below, closing-place}
 use Rattle.read_one_block.proofs.ReadLemmas.{length-run, path-more, read-stored, run-within}
@@ -26,10 +26,10 @@ loop-level-preserved g c =
     let size = c.hash_block-size.result in
     let here = closing-place (fan p.settings) c.args.i l c.loop-level.index c.fan-fan.result inv.quotient
     c.fan-fan.ensures.value in
-    let below : l < levels_of p = omega (arith, c.loop-level-test.true, c.levels-level-end.ensures) in
-    let long : length path ≡ levels_of p * size =
-    c.loop-level.auto.path ∙ c.requires.path ∙ ap (λ (n : ℕ). levels_of p * n) (sym c.hash_block-size.ensures) in
-    let within = run-within path l (levels_of p) size below long in
+    let below : l < level_count_of p = omega (arith, c.loop-level-test.true, c.levels-level-end.ensures) in
+    let long : length path ≡ level_count_of p * size =
+    c.loop-level.auto.path ∙ c.requires.path ∙ ap (λ (n : ℕ). level_count_of p * n) (sym c.hash_block-size.ensures) in
+    let within = run-within path l (level_count_of p) size below long in
     let run = length-run path l size within in
     let len : length c.read_filled.new.buf ≡ size = c.read_filled.auto.buf ∙ run in
     record {

@@ -9,5 +9,5 @@ pub loop-taken-preserved : goal.loop-taken-preserved
 loop-taken-preserved g c = record {
   within = grind (arith, common_steps, c.in-Ok.ensures.bound);
   bytes = appends_more _ _ _ c.args.text.now c.loop-taken.taken c.in-Ok.count c.loop-taken.invariant.bytes
-      (rw take_rest at c.in-Ok.ensures.front);
+      (rw take_rest at c.in-Ok.ensures.prefix);
 }

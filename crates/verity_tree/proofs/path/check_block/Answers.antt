@@ -1,7 +1,7 @@
 use Rattle.std.proofs.Common.{◌≡◌, ℕ, ◌*◌, ◌/◌, ◌%◌, ◌^◌, ◌<◌, ◌≤◌, below_more, length, arith, ap, sym, ◌∙◌, refl}
 use Rattle.std.proofs.lemmas.Slice.Eq.{bytes_eq-Decides}
 use Rattle.verity_tree.specs.Paths.{HoldsAt, chain}
-use Rattle.verity_plan.specs.Plans.{levels_of}
+use Rattle.verity_plan.specs.Plans.{level_count_of}
 use Rattle.verity_plan.specs.Settings.{fan, hash}
 use Rattle.verity_tree.proofs.PathSteps.{HasLengths-read, bytes_eq-false, chain-more, digest_above-top, range-block}
 use Rattle.verity_tree.proofs.PathSteps.{read-is, slot-in-block}
@@ -16,18 +16,19 @@ overflow_mul-levels c =
       arith,
       store_few p c.blocks-2.ensures.planned,
       ap (λ (n : ℕ). n * c.hash_block-size.result) c.levels-levels.ensures,
-      ap (λ (n : ℕ). levels_of p * n) c.hash_block-size.ensures,
+      ap (λ (n : ℕ). level_count_of p * n) c.hash_block-size.ensures,
     )
 
 pub has_digest-requires : goal.has_digest-requires
 has_digest-requires c =
     let p = c.args.plan.now in
-    let below : c.loop-level.level < levels_of p = omega (arith, c.loop-level-test.true, c.levels-levels.ensures) in
-    let long : levels_of p * p.settings.hash_block ≤ length c.args.path.now = omega (
+    let below : c.loop-level.level < level_count_of p =
+    omega (arith, c.loop-level-test.true, c.levels-levels.ensures) in
+    let long : level_count_of p * p.settings.hash_block ≤ length c.args.path.now = omega (
       arith,
       c.if-path-levels.false,
       ap (λ (n : ℕ). n * c.hash_block-size.result) c.levels-levels.ensures,
-      ap (λ (n : ℕ). levels_of p * n) c.hash_block-size.ensures,
+      ap (λ (n : ℕ). level_count_of p * n) c.hash_block-size.ensures,
     ) in
     slot-in-block p c.args.path.now _ c.loop-level.level _ c.fan-fan.result c.fan-fan.ensures.fits below long
     (range-block c.args.path.now c.loop-level.level c.hash_block-size.result p.settings.hash_block
@@ -39,7 +40,7 @@ loop-level-preserved c =
     let i = c.args.i in
     let path = c.args.path.now in
     let l = c.loop-level.level in
-    let below : l < levels_of p = omega (arith, c.loop-level-test.true, c.levels-levels.ensures) in
+    let below : l < level_count_of p = omega (arith, c.loop-level-test.true, c.levels-levels.ensures) in
     let above = range-block path l c.hash_block-size.result p.settings.hash_block c.hash_block-size.ensures in
     let read = read-is p i path c.args.root.now _ l (c.loop-level.index % c.fan-fan.result) c.loop-level.index
     c.fan-fan.result below above
@@ -62,7 +63,7 @@ returns-then-not-has_digest c =
     let i = c.args.i in
     let path = c.args.path.now in
     let l = c.loop-level.level in
-    let below : l < levels_of p = omega (arith, c.loop-level-test.true, c.levels-levels.ensures) in
+    let below : l < level_count_of p = omega (arith, c.loop-level-test.true, c.levels-levels.ensures) in
     let above = range-block path l c.hash_block-size.result p.settings.hash_block c.hash_block-size.ensures in
     let read = read-is p i path c.args.root.now _ l (c.loop-level.index % c.fan-fan.result) c.loop-level.index
     c.fan-fan.result below above
@@ -85,7 +86,7 @@ returns-then-eq c =
     let block = c.args.block.now in
     let path = c.args.path.now in
     let root = c.args.root.now in
-    let top : c.loop-level.level ≡ levels_of p =
+    let top : c.loop-level.level ≡ level_count_of p =
     omega (arith, c.loop-level.auto.level-end, c.loop-level-test.false, c.levels-levels.ensures) in
     let equal = (bytes_eq-Decides c.as_bytes.result.now c.as_bytes-2.result.now).0 (sym c.eq.ensures ∙ c.if-eq.true) in
     let here : HoldsAt p i block path root c.loop-level.level =
@@ -108,7 +109,7 @@ returns-else-eq c =
     let root = c.args.root.now in
     let top : c.loop-level.level ≡ c.levels-levels.result =
     omega (arith, c.loop-level.auto.level-end, c.loop-level-test.false) in
-    let past : levels_of p ≤ c.levels-levels.result = omega (arith, c.levels-levels.ensures) in
+    let past : level_count_of p ≤ c.levels-levels.result = omega (arith, c.levels-levels.ensures) in
     record {
       index = omega (arith, c.if-i-blocks.false, c.blocks-2.ensures.value);
       lengths = HasLengths-read p c.args.block.now c.args.path.now _ _ _ c.data_block.ensures c.levels-levels.ensures

@@ -1,5 +1,5 @@
 use Rattle.std.proofs.lemmas.List.{take_all}
-use Rattle.command_line.proofs.Fronts.{front_of, front_whole, pieces_front, pieces_whole, appends_nothing}
+use Rattle.command_line.proofs.Prefixes.{prefix_of, prefix_whole, pieces_prefix, pieces_whole, appends_nothing}
 use Rattle.command_line.proofs.printing.messages.write_pieces.Goals as goal
 
 pub loop-piece-init : goal.loop-piece-init
@@ -11,18 +11,19 @@ loop-piece-preserved g c =
     pieces_whole (λ p. p.now) c.args.pieces.now c.loop-piece.piece-index _ _ _ _ c.loop-piece-test.true
     c.loop-piece.invariant piece
 
-pub returns-in-Err-clause-front : goal.returns-in-Err-clause-front
-returns-in-Err-clause-front g c =
-    let front = front_of c.put_all.result c.as_bytes.result.now _ _ c.put_all.ensures.whole c.put_all.ensures.front in
-    pieces_front (λ p. p.now) c.args.pieces.now c.loop-piece.piece-index _ _ _ _ c.loop-piece-test.true
-    c.loop-piece.invariant (rw c.as_bytes.ensures.value at front)
+pub returns-in-Err-clause-prefix : goal.returns-in-Err-clause-prefix
+returns-in-Err-clause-prefix g c =
+    let prefix =
+    prefix_of c.put_all.result c.as_bytes.result.now _ _ c.put_all.ensures.whole c.put_all.ensures.prefix in
+    pieces_prefix (λ p. p.now) c.args.pieces.now c.loop-piece.piece-index _ _ _ _ c.loop-piece-test.true
+    c.loop-piece.invariant (rw c.as_bytes.ensures.value at prefix)
 
 pub returns-clause-whole : goal.returns-clause-whole
 returns-clause-whole g c =
     let all = take_all c.loop-piece.piece-index c.args.pieces.now c.loop-piece-test.false in
     λ _. rw all at c.loop-piece.invariant
 
-pub returns-clause-front : goal.returns-clause-front
-returns-clause-front g c =
+pub returns-clause-prefix : goal.returns-clause-prefix
+returns-clause-prefix g c =
     let all = take_all c.loop-piece.piece-index c.args.pieces.now c.loop-piece-test.false in
-    front_whole _ _ _ (rw all at c.loop-piece.invariant)
+    prefix_whole _ _ _ (rw all at c.loop-piece.invariant)

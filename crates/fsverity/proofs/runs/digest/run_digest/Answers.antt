@@ -6,8 +6,8 @@ use Rattle.std.proofs.lemmas.Slice.Zip.{length-zip}
 use Rattle.std.specs.List.{slice_get, zip}
 use Rattle.fsverity.specs.Openers.Opening.{opener_change}
 use Rattle.fsverity.specs.Runs.Digest.{has_digest}
-use Rattle.command_line.proofs.Fronts.{appends_nothing}
-use Rattle.fsverity.proofs.RunLemmas.{line_more, front_more, passes_more, stops_run}
+use Rattle.command_line.proofs.Prefixes.{appends_nothing}
+use Rattle.fsverity.proofs.RunLemmas.{line_more, prefix_more, passes_more, stops_run}
 use Rattle.fsverity.proofs.runs.digest.run_digest.Goals as goal
 
 -- the mapped element of an index
@@ -33,11 +33,12 @@ returns-in-Err-clause-ended g c = λ _.
           c.loop-name.invariant.same.told c.loop-name.invariant.same.files c.loop-name.invariant.next
           c.loop-name.invariant.within (omega (arith, c.loop-name.invariant.failures)) refl c.in-Err.ensures.reason;
       counted = rw c.loop-name.invariant.failures at c.in-Err.ensures.counted;
-      message = rw (get_or_from_slice_get _ _ _ _ named) (rw c.loop-name.invariant.quiet at c.write_message.ensures.front);
+      message = rw (get_or_from_slice_get _ _ _ _ named)
+          (rw c.loop-name.invariant.quiet at c.write_message.ensures.prefix);
       written = λ t.
-          let front = c.in-Err.ensures.written (c.loop-name.invariant.same.told.0 t) in
-          front_more _ _ _ _ _ _ _ _ named (c.loop-name.invariant.out t)
-          (rw (c.loop-name.invariant.same.files, c.loop-name.invariant.next) at front);
+          let prefix = c.in-Err.ensures.written (c.loop-name.invariant.same.told.0 t) in
+          prefix_more _ _ _ _ _ _ _ _ named (c.loop-name.invariant.out t)
+          (rw (c.loop-name.invariant.same.files, c.loop-name.invariant.next) at prefix);
     }
 
 pub loop-name-preserved : goal.loop-name-preserved

@@ -1,6 +1,6 @@
 use Rattle.std.proofs.Common.{◌≡◌, ℕ, ◌+◌, ◌-◌, ◌<◌, arith, ◌∙◌, ap, subst}
 use Rattle.std.specs.Int.{div_ceil}
-use Rattle.verity_plan.specs.Plans.{level_size, blocks_from, IsPlanned, levels_of}
+use Rattle.verity_plan.specs.Plans.{level_size, blocks_from, IsPlanned, level_count_of}
 use Rattle.verity_plan.specs.Settings.{fan}
 use Rattle.verity_plan.proofs.PlaceLemmas.{blocks_from-level, PlacesAreOnce-all}
 use Rattle.verity_plan.proofs.PlanLemmas.{size-more, levels_few, end_few}
@@ -23,12 +23,12 @@ overflow_sub-start c =
     let next : c.div_ceil-size.result ≡ level_size (fan p.settings) p.blocks c.loop-below.below =
     c.div_ceil-size.ensures ∙ ap (λ (f : ℕ). div_ceil c.loop-below.size f) fan_is
     ∙ size-more (fan p.settings) p.blocks c.loop-below.below c.loop-below.size some c.loop-below.invariant.size_is in
-    let below : c.loop-below.below < levels_of p = omega (arith, c.loop-below-test.true, c.requires.level_below) in
+    let below : c.loop-below.below < level_count_of p = omega (arith, c.loop-below-test.true, c.requires.level_below) in
     omega (
       arith,
       next,
       c.loop-below.invariant.start_is,
-      blocks_from-level (fan p.settings) p.blocks c.loop-below.below (levels_of p) below,
+      blocks_from-level (fan p.settings) p.blocks c.loop-below.below (level_count_of p) below,
     )
 
 pub loop-below-preserved : goal.loop-below-preserved
@@ -40,14 +40,14 @@ loop-below-preserved c =
     let next : c.div_ceil-size.result ≡ level_size (fan p.settings) p.blocks c.loop-below.below =
     c.div_ceil-size.ensures ∙ ap (λ (f : ℕ). div_ceil c.loop-below.size f) fan_is
     ∙ size-more (fan p.settings) p.blocks c.loop-below.below c.loop-below.size some c.loop-below.invariant.size_is in
-    let below : c.loop-below.below < levels_of p = omega (arith, c.loop-below-test.true, c.requires.level_below) in
+    let below : c.loop-below.below < level_count_of p = omega (arith, c.loop-below-test.true, c.requires.level_below) in
     record {
       size_is = next;
       start_is = omega (
         arith,
         next,
         c.loop-below.invariant.start_is,
-        blocks_from-level (fan p.settings) p.blocks c.loop-below.below (levels_of p) below,
+        blocks_from-level (fan p.settings) p.blocks c.loop-below.below (level_count_of p) below,
       );
     }
 
@@ -58,9 +58,9 @@ overflow_add-result c =
     let past : c.loop-below.below ≡ c.args.level + 1 =
     omega (arith, c.loop-below.auto.below-end, c.loop-below-test.false) in
     let start : c.loop-below.start ≡ p.base + blocks_from (fan p.settings) p.blocks (c.args.level + 1)
-    (levels_of p - (c.args.level + 1)) =
+    (level_count_of p - (c.args.level + 1)) =
     c.loop-below.invariant.start_is
-    ∙ ap (λ (k : ℕ). p.base + blocks_from (fan p.settings) p.blocks k (levels_of p - k)) past in
+    ∙ ap (λ (k : ℕ). p.base + blocks_from (fan p.settings) p.blocks k (level_count_of p - k)) past in
     omega (
       arith,
       start,

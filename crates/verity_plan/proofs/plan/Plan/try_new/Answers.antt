@@ -1,7 +1,7 @@
 use Rattle.std.proofs.Common.{◌≡◌, ℕ, ◌+◌, ◌*◌, ◌<◌, arith, sym, ◌∙◌, ap, inl, inr}
 use Rattle.std.proofs.Math.Nat.{mul-le-mul_right}
 use Rattle.verity_io.specs.Writing.{most_bytes}
-use Rattle.verity_plan.specs.Plans.{level_count, blocks_from, Planned, end_of}
+use Rattle.verity_plan.specs.Plans.{level_count, blocks_from, Planned, end_place_of}
 use Rattle.verity_plan.proofs.FanLemmas.{some_data, two_slots, digest_len_of-pos}
 use Rattle.verity_plan.proofs.PlanLemmas.{checked_plan-large, past-quotient, within-quotient, base-le-end, has_room-data}
 use Rattle.verity_plan.proofs.PlanLemmas.{has_room-hash, some_wanted}
@@ -41,7 +41,7 @@ returns-then-end-most_end c =
     let hash_is : c.from-most_end.result ≡ s.hash_block = c.from-most_end.ensures ∙ c.hash_block.ensures.value in
     let hash_some : 0 < c.from-most_end.result =
     omega (arith, hash_is, two_slots s c.hash_block.ensures.valid, digest_len_of-pos s.algorithm) in
-    let end_is : c.args.base + c.levels_above-above.result.blocks ≡ end_of p =
+    let end_is : c.args.base + c.levels_above-above.result.blocks ≡ end_place_of p =
     ap (λ (n : ℕ). c.args.base + n) (c.levels_above-above.ensures.blocks
     ∙ ap (λ (f : ℕ). blocks_from f c.args.blocks 0 (level_count f c.args.blocks)) c.fan.ensures.value) in
     sym (checked_plan-large p some (has_room-hash p
@@ -58,7 +58,7 @@ invariant_of-result c =
     let p : Planned = record { settings = s; blocks = c.args.blocks; wanted = c.args.wanted; base = c.args.base } in
     let data_is : c.from-most_blocks.result ≡ s.data_block = c.from-most_blocks.ensures ∙ c.data_block.ensures.value in
     let hash_is : c.from-most_end.result ≡ s.hash_block = c.from-most_end.ensures ∙ c.hash_block.ensures.value in
-    let end_is : c.args.base + c.levels_above-above.result.blocks ≡ end_of p =
+    let end_is : c.args.base + c.levels_above-above.result.blocks ≡ end_place_of p =
     ap (λ (n : ℕ). c.args.base + n) (c.levels_above-above.ensures.blocks
     ∙ ap (λ (f : ℕ). blocks_from f c.args.blocks 0 (level_count f c.args.blocks)) c.fan.ensures.value) in
     record {

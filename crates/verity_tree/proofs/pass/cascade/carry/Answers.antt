@@ -1,10 +1,10 @@
 use Rattle.std.proofs.Common.{List, ap, arith, eqb, length, refl, subst, sym, true, ℕ, ◌*◌, ◌+◌, ◌-◌, ◌/◌, ◌<◌, ◌^◌}
 use Rattle.std.proofs.Common.{◌∙◌}
 use Rattle.std.proofs.Common.{◌≡◌, ◌≤◌}
-use Rattle.verity_tree.specs.ClosingOrder.{BlockIndex, closing, closes}
+use Rattle.verity_tree.specs.ClosingOrder.{BlockIndex, closing_with, closes}
 use Rattle.verity_tree.specs.TreeOnDevice.{tree_block, device_with, stored_block}
 use Rattle.verity_tree.specs.Steps.Cascade.{first_closing}
-use Rattle.verity_plan.specs.Plans.{level_count, byte_at, byte_of, levels_of}
+use Rattle.verity_plan.specs.Plans.{level_count, start_byte, start_byte_of, level_count_of}
 use Rattle.verity_tree.specs.Steps.OpenBlocks.{IsCarrying, digests_under, open_block_with, cascade_state}
 use Rattle.verity_plan.specs.Settings.{fan}
 use Rattle.verity_io.specs.Writing.{Spoiled}
@@ -29,7 +29,7 @@ loop-level-init g c = record {
   told = λ t. t;
   failures = refl;
   carries = λ blocks many first stands. IsCarrying-first c.args.job.now.plan.settings blocks c.args.i
-      (levels_of c.args.job.now.plan) c.args.opened.now c.args.digest first stands;
+      (level_count_of c.args.job.now.plan) c.args.opened.now c.args.digest first stands;
   image = λ _ blocks many first stands. refl;
   stays = λ _ _. refl;
   compared = λ _ _ blocks many first stands. (refl, All-nil _);
@@ -52,7 +52,7 @@ loop-level-preserved g c =
     let p = c.args.job.now.plan in
     let s = p.settings in
     let m = c.loop-level.level in
-    let levels = levels_of p in
+    let levels = level_count_of p in
     let size : c.hash_block-size.result ≡ s.hash_block = c.hash_block-size.ensures in
     let inv = c.loop-level.invariant in
     let two : 2 ≤ fan s = omega (arith, c.fan-fan.ensures.two, c.fan-fan.ensures.value) in
@@ -81,9 +81,9 @@ loop-level-preserved g c =
           two (omega (arith, last, c.requires.below)) within inv.place from wide refl (last ∙ many)
           (inv.carries blocks many first stands) in
           let here = closing-place (fan s) c.args.i m c.loop-level.index (fan s) inv.place refl in
-          let to : byte_of p m (c.loop-level.index / fan s) ≡ byte_at s (length blocks) p.base m
+          let to : start_byte_of p m (c.loop-level.index / fan s) ≡ start_byte s (length blocks) p.base m
           (c.args.i / fan s ^ (m + 1)) =
-          ap (byte_of p m) here ∙ ap (λ (n : ℕ). byte_at s n p.base m (c.args.i / fan s ^ (m + 1))) many in
+          ap (start_byte_of p m) here ∙ ap (λ (n : ℕ). start_byte s n p.base m (c.args.i / fan s ^ (m + 1))) many in
           device-closed s blocks p.base c.args.i m c.loop-level.index _ _ _ _
           (closed-block s blocks c.args.i m c.blocks-blocks.result c.loop-level.index _ (omega (arith, two))
           (omega (arith, last, c.requires.below)) refl inv.place (last ∙ many)
@@ -117,7 +117,8 @@ returns-in-Open-clause-carries g c = λ blocks many first stands.
     let size : c.hash_block-size.result ≡ s.hash_block = c.hash_block-size.ensures in
     let inv = c.loop-level.invariant in
     let last = c.blocks-blocks.ensures.value in
-    carry-kept s blocks c.args.i m (levels_of p) c.blocks-blocks.result c.loop-level.index _ _ _ c.loop-level.opened _ _
+    carry-kept s blocks c.args.i m
+    (level_count_of p) c.blocks-blocks.result c.loop-level.index _ _ _ c.loop-level.opened _ _
     c.loop-level.current
     (omega (arith, c.fan-fan.ensures.two, c.fan-fan.ensures.value)) (omega (arith, last, c.requires.below))
     (omega (arith, c.loop-level-test.true, c.levels-level-end.ensures)) refl inv.place
@@ -131,7 +132,8 @@ returns-in-Open-clause-device g c = λ tells blocks many first stands.
     let s = p.settings in
     let inv = c.loop-level.invariant in
     let last = c.blocks-blocks.ensures.value in
-    let kept = closing-kept s blocks c.args.i c.loop-level.level (levels_of p) c.blocks-blocks.result c.loop-level.index
+    let kept = closing-kept s blocks c.args.i c.loop-level.level
+    (level_count_of p) c.blocks-blocks.result c.loop-level.index
     _ _ _ c.loop-level.opened c.loop-level.current
     (omega (arith, c.fan-fan.ensures.two, c.fan-fan.ensures.value)) (omega (arith, last, c.requires.below))
     (omega (arith, c.loop-level-test.true, c.levels-level-end.ensures))
@@ -139,7 +141,7 @@ returns-in-Open-clause-device g c = λ tells blocks many first stands.
     c.in-Open.ensures.level (inv.carries blocks many first stands) in
     c.in-Open.ensures.device (inv.told tells) ∙ inv.image tells blocks many first stands
     ∙ ap (λ (ps : List BlockIndex). device_with s blocks p.base ps (g.D.Device.content c.args.device.now))
-    (sym kept ∙ ap (λ (n : ℕ). closing (fan s) n c.args.i) last)
+    (sym kept ∙ ap (λ (n : ℕ). closing_with (fan s) n c.args.i) last)
 
 pub returns-in-Open-clause-compared : goal.returns-in-Open-clause-compared
 returns-in-Open-clause-compared g c = λ compare tells blocks many first stands.
@@ -148,7 +150,8 @@ returns-in-Open-clause-compared g c = λ compare tells blocks many first stands.
     let inv = c.loop-level.invariant in
     let last = c.blocks-blocks.ensures.value in
     let before = inv.compared compare tells blocks many first stands in
-    let kept = closing-kept s blocks c.args.i c.loop-level.level (levels_of p) c.blocks-blocks.result c.loop-level.index
+    let kept = closing-kept s blocks c.args.i c.loop-level.level
+    (level_count_of p) c.blocks-blocks.result c.loop-level.index
     _ _ _ c.loop-level.opened c.loop-level.current
     (omega (arith, c.fan-fan.ensures.two, c.fan-fan.ensures.value)) (omega (arith, last, c.requires.below))
     (omega (arith, c.loop-level-test.true, c.levels-level-end.ensures))
@@ -156,7 +159,7 @@ returns-in-Open-clause-compared g c = λ compare tells blocks many first stands.
     c.in-Open.ensures.level (inv.carries blocks many first stands) in (
       c.in-Open.ensures.compared compare (inv.told tells) ∙ before.0,
       subst (NoneDiffers p blocks (g.D.Device.content c.args.device.now))
-          (sym kept ∙ ap (λ (n : ℕ). closing (fan s) n c.args.i) last) before.1,
+          (sym kept ∙ ap (λ (n : ℕ). closing_with (fan s) n c.args.i) last) before.1,
     )
 
 pub returns-in-Stopped-clause-compared : goal.returns-in-Stopped-clause-compared
@@ -171,7 +174,7 @@ returns-in-Stopped-clause-compared g c = λ compare tells blocks many first stan
     let from : m * c.hash_block-size.result ≡ m * s.hash_block = ap (λ (n : ℕ). m * n) size in
     let wide : m * c.hash_block-size.result + c.hash_block-size.result - m * c.hash_block-size.result ≡ s.hash_block =
     omega (arith, size) in
-    let next = level_digest-is_next s blocks c.args.i m (levels_of p) c.blocks-blocks.result c.loop-level.index _ _
+    let next = level_digest-is_next s blocks c.args.i m (level_count_of p) c.blocks-blocks.result c.loop-level.index _ _
     c.loop-level.opened _ c.loop-level.current
     two (omega (arith, last, c.requires.below)) (omega (arith, c.loop-level-test.true, c.levels-level-end.ensures))
     inv.place from wide refl (last ∙ many) (inv.carries blocks many first stands) in
@@ -207,7 +210,8 @@ returns-in-Stopped-clause-carries g c = λ blocks many first stands.
       level_below = omega (arith, c.loop-level-test.true, c.levels-level-end.ensures);
       block_is = closing-place (fan s) c.args.i m c.loop-level.index c.fan-fan.result inv.place c.fan-fan.ensures.value;
       all = λ k low. subst (λ (n : ℕ). closes (fan s) n c.args.i k ≡ true) (sym many)
-          (closes-stopped_all s blocks c.args.i m (levels_of p) c.blocks-blocks.result c.loop-level.index _ _ _ some
+          (closes-stopped_all s blocks c.args.i m
+          (level_count_of p) c.blocks-blocks.result c.loop-level.index _ _ _ some
           (omega (arith, last, c.requires.below)) refl inv.place (last ∙ many)
           c.in-Stopped.ensures.level (inv.carries blocks many first stands) k low);
     }
@@ -218,13 +222,14 @@ returns-in-Stopped-clause-device g c = λ tells blocks many first stands.
     let s = p.settings in
     let m = c.loop-level.level in
     let inv = c.loop-level.invariant in
-    let same : byte_of p m (c.loop-level.index / fan s) ≡ byte_of p m (c.loop-level.index / c.fan-fan.result) =
-    ap (λ (f : ℕ). byte_of p m (c.loop-level.index / f)) (sym c.fan-fan.ensures.value) in
+    let same : start_byte_of p m (c.loop-level.index / fan s)
+    ≡ start_byte_of p m (c.loop-level.index / c.fan-fan.result) =
+    ap (λ (f : ℕ). start_byte_of p m (c.loop-level.index / f)) (sym c.fan-fan.ensures.value) in
     subst (λ (n : ℕ). Spoiled
     (device_with s blocks p.base (first_closing (fan s) c.args.i m) (g.D.Device.content c.args.device.now)) n
     s.hash_block
     (g.D.Device.content c.step_level.new.device)) same
-    (subst (λ (xs : List ℕ). Spoiled xs (byte_of p m (c.loop-level.index / fan s)) s.hash_block
+    (subst (λ (xs : List ℕ). Spoiled xs (start_byte_of p m (c.loop-level.index / fan s)) s.hash_block
     (g.D.Device.content c.step_level.new.device)) (inv.image tells blocks many first stands)
     (c.in-Stopped.ensures.device (inv.told tells)))
 
@@ -233,12 +238,13 @@ returns-clause-carries g c = λ blocks many first stands.
     let p = c.args.job.now.plan in
     let s = p.settings in
     let inv = c.loop-level.invariant in
-    let all : c.loop-level.level ≡ levels_of p =
+    let all : c.loop-level.level ≡ level_count_of p =
     omega (arith, c.loop-level.auto.level-end, c.loop-level-test.false, c.levels-level-end.ensures) in
-    carry-all s blocks c.args.i (levels_of p) c.loop-level.opened c.loop-level.current
+    carry-all s blocks c.args.i (level_count_of p) c.loop-level.opened c.loop-level.current
     (omega (arith, c.fan-fan.ensures.two, c.fan-fan.ensures.value))
     (omega (arith, c.requires.below, many)) (ap (λ (n : ℕ). level_count (fan s) n) many)
-    (subst (λ (m : ℕ). IsCarrying s blocks (cascade_state c.args.i m (levels_of p)) c.loop-level.opened c.loop-level.current)
+    (subst (λ (m : ℕ). IsCarrying s blocks
+    (cascade_state c.args.i m (level_count_of p)) c.loop-level.opened c.loop-level.current)
     all (inv.carries blocks many first stands))
 
 pub returns-clause-device : goal.returns-clause-device
@@ -246,12 +252,13 @@ returns-clause-device g c = λ tells blocks many first stands.
     let p = c.args.job.now.plan in
     let s = p.settings in
     let inv = c.loop-level.invariant in
-    let all : c.loop-level.level ≡ levels_of p =
+    let all : c.loop-level.level ≡ level_count_of p =
     omega (arith, c.loop-level.auto.level-end, c.loop-level-test.false, c.levels-level-end.ensures) in
-    let done = closing-done s blocks c.args.i (levels_of p) p.blocks c.loop-level.opened c.loop-level.current
+    let done = closing-done s blocks c.args.i (level_count_of p) p.blocks c.loop-level.opened c.loop-level.current
     (omega (arith, c.fan-fan.ensures.two, c.fan-fan.ensures.value))
     c.requires.below refl many
-    (subst (λ (m : ℕ). IsCarrying s blocks (cascade_state c.args.i m (levels_of p)) c.loop-level.opened c.loop-level.current)
+    (subst (λ (m : ℕ). IsCarrying s blocks
+    (cascade_state c.args.i m (level_count_of p)) c.loop-level.opened c.loop-level.current)
     all (inv.carries blocks many first stands)) in
     inv.image tells blocks many first stands
     ∙ ap (λ (ps : List BlockIndex). device_with s blocks p.base ps (g.D.Device.content c.args.device.now))
@@ -262,12 +269,13 @@ returns-clause-compared g c = λ compare tells blocks many first stands.
     let p = c.args.job.now.plan in
     let s = p.settings in
     let inv = c.loop-level.invariant in
-    let all : c.loop-level.level ≡ levels_of p =
+    let all : c.loop-level.level ≡ level_count_of p =
     omega (arith, c.loop-level.auto.level-end, c.loop-level-test.false, c.levels-level-end.ensures) in
-    let done = closing-done s blocks c.args.i (levels_of p) p.blocks c.loop-level.opened c.loop-level.current
+    let done = closing-done s blocks c.args.i (level_count_of p) p.blocks c.loop-level.opened c.loop-level.current
     (omega (arith, c.fan-fan.ensures.two, c.fan-fan.ensures.value))
     c.requires.below refl many
-    (subst (λ (m : ℕ). IsCarrying s blocks (cascade_state c.args.i m (levels_of p)) c.loop-level.opened c.loop-level.current)
+    (subst (λ (m : ℕ). IsCarrying s blocks
+    (cascade_state c.args.i m (level_count_of p)) c.loop-level.opened c.loop-level.current)
     all (inv.carries blocks many first stands)) in
     let before = inv.compared compare tells blocks many first stands in (
       before.0,

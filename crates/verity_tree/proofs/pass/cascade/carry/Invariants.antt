@@ -3,7 +3,7 @@ use Rattle.verity_plan.specs.Settings.{fan, digest_len}
 use Rattle.verity_tree.specs.Steps.OpenBlocks.{HasOpenBlocks, level_digest, IsCarrying, cascade_state}
 use Rattle.verity_tree.specs.Steps.Cascade.{EndsBlock, first_closing}
 use Rattle.verity_tree.specs.TreeOnDevice.{device_with}
-use Rattle.verity_plan.specs.Plans.{levels_of}
+use Rattle.verity_plan.specs.Plans.{level_count_of}
 use Rattle.verity_tree.specs.Verdicts.{NoneDiffers}
 use Rattle.verity_tree.specs.declared.pass.closed_block.Task.TheVariants.{Compare}
 use Rattle.verity_tree.proofs.pass.cascade.carry.Given as goal
@@ -18,11 +18,12 @@ invariant-loop-level g l = record {
   failures : g.D.Device.failures l.device ≡ g.D.Device.failures l.fn.device;
   carries : (blocks : List (List ℕ)) → l.job.plan.blocks ≡ length blocks
       → l.fn.digest ≡ level_digest l.job.plan.settings blocks l.i 0
-      → HasOpenBlocks l.job.plan.settings blocks 0 (levels_of l.job.plan) l.i l.fn.opened
-      → IsCarrying l.job.plan.settings blocks (cascade_state l.i l.level (levels_of l.job.plan)) l.opened l.current;
+      → HasOpenBlocks l.job.plan.settings blocks 0 (level_count_of l.job.plan) l.i l.fn.opened
+      → IsCarrying l.job.plan.settings blocks
+      (cascade_state l.i l.level (level_count_of l.job.plan)) l.opened l.current;
   image : g.D.Device.tells l.fn.device → (blocks : List (List ℕ)) → l.job.plan.blocks ≡ length blocks
       → l.fn.digest ≡ level_digest l.job.plan.settings blocks l.i 0
-      → HasOpenBlocks l.job.plan.settings blocks 0 (levels_of l.job.plan) l.i l.fn.opened
+      → HasOpenBlocks l.job.plan.settings blocks 0 (level_count_of l.job.plan) l.i l.fn.opened
       → g.D.Device.content l.device ≡ device_with l.job.plan.settings blocks l.job.plan.base
       (first_closing (fan l.job.plan.settings) l.i l.level) (g.D.Device.content l.fn.device);
   stays : l.job.task ≡ Compare → g.D.Device.tells l.fn.device
@@ -30,7 +31,7 @@ invariant-loop-level g l = record {
   compared : l.job.task ≡ Compare → g.D.Device.tells l.fn.device → (blocks : List (List ℕ))
       → l.job.plan.blocks ≡ length blocks
       → l.fn.digest ≡ level_digest l.job.plan.settings blocks l.i 0
-      → HasOpenBlocks l.job.plan.settings blocks 0 (levels_of l.job.plan) l.i l.fn.opened
+      → HasOpenBlocks l.job.plan.settings blocks 0 (level_count_of l.job.plan) l.i l.fn.opened
       → (g.D.Device.content l.device ≡ g.D.Device.content l.fn.device)
       × NoneDiffers l.job.plan blocks (g.D.Device.content l.fn.device)
       (first_closing (fan l.job.plan.settings) l.i l.level);

@@ -5,7 +5,7 @@ use Rattle.verity_plan.proofs.FitLemmas.{hash_block-some}
 use Rattle.verity_tree.proofs.OpenBlockLemmas.{length-hash}
 use Rattle.verity_tree.proofs.OpenBlockSteps.{slot-room, open_block_with-put, slots-all, slots-left}
 use Rattle.verity_tree.specs.Steps.ClosedBlocks.{IsHashBlockFault, closed_block}
-use Rattle.verity_plan.specs.Plans.{byte_of}
+use Rattle.verity_plan.specs.Plans.{start_byte_of}
 use Rattle.verity_tree.specs.TreeOnDevice.{stored_block}
 use Rattle.verity_tree.proofs.ClosedBlockLemmas.{WritesOrCompares-fault, WritesOrCompares-put, WritesOrCompares-same, WritesOrCompares-spoiled}
 use Rattle.verity_tree.proofs.pass.cascade.step_level.Goals.{else-slot-fan-via-then-slot-fan+else-not-next}
@@ -68,9 +68,9 @@ returns-in-Ok-clause-device g c = λ tells below next.
     (g.D.Device.content c.write_or_compare.new.device) c.in-Ok.field-0
     (hash_block-some s (omega (arith, c.fan-fan.ensures.two, c.fan-fan.ensures.value)) c.fan-fan.ensures.fits) size
     (c.in-Ok.ensures.device tells)
-    ∙ ap (λ (n : ℕ). put before (byte_of p c.args.level (c.args.next.now.index / n)) c.put_slot.new.block)
+    ∙ ap (λ (n : ℕ). put before (start_byte_of p c.args.level (c.args.next.now.index / n)) c.put_slot.new.block)
     c.fan-fan.ensures.value
-    ∙ ap (λ (xs : List ℕ). put before (byte_of p c.args.level (c.args.next.now.index / fan s)) xs)
+    ∙ ap (λ (xs : List ℕ). put before (start_byte_of p c.args.level (c.args.next.now.index / fan s)) xs)
     (open_block_with-put s below c.args.next.now.index c.fan-fan.result c.slot_width.result c.args.bytes.now
     c.put_slot.new.block
     c.args.next.now.digest.now
@@ -80,7 +80,7 @@ pub returns-in-Err-clause-device : goal.returns-in-Err-clause-device
 returns-in-Err-clause-device g c = λ tells.
     let p = c.args.job.now.plan in
     subst (λ (n : ℕ). Spoiled (g.D.Device.content c.args.device.now)
-    (byte_of p c.args.level (c.args.next.now.index / n))
+    (start_byte_of p c.args.level (c.args.next.now.index / n))
     p.settings.hash_block (g.D.Device.content c.write_or_compare.new.device)) c.fan-fan.ensures.value
     (WritesOrCompares-spoiled p c.args.job.now.task c.args.level
     (c.args.next.now.index / c.fan-fan.result) c.put_slot.new.block _ _ c.in-Err.fault

@@ -2,7 +2,7 @@ use Rattle.std.proofs.Common.{◌≡◌, ℕ, ◌-◌, ◌*◌, ◌<◌, min, Li
 use Rattle.verity_io.specs.Reading.{HasRead}
 use Rattle.verity_tree.specs.Reading.{bytes_of}
 use Rattle.verity_tree.specs.Steps.DataBlocks.{StopsBy, TakesDataBlock}
-use Rattle.verity_plan.specs.Plans.{Planned, IsPlanned, levels_of}
+use Rattle.verity_plan.specs.Plans.{Planned, IsPlanned, level_count_of}
 use Rattle.verity_tree.specs.declared.pass.data_block.BlockFault.{BlockFault}
 use Rattle.verity_tree.specs.declared.pass.data_block.BlockFault.TheVariants.{Short, Failed}
 use Rattle.verity_tree.proofs.OnePassLemmas.{HasOpenBlocks-after}
@@ -26,7 +26,7 @@ returns-in-Ok-clause-size g c = ap length c.hash.ensures ∙ length-hash c.args.
 pub returns-in-Ok-clause-opened : goal.returns-in-Ok-clause-opened
 returns-in-Ok-clause-opened g c = λ blocks stands.
     let s = c.args.plan.now.settings in
-    let levels = levels_of c.args.plan.now in
+    let levels = level_count_of c.args.plan.now in
     let a : c.levels.result * c.hash_block.result ≡ levels * s.hash_block =
     ap (λ (n : ℕ). n * c.hash_block.result) c.levels.ensures ∙ ap (λ (n : ℕ). levels * n) c.hash_block.ensures in
     HasOpenBlocks-after s blocks levels c.args.i (c.levels.result * c.hash_block.result) _ c.args.work.now
@@ -36,7 +36,7 @@ returns-in-Ok-clause-opened g c = λ blocks stands.
 pub returns-in-Err-clause-opened : goal.returns-in-Err-clause-opened
 returns-in-Err-clause-opened g c = λ blocks stands.
     let s = c.args.plan.now.settings in
-    let levels = levels_of c.args.plan.now in
+    let levels = level_count_of c.args.plan.now in
     let a : c.levels.result * c.hash_block.result ≡ levels * s.hash_block =
     ap (λ (n : ℕ). n * c.hash_block.result) c.levels.ensures ∙ ap (λ (n : ℕ). levels * n) c.hash_block.ensures in
     HasOpenBlocks-after s blocks levels c.args.i (c.levels.result * c.hash_block.result) _ c.args.work.now
@@ -47,8 +47,9 @@ pub returns-in-Ok-clause-read : goal.returns-in-Ok-clause-read
 returns-in-Ok-clause-read g c = λ tells bytes read_before.
     let p = c.args.plan.now in
     let b = c.data_block-size.result in
-    let a : c.levels.result * c.hash_block.result ≡ levels_of p * p.settings.hash_block =
-    ap (λ (n : ℕ). n * c.hash_block.result) c.levels.ensures ∙ ap (λ (n : ℕ). levels_of p * n) c.hash_block.ensures in
+    let a : c.levels.result * c.hash_block.result ≡ level_count_of p * p.settings.hash_block =
+    ap (λ (n : ℕ). n * c.hash_block.result) c.levels.ensures
+    ∙ ap (λ (n : ℕ). level_count_of p * n) c.hash_block.ensures in
     let w : c.min-data_len.result ≡ min b (p.wanted - c.args.i * b) =
     c.min-data_len.ensures ∙ ap (λ (n : ℕ). min b (n - c.args.i * b)) c.wanted.ensures.value in
     data-next p c.wanted.ensures.planned c.args.i c.min-data_len.result b (c.levels.result * c.hash_block.result) bytes

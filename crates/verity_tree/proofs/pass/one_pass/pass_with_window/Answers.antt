@@ -1,11 +1,11 @@
 use Rattle.std.proofs.Common.{List, arith, length, refl, rules, subst, sym, ℕ, ◌+◌, ◌<◌, ◌∙◌, ◌≡◌}
-use Rattle.verity_tree.specs.ClosingOrder.{closing, order}
+use Rattle.verity_tree.specs.ClosingOrder.{closing_with, closed_after}
 use Rattle.verity_tree.specs.TreeOnDevice.{tree_block, device_with}
 use Rattle.verity_tree.specs.Steps.Cascade.{first_closing}
 use Rattle.verity_tree.specs.Levels.{data_blocks}
-use Rattle.verity_plan.specs.Plans.{levels_of}
+use Rattle.verity_plan.specs.Plans.{level_count_of}
 use Rattle.verity_tree.proofs.OnePassLemmas.{HasOpenBlocks-zeros, reads-up-to, image-next, image-stopped}
-use Rattle.verity_tree.proofs.OnePassLemmas.{none-differs-order, stops-for}
+use Rattle.verity_tree.proofs.OnePassLemmas.{none-differs-closed_after, stops-for}
 use Rattle.verity_plan.proofs.FitLemmas.{fan-pos}
 use Rattle.verity_tree.proofs.LevelLemmas.{length-cut}
 use Rattle.verity_tree.proofs.DataBlockLemmas.{blocks-some}
@@ -18,7 +18,7 @@ use Rattle.std.proofs.lemmas.List.{length-replicate}
 use Rattle.verity_tree.proofs.pass.one_pass.pass_with_window.Goals as goal
 
 pub loop-i-init : goal.loop-i-init
-unfolding device_with order
+unfolding device_with closed_after
 loop-i-init g c =
     let p = c.args.job.now.plan in
     let planned = c.blocks-i-end.ensures.planned in
@@ -30,7 +30,7 @@ loop-i-init g c =
       within = c.none-ahead.ensures.within;
       device_failures = refl;
       read = λ _. c.none-ahead.ensures.ahead _;
-      opened = λ _ _. HasOpenBlocks-zeros p.settings _ (levels_of p) (length c.args.work.now) c.fill.new.self
+      opened = λ _ _. HasOpenBlocks-zeros p.settings _ (level_count_of p) (length c.args.work.now) c.fill.new.self
           (fan-pos p.settings planned.valid)
           (c.fill.ensures.after (λ y e. e)) (omega (arith, c.requires.room));
       answer = λ _ none. absurd (omega (arith, none, blocks-some p planned));
@@ -78,8 +78,8 @@ loop-i-preserved g c =
           (c.in-Ok.ensures.read (inv.source_told tells) bytes (inv.read tells)).1
           (c.in-Ok.ensures.opened blocks (inv.opened tells below)) in (
             step.0 ∙ before.0,
-            none-differs-order p blocks c.loop-i.i (g.D.Device.content c.args.device.now) before.1
-                (subst (λ (xs : List ℕ). NoneDiffers p blocks xs (closing (fan s) p.blocks c.loop-i.i)) before.0
+            none-differs-closed_after p blocks c.loop-i.i (g.D.Device.content c.args.device.now) before.1
+                (subst (λ (xs : List ℕ). NoneDiffers p blocks xs (closing_with (fan s) p.blocks c.loop-i.i)) before.0
                 step.1),
           );
     }

@@ -1,11 +1,11 @@
 use Rattle.std.proofs.Common.{◌≡◌, ◌<◌, length}
 use Rattle.verity_io.specs.Counting.{Counts}
-use Rattle.verity_tree.specs.ClosingOrder.{order}
+use Rattle.verity_tree.specs.ClosingOrder.{closed_after}
 use Rattle.verity_tree.specs.TreeOnDevice.{tree_on_device_after}
 use Rattle.verity_tree.specs.Levels.{root, data_blocks}
 use Rattle.verity_tree.specs.Steps.OpenBlocks.{HasOpenBlocks}
 use Rattle.verity_tree.specs.Steps.ReadingAhead.{IsAhead, IsWithinHashBlock, ahead_failed}
-use Rattle.verity_plan.specs.Plans.{levels_of}
+use Rattle.verity_plan.specs.Plans.{level_count_of}
 use Rattle.verity_plan.specs.Settings.{digest_len, fan}
 use Rattle.verity_tree.specs.Verdicts.{NoneDiffers}
 use Rattle.verity_tree.specs.declared.pass.closed_block.Task.TheVariants.{Compare}
@@ -24,7 +24,7 @@ invariant-loop-i g l = record {
       → IsAhead l.job.plan l.i (g.S.Source.remaining l.fn.source) l.ahead (g.S.Source.remaining l.source);
   opened : g.S.Source.tells l.fn.source → l.i < l.job.plan.blocks
       → HasOpenBlocks l.job.plan.settings (data_blocks l.job.plan (g.S.Source.remaining l.fn.source)) 0
-      (levels_of l.job.plan) l.i l.work;
+      (level_count_of l.job.plan) l.i l.work;
   answer : g.S.Source.tells l.fn.source → l.i ≡ l.job.plan.blocks
       → l.root ≡ root l.job.plan.settings (data_blocks l.job.plan (g.S.Source.remaining l.fn.source));
   stands : g.S.Source.tells l.fn.source → g.D.Device.tells l.fn.device
@@ -38,5 +38,5 @@ invariant-loop-i g l = record {
       → (g.D.Device.content l.device ≡ g.D.Device.content l.fn.device)
       × NoneDiffers l.job.plan (data_blocks l.job.plan (g.S.Source.remaining l.fn.source))
       (g.D.Device.content l.fn.device)
-      (order (fan l.job.plan.settings) l.job.plan.blocks l.i);
+      (closed_after (fan l.job.plan.settings) l.job.plan.blocks l.i);
 }

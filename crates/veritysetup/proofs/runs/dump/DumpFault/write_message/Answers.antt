@@ -8,27 +8,27 @@ returns-in-Superblock-Refused-clause-whole g c = λ t.
     let inner : c.in-Superblock-Refused.field-0 ≡ Refused c.in-Superblock-Refused.fault = rw c.in-Superblock-Refused.is at c.in-Superblock-Refused.field-0-is in
     rw (c.in-Superblock-Refused.is, inner) (c.write_message.ensures.whole _ c.super_message.ensures t)
 
-pub returns-in-Superblock-Refused-clause-front : goal.returns-in-Superblock-Refused-clause-front
-returns-in-Superblock-Refused-clause-front g c =
+pub returns-in-Superblock-Refused-clause-prefix : goal.returns-in-Superblock-Refused-clause-prefix
+returns-in-Superblock-Refused-clause-prefix g c =
     let inner : c.in-Superblock-Refused.field-0 ≡ Refused c.in-Superblock-Refused.fault = rw c.in-Superblock-Refused.is at c.in-Superblock-Refused.field-0-is in
-    rw (c.in-Superblock-Refused.is, inner) (c.write_message.ensures.front _ c.super_message.ensures)
+    rw (c.in-Superblock-Refused.is, inner) (c.write_message.ensures.prefix _ c.super_message.ensures)
 
 pub returns-in-Superblock-Unread-clause-whole : goal.returns-in-Superblock-Unread-clause-whole
 returns-in-Superblock-Unread-clause-whole g c = λ t.
     let inner : c.in-Superblock-Unread.field-0 ≡ Unread = rw c.in-Superblock-Unread.is at c.in-Superblock-Unread.field-0-is in
     rw (c.in-Superblock-Unread.is, inner) (c.write_text.ensures.whole t)
 
-pub returns-in-Superblock-Unread-clause-front : goal.returns-in-Superblock-Unread-clause-front
-returns-in-Superblock-Unread-clause-front g c =
+pub returns-in-Superblock-Unread-clause-prefix : goal.returns-in-Superblock-Unread-clause-prefix
+returns-in-Superblock-Unread-clause-prefix g c =
     let inner : c.in-Superblock-Unread.field-0 ≡ Unread = rw c.in-Superblock-Unread.is at c.in-Superblock-Unread.field-0-is in
-    rw (c.in-Superblock-Unread.is, inner) c.write_text.ensures.front
+    rw (c.in-Superblock-Unread.is, inner) c.write_text.ensures.prefix
 
 pub returns-in-Report-Memory-clause-whole : goal.returns-in-Report-Memory-clause-whole
 returns-in-Report-Memory-clause-whole g c = λ t.
     let inner : c.in-Report-Memory.field-0 ≡ Memory = rw c.in-Report-Memory.is at c.in-Report-Memory.field-0-is in
     rw (c.in-Report-Memory.is, inner) (c.write_text-in-Report-Memory.ensures.whole t)
 
-pub returns-in-Report-Memory-clause-front : goal.returns-in-Report-Memory-clause-front
-returns-in-Report-Memory-clause-front g c =
+pub returns-in-Report-Memory-clause-prefix : goal.returns-in-Report-Memory-clause-prefix
+returns-in-Report-Memory-clause-prefix g c =
     let inner : c.in-Report-Memory.field-0 ≡ Memory = rw c.in-Report-Memory.is at c.in-Report-Memory.field-0-is in
-    rw (c.in-Report-Memory.is, inner) c.write_text-in-Report-Memory.ensures.front
+    rw (c.in-Report-Memory.is, inner) c.write_text-in-Report-Memory.ensures.prefix
