@@ -24,6 +24,10 @@ impl Stored {
         }
     }
 
+    pub fn is_folder(&self) -> bool {
+        matches!(self.kind, Kind::Folder)
+    }
+
     /// Makes it grow when it is read for the first time.
     pub fn grow(&mut self) -> Result<(), AllocError> {
         self.bytes.extend_from_slice(self.growth.as_slice())?;
@@ -89,14 +93,6 @@ impl Contents {
         Ok(number)
     }
 
-    /// Whether the file of this number is a folder.
-    pub fn is_folder(&self, number: usize) -> bool {
-        match self.files.get(number) {
-            Some(stored) => stored.kind == Kind::Folder,
-            None => false,
-        }
-    }
-
     /// Records that a file was opened, synced or closed, by its first name.
     pub fn hold(&mut self, word: &str, number: usize) -> Result<(), AllocError> {
         for (name, other) in &self.names {
@@ -146,13 +142,13 @@ impl Contents {
         if how.asks_create_new() {
             return Err(io::Error::from(ErrorKind::AlreadyExists));
         }
-        if self.is_folder(number) && how.asks_write() {
-            return Err(io::Error::from(ErrorKind::IsADirectory));
-        }
-        if how.asks_truncate()
-            && let Some(stored) = self.files.get_mut(number)
-        {
-            stored.bytes.clear();
+        if let Some(stored) = self.files.get_mut(number) {
+            if stored.is_folder() && how.asks_write() {
+                return Err(io::Error::from(ErrorKind::IsADirectory));
+            }
+            if how.asks_truncate() {
+                stored.bytes.clear();
+            }
         }
         Ok(number)
     }

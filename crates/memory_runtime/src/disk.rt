@@ -6,7 +6,7 @@ use crate::contents::{Contents, Stored};
 use crate::kind::Kind;
 use command_line::FileIdentity;
 use std::alloc::Global;
-use std::cell::{Ref, RefCell, RefMut};
+use std::cell::{RefCell, RefMut};
 use std::fs::{Metadata, OpenOptions};
 use std::io;
 use std::io::ErrorKind;
@@ -35,19 +35,11 @@ impl Disk {
         }
     }
 
-    /// The contents, for reading.
-    pub(crate) fn seen(&self) -> io::Result<Ref<'_, Contents>> {
-        match self.contents.try_borrow() {
-            Ok(contents) => Ok(contents),
-            Err(_) => Err(io::Error::from(ErrorKind::ResourceBusy)),
-        }
-    }
-
-    /// The contents, for changing.
-    pub(crate) fn changed(&self) -> io::Result<RefMut<'_, Contents>> {
+    /// The contents, to be read or changed.
+    pub(crate) fn contents(&self) -> io::Result<RefMut<'_, Contents>> {
         match self.contents.try_borrow_mut() {
             Ok(contents) => Ok(contents),
-            Err(_) => Err(io::Error::from(ErrorKind::ResourceBusy)),
+            Err(_) => refused(ErrorKind::ResourceBusy),
         }
     }
 
@@ -58,14 +50,14 @@ impl Disk {
 
     /// Makes a file of a kind.
     pub fn make_kind(&self, name: &str, kind: Kind, bytes: Vec<u8>) -> io::Result<()> {
-        let mut contents = self.changed()?;
+        let mut contents = self.contents()?;
         contents.make(self.alloc, name, Stored::new(self.alloc, kind, bytes))?;
         Ok(())
     }
 
     /// Gives the file of this name another name as well.
     pub fn link(&self, name: &str, other: &str) -> io::Result<()> {
-        let mut contents = self.changed()?;
+        let mut contents = self.contents()?;
         let Some(number) = contents.number_of(name) else {
             return refused(ErrorKind::NotFound);
         };
@@ -75,7 +67,7 @@ impl Disk {
 
     /// Makes the file of this name grow by these bytes as soon as it is read.
     pub fn grow(&self, name: &str, bytes: &[u8]) -> io::Result<()> {
-        let mut contents = self.changed()?;
+        let mut contents = self.contents()?;
         let Some(number) = contents.number_of(name) else {
             return refused(ErrorKind::NotFound);
         };
@@ -85,25 +77,25 @@ impl Disk {
         }
     }
 
-    /// Makes the call of this number fail, counted from 1 over all files.
+    /// Makes the call of this number fail, counted from 1 over all files, and no other.
     pub fn fail(&self, call: Call, number: u64) -> io::Result<()> {
-        self.changed()?.calls.set_failing(call, number);
+        self.contents()?.calls.failing = (call, number);
         Ok(())
     }
 
     /// Whether a file has this name.
     pub fn has(&self, name: &str) -> io::Result<bool> {
-        Ok(self.seen()?.number_of(name).is_some())
+        Ok(self.contents()?.number_of(name).is_some())
     }
 
     /// The number of the file of this name.
     pub(crate) fn number_of(&self, name: &str) -> Option<usize> {
-        self.seen().ok()?.number_of(name)
+        self.contents().ok()?.number_of(name)
     }
 
     /// The identity of the file of this number.
     pub(crate) fn identity(&self, number: usize) -> Option<FileIdentity> {
-        let contents = self.seen().ok()?;
+        let contents = self.contents().ok()?;
         let inode = number as u64;
         match contents.files.get(number)?.kind {
             Kind::Plain => Some(FileIdentity::Regular { device: 1, inode }),
@@ -114,7 +106,7 @@ impl Disk {
 
     /// The bytes of the file of this name.
     pub fn bytes_of(&self, name: &str) -> io::Result<Vec<u8>> {
-        let contents = self.seen()?;
+        let contents = self.contents()?;
         let Some(number) = contents.number_of(name) else {
             return refused(ErrorKind::NotFound);
         };
@@ -126,20 +118,20 @@ impl Disk {
 
     /// What was opened, in order, each in a line such as `hash: read write create`. An opening that failed counts.
     pub fn opened(&self) -> io::Result<String> {
-        Ok(String::from_str(self.alloc, self.seen()?.opened.as_str())?)
+        Ok(String::from_str(self.alloc, self.contents()?.opened.as_str())?)
     }
 
     /// What was opened, synced and closed again, in order, each in a line such as `open hash`, `sync hash` or
     /// `close hash`. A file goes by its first name.
     pub fn held(&self) -> io::Result<String> {
-        Ok(String::from_str(self.alloc, self.seen()?.held.as_str())?)
+        Ok(String::from_str(self.alloc, self.contents()?.held.as_str())?)
     }
 
     /// What the system says of the file of this number.
     pub(crate) fn metadata(&self, number: usize) -> io::Result<Metadata> {
-        let contents = self.seen()?;
+        let contents = self.contents()?;
         match contents.files.get(number) {
-            Some(stored) if stored.kind == Kind::Folder => Ok(Metadata::of_dir()),
+            Some(stored) if stored.is_folder() => Ok(Metadata::of_dir()),
             Some(stored) => Ok(Metadata::of_file(stored.bytes.len() as u64)),
             None => refused(ErrorKind::NotFound),
         }
@@ -147,29 +139,22 @@ impl Disk {
 
     /// What was written to standard error.
     pub fn standard_error(&self) -> io::Result<Vec<u8>> {
-        Ok(self.seen()?.standard_error.to_vec(self.alloc)?)
+        Ok(self.contents()?.standard_error.to_vec(self.alloc)?)
     }
 
     /// How often a call was made, over all files.
     pub fn calls(&self, call: Call) -> io::Result<u64> {
-        Ok(self.seen()?.calls.count(call).made)
+        Ok(self.contents()?.calls.made(call))
     }
 
     /// How often the runtimes over this disk were asked for the step of the progress line.
     pub fn looks(&self) -> io::Result<u64> {
-        Ok(self.seen()?.looks)
-    }
-
-    /// Counts such a question.
-    pub(crate) fn count_look(&self) {
-        if let Ok(mut contents) = self.changed() {
-            contents.looks = contents.looks.saturating_add(1);
-        }
+        Ok(self.contents()?.looks)
     }
 
     /// Counts a call, and refuses the one that fails.
     pub(crate) fn count(&self, call: Call) -> io::Result<()> {
-        if self.changed()?.calls.fails(call) {
+        if self.contents()?.calls.fails(call) {
             return refused(ErrorKind::Other);
         }
         Ok(())
@@ -177,7 +162,7 @@ impl Disk {
 
     /// Opens a name. The answer is the number of its file.
     pub(crate) fn open(&self, how: &OpenOptions, name: &str) -> io::Result<usize> {
-        let mut contents = self.changed()?;
+        let mut contents = self.contents()?;
         let number = contents.open(self.alloc, how, name)?;
         contents.hold("open", number)?;
         Ok(number)
@@ -186,11 +171,11 @@ impl Disk {
     /// Syncs the file of this number. It is recorded if it doesn't fail.
     pub(crate) fn sync(&self, number: usize) -> io::Result<()> {
         self.count(Call::Sync)?;
-        Ok(self.changed()?.hold("sync", number)?)
+        Ok(self.contents()?.hold("sync", number)?)
     }
 
     /// Records that a file was closed.
     pub(crate) fn close(&self, number: usize) -> io::Result<()> {
-        Ok(self.changed()?.hold("close", number)?)
+        Ok(self.contents()?.hold("close", number)?)
     }
 }

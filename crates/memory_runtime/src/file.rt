@@ -3,7 +3,6 @@ ghost use Rattle.std.specs.Prelude.{◌≤◌, length, IfOk};
 
 use crate::call::Call;
 use crate::disk::{Disk, refused};
-use crate::kind::Kind;
 use std::fs::{Metadata, OpenFile};
 use std::io;
 use std::io::{Cursor, ErrorKind, Read, Seek, SeekFrom, Write};
@@ -14,7 +13,8 @@ const LAST_OFFSET: u64 = (1 << 63) - 1;
 /// A file of a disk, opened.
 pub struct MemoryFile<'a> {
     disk: &'a Disk,
-    number: usize,
+    /// Its number on the disk.
+    pub(crate) number: usize,
     at: u64,
     reads: bool,
     writes: bool,
@@ -30,11 +30,6 @@ impl<'a> MemoryFile<'a> {
             reads,
             writes,
         }
-    }
-
-    /// The number of the file on its disk.
-    pub(crate) fn number(&self) -> usize {
-        self.number
     }
 }
 
@@ -59,11 +54,11 @@ impl Read for MemoryFile<'_> {
         if !self.reads {
             return refused(ErrorKind::PermissionDenied);
         }
-        let mut contents = self.disk.changed()?;
+        let mut contents = self.disk.contents()?;
         let Some(stored) = contents.files.get_mut(self.number) else {
             return refused(ErrorKind::NotFound);
         };
-        if stored.kind == Kind::Folder {
+        if stored.is_folder() {
             return refused(ErrorKind::IsADirectory);
         }
         stored.grow()?;
@@ -90,7 +85,7 @@ impl Write for MemoryFile<'_> {
         if !self.writes {
             return refused(ErrorKind::PermissionDenied);
         }
-        let mut contents = self.disk.changed()?;
+        let mut contents = self.disk.contents()?;
         let Some(stored) = contents.files.get_mut(self.number) else {
             return refused(ErrorKind::NotFound);
         };
@@ -107,11 +102,11 @@ impl Write for MemoryFile<'_> {
 impl Seek for MemoryFile<'_> {
     fn seek(&mut self, to: SeekFrom) -> io::Result<u64> {
         self.disk.count(Call::Seek)?;
-        let contents = self.disk.seen()?;
+        let contents = self.disk.contents()?;
         let Some(stored) = contents.files.get(self.number) else {
             return refused(ErrorKind::NotFound);
         };
-        if stored.kind == Kind::Folder && to == SeekFrom::End(0) {
+        if stored.is_folder() && to == SeekFrom::End(0) {
             return Ok(LAST_OFFSET);
         }
         let mut cursor = Cursor::new(stored.bytes.as_slice());
@@ -135,6 +130,6 @@ impl OpenFile for MemoryFile<'_> {
     }
 
     fn sync_data(&self) -> io::Result<()> {
-        self.disk.sync(self.number)
+        self.sync_all()
     }
 }

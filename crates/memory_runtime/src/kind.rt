@@ -1,7 +1,7 @@
 //! The kinds of files.
 
 /// What a file is.
-#[derive(Clone, Copy, Debug, PartialEq, Eq)]
+#[derive(Clone, Copy)]
 pub enum Kind {
     /// A file of a file system.
     Plain,

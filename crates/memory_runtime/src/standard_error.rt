@@ -20,7 +20,7 @@ impl<'a> StandardError<'a> {
 
 impl Write for StandardError<'_> {
     fn write(&mut self, buf: &[u8]) -> io::Result<usize> {
-        self.disk.changed()?.standard_error.extend_from_slice(buf)?;
+        self.disk.contents()?.standard_error.extend_from_slice(buf)?;
         Ok(buf.len())
     }
 
