@@ -1,9 +1,9 @@
 //! Each fault of fsverity in turn.
+use crate::passes::{Extent, Pass};
 use crate::scene::{Program, Scene};
-use crate::steps::{Effect, Extent, Files, Pass, Steps};
+use crate::steps::Effect;
 use fixtures::{Shape, Tree, data, descriptor, filled};
 use memory_runtime::Call;
-use sha2::{Digest as Hasher, Sha256, Sha512};
 use std::alloc::{AllocError, Global};
 use std::test::Fail;
 use verity_hash::Algorithm;
@@ -22,6 +22,10 @@ struct Settings {
     input_block: usize,
     /// The first four bytes of the descriptor.
     head: [u8; 4],
+    /// What comes before the digits in a line with a name.
+    before: &'static str,
+    /// What comes before them in the digits of the bytes to be signed.
+    before_signed: &'static str,
 }
 
 const SHORT: Settings = Settings {
@@ -32,6 +36,8 @@ const SHORT: Settings = Settings {
     salt: b"",
     input_block: 0,
     head: [1, 1, 9, 0],
+    before: "sha256:",
+    before_signed: "465356657269747901002000",
 };
 
 const LONG: Settings = Settings {
@@ -42,6 +48,8 @@ const LONG: Settings = Settings {
     salt: b"\xab\xcd",
     input_block: 128,
     head: [1, 2, 7, 2],
+    before: "sha512:",
+    before_signed: "465356657269747902004000",
 };
 
 /// A file: its name, its length in bytes, and the number of levels of its tree.
@@ -62,6 +70,9 @@ const FORMS: [Form; 4] = [
     (" --compact --for-builtin-sig", false, true),
 ];
 
+/// Which output files are wanted: `tree` and `made`, for the tree and the descriptor.
+type Outputs = (bool, bool);
+
 impl Settings {
     /// The tree of a file.
     fn tree(&self, alloc: Global, file: Named) -> Result<Tree, AllocError> {
@@ -74,35 +85,6 @@ impl Settings {
         Ok(tree)
     }
 
-    /// The descriptor of a file with this root hash.
-    fn descriptor(&self, alloc: Global, length: usize, root: &[u8]) -> Result<Vec<u8>, AllocError> {
-        descriptor(alloc, &self.head, length as u64, root, self.salt)
-    }
-
-    /// The line of a file with this descriptor.
-    fn line(
-        &self,
-        alloc: Global,
-        form: Form,
-        descriptor: &[u8],
-        name: &str,
-    ) -> Result<String, AllocError> {
-        let digits = match self.algorithm {
-            Algorithm::Sha512 => hex::encode(alloc, Sha512::digest(descriptor).as_slice())?,
-            _ => hex::encode(alloc, Sha256::digest(descriptor).as_slice())?,
-        };
-        let (before, signed) = match self.algorithm {
-            Algorithm::Sha512 => ("sha512:", "465356657269747902004000"),
-            _ => ("sha256:", "465356657269747901002000"),
-        };
-        match form {
-            (_, true, false) => format!(in alloc; "{before}{digits} {name}\n"),
-            (_, false, false) => format!(in alloc; "{digits}\n"),
-            (_, true, true) => format!(in alloc; "{signed}{digits} {name}\n"),
-            (_, false, true) => format!(in alloc; "{signed}{digits}\n"),
-        }
-    }
-
     fn extent(&self, length: usize) -> Extent {
         Extent {
             fan: self.slots.0,
@@ -111,80 +93,91 @@ impl Settings {
         }
     }
 
-    /// Digest of some files: each is opened, read once, and its line is printed.
-    fn digest(&self, alloc: Global, form: Form, named: &[Named]) -> Result<Scene, AllocError> {
-        let options = self.options;
-        let mut words = format!(in alloc; "fsverity digest {options}{}", form.0)?;
-        let mut steps = Steps::new(alloc);
-        let mut files: Files = Vec::new(alloc);
-        steps.begin("fsverity: cannot open /dev/null.\n")?;
-        for file in named {
-            let name = file.name;
-            let message = format!(in alloc; "fsverity: cannot open {name}.\n")?;
-            steps.measured(message.as_str())?;
-            let tree = self.tree(alloc, *file)?;
-            steps.pass(Pass::Digest(name), &tree, self.extent(file.length))?;
-            let descriptor = self.descriptor(alloc, file.length, tree.root.as_slice())?;
-            steps.prints(self.line(alloc, form, descriptor.as_slice(), name)?)?;
-            files.push((name, data(alloc, file.length)?))?;
-            words.push(' ')?;
-            words.push_str(name)?;
-        }
-        Ok(scene(words, files, steps))
+    /// The line of a file with this descriptor.
+    fn line(
+        &self,
+        alloc: Global,
+        (_, with_name, signed): Form,
+        descriptor: &[u8],
+        name: &str,
+    ) -> Result<String, AllocError> {
+        let shape = Shape::new(alloc, self.algorithm, (0, 0), (0, 0));
+        let digits = hex::encode(alloc, shape.digest(alloc, descriptor)?.as_slice())?;
+        let before = match (with_name, signed) {
+            (_, true) => self.before_signed,
+            (true, false) => self.before,
+            (false, false) => "",
+        };
+        let (space, name) = if with_name { (" ", name) } else { ("", "") };
+        format!(in alloc; "{before}{digits}{space}{name}\n")
     }
 
-    /// Digest of a file with output files, `tree` and `made`: the file is opened, and then the output files that are
-    /// asked for, which are emptied; the data is read once, and each block of the tree is written as it closes, then
-    /// the descriptor, then the line is printed.
-    fn digest_to(
+    /// Digest of some files, with output files if there is one: each is digested after the other.
+    fn digest(
         &self,
         alloc: Global,
         form: Form,
-        file: Named,
-        (wants_tree, wants_descriptor): (bool, bool),
+        files: &[Named],
+        outputs: Outputs,
     ) -> Result<Scene, AllocError> {
-        let options = self.options;
-        let name = file.name;
-        let mut words = format!(in alloc; "fsverity digest {options}{} {name}", form.0)?;
-        let mut steps = Steps::new(alloc);
-        let mut files: Files = Vec::new(alloc);
-        files.push((name, data(alloc, file.length)?))?;
-        files.push(("tree", vec![in alloc; 77u8; 5000]?))?;
-        steps.begin("fsverity: cannot open /dev/null.\n")?;
-        let message = format!(in alloc; "fsverity: cannot open {name}.\n")?;
-        steps.measured(message.as_str())?;
-        let mut pass = Pass::Digest(name);
-        if wants_tree {
-            words.push_str(" --out-merkle-tree tree")?;
-            let message = "fsverity: cannot open tree.\n";
-            steps.call(Call::Open, message, Effect::Emptied("tree"))?;
-            pass = Pass::DigestTo(name, "tree");
+        let words = format!(in alloc; "fsverity digest {}{}", self.options, form.0)?;
+        let mut scene = Scene::new(alloc, Program::Fsverity, words)?;
+        scene.files.push(("tree", vec![in alloc; 77u8; 5000]?))?;
+        for file in files {
+            let pass = scene.opens_files(*file, outputs)?;
+            self.prints_line(&mut scene, form, *file, pass, outputs.1)?;
         }
-        if wants_descriptor {
-            words.push_str(" --out-descriptor made")?;
-            let message = "fsverity: cannot open made.\n";
-            steps.call(Call::Open, message, Effect::Emptied("made"))?;
-        }
+        Ok(scene)
+    }
+
+    /// The data of a file is read once, and if it is wanted, each block of the tree is written as it closes, and then
+    /// the descriptor; then the line is printed.
+    fn prints_line(
+        &self,
+        scene: &mut Scene,
+        form: Form,
+        file: Named,
+        pass: Pass,
+        wants_descriptor: bool,
+    ) -> Result<(), AllocError> {
+        let alloc = scene.alloc;
         let tree = self.tree(alloc, file)?;
-        steps.pass(pass, &tree, self.extent(file.length))?;
-        let descriptor = self.descriptor(alloc, file.length, tree.root.as_slice())?;
-        let line = self.line(alloc, form, descriptor.as_slice(), name)?;
+        scene.passes(pass, &tree, self.extent(file.length))?;
+        let size = file.length as u64;
+        let bytes = descriptor(alloc, &self.head, size, tree.root.as_slice(), self.salt)?;
+        let line = self.line(alloc, form, bytes.as_slice(), file.name)?;
         if wants_descriptor {
-            let put = Effect::Put("made", 0, descriptor);
-            steps.call(Call::Write, "fsverity: cannot write descriptor.\n", put)?;
+            let put = Effect::Put("made", 0, bytes);
+            scene.calls(Call::Write, "fsverity: cannot write descriptor.\n", put)?;
         }
-        steps.prints(line)?;
-        Ok(scene(words, files, steps))
+        scene.prints(line)
     }
 }
 
-/// A command of fsverity.
-fn scene(words: String, files: Files, steps: Steps) -> Scene {
-    Scene {
-        program: Program::Fsverity,
-        words,
-        files,
-        steps: steps.list,
+impl Scene {
+    /// A file is opened, and then the output files that are wanted, which are emptied. The answer is what the pass does.
+    fn opens_files(&mut self, file: Named, outputs: Outputs) -> Result<Pass, AllocError> {
+        let name = file.name;
+        write!(self.words, " {name}")?;
+        self.files.push((name, data(self.alloc, file.length)?))?;
+        self.measures(name)?;
+        if outputs.0 {
+            self.empties("tree", " --out-merkle-tree tree")?;
+        }
+        if outputs.1 {
+            self.empties("made", " --out-descriptor made")?;
+        }
+        Ok(if outputs.0 {
+            Pass::DigestTo(name, "tree")
+        } else {
+            Pass::Digest(name)
+        })
+    }
+
+    /// The output file of an option is opened and emptied.
+    fn empties(&mut self, name: &'static str, option: &str) -> Result<(), AllocError> {
+        self.words.push_str(option)?;
+        self.opens(name, Effect::Emptied(name))
     }
 }
 
@@ -216,14 +209,11 @@ const DEEP: Named = Named {
 };
 
 #[test]
-fn each_call_of_digest_fails_in_turn(rt: HostRuntime) -> Result<(), Fail> {
-    let alloc = rt.alloc();
+fn each_fault_of_digest_is_answered(rt: HostRuntime) -> Result<(), Fail> {
     for form in FORMS {
         for (settings, files) in [(&SHORT, FILES.as_slice()), (&LONG, [DEEP].as_slice())] {
-            let scene = settings.digest(alloc, form, files)?;
-            assert_eq!(rt; scene.wrong_call(alloc)?, None, "at {}", scene.words);
-            assert_eq!(rt; scene.wrong_output(alloc)?, None, "at {}", scene.words);
-            let wrong = scene.wrong_message(alloc, Call::Read)?;
+            let scene = settings.digest(rt.alloc(), form, files, (false, false))?;
+            let wrong = scene.first_wrong(Call::Read)?;
             assert_eq!(rt; wrong, None, "at {}", scene.words);
         }
     }
@@ -231,18 +221,15 @@ fn each_call_of_digest_fails_in_turn(rt: HostRuntime) -> Result<(), Fail> {
 }
 
 #[test]
-fn each_call_with_output_files_fails_in_turn(rt: HostRuntime) -> Result<(), Fail> {
-    let alloc = rt.alloc();
-    for (wanted, form) in [
+fn each_fault_with_output_files_is_answered(rt: HostRuntime) -> Result<(), Fail> {
+    for (outputs, form) in [
         ((true, true), FORMS[0]),
         ((true, false), FORMS[1]),
         ((false, true), FORMS[2]),
     ] {
         for (settings, file) in [(&SHORT, FILES[0]), (&SHORT, FILES[1]), (&LONG, DEEP)] {
-            let scene = settings.digest_to(alloc, form, file, wanted)?;
-            assert_eq!(rt; scene.wrong_call(alloc)?, None, "at {}", scene.words);
-            assert_eq!(rt; scene.wrong_output(alloc)?, None, "at {}", scene.words);
-            let wrong = scene.wrong_message(alloc, Call::Seek)?;
+            let scene = settings.digest(rt.alloc(), form, &[file], outputs)?;
+            let wrong = scene.first_wrong(Call::Seek)?;
             assert_eq!(rt; wrong, None, "at {}", scene.words);
         }
     }

@@ -1,6 +1,8 @@
 //! The commands of veritysetup over images of some settings, and the steps that each takes.
-use crate::scene::{Program, STEADY, Scene};
-use crate::steps::{Effect, Extent, Files, Pass, Steps};
+use crate::endings::STEADY;
+use crate::passes::{Extent, Pass};
+use crate::scene::{Program, Scene};
+use crate::steps::{Effect, Files};
 use fixtures::{REPORT_17, Report, Shape, Tree, data, salt_text, superblock};
 use memory_runtime::Call;
 use std::alloc::{AllocError, Global};
@@ -94,84 +96,95 @@ impl Setup {
     /// Format: the data is read once, each hash block is written as it closes, then the superblock, then the report is
     /// printed, and the system is asked to sync all of it, and the folder of a new file if that can be opened.
     pub fn format(&self, alloc: Global) -> Result<Scene, AllocError> {
-        let tree = self.tree(alloc)?;
-        let mut steps = Steps::new(alloc);
-        steps.begin("Cannot open /dev/null.\n")?;
-        steps.measured("Cannot open data.\n")?;
-        steps.call(Call::Open, "Cannot open hash.img.\n", Effect::Made(HASH))?;
-        steps.pass(Pass::Format(HASH, self.tree_at), &tree, self.extent())?;
-        if let Some(offset) = self.superblock {
-            let name = self.name.as_bytes();
-            let bytes = superblock(self.hash_type, name, self.sizes, self.blocks, self.salt);
-            let put = Effect::Put(HASH, offset, bytes.to_vec(alloc)?);
-            steps.call(Call::Seek, "Cannot write superblock.\n", Effect::Nothing)?;
-            steps.call(Call::Write, "Cannot write superblock.\n", put)?;
-        }
-        steps.prints(self.report(alloc, Some(tree.root.as_slice()))?)?;
-        steps.call(Call::Sync, "Cannot write hash.img.\n", Effect::Nothing)?;
-        if self.before.is_none() {
-            steps.tries(Call::Open)?;
-            steps.call(Call::Sync, "Cannot write hash.img.\n", Effect::Nothing)?;
-        }
-        let mut files: Files = Vec::new(alloc);
-        files.push(("data", self.data(alloc)?))?;
-        if let Some(length) = self.before {
-            files.push((HASH, vec![in alloc; 77u8; length]?))?;
-        }
         let uuid = self.superblock.map_or("", |_| UUID_OPTION);
         let options = self.options;
         let words = format!(in alloc; "veritysetup format {options}{uuid} data hash.img")?;
-        Ok(scene(words, files, steps))
+        let mut scene = Scene::new(alloc, Program::Veritysetup, words)?;
+        scene.files.push(("data", self.data(alloc)?))?;
+        if let Some(length) = self.before {
+            scene.files.push((HASH, vec![in alloc; 77u8; length]?))?;
+        }
+        scene.measures("data")?;
+        scene.opens(HASH, Effect::Made(HASH))?;
+        self.writes(&mut scene)?;
+        scene.calls(Call::Sync, "Cannot write hash.img.\n", Effect::Nothing)?;
+        if self.before.is_none() {
+            scene.calls(Call::Open, "", Effect::Nothing)?;
+            scene.calls(Call::Sync, "Cannot write hash.img.\n", Effect::Nothing)?;
+        }
+        Ok(scene)
+    }
+
+    /// The pass, the superblock and the report of format.
+    fn writes(&self, scene: &mut Scene) -> Result<(), AllocError> {
+        let tree = self.tree(scene.alloc)?;
+        scene.passes(Pass::Format(HASH, self.tree_at), &tree, self.extent())?;
+        if let Some(offset) = self.superblock {
+            let name = self.name.as_bytes();
+            let bytes = superblock(self.hash_type, name, self.sizes, self.blocks, self.salt);
+            let put = Effect::Put(HASH, offset, bytes.to_vec(scene.alloc)?);
+            scene.calls(Call::Seek, "Cannot write superblock.\n", Effect::Nothing)?;
+            scene.calls(Call::Write, "Cannot write superblock.\n", put)?;
+        }
+        scene.prints(self.report(scene.alloc, Some(tree.root.as_slice()))?)
     }
 
     /// The files that format leaves.
     fn made(&self, alloc: Global) -> Result<Files, AllocError> {
-        Ok(self.format(alloc)?.ending(alloc, &STEADY)?.files)
+        Ok(self.format(alloc)?.ending(&STEADY)?.files)
+    }
+
+    /// A command of veritysetup with these words, over the files that format leaves.
+    fn over_made(&self, alloc: Global, words: String) -> Result<Scene, AllocError> {
+        let mut scene = Scene::new(alloc, Program::Veritysetup, words)?;
+        scene.files = self.made(alloc)?;
+        Ok(scene)
+    }
+
+    /// The words of verify, with the root hash at the end.
+    fn words_of_verify(&self, alloc: Global, root: &[u8]) -> Result<String, AllocError> {
+        let root = hex::encode(alloc, root)?;
+        let options = self.options;
+        match self.superblock {
+            Some(offset) => {
+                format!(in alloc; "veritysetup verify --hash-offset {offset} data hash.img {root}")
+            }
+            None => format!(in alloc; "veritysetup verify {options} data hash.img {root}"),
+        }
     }
 
     /// Verify: the superblock is read, then the data once, and each hash block as it closes.
     pub fn verify(&self, alloc: Global) -> Result<Scene, AllocError> {
         let tree = self.tree(alloc)?;
-        let mut steps = Steps::new(alloc);
-        steps.begin("Cannot open /dev/null.\n")?;
-        steps.measured("Cannot open data.\n")?;
-        steps.call(Call::Open, "Cannot open hash.img.\n", Effect::Nothing)?;
-        let root = hex::encode(alloc, tree.root.as_slice())?;
-        let words = match self.superblock {
-            Some(offset) => {
-                steps.call(Call::Seek, "Cannot read superblock.\n", Effect::Nothing)?;
-                steps.call(Call::Read, "Cannot read superblock.\n", Effect::Nothing)?;
-                format!(in alloc; "veritysetup verify --hash-offset {offset} data hash.img {root}")?
-            }
-            None => {
-                let options = self.options;
-                format!(in alloc; "veritysetup verify {options} data hash.img {root}")?
-            }
-        };
-        steps.pass(Pass::Verify, &tree, self.extent())?;
-        Ok(scene(words, self.made(alloc)?, steps))
+        let words = self.words_of_verify(alloc, tree.root.as_slice())?;
+        let mut scene = self.over_made(alloc, words)?;
+        scene.measures("data")?;
+        scene.opens(HASH, Effect::Nothing)?;
+        if self.superblock.is_some() {
+            scene.reads_superblock()?;
+        }
+        scene.passes(Pass::Verify, &tree, self.extent())?;
+        Ok(scene)
     }
 
     /// Dump: the superblock is read, and its report is printed.
     pub fn dump(&self, alloc: Global) -> Result<Scene, AllocError> {
         let offset = self.superblock.unwrap_or(0);
-        let mut steps = Steps::new(alloc);
-        steps.begin("Cannot open /dev/null.\n")?;
-        steps.call(Call::Open, "Cannot open hash.img.\n", Effect::Nothing)?;
-        steps.call(Call::Seek, "Cannot read superblock.\n", Effect::Nothing)?;
-        steps.call(Call::Read, "Cannot read superblock.\n", Effect::Nothing)?;
-        steps.prints(self.report(alloc, None)?)?;
         let words = format!(in alloc; "veritysetup dump --hash-offset {offset} hash.img")?;
-        Ok(scene(words, self.made(alloc)?, steps))
+        let mut scene = self.over_made(alloc, words)?;
+        scene.opens(HASH, Effect::Nothing)?;
+        scene.reads_superblock()?;
+        scene.prints(self.report(alloc, None)?)?;
+        Ok(scene)
     }
 }
 
-/// A command of veritysetup.
-fn scene(words: String, files: Files, steps: Steps) -> Scene {
-    Scene {
-        program: Program::Veritysetup,
-        words,
-        files,
-        steps: steps.list,
+impl Scene {
+    /// The superblock is read.
+    fn reads_superblock(&mut self) -> Result<(), AllocError> {
+        for call in [Call::Seek, Call::Read] {
+            self.calls(call, "Cannot read superblock.\n", Effect::Nothing)?;
+        }
+        Ok(())
     }
 }

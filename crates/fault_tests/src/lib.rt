@@ -6,9 +6,13 @@
 #[cfg(test)]
 mod digests;
 #[cfg(test)]
+mod endings;
+#[cfg(test)]
 mod hostile;
 #[cfg(test)]
 mod images;
+#[cfg(test)]
+mod passes;
 #[cfg(test)]
 mod scene;
 #[cfg(test)]

@@ -54,53 +54,30 @@ const SETUPS: [Setup; 3] = [
 ];
 
 #[test]
-fn each_call_of_format_fails_in_turn(rt: HostRuntime) -> Result<(), Fail> {
-    let alloc = rt.alloc();
+fn each_fault_of_format_is_answered(rt: HostRuntime) -> Result<(), Fail> {
     for setup in &SETUPS {
-        let scene = setup.format(alloc)?;
-        assert_eq!(rt; scene.wrong_call(alloc)?, None, "at {}", setup.blocks);
-    }
-    Ok(())
-}
-
-#[test]
-fn each_call_of_verify_fails_in_turn(rt: HostRuntime) -> Result<(), Fail> {
-    let alloc = rt.alloc();
-    for setup in &SETUPS {
-        let scene = setup.verify(alloc)?;
-        assert_eq!(rt; scene.wrong_call(alloc)?, None, "at {}", setup.blocks);
-        let wrong = scene.wrong_message(alloc, Call::Read)?;
+        let wrong = setup.format(rt.alloc())?.first_wrong(Call::Write)?;
         assert_eq!(rt; wrong, None, "at {}", setup.blocks);
     }
     Ok(())
 }
 
 #[test]
-fn output_and_messages_of_format_end_at_each_length(rt: HostRuntime) -> Result<(), Fail> {
-    let alloc = rt.alloc();
+fn each_fault_of_verify_is_answered(rt: HostRuntime) -> Result<(), Fail> {
     for setup in &SETUPS {
-        let scene = setup.format(alloc)?;
-        let wrong = scene.wrong_output(alloc)?;
-        assert_eq!(rt; wrong, None, "at {}", setup.blocks);
-        let wrong = scene.wrong_message(alloc, Call::Write)?;
+        let wrong = setup.verify(rt.alloc())?.first_wrong(Call::Read)?;
         assert_eq!(rt; wrong, None, "at {}", setup.blocks);
     }
     Ok(())
 }
 
 #[test]
-fn each_call_of_dump_fails_in_turn(rt: HostRuntime) -> Result<(), Fail> {
-    let alloc = rt.alloc();
+fn each_fault_of_dump_is_answered(rt: HostRuntime) -> Result<(), Fail> {
     for setup in &SETUPS {
-        if setup.superblock.is_none() {
-            continue;
+        if setup.superblock.is_some() {
+            let wrong = setup.dump(rt.alloc())?.first_wrong(Call::Read)?;
+            assert_eq!(rt; wrong, None, "at {}", setup.blocks);
         }
-        let scene = setup.dump(alloc)?;
-        assert_eq!(rt; scene.wrong_call(alloc)?, None, "at {}", setup.blocks);
-        let wrong = scene.wrong_output(alloc)?;
-        assert_eq!(rt; wrong, None, "at {}", setup.blocks);
-        let wrong = scene.wrong_message(alloc, Call::Read)?;
-        assert_eq!(rt; wrong, None, "at {}", setup.blocks);
     }
     Ok(())
 }

@@ -1,72 +1,116 @@
 //! Every fault of a run in turn, compared with how its steps say that it ends.
-use crate::scene::{CALLS, Ending, STEADY, Scene, Trial};
-use memory_runtime::Call;
-use std::alloc::Global;
+use crate::endings::{CALLS, Ending, STEADY, Trial};
+use crate::scene::{Program, Scene};
+use crate::steps::Files;
+use fixtures::{Narrow, Said};
+use memory_runtime::{Call, Disk, Kind, MemoryRuntime};
+use std::alloc::{AllocError, Global};
+use std::io;
 use std::test::Fail;
+use veritysetup::ProgressLine;
 
-/// A trial that doesn't end as the steps say, and how it ends.
-type Wrong = Option<(Call, usize, &'static str)>;
+/// A trial that doesn't end as the steps say: the call that fails and its number, the room for the output and for the
+/// messages, and what is wrong.
+type Wrong = ((Call, u64), usize, usize, &'static str);
+
+/// How a run over a disk ended. The files are those of these names that are there.
+fn ending_on(alloc: Global, disk: &Disk, said: Said, names: &Files) -> io::Result<Ending> {
+    let mut files = Vec::new(alloc);
+    for (name, _) in names {
+        if disk.has(name)? {
+            files.push((*name, disk.bytes_of(name)?))?;
+        }
+    }
+    let mut calls = [0; 5];
+    for (kind, made) in CALLS.iter().zip(calls.iter_mut()) {
+        *made = disk.calls(*kind)?;
+    }
+    Ok(Ending { said, files, calls })
+}
 
 impl Scene {
+    /// A disk with the null device, the current folder and the files.
+    fn disk(&self) -> io::Result<Disk> {
+        let disk = Disk::new(self.alloc);
+        disk.make_kind("/dev/null", Kind::Character, Vec::new(self.alloc))?;
+        disk.make_kind(".", Kind::Folder, Vec::new(self.alloc))?;
+        for (name, bytes) in &self.files {
+            disk.make(name, bytes.to_vec(self.alloc)?)?;
+        }
+        Ok(disk)
+    }
+
+    /// Runs the program over a disk.
+    fn run(&self, disk: &Disk, trial: &Trial) -> Said {
+        let runtime = MemoryRuntime::new(self.alloc, disk, self.words.as_str());
+        let progress = ProgressLine::new(&runtime);
+        let mut out = Narrow::new(Vec::new(self.alloc), trial.room, 7);
+        out.takes_nothing = trial.takes_nothing;
+        let mut msgs = Narrow::new(Vec::new(self.alloc), trial.message_room, 7);
+        let status = match self.program {
+            Program::Veritysetup => {
+                veritysetup::run_program(&runtime, &progress, &mut out, &mut msgs)
+            }
+            Program::Fsverity => fsverity::run_program(&runtime, &progress, &mut out, &mut msgs),
+        };
+        Said {
+            status,
+            out: out.bytes,
+            msgs: msgs.bytes,
+        }
+    }
+
     /// What differs in a trial from how the steps say that the run ends. The files compared are those of a run that
     /// goes through.
-    fn wrong(
-        &self,
-        alloc: Global,
-        trial: &Trial,
-        whole: &Ending,
-    ) -> Result<Option<&'static str>, Fail> {
-        let expected = self.ending(alloc, trial)?;
-        let found = self.run(alloc, trial, whole)?;
-        // If the null device can't be opened, the root folder is tried, and a seek that fails may be the end.
+    fn wrong(&self, trial: &Trial, whole: &Ending) -> Result<Option<&'static str>, Fail> {
+        let disk = self.disk()?;
         let (call, number) = trial.failing;
-        let goes_on = matches!(call, Call::Open | Call::Seek)
-            && (1..=self.count(call)).contains(&number);
-        Ok(expected.differs(&found, !goes_on))
+        disk.fail(call, number)?;
+        let found = ending_on(self.alloc, &disk, self.run(&disk, trial), &whole.files)?;
+        let expected = self.ending(trial)?;
+        // If the null device can't be opened, the root folder is tried, and a seek that fails may be the end.
+        let made = whole.calls.get(call as usize).copied().unwrap_or(0);
+        let may_go_on = matches!(call, Call::Open | Call::Seek) && (1..=made).contains(&number);
+        Ok(expected.differs(&found, !may_go_on))
     }
 
-    /// The first call of a file whose failure doesn't end the run as it should. Each call of a kind fails in turn, and
-    /// then one more than there are, so that nothing fails.
-    pub fn wrong_call(&self, alloc: Global) -> Result<Wrong, Fail> {
-        let whole = self.ending(alloc, &STEADY)?;
-        for call in CALLS {
-            for number in 0..=self.count(call) {
-                let mut trial = STEADY;
-                trial.failing = (call, number.saturating_add(1));
-                if let Some(what) = self.wrong(alloc, &trial, &whole)? {
-                    return Ok(Some((call, number.saturating_add(1), what)));
-                }
+    /// All trials: each call of a kind fails in turn, and then one more than there are, so that nothing fails; the
+    /// output ends at each length, and fails there or takes nothing; and the messages end at each length after the first
+    /// call of a kind has failed.
+    fn trials(&self, whole: &Ending, first: Call) -> Result<Vec<Trial>, AllocError> {
+        let mut trials = Vec::new(self.alloc);
+        for (call, made) in CALLS.iter().zip(whole.calls) {
+            for before in 0..=made {
+                let failing = (*call, before.saturating_add(1));
+                trials.push(Trial { failing, ..STEADY })?;
             }
         }
-        Ok(None)
-    }
-
-    /// The first length at which a full output doesn't end a run as it should: it fails, or takes nothing.
-    pub fn wrong_output(&self, alloc: Global) -> Result<Wrong, Fail> {
-        let whole = self.ending(alloc, &STEADY)?;
         for takes_nothing in [false, true] {
-            for room in 0..=whole.out.len() {
-                let mut trial = STEADY;
-                trial.room = room;
-                trial.takes_nothing = takes_nothing;
-                if let Some(what) = self.wrong(alloc, &trial, &whole)? {
-                    return Ok(Some((Call::Write, room, what)));
-                }
+            for room in 0..=whole.said.out.len() {
+                trials.push(Trial {
+                    room,
+                    takes_nothing,
+                    ..STEADY
+                })?;
             }
         }
-        Ok(None)
-    }
-
-    /// The first length at which full messages don't end a run as they should, after this call has failed.
-    pub fn wrong_message(&self, alloc: Global, call: Call) -> Result<Wrong, Fail> {
-        let whole = self.ending(alloc, &STEADY)?;
         let mut trial = STEADY;
-        trial.failing = (call, 1);
-        let length = self.ending(alloc, &trial)?.msgs.len();
+        trial.failing = (first, 1);
+        let length = self.ending(&trial)?.said.msgs.len();
         for room in 0..=length {
             trial.message_room = room;
-            if let Some(what) = self.wrong(alloc, &trial, &whole)? {
-                return Ok(Some((call, room, what)));
+            trials.push(trial)?;
+        }
+        Ok(trials)
+    }
+
+    /// The first trial that doesn't end as it should. The messages end at each length after the first call of this kind
+    /// has failed.
+    pub fn first_wrong(&self, first: Call) -> Result<Option<Wrong>, Fail> {
+        let whole = self.ending(&STEADY)?;
+        for trial in self.trials(&whole, first)?.iter() {
+            if let Some(what) = self.wrong(trial, &whole)? {
+                return Ok(Some((trial.failing, trial.room, trial.message_room, what)));
             }
         }
         Ok(None)

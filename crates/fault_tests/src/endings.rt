@@ -1,0 +1,149 @@
+//! How the steps of a command say that its run ends, whatever fails in it.
+use crate::scene::{Program, Scene};
+use crate::steps::{Files, Step};
+use fixtures::Said;
+use memory_runtime::Call;
+use std::alloc::{AllocError, Global};
+
+/// What fails in a run.
+#[derive(Clone, Copy)]
+pub struct Trial {
+    /// The call that fails and its number, counted from 1; 0 for none.
+    pub failing: (Call, u64),
+    /// How many bytes the output takes.
+    pub room: usize,
+    /// How many bytes the messages take.
+    pub message_room: usize,
+    /// Whether a full output takes nothing instead of failing.
+    pub takes_nothing: bool,
+}
+
+/// Nothing fails.
+pub const STEADY: Trial = Trial {
+    failing: (Call::Open, 0),
+    room: usize::MAX,
+    message_room: usize::MAX,
+    takes_nothing: false,
+};
+
+/// The kinds of calls, in the order of `Call`.
+pub const CALLS: [Call; 5] = [Call::Open, Call::Read, Call::Write, Call::Seek, Call::Sync];
+
+/// How a run ends.
+#[derive(Drop)]
+pub struct Ending {
+    pub said: Said,
+    /// The files after the run.
+    pub files: Files,
+    /// How often each of `CALLS` was made.
+    pub calls: [u64; 5],
+}
+
+/// The first bytes, up to what there is room for.
+fn front(bytes: &[u8], room: usize) -> &[u8] {
+    bytes.get(..room).unwrap_or(bytes)
+}
+
+impl Ending {
+    /// Counts a call. The answer is its number.
+    fn count(&mut self, call: Call) -> u64 {
+        let Some(made) = self.calls.get_mut(call as usize) else {
+            return 0;
+        };
+        *made = made.saturating_add(1);
+        *made
+    }
+
+    /// Prints a text, as far as there is room. The answer is whether there was room for all of it.
+    fn print(&mut self, text: &[u8], room: usize) -> Result<bool, AllocError> {
+        let left = room.saturating_sub(self.said.out.len());
+        self.said.out.extend_from_slice(front(text, left))?;
+        Ok(text.len() <= left)
+    }
+
+    /// Takes a step. The answer is whether the run goes on.
+    fn take(
+        &mut self,
+        alloc: Global,
+        step: &Step,
+        trial: &Trial,
+        program: Program,
+    ) -> Result<bool, AllocError> {
+        let (goes_on, message) = match step {
+            Step::Prints(text) => (
+                self.print(text.as_bytes(), trial.room)?,
+                program.unwritten(),
+            ),
+            Step::Calls(call, message, effect) => {
+                let goes_on = trial.failing != (*call, self.count(*call));
+                if goes_on {
+                    effect.leave(alloc, &mut self.files)?;
+                }
+                (goes_on, message.as_bytes())
+            }
+        };
+        if !goes_on && !message.is_empty() {
+            self.said.status = program.failed();
+            self.said
+                .msgs
+                .extend_from_slice(front(message, trial.message_room))?;
+        }
+        Ok(goes_on)
+    }
+
+    /// The first difference from how a run ended. Each call must be made just as often, or each but openings and seeks.
+    pub fn differs(&self, found: &Ending, with_all_calls: bool) -> Option<&'static str> {
+        let Said { status, out, msgs } = &self.said;
+        if let Some(what) = found.said.differs(*status, out.as_slice(), msgs.as_slice()) {
+            Some(what)
+        } else if self.files != found.files {
+            Some("the files")
+        } else if !self.has_calls_of(found, with_all_calls) {
+            Some("the number of calls")
+        } else {
+            None
+        }
+    }
+
+    /// Whether each call is made just as often, or each but openings and seeks.
+    fn has_calls_of(&self, found: &Ending, with_all_calls: bool) -> bool {
+        for ((kind, one), other) in CALLS.iter().zip(self.calls).zip(found.calls) {
+            let may_differ = !with_all_calls && matches!(kind, Call::Open | Call::Seek);
+            if one != other && !may_differ {
+                return false;
+            }
+        }
+        true
+    }
+}
+
+impl Scene {
+    /// The files before the run, and nothing done yet.
+    fn start(&self) -> Result<Ending, AllocError> {
+        let mut files = Vec::new(self.alloc);
+        for (name, bytes) in &self.files {
+            files.push((*name, bytes.to_vec(self.alloc)?))?;
+        }
+        let said = Said {
+            status: 0,
+            out: Vec::new(self.alloc),
+            msgs: Vec::new(self.alloc),
+        };
+        Ok(Ending {
+            said,
+            files,
+            calls: [0; 5],
+        })
+    }
+
+    /// How the steps say that the run ends.
+    pub fn ending(&self, trial: &Trial) -> Result<Ending, AllocError> {
+        let mut ending = self.start()?;
+        for step in &self.steps {
+            if !ending.take(self.alloc, step, trial, self.program)? {
+                break;
+            }
+        }
+        Ok(ending)
+    }
+}
