@@ -1,8 +1,9 @@
 //! A stored tree is compared with its data while each read of a hash block fails in turn: which block is named, at
 //! every level, and how much of the data was read.
-use crate::cases::Case;
+use crate::cases::{Case, FILE, Row, SHA256};
+use std::alloc::Global;
 use std::test::Fail;
-use verity_hash::{Algorithm, Digest, SaltRule};
+use verity_hash::Digest;
 use verity_tree::{CompareFault, Fused, MemoryDevice, MemorySource, Store, compare};
 
 /// The hash blocks above nine data blocks, with two digests in each, in the order in which they close: the level, the
@@ -21,19 +22,12 @@ const ORDER: [(usize, u64, usize); 11] = [
     (3, 0, 0),
 ];
 
-#[test]
-fn each_failing_read_names_its_block(rt: HostRuntime) -> Result<(), Fail> {
-    let alloc = rt.alloc();
-    let (rule, sha256) = (SaltRule::PaddedBefore, Algorithm::Sha256);
-    let row = (
-        rule,
-        sha256,
-        b"salt".as_slice(),
-        (64, 64),
-        (2, 32),
-        (576, 4),
-    );
-    let case = Case::new(alloc, &row)?;
+/// The tree above nine data blocks.
+const NINE: Row = (FILE, SHA256, b"salt", (64, 64), (2, 32), (576, 4));
+
+/// The first read whose failure isn't answered with its block, at once, with as much data read as it should be.
+fn first_wrong(alloc: Global) -> Result<Option<u64>, Fail> {
+    let case = Case::new(alloc, &NINE)?;
     let root = Digest::from_bytes(case.tree.root.as_slice()).ok_or("a root hash")?;
     for (before, (level, block, rest)) in ORDER.iter().enumerate() {
         let failing = (before as u64).saturating_add(1);
@@ -41,13 +35,17 @@ fn each_failing_read_names_its_block(rt: HostRuntime) -> Result<(), Fail> {
         let mut source = MemorySource::new(case.data.as_slice());
         let mut device = Fused::new(MemoryDevice::new(case.tree.on_device(alloc, 64)?), failing);
         let answer = compare(&case.plan, &mut store, &mut source, &mut device, &root);
-        let fault = CompareFault::DeviceFailed {
-            level: *level,
-            block: *block,
-        };
-        assert_eq!(rt; answer, Err(fault), "at read {failing}");
-        assert_eq!(rt; source.rest().len(), *rest, "at read {failing}");
-        assert_eq!(rt; device.calls(), failing);
+        let (level, block) = (*level, *block);
+        let expected = Err(CompareFault::DeviceFailed { level, block });
+        if answer != expected || source.rest().len() != *rest || device.calls() != failing {
+            return Ok(Some(failing));
+        }
     }
+    Ok(None)
+}
+
+#[test]
+fn each_failing_read_names_its_block(rt: HostRuntime) -> Result<(), Fail> {
+    assert_eq!(rt; first_wrong(rt.alloc())?, None);
     Ok(())
 }

@@ -61,41 +61,40 @@ fn answer(
     Ok(check_block(&plan, asked, block.as_slice(), path.as_slice(), &root))
 }
 
-#[test]
-fn true_paths_are_accepted(rt: HostRuntime) -> Result<(), Fail> {
-    for i in [0, 15, 16, 35, 255, 256] {
-        let answer = answer(rt.alloc(), i, Change::Nothing, i as u64)?;
-        assert_eq!(rt; answer, Ok(()), "at {i}");
-    }
-    Ok(())
-}
+/// The number of a data block, what is changed, the number that is asked for, and the answer.
+const CASES: [(usize, Change, u64, Result<(), PathFault>); 24] = [
+    (0, Change::Nothing, 0, Ok(())),
+    (15, Change::Nothing, 15, Ok(())),
+    (16, Change::Nothing, 16, Ok(())),
+    (35, Change::Nothing, 35, Ok(())),
+    (255, Change::Nothing, 255, Ok(())),
+    (256, Change::Nothing, 256, Ok(())),
+    (35, Change::BlockByte(0), 35, Err(PathFault::DiffersAt(0))),
+    (35, Change::BlockByte(511), 35, Err(PathFault::DiffersAt(0))),
+    (35, Change::PathByte(96), 35, Err(PathFault::DiffersAt(0))),
+    (35, Change::PathByte(0), 35, Err(PathFault::DiffersAt(1))),
+    (35, Change::PathByte(576), 35, Err(PathFault::DiffersAt(1))),
+    (35, Change::PathByte(672), 35, Err(PathFault::DiffersAt(2))),
+    (35, Change::PathByte(1024), 35, Err(PathFault::DiffersAt(2))),
+    (35, Change::PathByte(1056), 35, Err(PathFault::DiffersAt(3))),
+    (35, Change::PathByte(1088), 35, Err(PathFault::DiffersAt(3))),
+    (35, Change::PathByte(1535), 35, Err(PathFault::DiffersAt(3))),
+    (35, Change::Root, 35, Err(PathFault::DiffersAt(3))),
+    (35, Change::Nothing, 36, Err(PathFault::DiffersAt(0))),
+    (35, Change::Nothing, 51, Err(PathFault::DiffersAt(1))),
+    (35, Change::PathCut(1024), 35, Err(PathFault::Length)),
+    (35, Change::PathMore, 35, Err(PathFault::Length)),
+    (35, Change::BlockCut(511), 35, Err(PathFault::Length)),
+    (35, Change::Nothing, 257, Err(PathFault::Index)),
+    (35, Change::PathCut(1024), 257, Err(PathFault::Index)),
+];
 
+/// True paths are accepted, and otherwise the lowest level that differs is named.
 #[test]
-fn the_lowest_level_that_differs_is_named(rt: HostRuntime) -> Result<(), Fail> {
-    let differs = PathFault::DiffersAt;
-    let cases = [
-        (Change::BlockByte(0), 35, differs(0)),
-        (Change::BlockByte(511), 35, differs(0)),
-        (Change::PathByte(96), 35, differs(0)),
-        (Change::PathByte(0), 35, differs(1)),
-        (Change::PathByte(576), 35, differs(1)),
-        (Change::PathByte(672), 35, differs(2)),
-        (Change::PathByte(1024), 35, differs(2)),
-        (Change::PathByte(1056), 35, differs(3)),
-        (Change::PathByte(1088), 35, differs(3)),
-        (Change::PathByte(1535), 35, differs(3)),
-        (Change::Root, 35, differs(3)),
-        (Change::Nothing, 36, differs(0)),
-        (Change::Nothing, 51, differs(1)),
-        (Change::PathCut(1024), 35, PathFault::Length),
-        (Change::PathMore, 35, PathFault::Length),
-        (Change::BlockCut(511), 35, PathFault::Length),
-        (Change::Nothing, 257, PathFault::Index),
-        (Change::PathCut(1024), 257, PathFault::Index),
-    ];
-    for (change, i, fault) in cases {
-        let answer = answer(rt.alloc(), 35, change, i)?;
-        assert_eq!(rt; answer, Err(fault), "at {change:?}, {i}");
+fn paths_are_judged(rt: HostRuntime) -> Result<(), Fail> {
+    for (i, change, asked, expected) in CASES {
+        let answer = answer(rt.alloc(), i, change, asked)?;
+        assert_eq!(rt; answer, expected, "at {change:?}, {i} for {asked}");
     }
     Ok(())
 }
@@ -113,8 +112,10 @@ fn the_last_block_of_a_file_comes_filled(rt: HostRuntime) -> Result<(), Fail> {
     let path = filled(rt.alloc(), &[&digests[0], &digests[1]], 4096)?;
     let root = Digest::from_bytes(&Sha256::digest(path.as_slice())).ok_or("a root hash")?;
     let path = path.as_slice();
-    assert_eq!(rt; check_block(&plan, 1, last.as_slice(), path, &root), Ok(()));
-    let fault = Err(PathFault::Length);
-    assert_eq!(rt; check_block(&plan, 1, b"a", path, &root), fault);
+    let answers = [
+        check_block(&plan, 1, last.as_slice(), path, &root),
+        check_block(&plan, 1, b"a", path, &root),
+    ];
+    assert_eq!(rt; answers, [Ok(()), Err(PathFault::Length)]);
     Ok(())
 }

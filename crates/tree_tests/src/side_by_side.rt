@@ -2,7 +2,7 @@
 //! blocks, with bytes before and after the parts, compared with the crate `sha2`.
 use fixtures::{Shape, data, lay};
 use sha2_lanes::{sha224, sha256, sha384, sha512};
-use std::alloc::Global;
+use std::alloc::{AllocError, Global};
 use std::test::Fail;
 use verity_hash::Algorithm;
 
@@ -13,6 +13,19 @@ const FUNCTIONS: [Algorithm; 4] = [
     Algorithm::Sha384,
     Algorithm::Sha512,
 ];
+
+/// The first `count` digests, one after another.
+fn joined<const N: usize>(
+    alloc: Global,
+    digests: &[[u8; N]; 8],
+    count: usize,
+) -> Result<Vec<u8>, AllocError> {
+    let mut all = Vec::new(alloc);
+    for digest in digests.iter().take(count) {
+        all.extend_from_slice(digest.as_slice())?;
+    }
+    Ok(all)
+}
 
 /// The digests of `count` parts of one length, with the bytes of a shape before and after each, one after another.
 fn side_by_side(
@@ -26,31 +39,14 @@ fn side_by_side(
         return Err("one to eight parts".into());
     }
     let (before, after) = (shape.before.as_slice(), shape.after.as_slice());
-    let mut all = Vec::new(alloc);
-    match shape.algorithm {
+    let all = match shape.algorithm {
         Algorithm::Sha1 => return Err("a function with lanes".into()),
-        Algorithm::Sha224 => {
-            for digest in sha224(before, parts, len, count, after).iter().take(count) {
-                all.extend_from_slice(digest.as_slice())?;
-            }
-        }
-        Algorithm::Sha256 => {
-            for digest in sha256(before, parts, len, count, after).iter().take(count) {
-                all.extend_from_slice(digest.as_slice())?;
-            }
-        }
-        Algorithm::Sha384 => {
-            for digest in sha384(before, parts, len, count, after).iter().take(count) {
-                all.extend_from_slice(digest.as_slice())?;
-            }
-        }
-        Algorithm::Sha512 => {
-            for digest in sha512(before, parts, len, count, after).iter().take(count) {
-                all.extend_from_slice(digest.as_slice())?;
-            }
-        }
-    }
-    Ok(all)
+        Algorithm::Sha224 => joined(alloc, &sha224(before, parts, len, count, after), count),
+        Algorithm::Sha256 => joined(alloc, &sha256(before, parts, len, count, after), count),
+        Algorithm::Sha384 => joined(alloc, &sha384(before, parts, len, count, after), count),
+        Algorithm::Sha512 => joined(alloc, &sha512(before, parts, len, count, after), count),
+    };
+    Ok(all?)
 }
 
 /// A function, a message and its digest: the examples of one and of two blocks on NIST's page on FIPS 180-4, and the
@@ -124,19 +120,6 @@ const EXAMPLES: [Example; 12] = [
     },
 ];
 
-#[test]
-fn the_standards_examples_in_each_lane(rt: HostRuntime) -> Result<(), Fail> {
-    for example in &EXAMPLES {
-        for count in 1..=8usize {
-            for j in 0..count {
-                let digits = digits_of_part(rt.alloc(), example, j, count)?;
-                assert_eq!(rt; digits.as_str(), example.digits, "lane {j} of {count}");
-            }
-        }
-    }
-    Ok(())
-}
-
 /// The digest of the example's message, as part `j` of `count`, with other bytes in the rest.
 fn digits_of_part(
     alloc: Global,
@@ -155,27 +138,61 @@ fn digits_of_part(
     Ok(hex::encode(alloc, digest)?)
 }
 
+/// The first lane, of how many, in which an example has another digest.
+fn wrong_lane(alloc: Global, example: &Example) -> Result<Option<(usize, usize)>, Fail> {
+    for count in 1..=8usize {
+        for j in 0..count {
+            if digits_of_part(alloc, example, j, count)?.as_str() != example.digits {
+                return Ok(Some((j, count)));
+            }
+        }
+    }
+    Ok(None)
+}
+
+#[test]
+fn the_standards_examples_in_each_lane(rt: HostRuntime) -> Result<(), Fail> {
+    for example in &EXAMPLES {
+        let wrong = wrong_lane(rt.alloc(), example)?;
+        assert_eq!(rt; wrong, None, "at {}", example.digits);
+    }
+    Ok(())
+}
+
 /// Lengths of parts, and of whole messages, near the borders of blocks of 64 and of 128 bytes and of their padding.
 const BORDERS: [usize; 13] = [0, 1, 54, 55, 56, 63, 64, 111, 112, 119, 120, 127, 128];
 
 const SALTS: [usize; 6] = [0, 1, 32, 64, 255, 256];
 
+/// The digests by `sha2` of `count` parts of one length, one after another.
+fn one_by_one(
+    alloc: Global,
+    shape: &Shape,
+    parts: &[u8],
+    len: usize,
+    count: usize,
+) -> Result<Vec<u8>, AllocError> {
+    let mut all = Vec::new(alloc);
+    for j in 0..count {
+        let from = len.saturating_mul(j);
+        let part = parts.get(from..from.saturating_add(len)).unwrap_or(&[]);
+        all.extend_from_slice(shape.digest(alloc, part)?.as_slice())?;
+    }
+    Ok(all)
+}
+
 /// Whether the digests of this many parts by each function are those of `sha2`, with the salt before the parts, after
 /// them, and both.
-fn same_as_one_by_one(alloc: Global, salt: &[u8], len: usize, count: usize) -> Result<bool, Fail> {
+fn are_the_same(alloc: Global, salt: &[u8], len: usize, count: usize) -> Result<bool, Fail> {
     let parts = data(alloc, len.saturating_mul(count))?;
+    let parts = parts.as_slice();
     for function in FUNCTIONS {
         for (before, after) in [(salt, &salt[..0]), (&salt[..0], salt), (salt, salt)] {
             let mut shape = Shape::new(alloc, function, (0, 0), (0, 0));
-            shape.before = Vec::from_slice(alloc, before)?;
-            shape.after = Vec::from_slice(alloc, after)?;
-            let mut expected = Vec::new(alloc);
-            for j in 0..count {
-                let from = len.saturating_mul(j);
-                let part = parts.get(from..from.saturating_add(len)).unwrap_or(&[]);
-                expected.extend_from_slice(shape.digest(alloc, part)?.as_slice())?;
-            }
-            if side_by_side(alloc, &shape, parts.as_slice(), len, count)? != expected {
+            shape.before.extend_from_slice(before)?;
+            shape.after.extend_from_slice(after)?;
+            let expected = one_by_one(alloc, &shape, parts, len, count)?;
+            if side_by_side(alloc, &shape, parts, len, count)? != expected {
                 return Ok(false);
             }
         }
@@ -184,10 +201,10 @@ fn same_as_one_by_one(alloc: Global, salt: &[u8], len: usize, count: usize) -> R
 }
 
 /// Each salt with each border, as the length of the parts and as that of whole messages after 256 bytes. The number of
-/// messages is another one with each, from one to eight.
-#[test]
-fn lengths_round_the_borders_of_blocks(rt: HostRuntime) -> Result<(), Fail> {
-    let salts = data(rt.alloc(), 269)?;
+/// messages is another one with each, from one to eight. The answer is the first salt, number and length of messages
+/// with another digest.
+fn wrong_length(alloc: Global) -> Result<Option<(usize, usize, usize)>, Fail> {
+    let salts = data(alloc, 269)?;
     let mut turn = 0usize;
     for salt_len in SALTS {
         let salt = salts.get(13..salt_len.saturating_add(13)).ok_or("a salt")?;
@@ -195,11 +212,18 @@ fn lengths_round_the_borders_of_blocks(rt: HostRuntime) -> Result<(), Fail> {
             let message = border.saturating_add(256).saturating_sub(salt_len);
             for len in [border, message] {
                 let count = (turn % 8).saturating_add(1);
-                let same = same_as_one_by_one(rt.alloc(), salt, len, count)?;
-                assert!(rt; same, "salt of {salt_len} bytes, {count} parts of {len}");
+                if !are_the_same(alloc, salt, len, count)? {
+                    return Ok(Some((salt_len, count, len)));
+                }
                 turn = turn.saturating_add(3);
             }
         }
     }
+    Ok(None)
+}
+
+#[test]
+fn lengths_round_the_borders_of_blocks(rt: HostRuntime) -> Result<(), Fail> {
+    assert_eq!(rt; wrong_length(rt.alloc())?, None);
     Ok(())
 }

@@ -90,39 +90,53 @@ const SHAPES: [Row; 14] = [
     ),
 ];
 
-/// Whether a tree is built as from plain lists and found to be that of its data, and its root hash is theirs, alone and
-/// by levels too.
-fn is_made(alloc: Global, case: &Case) -> Result<bool, Fail> {
-    let (plan, bytes) = (&case.plan, case.data.as_slice());
-    let mut store = Store::new(alloc, plan)?;
-    if !store.fits(plan) || bytes.len() as u64 != plan.wanted() {
-        return Ok(false);
-    }
-    let root = Digest::from_bytes(case.tree.root.as_slice()).ok_or("a root hash")?;
+/// Whether a tree is built as from plain lists and found to be that of its data.
+fn is_built(alloc: Global, case: &Case, root: &Digest) -> Result<bool, Fail> {
+    let mut store = Store::new(alloc, &case.plan)?;
     let image = case.tree.on_device(alloc, case.shape.hash_block)?;
     let mut device = MemoryDevice::new(vec![in alloc; 0u8; case.shape.hash_block]?);
-    let mut source = MemorySource::new(bytes);
-    let built = build(plan, &mut store, &mut source, &mut device)?;
-    let alone = root_only(plan, &mut store, &mut MemorySource::new(bytes))?;
-    let plain = root_by_levels(alloc, plan, bytes)?;
-    let mut again = MemorySource::new(bytes);
-    let verdict = compare(plan, &mut store, &mut again, &mut device, &root);
+    let mut source = MemorySource::new(case.data.as_slice());
+    let mut again = MemorySource::new(case.data.as_slice());
+    if !store.fits(&case.plan) {
+        return Ok(false);
+    }
+    let built = build(&case.plan, &mut store, &mut source, &mut device);
+    let verdict = compare(&case.plan, &mut store, &mut again, &mut device, root);
     Ok(
-        built == root
-            && alone == root
-            && plain == root
+        built == Ok(*root)
             && verdict == Ok(())
             && source.rest().is_empty()
             && device.bytes() == image.as_slice(),
     )
 }
 
+/// Whether the root hash alone, and that made by levels, are those from plain lists.
+fn has_root(alloc: Global, case: &Case, root: &Digest) -> Result<bool, Fail> {
+    let (plan, bytes) = (&case.plan, case.data.as_slice());
+    let mut store = Store::new(alloc, plan)?;
+    if !store.fits(plan) || bytes.len() as u64 != plan.wanted() {
+        return Ok(false);
+    }
+    let alone = root_only(plan, &mut store, &mut MemorySource::new(bytes));
+    Ok(alone == Ok(*root) && root_by_levels(alloc, plan, bytes)? == *root)
+}
+
+/// Whether a row's plan has the levels of its tree, and the tree and its root hash are made as from plain lists.
+fn is_made(alloc: Global, row: &Row) -> Result<bool, Fail> {
+    let case = Case::new(alloc, row)?;
+    let root = Digest::from_bytes(case.tree.root.as_slice()).ok_or("a root hash")?;
+    Ok(
+        case.plan.levels() == case.tree.levels.len()
+            && is_built(alloc, &case, &root)?
+            && has_root(alloc, &case, &root)?,
+    )
+}
+
 #[test]
 fn trees_of_all_shapes_are_made(rt: HostRuntime) -> Result<(), Fail> {
     for row in &SHAPES {
-        let case = Case::new(rt.alloc(), row)?;
-        assert_eq!(rt; case.plan.levels(), case.tree.levels.len(), "at {row:?}");
-        assert!(rt; is_made(rt.alloc(), &case)?, "at {row:?}");
+        let made = is_made(rt.alloc(), row)?;
+        assert!(rt; made, "at {row:?}");
     }
     Ok(())
 }
@@ -130,14 +144,14 @@ fn trees_of_all_shapes_are_made(rt: HostRuntime) -> Result<(), Fail> {
 #[test]
 fn the_longest_store_is_made(rt: HostRuntime) -> Result<(), Fail> {
     let cases = [
-        (LARGEST, 17_000_000, (2, 2_097_152)),
-        (512, 17_000_000_000_000, (11, 530_432)),
+        (LARGEST, 17_000_000, (2, 2_097_152, true)),
+        (512, 17_000_000_000_000, (11, 530_432, true)),
     ];
     for (size, blocks, numbers) in cases {
         let settings = TreeSettings::verity(SHA256, HashType::Current, &[], LARGEST, size)?;
         let plan = Plan::for_blocks(&settings, blocks, 1)?;
-        assert_eq!(rt; (plan.levels(), plan.store_length()), numbers);
-        assert!(rt; Store::new(rt.alloc(), &plan)?.fits(&plan));
+        let fits = Store::new(rt.alloc(), &plan)?.fits(&plan);
+        assert_eq!(rt; (plan.levels(), plan.store_length(), fits), numbers);
     }
     Ok(())
 }
