@@ -18,12 +18,12 @@ const OPTIONS: DigestOptions<'static> = DigestOptions {
 /// The line of the file.
 const LINE: &str = "sha256:124501040b815e1c594d5c33a0f4983b34bed80132f220f9c7e0a345473ffa60 a\n";
 
-/// What a run needs, made before it: the file, and buffers for what the run writes and its messages.
+/// What a run needs, made before it: the file, and what the run writes to.
 #[derive(Drop)]
 struct Prepared {
     data: Vec<u8>,
-    tree: Vec<u8>,
-    made: Vec<u8>,
+    tree: MemoryDevice,
+    descriptor: Vec<u8>,
     out: Vec<u8>,
     msgs: Vec<u8>,
 }
@@ -31,8 +31,8 @@ struct Prepared {
 fn prepare(alloc: Global) -> Result<Prepared, AllocError> {
     Ok(Prepared {
         data: vec![in alloc; 0u8; DATA_SIZE]?,
-        tree: vec![in alloc; 77u8; TREE_SIZE]?,
-        made: Vec::with_capacity(alloc, 1000)?,
+        tree: MemoryDevice::new(vec![in alloc; 77u8; TREE_SIZE]?),
+        descriptor: Vec::with_capacity(alloc, 1000)?,
         out: Vec::with_capacity(alloc, 1000)?,
         msgs: Vec::with_capacity(alloc, 1000)?,
     })
@@ -45,7 +45,10 @@ fn is_out_of_memory(status: u8, msgs: &[u8]) -> bool {
 
 /// Digests the file twice. After a refusal the lines of the files before it stand.
 fn digest(alloc: Global) -> Outcome {
-    let (Ok(mut made), Ok(settings)) = (prepare(alloc), digest_settings(&OPTIONS)) else {
+    let Ok(settings) = digest_settings(&OPTIONS) else {
+        return Outcome::Wrong;
+    };
+    let Ok(mut made) = prepare(alloc) else {
         return Outcome::Unprepared;
     };
     let files = [Some(made.data.as_slice()), Some(made.data.as_slice())];
@@ -59,27 +62,36 @@ fn digest(alloc: Global) -> Outcome {
         &mut made.out,
         &mut made.msgs,
     );
+    let is_refused = is_out_of_memory(status, made.msgs.as_slice());
+    let out = made.out.as_slice();
     let line = LINE.as_bytes();
-    let (lines, rest) = made.out.as_slice().as_chunks::<74>();
-    let are_lines = rest.is_empty() && lines.iter().all(|other| other.as_slice() == line);
-    if !is_out_of_memory(status, made.msgs.as_slice()) {
-        return Outcome::Whole.if_right(status == 0 && are_lines && lines.len() == 2);
+    if status == 0 && out.strip_prefix(line) == Some(line) {
+        Outcome::Whole
+    } else if is_refused && out.is_empty() {
+        Outcome::Untouched
+    } else if is_refused && out == line {
+        Outcome::Stopped
+    } else {
+        Outcome::Wrong
     }
-    if lines.is_empty() {
-        return Outcome::Untouched.if_right(rest.is_empty());
-    }
-    Outcome::Stopped.if_right(are_lines && lines.len() == 1)
+}
+
+/// The descriptor of the file, by its root hash.
+fn descriptor() -> [u8; 256] {
+    let root = Sha256::digest(tree().get(..512).unwrap_or(&[]));
+    block(&[(0, &[1, 1, 9, 0, 0, 0, 0, 0, 0, 2, 2]), (16, &root)])
 }
 
 /// Digests the file with both output files. If the store is refused, they stay as they are and nothing is read; a
 /// refused line leaves the tree and the descriptor, and nothing is printed.
 fn digest_to(alloc: Global) -> Outcome {
-    let (Ok(mut made), Ok(settings)) = (prepare(alloc), digest_settings(&OPTIONS)) else {
+    let Ok(settings) = digest_settings(&OPTIONS) else {
+        return Outcome::Wrong;
+    };
+    let Ok(mut made) = prepare(alloc) else {
         return Outcome::Unprepared;
     };
-    let data = made.data;
-    let mut source = MemorySource::new(data.as_slice());
-    let mut device = MemoryDevice::new(made.tree);
+    let mut source = MemorySource::new(made.data.as_slice());
     let status = run_digest_to(
         alloc,
         &settings,
@@ -88,31 +100,37 @@ fn digest_to(alloc: Global) -> Outcome {
         DATA_SIZE as u64,
         &mut source,
         true,
-        &mut device,
+        &mut made.tree,
         true,
-        &mut made.made,
+        &mut made.descriptor,
         &mut made.out,
         &mut made.msgs,
     );
-    let area = tree();
-    let root = Sha256::digest(area.get(..512).unwrap_or(&[]));
-    let descriptor: [u8; 256] = block(&[(0, &[1, 1, 9, 0, 0, 0, 0, 0, 0, 2, 2]), (16, &root)]);
-    let is_written = device.bytes() == area.as_slice()
-        && made.made.as_slice() == descriptor.as_slice();
-    let is_as_before = device.bytes() == [77; TREE_SIZE].as_slice() && made.made.is_empty();
-    if !is_out_of_memory(status, made.msgs.as_slice()) {
-        let is_done = status == 0 && is_written && made.out.as_slice() == LINE.as_bytes();
-        return Outcome::Whole.if_right(is_done);
+    let left = (
+        source.rest().len(),
+        made.tree.bytes(),
+        made.descriptor.as_slice(),
+    );
+    let is_written = left == (0, tree().as_slice(), descriptor().as_slice());
+    let is_as_before = left == (DATA_SIZE, [77; TREE_SIZE].as_slice(), b"".as_slice());
+    let is_refused = is_out_of_memory(status, made.msgs.as_slice()) && made.out.is_empty();
+    if status == 0 && is_written && made.out.as_slice() == LINE.as_bytes() {
+        Outcome::Whole
+    } else if is_refused && is_as_before {
+        Outcome::Untouched
+    } else if is_refused && is_written {
+        Outcome::Stopped
+    } else {
+        Outcome::Wrong
     }
-    if source.rest().len() == DATA_SIZE {
-        return Outcome::Untouched.if_right(is_as_before && made.out.is_empty());
-    }
-    Outcome::Stopped.if_right(is_written && source.rest().is_empty() && made.out.is_empty())
 }
 
 /// Digests a file that is absent, which takes no memory.
 fn digest_nothing(alloc: Global) -> Outcome {
-    let (Ok(mut made), Ok(settings)) = (prepare(alloc), digest_settings(&OPTIONS)) else {
+    let Ok(settings) = digest_settings(&OPTIONS) else {
+        return Outcome::Wrong;
+    };
+    let Ok(mut made) = prepare(alloc) else {
         return Outcome::Unprepared;
     };
     let mut opener = MemoryOpener::new(&[None]);
@@ -126,7 +144,11 @@ fn digest_nothing(alloc: Global) -> Outcome {
         &mut made.msgs,
     );
     let text = b"fsverity: cannot open a.\n".as_slice();
-    Outcome::Whole.if_right(status == 1 && made.out.is_empty() && made.msgs.as_slice() == text)
+    if status == 1 && made.out.is_empty() && made.msgs.as_slice() == text {
+        Outcome::Whole
+    } else {
+        Outcome::Wrong
+    }
 }
 
 #[test]

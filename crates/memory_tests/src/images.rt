@@ -5,7 +5,9 @@ use fixtures::{block, flip, superblock};
 use std::alloc::{AllocError, Global};
 use std::test::Fail;
 use verity_tree::{MemoryDevice, MemorySource};
-use veritysetup::{RawOptions, VerifyInput, run_dump, run_format, run_verify, settings_of};
+use veritysetup::{
+    RawOptions, Settings, VerifyInput, run_dump, run_format, run_verify, settings_of,
+};
 
 const UUID: &str = "00112233-4455-4677-8899-aabbccddeeff";
 
@@ -43,12 +45,11 @@ Salt:            \t-
 /// The size of the image in bytes: the superblock and the tree.
 const IMAGE_SIZE: usize = 512 + TREE_SIZE;
 
-/// What a run needs, made before it: the data, a hash device that holds some bytes, and buffers for what the run prints
-/// and its messages.
+/// What a run needs, made before it: the data, a hash device that holds some bytes, and what the run writes to.
 #[derive(Drop)]
 struct Prepared {
     data: Vec<u8>,
-    device: Vec<u8>,
+    device: MemoryDevice,
     out: Vec<u8>,
     msgs: Vec<u8>,
 }
@@ -58,7 +59,7 @@ fn prepare(alloc: Global, held: &[u8]) -> Result<Prepared, AllocError> {
     device.extend_from_slice(held)?;
     Ok(Prepared {
         data: vec![in alloc; 0u8; DATA_SIZE]?,
-        device,
+        device: MemoryDevice::new(device),
         out: Vec::with_capacity(alloc, 1000)?,
         msgs: Vec::with_capacity(alloc, 1000)?,
     })
@@ -92,40 +93,33 @@ fn is_report(text: &[u8], uuid: &str, words: &[&str]) -> bool {
 
 /// Formats a device that holds some bytes. If the store is refused, the device stays as it was and nothing is read; if
 /// the report is refused, the whole image stands and nothing is printed.
-fn format(
-    alloc: Global,
-    options: &RawOptions<'_>,
-    before: &[u8],
-    after: &[u8],
-    uuid: &str,
-) -> Outcome {
-    let (Ok(mut made), Ok(settings)) = (
-        prepare(alloc, before),
-        settings_of(options, DATA_SIZE as u64, None),
-    ) else {
+fn format(alloc: Global, settings: &Settings, before: &[u8], after: &[u8], uuid: &str) -> Outcome {
+    let Ok(mut made) = prepare(alloc, before) else {
         return Outcome::Unprepared;
     };
-    let mut device = MemoryDevice::new(made.device);
     let mut source = MemorySource::new(made.data.as_slice());
     let status = run_format(
         alloc,
-        &settings,
+        settings,
         "hash.img",
         &mut source,
-        &mut device,
+        &mut made.device,
         &mut made.out,
         &mut made.msgs,
     );
-    let is_made = device.bytes() == after && source.rest().is_empty();
-    if !is_out_of_memory(status, made.msgs.as_slice()) {
-        let words = ["Root hash:       \t", ROOT, "\n"];
-        let is_told = is_report(made.out.as_slice(), uuid, &words);
-        return Outcome::Whole.if_right(status == 0 && is_made && is_told);
+    let left = (source.rest().len(), made.device.bytes());
+    let words = ["Root hash:       \t", ROOT, "\n"];
+    let is_told = is_report(made.out.as_slice(), uuid, &words);
+    let is_refused = is_out_of_memory(status, made.msgs.as_slice()) && made.out.is_empty();
+    if status == 0 && left == (0, after) && is_told {
+        Outcome::Whole
+    } else if is_refused && left == (DATA_SIZE, before) {
+        Outcome::Untouched
+    } else if is_refused && left == (0, after) {
+        Outcome::Stopped
+    } else {
+        Outcome::Wrong
     }
-    if source.rest().len() == DATA_SIZE {
-        return Outcome::Untouched.if_right(device.bytes() == before && made.out.is_empty());
-    }
-    Outcome::Stopped.if_right(is_made && made.out.is_empty())
 }
 
 /// Dumps the image.
@@ -133,19 +127,21 @@ fn dump(alloc: Global) -> Outcome {
     let Ok(mut made) = prepare(alloc, &image()) else {
         return Outcome::Unprepared;
     };
-    let mut device = MemoryDevice::new(made.device);
     let status = run_dump(
         alloc,
         0,
         "hash.img",
-        &mut device,
+        &mut made.device,
         &mut made.out,
         &mut made.msgs,
     );
-    if is_out_of_memory(status, made.msgs.as_slice()) {
-        return Outcome::Untouched.if_right(made.out.is_empty());
+    if status == 0 && is_report(made.out.as_slice(), UUID, &[]) {
+        Outcome::Whole
+    } else if is_out_of_memory(status, made.msgs.as_slice()) && made.out.is_empty() {
+        Outcome::Untouched
+    } else {
+        Outcome::Wrong
     }
-    Outcome::Whole.if_right(status == 0 && is_report(made.out.as_slice(), UUID, &[]))
 }
 
 /// Verifies a device that holds some bytes. The data is read only if there is a store.
@@ -153,17 +149,18 @@ fn verify(alloc: Global, input: &VerifyInput<'_>, held: &[u8], expected: (u8, &[
     let Ok(mut made) = prepare(alloc, held) else {
         return Outcome::Unprepared;
     };
-    let mut device = MemoryDevice::new(made.device);
     let mut source = MemorySource::new(made.data.as_slice());
-    let status = run_verify(alloc, input, &mut source, &mut device, &mut made.msgs);
+    let status = run_verify(alloc, input, &mut source, &mut made.device, &mut made.msgs);
     let msgs = made.msgs.as_slice();
-    if is_out_of_memory(status, msgs) {
-        return Outcome::Untouched.if_right(source.rest().len() == DATA_SIZE);
+    if (status, msgs) == expected {
+        Outcome::Whole
+    } else if is_out_of_memory(status, msgs) && source.rest().len() == DATA_SIZE {
+        Outcome::Untouched
+    } else if (status, msgs) == (expected.0, b"") {
+        Outcome::NoMessage
+    } else {
+        Outcome::Wrong
     }
-    if msgs.is_empty() && !expected.1.is_empty() {
-        return Outcome::NoMessage.if_right(status == expected.0);
-    }
-    Outcome::Whole.if_right((status, msgs) == expected)
 }
 
 /// The image's superblock, and the root hash.
@@ -173,15 +170,19 @@ const STORED: VerifyInput<'static> = VerifyInput::Stored {
 };
 
 #[test]
-fn format_is_whole(rt: HostRuntime) {
-    let found = format(rt.alloc(), &OPTIONS, &[], &image(), UUID);
+fn format_is_whole(rt: HostRuntime) -> Result<(), Fail> {
+    let settings = settings_of(&OPTIONS, DATA_SIZE as u64, None)?;
+    let found = format(rt.alloc(), &settings, &[], &image(), UUID);
     assert_eq!(rt; found, Outcome::Whole);
+    Ok(())
 }
 
 #[test]
-fn format_of_a_tree_alone_is_whole(rt: HostRuntime) {
-    let found = format(rt.alloc(), &BARE, &[77; TREE_SIZE], &tree(), "-");
+fn format_of_a_tree_alone_is_whole(rt: HostRuntime) -> Result<(), Fail> {
+    let settings = settings_of(&BARE, DATA_SIZE as u64, None)?;
+    let found = format(rt.alloc(), &settings, &[77; TREE_SIZE], &tree(), "-");
     assert_eq!(rt; found, Outcome::Whole);
+    Ok(())
 }
 
 #[test]
@@ -202,12 +203,8 @@ fn verify_of_a_tree_alone_is_whole(rt: HostRuntime) -> Result<(), Fail> {
         ..BARE
     };
     let settings = settings_of(&raw, DATA_SIZE as u64, None)?;
-    let found = verify(
-        rt.alloc(),
-        &VerifyInput::Given(&settings),
-        &tree(),
-        (0, b""),
-    );
+    let input = VerifyInput::Given(&settings);
+    let found = verify(rt.alloc(), &input, &tree(), (0, b""));
     assert_eq!(rt; found, Outcome::Whole);
     Ok(())
 }

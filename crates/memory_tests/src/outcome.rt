@@ -1,7 +1,7 @@
 //! How a run ended in which a request for memory may have been refused.
 
 /// Each test expects `Whole`, and ends so if no request is refused.
-#[derive(Clone, Copy, Debug, PartialEq, Eq)]
+#[derive(Debug, Drop, PartialEq)]
 pub enum Outcome {
     /// Everything was done.
     Whole,
@@ -15,11 +15,4 @@ pub enum Outcome {
     NoMessage,
     /// Anything else.
     Wrong,
-}
-
-impl Outcome {
-    /// The given outcome, if what stands is what must stand then, and otherwise `Wrong`.
-    pub fn if_right(self, is_right: bool) -> Outcome {
-        if is_right { self } else { Outcome::Wrong }
-    }
 }
