@@ -11,30 +11,42 @@ const PROGRAM: &str = "/proc/self/exe";
 /// A regular file of which the system says that it is empty.
 const EMPTY: &str = "/proc/self/status";
 
+/// Paths, whether they have an identity, and whether that is the program's own.
+const PATHS: [(&str, bool, bool); 5] = [
+    (PROGRAM, true, true),
+    (EMPTY, true, false),
+    ("/proc/self/no file", false, false),
+    ("/dev/null", false, false),
+    ("/", false, false),
+];
+
 #[test]
 fn the_system_tells_files_apart(rt: HostRuntime) -> Result<(), Fail> {
-    let program = File::open(&rt, PROGRAM)?;
-    let opened = rt.file_identity(&program);
+    let opened = rt.file_identity(&File::open(&rt, PROGRAM)?);
+    for (path, has_identity, is_program) in PATHS {
+        let named = rt.path_identity(path);
+        let found = (named.is_some(), are_same_file(opened, named));
+        assert_eq!(rt; found, (has_identity, is_program), "at {path}");
+    }
+    Ok(())
+}
+
+#[test]
+fn a_file_is_known_by_its_number_on_its_device(rt: HostRuntime) -> Result<(), Fail> {
     let metadata = rt.metadata(PROGRAM)?;
     let identity = FileIdentity::Regular {
         device: metadata.dev(),
         inode: metadata.ino(),
     };
     assert_eq!(rt; rt.path_identity(PROGRAM), Some(identity));
-    assert!(rt; are_same_file(opened, rt.path_identity(PROGRAM)));
-    assert!(rt; !are_same_file(opened, rt.path_identity(EMPTY)));
-    assert!(rt; !are_same_file(opened, rt.path_identity("/proc/self/no file")));
-    assert!(rt; rt.path_identity("/proc/self/no file").is_none());
-    assert!(rt; rt.path_identity("/dev/null").is_none());
-    assert!(rt; rt.path_identity("/").is_none());
     Ok(())
 }
 
 #[test]
 fn an_empty_file_is_a_file(rt: HostRuntime) -> Result<(), Fail> {
-    let empty = File::open(&rt, EMPTY)?;
-    assert_eq!(rt; rt.metadata(EMPTY)?.len(), 0);
-    assert!(rt; are_same_file(rt.file_identity(&empty), rt.path_identity(EMPTY)));
+    let opened = rt.file_identity(&File::open(&rt, EMPTY)?);
+    let is_same = are_same_file(opened, rt.path_identity(EMPTY));
+    assert_eq!(rt; (rt.metadata(EMPTY)?.len(), is_same), (0, true));
     Ok(())
 }
 
@@ -44,14 +56,17 @@ const NULL_NUMBER: u64 = 0x103;
 #[test]
 fn a_device_has_its_own_number(rt: HostRuntime) -> Result<(), Fail> {
     let metadata = rt.metadata("/dev/null")?;
-    let told = FileStatus {
+    let status = FileStatus {
         is_regular: false,
         is_block_device: false,
         device: metadata.dev(),
         inode: metadata.ino(),
         number: NULL_NUMBER,
     };
-    assert_eq!(rt; FileStatus::of_metadata(&metadata), told);
-    assert!(rt; metadata.dev() != NULL_NUMBER);
+    let found = (
+        FileStatus::of_metadata(&metadata),
+        metadata.dev() == NULL_NUMBER,
+    );
+    assert_eq!(rt; found, (status, false));
     Ok(())
 }

@@ -1,5 +1,5 @@
 //! Files, sources and writers at large offsets, with long blocks and many interrupts.
-use std::alloc::{AllocError, Global};
+use fixtures::data;
 use std::io;
 use std::io::{ErrorKind, Read, Seek, SeekFrom, Write};
 use std::test::Fail;
@@ -14,25 +14,28 @@ const FAR: u64 = 5_000_000_000;
 const INTERRUPTS: u32 = 1000;
 
 /// A file with a hole at its start: nothing below `first` can be read or written. A call gives or takes `piece` bytes
-/// at most, and goes through after this many interrupts. No offset above `top` can be reached.
+/// at most, and goes through after this many interrupts. No offset above `top` can be reached. A sync ends with
+/// `sync_error`.
 #[derive(Drop)]
-struct Sparse {
+pub struct Sparse {
     first: u64,
     bytes: Vec<u8>,
     offset: u64,
     top: u64,
+    pub sync_error: Option<ErrorKind>,
     piece: usize,
     interrupts: u32,
     interrupted: u32,
 }
 
 impl Sparse {
-    fn new(first: u64, bytes: Vec<u8>, piece: usize, interrupts: u32) -> Self {
+    pub fn new(first: u64, bytes: Vec<u8>, piece: usize, interrupts: u32) -> Self {
         Sparse {
             first,
             bytes,
             offset: first,
             top: u64::MAX,
+            sync_error: None,
             piece,
             interrupts,
             interrupted: 0,
@@ -95,97 +98,135 @@ impl Write for Sparse {
     }
 }
 
-/// This many bytes, each different from its neighbours.
-fn counted(alloc: Global, len: usize) -> Result<Vec<u8>, AllocError> {
-    let mut bytes = Vec::new(alloc);
-    for i in 0..len {
-        bytes.push((i % 251) as u8)?;
+/// Whether a device gives these bytes to a buffer from an offset on; for none, whether the read fails.
+fn gives(
+    device: &mut FileDevice<Sparse>,
+    at: u64,
+    buf: &mut [u8],
+    expected: Option<&[u8]>,
+) -> bool {
+    match device.read_at(at, buf) {
+        Ok(count) => expected == Some(&buf[..count]),
+        Err(Failed) => expected.is_none(),
     }
-    Ok(bytes)
+}
+
+/// The first of these offsets from which a device gives something else than stands beside it.
+fn differs(
+    device: &mut FileDevice<Sparse>,
+    buf: &mut [u8],
+    reads: &[(u64, Option<&[u8]>)],
+) -> Option<u64> {
+    for (at, expected) in reads {
+        if !gives(device, *at, buf, *expected) {
+            return Some(*at);
+        }
+    }
+    None
 }
 
 #[test]
 fn long_blocks_stand_at_far_offsets(rt: HostRuntime) -> Result<(), Fail> {
     let alloc = rt.alloc();
-    let block = counted(alloc, 70_000)?;
+    let block = data(alloc, 70_000)?;
     assert!(rt; block.len() == 70_000);
+    let mut buf = vec![in alloc; 7u8; 70_000]?;
+    let reads = [
+        (FAR + 100, Some(block.as_slice())),
+        (FAR + 65_099, Some(&block[64_999..])),
+        (FAR + 70_100, Some(b"")),
+        (100, None),
+    ];
     for piece in [usize::MAX, 1_000] {
         let mut device = FileDevice::new(Sparse::new(FAR, Vec::new(alloc), piece, 0));
-        assert_eq!(rt; device.write_at(FAR + 100, block.as_slice()), Ok(()));
-        let mut stored = vec![in alloc; 7u8; 70_000]?;
-        assert_eq!(rt; device.read_at(FAR + 100, &mut stored), Ok(70_000));
-        assert_eq!(rt; stored.as_slice(), block.as_slice(), "at {piece}");
-        assert_eq!(rt; device.read_at(FAR + 100 + 64_999, &mut stored), Ok(5001));
-        assert_eq!(rt; stored.get(..5001), block.get(64_999..), "at {piece}");
-        assert_eq!(rt; device.read_at(FAR + 70_100, &mut stored), Ok(0));
-        assert_eq!(rt; device.read_at(100, &mut stored), Err(Failed));
-        assert_eq!(rt; device.write_at(100, b"a"), Err(Failed));
+        let answers = [
+            device.write_at(FAR + 100, block.as_slice()),
+            device.write_at(100, b"a"),
+        ];
+        let found = (answers, differs(&mut device, &mut buf, &reads));
+        assert_eq!(rt; found, ([Ok(()), Err(Failed)], None), "at {piece}");
     }
     Ok(())
 }
 
 #[test]
 fn a_refused_offset_lies_past_the_end(rt: HostRuntime) -> Result<(), Fail> {
-    let mut buf = [9u8; 1];
     let mut file = Sparse::new(0, b"abcd".to_vec(rt.alloc())?, 1, 0);
     file.top = 2;
     let mut device = FileDevice::new(file);
-    assert_eq!(rt; device.read_at(2, &mut buf), Ok(1));
-    assert_eq!(rt; device.read_at(3, &mut buf), Err(Failed));
-    assert_eq!(rt; device.read_at(4, &mut buf), Ok(0));
-    assert_eq!(rt; device.read_at(u64::MAX, &mut buf), Ok(0));
-    assert_eq!(rt; device.write_at(4, b"e"), Err(Failed));
+    let reads = [
+        (2, Some(b"c".as_slice())),
+        (3, None),
+        (4, Some(b"")),
+        (u64::MAX, Some(b"")),
+    ];
+    let found = differs(&mut device, &mut [9; 1], &reads);
+    assert_eq!(rt; (found, device.write_at(4, b"e")), (None, Err(Failed)));
     Ok(())
 }
 
 /// The last bytes of the longest possible file. A read that would end past them isn't tried.
 #[test]
 fn a_block_ends_at_the_largest_offset(rt: HostRuntime) -> Result<(), Fail> {
-    let alloc = rt.alloc();
     let first = MOST_BYTES - 4;
-    let file = Sparse::new(first, b"abcd".to_vec(alloc)?, usize::MAX, 0);
+    let file = Sparse::new(first, b"abcd".to_vec(rt.alloc())?, usize::MAX, 0);
     let mut device = FileDevice::new(file);
-    let mut buf = [9u8; 4];
-    assert_eq!(rt; device.read_at(first, &mut buf), Ok(4));
-    assert_eq!(rt; buf.as_slice(), b"abcd".as_slice());
-    assert_eq!(rt; device.read_at(first + 1, &mut buf), Err(Failed));
-    assert_eq!(rt; device.read_at(MOST_BYTES, &mut buf), Ok(0));
+    let reads = [
+        (first, Some(b"abcd".as_slice())),
+        (first + 1, None),
+        (MOST_BYTES, Some(b"")),
+    ];
+    assert_eq!(rt; differs(&mut device, &mut [9; 4], &reads), None);
     Ok(())
 }
 
 #[test]
 fn long_reads_of_a_source_are_whole(rt: HostRuntime) -> Result<(), Fail> {
     let alloc = rt.alloc();
-    let bytes = counted(alloc, 70_000)?;
-    let file = Sparse::new(FAR, bytes.as_slice().to_vec(alloc)?, usize::MAX, 0);
+    let bytes = data(alloc, 70_000)?;
+    let file = Sparse::new(FAR, bytes.to_vec(alloc)?, usize::MAX, 0);
     let mut source = FileSource::new(file, 69_999);
     let mut buf = vec![in alloc; 7u8; 80_000]?;
-    assert_eq!(rt; source.read(&mut buf), Ok(69_999));
-    assert_eq!(rt; buf.get(..69_999), bytes.get(..69_999));
-    assert_eq!(rt; source.read(&mut buf), Ok(0));
+    let counts = [source.read(&mut buf), source.read(&mut buf)];
+    let found = (counts, buf.get(..69_999));
+    assert_eq!(rt; found, ([Ok(69_999), Ok(0)], bytes.get(..69_999)));
     Ok(())
 }
 
 #[test]
-fn each_interrupt_is_tried_again(rt: HostRuntime) -> Result<(), Fail> {
+fn an_interrupted_source_reads_again(rt: HostRuntime) -> Result<(), Fail> {
     let alloc = rt.alloc();
-    let text = counted(alloc, 65_536)?;
-    assert!(rt; text.len() == 65_536);
-    let mut buf = vec![in alloc; 7u8; 65_536]?;
-
-    let file = Sparse::new(0, text.as_slice().to_vec(alloc)?, 10_000, INTERRUPTS);
+    let bytes = data(alloc, 65_536)?;
+    let file = Sparse::new(0, bytes.to_vec(alloc)?, 10_000, INTERRUPTS);
     let mut source = FileSource::new(file, 65_536);
-    assert_eq!(rt; source.read(&mut buf), Ok(10_000));
-    assert_eq!(rt; buf.get(..10_000), text.get(..10_000));
-    assert_eq!(rt; source.failures(), 0);
+    let mut buf = [7; 20_000];
+    let found = (source.read(&mut buf), source.failures(), buf.get(..10_000));
+    assert_eq!(rt; found, (Ok(10_000), 0, bytes.get(..10_000)));
+    Ok(())
+}
 
+#[test]
+fn an_interrupted_device_tries_again(rt: HostRuntime) -> Result<(), Fail> {
+    let alloc = rt.alloc();
+    let bytes = data(alloc, 65_536)?;
+    assert!(rt; bytes.len() == 65_536);
     let mut device = FileDevice::new(Sparse::new(0, Vec::new(alloc), 10_000, INTERRUPTS));
-    assert_eq!(rt; device.write_at(0, text.as_slice()), Ok(()));
-    assert_eq!(rt; device.read_at(0, &mut buf), Ok(65_536));
-    assert_eq!(rt; buf.as_slice(), text.as_slice());
+    let written = device.write_at(0, bytes.as_slice());
+    let mut buf = vec![in alloc; 7u8; 65_536]?;
+    let found = differs(&mut device, &mut buf, &[(0, Some(bytes.as_slice()))]);
+    assert_eq!(rt; (written, found), (Ok(()), None));
+    Ok(())
+}
 
+#[test]
+fn an_interrupted_writer_is_tried_again(rt: HostRuntime) -> Result<(), Fail> {
+    let alloc = rt.alloc();
+    let text = data(alloc, 65_536)?;
     let mut writer = Sparse::new(0, Vec::new(alloc), 10_000, INTERRUPTS);
-    assert_eq!(rt; put_all(&mut writer, text.as_slice()), Ok(()));
-    assert_eq!(rt; writer.bytes.as_slice(), text.as_slice());
+    let answer = put_all(&mut writer, text.as_slice());
+    assert_eq!(rt;
+        (answer, writer.bytes.as_slice()),
+        (Ok(()), text.as_slice())
+    );
     Ok(())
 }

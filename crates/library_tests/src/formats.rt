@@ -1,6 +1,6 @@
 //! Superblocks, descriptors, formatted digests and whole writes.
-use fixtures::{Field, Narrow, UUID, block, lay, one_block};
-use sha2::{Digest as Hasher, Sha256, Sha512};
+use fixtures::{Field, Narrow, Shape, UUID, block, descriptor, lay, one_block};
+use sha2::{Digest as Hasher, Sha512};
 use std::test::Fail;
 use verity_format::{
     Descriptor, PutFault, SuperFault, Superblock, file_digest, formatted_digest, put_all,
@@ -26,9 +26,8 @@ fn a_superblock_is_written_and_read(rt: HostRuntime) -> Result<(), Fail> {
         (80, &[3]),
         (88, salt),
     ]);
-    let written = write_superblock(&superblock);
-    assert_eq!(rt; written.as_slice(), expected.as_slice());
-    assert_eq!(rt; read_superblock(&expected), Ok(superblock));
+    let found = (write_superblock(&superblock), read_superblock(&expected));
+    assert_eq!(rt; found, (expected, Ok(superblock)));
     Ok(())
 }
 
@@ -61,42 +60,31 @@ fn a_short_superblock_is_refused(rt: HostRuntime) -> Result<(), Fail> {
     Ok(())
 }
 
-#[test]
-fn a_descriptor_is_written(rt: HostRuntime) -> Result<(), Fail> {
-    let tree = TreeSettings::fsverity(Algorithm::Sha256, &[], 4096)?;
-    let root = Sha256::digest(b"root".as_slice());
-    let expected: [u8; 256] = block(&[(0, &[1, 1, 12, 0]), (8, &[1, 0, 8]), (16, &root)]);
-    let root = Digest::from_bytes(&root).ok_or("a root hash")?;
-    let descriptor = Descriptor::of(&tree, 524_289, &root).ok_or("a descriptor")?;
-    let written = write_descriptor(&descriptor);
-    assert_eq!(rt; written.as_slice(), expected.as_slice());
-    let digest = file_digest(&descriptor);
-    assert_eq!(rt;
-        digest.as_bytes(),
-        Sha256::digest(expected.as_slice()).as_slice()
-    );
-    Ok(())
+/// Descriptors: the hash function, the salt, the size of a block, that of the file, and the first four bytes.
+const DESCRIPTORS: [(Algorithm, &[u8], u32, u64, [u8; 4]); 2] = [
+    (Algorithm::Sha256, b"", 4096, 524_289, [1, 1, 12, 0]),
+    (Algorithm::Sha512, b"\xab\xcd", 128, 384, [1, 2, 7, 2]),
+];
+
+/// The bytes of a descriptor and the file digest.
+fn described(tree: &TreeSettings, size: u64, root: &[u8]) -> Option<([u8; 256], Digest)> {
+    let descriptor = Descriptor::of(tree, size, &Digest::from_bytes(root)?)?;
+    Some((write_descriptor(&descriptor), file_digest(&descriptor)))
 }
 
 #[test]
-fn a_descriptor_has_the_salt_as_given(rt: HostRuntime) -> Result<(), Fail> {
-    let tree = TreeSettings::fsverity(Algorithm::Sha512, b"\xab\xcd", 128)?;
-    let root = Sha512::digest(b"root".as_slice());
-    let expected: [u8; 256] = block(&[
-        (0, &[1, 2, 7, 2]),
-        (8, &[0x80, 1]),
-        (16, &root),
-        (80, b"\xab\xcd"),
-    ]);
-    let root = Digest::from_bytes(&root).ok_or("a root hash")?;
-    let descriptor = Descriptor::of(&tree, 384, &root).ok_or("a descriptor")?;
-    let written = write_descriptor(&descriptor);
-    assert_eq!(rt; written.as_slice(), expected.as_slice());
-    let digest = file_digest(&descriptor);
-    assert_eq!(rt;
-        digest.as_bytes(),
-        Sha512::digest(expected.as_slice()).as_slice()
-    );
+fn descriptors_are_written_and_hashed(rt: HostRuntime) -> Result<(), Fail> {
+    let alloc = rt.alloc();
+    for (algorithm, salt, block, size, head) in DESCRIPTORS {
+        let tree = TreeSettings::fsverity(algorithm, salt, block)?;
+        let shape = Shape::new(alloc, algorithm, (0, 0), (0, 0));
+        let root = shape.digest(alloc, b"root")?;
+        let expected = descriptor(alloc, &head, size, root.as_slice(), salt)?;
+        let hashed = shape.digest(alloc, expected.as_slice())?;
+        let (written, digest) = described(&tree, size, root.as_slice()).ok_or("a descriptor")?;
+        let found = (written.as_slice(), digest.as_bytes());
+        assert_eq!(rt; found, (expected.as_slice(), hashed.as_slice()));
+    }
     Ok(())
 }
 
@@ -111,23 +99,33 @@ fn a_digest_is_formatted(rt: HostRuntime) -> Result<(), Fail> {
 }
 
 #[test]
-fn texts_are_put_whole(rt: HostRuntime) -> Result<(), Fail> {
+fn texts_are_put_one_after_another(rt: HostRuntime) {
     let mut out = Vec::new(rt.alloc());
-    assert_eq!(rt; put_all(&mut out, b"root "), Ok(()));
-    assert_eq!(rt; put_all(&mut out, b""), Ok(()));
-    assert_eq!(rt; put_all(&mut out, b"hash"), Ok(()));
-    assert_eq!(rt; out.as_slice(), b"root hash".as_slice());
+    let answers = [
+        put_all(&mut out, b"root "),
+        put_all(&mut out, b""),
+        put_all(&mut out, b"hash"),
+    ];
+    let found = (answers, out.as_slice());
+    assert_eq!(rt; found, ([Ok(()); 3], b"root hash".as_slice()));
+}
+
+#[test]
+fn a_text_is_put_as_far_as_there_is_room(rt: HostRuntime) {
     for (room, answer) in [(8, Ok(())), (7, Err(PutFault(7))), (0, Err(PutFault(0)))] {
         let mut narrow = Narrow::new(Vec::new(rt.alloc()), room, 3);
-        assert_eq!(rt; put_all(&mut narrow, b"8 bytes."), answer);
-        assert_eq!(rt; Some(narrow.bytes.as_slice()), b"8 bytes.".get(..room));
+        let found = (
+            put_all(&mut narrow, b"8 bytes."),
+            Some(narrow.bytes.as_slice()),
+        );
+        assert_eq!(rt; found, (answer, b"8 bytes.".get(..room)));
     }
-    // A slice takes nothing once it is full.
+}
+
+/// A slice takes nothing once it is full.
+#[test]
+fn a_slice_is_filled(rt: HostRuntime) {
     let mut place = [0; 5];
-    assert_eq!(rt;
-        put_all(&mut place.as_mut_slice(), b"8 bytes."),
-        Err(PutFault(5))
-    );
-    assert_eq!(rt; place.as_slice(), b"8 byt".as_slice());
-    Ok(())
+    let answer = put_all(&mut place.as_mut_slice(), b"8 bytes.");
+    assert_eq!(rt; (answer, place), (Err(PutFault(5)), *b"8 byt"));
 }

@@ -7,12 +7,15 @@ use std::test::Fail;
 fn long_texts_are_told_whole(rt: HostRuntime) -> Result<(), Fail> {
     let alloc = rt.alloc();
     let text = "0123456789abcdef".repeat(alloc, 4096)?;
-    let mut msgs = Narrow::new(Vec::new(alloc), 65_536, 1000);
-    assert!(rt; write_text(text.as_str(), &mut msgs));
-    assert_eq!(rt; msgs.bytes.as_slice(), text.as_bytes());
-    let mut msgs = Narrow::new(Vec::new(alloc), 65_536, 1000);
-    assert!(rt; write_message(String::from_str(alloc, text.as_str()), &mut msgs));
-    assert_eq!(rt; msgs.bytes.as_slice(), text.as_bytes());
+    let copy = String::from_str(alloc, text.as_str());
+    let twice = text.as_str().repeat(alloc, 2)?;
+    let mut msgs = Narrow::new(Vec::new(alloc), 131_072, 1000);
+    let answers = [
+        write_text(text.as_str(), &mut msgs),
+        write_message(copy, &mut msgs),
+    ];
+    let found = (answers, msgs.bytes.as_slice());
+    assert_eq!(rt; found, ([true; 2], twice.as_bytes()));
     Ok(())
 }
 
@@ -24,9 +27,11 @@ fn pieces_are_told_in_order(rt: HostRuntime) -> Result<(), Fail> {
     let pieces = ["Cannot open ", path.as_str(), ".\n"];
     for (room, whole) in [(4110, true), (4109, false), (12, false)] {
         let mut msgs = Narrow::new(Vec::new(alloc), room, 1000);
-        assert_eq!(rt; write_pieces(&pieces, &mut msgs), whole, "at {room}");
-        let front = text.as_bytes().get(..room);
-        assert_eq!(rt; Some(msgs.bytes.as_slice()), front, "at {room}");
+        let found = (
+            write_pieces(&pieces, &mut msgs),
+            Some(msgs.bytes.as_slice()),
+        );
+        assert_eq!(rt; found, (whole, text.as_bytes().get(..room)), "at {room}");
     }
     Ok(())
 }
@@ -42,9 +47,8 @@ fn long_texts_are_printed_whole(rt: HostRuntime) -> Result<(), Fail> {
     ] {
         let mut out = Narrow::new(Vec::new(alloc), room, 1000);
         let copy = String::from_str(alloc, text.as_str());
-        assert_eq!(rt; print_whole(copy, &mut out), answer, "at {room}");
-        let front = text.as_bytes().get(..room);
-        assert_eq!(rt; Some(out.bytes.as_slice()), front, "at {room}");
+        let found = (print_whole(copy, &mut out), Some(out.bytes.as_slice()));
+        assert_eq!(rt; found, (answer, text.as_bytes().get(..room)), "at {room}");
     }
     Ok(())
 }

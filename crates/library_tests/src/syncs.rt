@@ -1,48 +1,22 @@
 //! What FileDevice makes of the system's answer to a sync.
+use crate::files::Sparse;
 use std::fs::{Metadata, OpenFile};
 use std::io;
-use std::io::{ErrorKind, Read, Seek, SeekFrom, Write};
+use std::io::ErrorKind;
 use verity_tree::FileDevice;
 
-/// A file whose sync ends with this error, and which is empty.
-#[derive(Drop)]
-struct Unsynced {
-    error: Option<ErrorKind>,
-}
-
-impl Read for Unsynced {
-    fn read(&mut self, _buf: &mut [u8]) -> io::Result<usize> {
-        Ok(0)
-    }
-}
-
-impl Write for Unsynced {
-    fn write(&mut self, buf: &[u8]) -> io::Result<usize> {
-        Ok(buf.len())
-    }
-
-    fn flush(&mut self) -> io::Result<()> {
-        Ok(())
-    }
-}
-
-impl Seek for Unsynced {
-    fn seek(&mut self, _to: SeekFrom) -> io::Result<u64> {
-        Ok(0)
-    }
-}
-
-impl OpenFile for Unsynced {
+/// Only a sync of the whole file gives its answer. Nothing else can be asked.
+impl OpenFile for Sparse {
     fn metadata(&self) -> io::Result<Metadata> {
         Err(io::Error::from(ErrorKind::Unsupported))
     }
 
     fn set_len(&self, _size: u64) -> io::Result<()> {
-        Ok(())
+        Err(io::Error::from(ErrorKind::Other))
     }
 
     fn sync_all(&self) -> io::Result<()> {
-        match self.error {
+        match self.sync_error {
             Some(kind) => Err(io::Error::from(kind)),
             None => Ok(()),
         }
@@ -68,7 +42,9 @@ const ANSWERS: [(Option<ErrorKind>, bool); 7] = [
 #[test]
 fn a_refused_sync_is_a_failure(rt: HostRuntime) {
     for (error, passed_over) in ANSWERS {
-        let device = FileDevice::new(Unsynced { error });
+        let mut file = Sparse::new(0, Vec::new(rt.alloc()), 1, 0);
+        file.sync_error = error;
+        let device = FileDevice::new(file);
         assert_eq!(rt; device.sync().is_ok(), passed_over, "at {error:?}");
     }
 }

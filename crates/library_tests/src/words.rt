@@ -12,10 +12,9 @@ fn as_many_words_are_given_as_there_are(rt: HostRuntime) -> Result<(), Fail> {
     }
     let disk = Disk::new(alloc);
     let given = given_words(&MemoryRuntime::new(alloc, &disk, line.as_str()))?;
-    assert_eq!(rt; given.len(), 2001);
-    for (word, expected) in given.iter().zip(line.as_str().split(' ')) {
-        assert_eq!(rt; word.as_str(), expected);
-    }
+    let texts = texts_of(alloc, given.as_slice())?;
+    let joined = texts.as_slice().join(alloc, " ")?;
+    assert_eq!(rt; (given.len(), joined), (2001, line));
     Ok(())
 }
 
