@@ -77,9 +77,10 @@ fn refused_lines_open_nothing(rt: HostRuntime) -> Result<(), Fail> {
         let disk = disk(alloc)?;
         let said = run(alloc, &disk, words);
         let text = format!(in alloc; "{start}{end}")?;
-        assert_eq!(rt; said.differs(2, b"", text.as_bytes()), None, "at {words}");
-        assert_eq!(rt; disk.opened()?.as_str(), "", "at {words}");
-        assert!(rt; !disk.has("made")?, "at {words}");
+        let differs = said.differs(2, b"", text.as_bytes());
+        let opened = disk.opened()?;
+        let found = (differs, opened.as_str(), disk.has("made")?);
+        assert_eq!(rt; found, (None, "", false), "at {words}");
     }
     Ok(())
 }
@@ -91,12 +92,21 @@ fn a_word_that_is_no_text_is_refused(rt: HostRuntime) -> Result<(), Fail> {
     let mut memory = MemoryRuntime::new(alloc, &disk, "fsverity digest");
     let (word, shown) = NOT_UTF8;
     memory.last_word = Some(word);
-    let said = said_by(alloc, &memory);
     let text = format!(in alloc; "error: argument 2 is not UTF-8: {shown}\n")?;
-    assert_eq!(rt; said.differs(2, b"", text.as_bytes()), None);
-    assert_eq!(rt; disk.opened()?.as_str(), "");
+    let found = said_by(alloc, &memory).differs(2, b"", text.as_bytes());
+    assert_eq!(rt; (found, disk.opened()?.as_str()), (None, ""));
     Ok(())
 }
+
+/// What is opened if there is no null device.
+const ROOT_OPENED: &str = "/dev/null: read
+/: read
+/dev/null: read
+/: read
+/dev/null: read
+/: read
+empty: read
+";
 
 #[test]
 fn the_root_serves_as_null_file(rt: HostRuntime) -> Result<(), Fail> {
@@ -105,9 +115,8 @@ fn the_root_serves_as_null_file(rt: HostRuntime) -> Result<(), Fail> {
     disk.make("empty", Vec::new(alloc))?;
     disk.make_kind("/", Kind::Character, Vec::new(alloc))?;
     let said = run(alloc, &disk, "fsverity digest empty");
-    assert_eq!(rt; said.status, 0);
-    let nulls = "/dev/null: read\n/: read\n".repeat(alloc, 3)?;
-    assert_eq!(rt; disk.opened()?, format!(in alloc; "{nulls}empty: read\n")?);
+    let opened = disk.opened()?;
+    assert_eq!(rt; (said.status, opened.as_str()), (0, ROOT_OPENED));
     Ok(())
 }
 
@@ -125,6 +134,10 @@ const HELD: [(&str, &str); 4] = [
     ),
 ];
 
+const NULLS_OPEN: &str = "open /dev/null\nopen /dev/null\nopen /dev/null\n";
+
+const NULLS_CLOSE: &str = "close /dev/null\nclose /dev/null\nclose /dev/null\n";
+
 #[test]
 fn null_files_are_open_to_the_end(rt: HostRuntime) -> Result<(), Fail> {
     let alloc = rt.alloc();
@@ -132,10 +145,8 @@ fn null_files_are_open_to_the_end(rt: HostRuntime) -> Result<(), Fail> {
         let disk = disk(alloc)?;
         let line = format!(in alloc; "fsverity digest {words}")?;
         // Only what the disk recorded is tested.
-        let _said = run(alloc, &disk, line.as_str());
-        let opened = "open /dev/null\n".repeat(alloc, 3)?;
-        let closed = "close /dev/null\n".repeat(alloc, 3)?;
-        let expected = format!(in alloc; "{opened}{held}{closed}")?;
+        run(alloc, &disk, line.as_str());
+        let expected = format!(in alloc; "{NULLS_OPEN}{held}{NULLS_CLOSE}")?;
         assert_eq!(rt; disk.held()?.as_str(), expected.as_str(), "at {words}");
     }
     Ok(())

@@ -120,9 +120,8 @@ fn output_files_are_written(rt: HostRuntime) -> Result<(), Fail> {
         &mut Vec::new(alloc),
     );
     let line = format!(in alloc; "sha256:{digits} a b\n")?;
-    assert_eq!(rt; status, 0);
-    assert_eq!(rt; tree.bytes(), image.as_slice());
-    assert_eq!(rt; descriptor.as_slice(), text.as_slice());
-    assert_eq!(rt; out.as_slice(), line.as_bytes());
+    let found = [tree.bytes(), descriptor.as_slice(), out.as_slice()];
+    let expected = [image.as_slice(), text.as_slice(), line.as_bytes()];
+    assert_eq!(rt; (status, found), (0, expected));
     Ok(())
 }

@@ -88,9 +88,9 @@ fn refused_files_stay(rt: HostRuntime) -> Result<(), Fail> {
         let said = run(alloc, &disk, line.as_str());
         let text = format!(in alloc; "fsverity: cannot open {refused}.\n")?;
         let opened = format!(in alloc; "{NULLS}{opened}")?;
-        assert_eq!(rt; said.differs(1, b"", text.as_bytes()), None, "at {words}");
-        assert_eq!(rt; changed(alloc, &disk)?, None, "at {words}");
-        assert_eq!(rt; disk.opened()?, opened, "at {words}");
+        let differs = said.differs(1, b"", text.as_bytes());
+        let found = (differs, changed(alloc, &disk)?, disk.opened()?);
+        assert_eq!(rt; found, (None, None, opened), "at {words}");
     }
     Ok(())
 }

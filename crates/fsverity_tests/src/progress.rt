@@ -60,9 +60,8 @@ fn a_terminal_is_told_how_far_it_is(rt: HostRuntime) -> Result<(), Fail> {
         let disk = disk_with_large(alloc, failing)?;
         let shown = written(alloc, &disk, words, Some(STEP))?;
         let expected = shown_before(alloc, count, total, plain.as_slice())?;
-        assert!(rt; is_plain(plain.as_slice(), start), "at {words}");
-        assert_eq!(rt; shown.as_slice(), expected.as_slice(), "at {words}");
-        assert_eq!(rt; disk.looks()?, 1, "at {words}");
+        let found = (is_plain(plain.as_slice(), start), shown, disk.looks()?);
+        assert_eq!(rt; found, (true, expected, 1), "at {words}");
     }
     Ok(())
 }
@@ -82,14 +81,9 @@ fn the_line_is_erased_in_the_end(rt: HostRuntime) -> Result<(), Fail> {
         let mut out = Vec::new(alloc);
         let mut msgs = Vec::new(alloc);
         let status = run_program(&runtime, &progress, &mut out, &mut msgs);
+        let found = (status, out.starts_with(b"sha256:"), disk.standard_error()?);
         let expected = shown_before(alloc, 4, 0, &[])?;
-        assert_eq!(rt; status, 0, "at {words}");
-        assert!(rt; out.starts_with(b"sha256:"), "at {words}");
-        assert_eq!(rt;
-            disk.standard_error()?.as_slice(),
-            expected.as_slice(),
-            "at {words}"
-        );
+        assert_eq!(rt; found, (0, true, expected), "at {words}");
     }
     Ok(())
 }
