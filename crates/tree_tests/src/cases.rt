@@ -4,7 +4,7 @@ ghost use Rattle.std.specs.Prelude.{◌<◌};
 use fixtures::{Shape, Tree, data, filled};
 use std::alloc::{AllocError, Global};
 use std::test::Fail;
-use verity_hash::{Algorithm, SaltRule};
+use verity_hash::{Algorithm, Digest, SaltRule};
 use verity_tree::{HashType, Plan, SettingFault, TreeSettings};
 
 pub const SHA1: Algorithm = Algorithm::Sha1;
@@ -76,10 +76,12 @@ fn settings_of(row: &Row) -> Result<TreeSettings, SettingFault> {
     TreeSettings::verity(algorithm, hash_type, salt, data_block, hash_block)
 }
 
-/// A row's plan, whose hash area begins after one hash block; its data, and the tree made from plain lists.
+/// A row's plan, whose hash area begins after one hash block; its data, and the tree made from plain lists, with its
+/// root hash.
 #[derive(Drop)]
 pub struct Case {
     pub plan: Plan,
+    pub root: Digest,
     pub shape: Shape,
     pub data: Vec<u8>,
     pub tree: Tree,
@@ -88,13 +90,16 @@ pub struct Case {
 impl Case {
     pub fn new(alloc: Global, row: &Row) -> Result<Case, Fail> {
         let (rule, algorithm, salt, sizes, slots, (size, levels)) = *row;
+        let plan = Plan::for_bytes(&settings_of(row)?, size as u64, 1)?;
         let mut shape = salted_shape(alloc, algorithm, rule, salt)?;
         (shape.data_block, shape.hash_block) = (sizes.0 as usize, sizes.1 as usize);
         (shape.slots, shape.width) = slots;
         let data = data(alloc, size)?;
         let tree = shape.tree(alloc, data.as_slice(), levels)?;
+        let root = Digest::from_bytes(tree.root.as_slice()).ok_or("a root hash")?;
         Ok(Case {
-            plan: Plan::for_bytes(&settings_of(row)?, size as u64, 1)?,
+            plan,
+            root,
             shape,
             data,
             tree,

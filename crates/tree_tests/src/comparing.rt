@@ -25,27 +25,60 @@ enum Change {
     DeviceFails(u64),
 }
 
+/// A tree and its data, and the reads of the source and of the device that fail, by their numbers; none for 0.
+#[derive(Drop)]
+struct Given {
+    data: Vec<u8>,
+    image: Vec<u8>,
+    root: Digest,
+    source_fails: u64,
+    device_fails: u64,
+}
+
+impl Given {
+    /// A correct tree, of which no read fails.
+    fn new(alloc: Global) -> Result<Given, Fail> {
+        let data = data(alloc, 8704)?;
+        let tree = small_tree(alloc, data.as_slice(), 2)?;
+        Ok(Given {
+            root: Digest::from_bytes(tree.root.as_slice()).ok_or("a root hash")?,
+            image: tree.on_device(alloc, 512)?,
+            data,
+            source_fails: 0,
+            device_fails: 0,
+        })
+    }
+
+    /// Makes a change.
+    fn change(&mut self, change: Change) {
+        match change {
+            Change::Nothing => {}
+            Change::DeviceByte(at) => flip(&mut self.image, at),
+            Change::DataByte(at) => flip(&mut self.data, at),
+            Change::DeviceCut(length) => self.image.truncate(length),
+            Change::DataCut(length) => self.data.truncate(length),
+            Change::SourceFails(call) => self.source_fails = call,
+            Change::DeviceFails(call) => self.device_fails = call,
+        }
+    }
+}
+
 /// The answer, and how many bytes remain in the source.
 type Verdict = (Result<(), CompareFault>, usize);
 
 fn verdict(alloc: Global, change: Change) -> Result<Verdict, Fail> {
-    let mut bytes = data(alloc, 8704)?;
-    let tree = small_tree(alloc, bytes.as_slice(), 2)?;
-    let root = Digest::from_bytes(tree.root.as_slice()).ok_or("a root hash")?;
-    let mut image = tree.on_device(alloc, 512)?;
-    let (mut source_fails, mut device_fails) = (0, 0);
-    match change {
-        Change::Nothing => {}
-        Change::DeviceByte(at) => flip(&mut image, at),
-        Change::DataByte(at) => flip(&mut bytes, at),
-        Change::DeviceCut(length) => image.truncate(length),
-        Change::DataCut(length) => bytes.truncate(length),
-        Change::SourceFails(call) => source_fails = call,
-        Change::DeviceFails(call) => device_fails = call,
-    }
     let plan = Plan::for_blocks(&small()?, 17, 1)?;
     let mut store = Store::new(alloc, &plan)?;
-    let mut source = Fused::new(MemorySource::new(bytes.as_slice()), source_fails);
+    let mut given = Given::new(alloc)?;
+    given.change(change);
+    let Given {
+        data,
+        image,
+        root,
+        source_fails,
+        device_fails,
+    } = given;
+    let mut source = Fused::new(MemorySource::new(data.as_slice()), source_fails);
     let mut device = Fused::new(MemoryDevice::new(image), device_fails);
     let answer = compare(&plan, &mut store, &mut source, &mut device, &root);
     Ok((answer, source.inner().rest().len()))
@@ -86,7 +119,7 @@ fn the_first_difference_is_named(rt: HostRuntime) -> Result<(), Fail> {
         ),
         (Change::DeviceFails(2), Err(failed), 0),
     ];
-    for (change, answer, rest) in cases {
+    for &(change, answer, rest) in &cases {
         assert_eq!(rt;
             verdict(rt.alloc(), change)?,
             (answer, rest),

@@ -173,7 +173,6 @@ struct Trial {
 struct Sweep {
     case: Case,
     blocks: usize,
-    root: Digest,
     order: Vec<Closed>,
 }
 
@@ -184,7 +183,6 @@ impl Sweep {
         let levels = case.tree.levels.len();
         Ok(Sweep {
             blocks,
-            root: Digest::from_bytes(case.tree.root.as_slice()).ok_or("a root hash")?,
             order: closing_order(alloc, case.shape.slots, blocks, levels)?,
             case,
         })
@@ -202,7 +200,7 @@ impl Sweep {
             failing: (0, 0),
             given: self.case.data.len(),
             rest: 0,
-            answer: Ok(self.root),
+            answer: Ok(self.case.root),
             closed: self.order.len(),
             calls: self.order.len(),
         }
@@ -302,18 +300,48 @@ impl Sweep {
         if !store.fits(&self.case.plan) {
             return Ok(false);
         }
+        let held = self.device_after(alloc, trial.closed)?;
         let bytes = self.case.data.get(..trial.given).unwrap_or(&[]);
         let (read, write) = (trial.failing.0 as u64, trial.failing.1 as u64);
         let mut source = Fused::new(Pieces::new(bytes, piece), read);
         let mut device = Fused::new(MemoryDevice::new(Vec::new(alloc)), write);
         let answer = build(&self.case.plan, store, &mut source, &mut device);
-        let held = self.device_after(alloc, trial.closed)?;
         Ok(
             answer == trial.answer
                 && source.inner().rest().len() == trial.rest
                 && device.calls() == trial.calls as u64
                 && device.inner().bytes() == held.as_slice(),
         )
+    }
+
+    /// The first run over a source that goes wrong.
+    fn wrong_trial(
+        &self,
+        alloc: Global,
+        store: &mut Store,
+        tried: Tried,
+    ) -> Result<Option<Trial>, AllocError> {
+        for trial in self.trials(alloc, tried)?.iter() {
+            if !self.holds(alloc, store, tried.0, trial)? {
+                return Ok(Some(*trial));
+            }
+        }
+        Ok(None)
+    }
+
+    /// The first run that goes wrong, and how many bytes its source gives at a time.
+    fn first_wrong(
+        &self,
+        alloc: Global,
+        sources: &[Tried],
+    ) -> Result<Option<(usize, Trial)>, AllocError> {
+        let mut store = Store::new(alloc, &self.case.plan)?;
+        for tried in sources {
+            if let Some(trial) = self.wrong_trial(alloc, &mut store, *tried)? {
+                return Ok(Some((tried.0, trial)));
+            }
+        }
+        Ok(None)
     }
 }
 
@@ -323,14 +351,8 @@ type Wrong = (usize, usize, (usize, usize), usize);
 
 fn first_wrong(alloc: Global, rows: &[Row], sources: &[Tried]) -> Result<Option<Wrong>, Fail> {
     for (number, row) in rows.iter().enumerate() {
-        let sweep = Sweep::new(alloc, row)?;
-        let mut store = Store::new(alloc, &sweep.case.plan)?;
-        for tried in sources {
-            for trial in sweep.trials(alloc, *tried)?.iter() {
-                if !sweep.holds(alloc, &mut store, tried.0, trial)? {
-                    return Ok(Some((number, tried.0, trial.failing, trial.given)));
-                }
-            }
+        if let Some((piece, trial)) = Sweep::new(alloc, row)?.first_wrong(alloc, sources)? {
+            return Ok(Some((number, piece, trial.failing, trial.given)));
         }
     }
     Ok(None)

@@ -3,7 +3,7 @@
 use crate::trees::{small, small_tree};
 use fixtures::{data, filled, flip};
 use sha2::{Digest as Hasher, Sha256};
-use std::alloc::Global;
+use std::alloc::{AllocError, Global};
 use std::test::Fail;
 use verity_hash::{Algorithm, Digest};
 use verity_tree::{PathFault, Plan, TreeSettings, check_block};
@@ -31,34 +31,60 @@ fn block_of(bytes: &[u8], number: usize) -> &[u8] {
     bytes.chunks(512).nth(number).unwrap_or(&[])
 }
 
-/// The answer for data block `asked`, if it is given data block `i` with its path and a change. Level 0 of the tree
-/// begins with block 4 of the image, level 1 with block 2, level 2 with block 1.
+/// A data block with its path, and the root hash.
+#[derive(Drop)]
+struct Given {
+    block: Vec<u8>,
+    path: Vec<u8>,
+    root: Digest,
+}
+
+impl Given {
+    /// Data block `i` with its path. Level 0 of the tree begins with block 4 of the image, level 1 with block 2, level 2
+    /// with block 1.
+    fn new(alloc: Global, i: usize) -> Result<Given, Fail> {
+        let data = data(alloc, 131_584)?;
+        let tree = small_tree(alloc, data.as_slice(), 3)?;
+        let image = tree.on_device(alloc, 512)?;
+        let path = [
+            block_of(image.as_slice(), (i / 16).saturating_add(4)),
+            block_of(image.as_slice(), (i / 256).saturating_add(2)),
+            block_of(image.as_slice(), 1),
+        ];
+        Ok(Given {
+            block: Vec::from_slice(alloc, block_of(data.as_slice(), i))?,
+            path: filled(alloc, &path, 0)?,
+            root: Digest::from_bytes(tree.root.as_slice()).ok_or("a root hash")?,
+        })
+    }
+
+    /// Makes a change.
+    fn change(&mut self, change: Change) -> Result<(), AllocError> {
+        match change {
+            Change::Nothing => {}
+            Change::BlockByte(at) => flip(&mut self.block, at),
+            Change::PathByte(at) => flip(&mut self.path, at),
+            Change::BlockCut(length) => self.block.truncate(length),
+            Change::PathCut(length) => self.path.truncate(length),
+            Change::PathMore => self.path.extend_from_slice(&[0; 512])?,
+            Change::Root => self.root = Digest::zeros(Algorithm::Sha256),
+        }
+        Ok(())
+    }
+}
+
+/// The answer for data block `asked`, if it is given data block `i` with its path and a change.
 fn answer(
     alloc: Global,
     i: usize,
     change: Change,
     asked: u64,
 ) -> Result<Result<(), PathFault>, Fail> {
-    let data = data(alloc, 131_584)?;
-    let tree = small_tree(alloc, data.as_slice(), 3)?;
-    let image = tree.on_device(alloc, 512)?;
-    let mut path = Vec::new(alloc);
-    for place in [(i / 16).saturating_add(4), (i / 256).saturating_add(2), 1] {
-        path.extend_from_slice(block_of(image.as_slice(), place))?;
-    }
-    let mut block = Vec::from_slice(alloc, block_of(data.as_slice(), i))?;
-    let mut root = Digest::from_bytes(tree.root.as_slice()).ok_or("a root hash")?;
-    match change {
-        Change::Nothing => {}
-        Change::BlockByte(at) => flip(&mut block, at),
-        Change::PathByte(at) => flip(&mut path, at),
-        Change::BlockCut(length) => block.truncate(length),
-        Change::PathCut(length) => path.truncate(length),
-        Change::PathMore => path.extend_from_slice(&[0; 512])?,
-        Change::Root => root = Digest::zeros(Algorithm::Sha256),
-    }
     let plan = Plan::for_blocks(&small()?, 257, 1)?;
-    Ok(check_block(&plan, asked, block.as_slice(), path.as_slice(), &root))
+    let mut given = Given::new(alloc, i)?;
+    given.change(change)?;
+    let (block, path) = (given.block.as_slice(), given.path.as_slice());
+    Ok(check_block(&plan, asked, block, path, &given.root))
 }
 
 /// The number of a data block, what is changed, the number that is asked for, and the answer.
@@ -92,30 +118,41 @@ const CASES: [(usize, Change, u64, Result<(), PathFault>); 24] = [
 /// True paths are accepted, and otherwise the lowest level that differs is named.
 #[test]
 fn paths_are_judged(rt: HostRuntime) -> Result<(), Fail> {
-    for (i, change, asked, expected) in CASES {
+    for &(i, change, asked, expected) in &CASES {
         let answer = answer(rt.alloc(), i, change, asked)?;
         assert_eq!(rt; answer, expected, "at {change:?}, {i} for {asked}");
     }
     Ok(())
 }
 
-#[test]
-fn the_last_block_of_a_file_comes_filled(rt: HostRuntime) -> Result<(), Fail> {
+/// The hash block above two blocks.
+fn above(alloc: Global, first: &[u8], last: &[u8]) -> Result<Vec<u8>, AllocError> {
+    filled(
+        alloc,
+        &[&Sha256::digest(first), &Sha256::digest(last)],
+        4096,
+    )
+}
+
+/// The answer for the last block of a file of 4097 bytes, of which `last` is the last block filled with zeros, if it is
+/// given as these bytes. The other bytes of the file are zeros.
+fn answer_for_last(
+    alloc: Global,
+    last: &[u8],
+    given: &[u8],
+) -> Result<Result<(), PathFault>, Fail> {
     let page = TreeSettings::fsverity(Algorithm::Sha256, &[], 4096)?;
     let plan = Plan::for_bytes(&page, 4097, 0)?;
-    let first = filled(rt.alloc(), &[], 4096)?;
-    let last = filled(rt.alloc(), &[b"a"], 4096)?;
-    let digests = [
-        Sha256::digest(first.as_slice()),
-        Sha256::digest(last.as_slice()),
-    ];
-    let path = filled(rt.alloc(), &[&digests[0], &digests[1]], 4096)?;
+    let path = above(alloc, &[0; 4096], last)?;
     let root = Digest::from_bytes(&Sha256::digest(path.as_slice())).ok_or("a root hash")?;
-    let path = path.as_slice();
-    let answers = [
-        check_block(&plan, 1, last.as_slice(), path, &root),
-        check_block(&plan, 1, b"a", path, &root),
-    ];
-    assert_eq!(rt; answers, [Ok(()), Err(PathFault::Length)]);
+    Ok(check_block(&plan, 1, given, path.as_slice(), &root))
+}
+
+#[test]
+fn the_last_block_of_a_file_comes_filled(rt: HostRuntime) -> Result<(), Fail> {
+    let last = filled(rt.alloc(), &[b"a"], 4096)?;
+    let whole = answer_for_last(rt.alloc(), last.as_slice(), last.as_slice())?;
+    let cut = answer_for_last(rt.alloc(), last.as_slice(), b"a")?;
+    assert_eq!(rt; (whole, cut), (Ok(()), Err(PathFault::Length)));
     Ok(())
 }

@@ -27,10 +27,14 @@ fn joined<const N: usize>(
     Ok(all)
 }
 
-/// The digests of `count` parts of one length, with the bytes of a shape before and after each, one after another.
+/// The bytes before and after each part.
+type Around<'a> = (&'a [u8], &'a [u8]);
+
+/// The digests of `count` parts of one length, with these bytes around each, one after another.
 fn side_by_side(
     alloc: Global,
-    shape: &Shape,
+    function: Algorithm,
+    (before, after): Around<'_>,
     parts: &[u8],
     len: usize,
     count: usize,
@@ -38,8 +42,7 @@ fn side_by_side(
     if count == 0 || count > 8 || parts.len() != count.saturating_mul(len) {
         return Err("one to eight parts".into());
     }
-    let (before, after) = (shape.before.as_slice(), shape.after.as_slice());
-    let all = match shape.algorithm {
+    let all = match function {
         Algorithm::Sha1 => return Err("a function with lanes".into()),
         Algorithm::Sha224 => joined(alloc, &sha224(before, parts, len, count, after), count),
         Algorithm::Sha256 => joined(alloc, &sha256(before, parts, len, count, after), count),
@@ -130,8 +133,8 @@ fn digits_of_part(
     let len = example.message.len();
     let mut parts = data(alloc, len.saturating_mul(count))?;
     lay(&mut parts, &[(len.saturating_mul(j), example.message)]);
-    let shape = Shape::new(alloc, example.function, (0, 0), (0, 0));
-    let all = side_by_side(alloc, &shape, parts.as_slice(), len, count)?;
+    let parts = parts.as_slice();
+    let all = side_by_side(alloc, example.function, (b"", b""), parts, len, count)?;
     let size = example.digits.len() / 2;
     let from = size.saturating_mul(j);
     let digest = all.get(from..from.saturating_add(size)).unwrap_or(&[]);
@@ -181,18 +184,29 @@ fn one_by_one(
     Ok(all)
 }
 
-/// Whether the digests of this many parts by each function are those of `sha2`, with the salt before the parts, after
-/// them, and both.
-fn are_the_same(alloc: Global, salt: &[u8], len: usize, count: usize) -> Result<bool, Fail> {
+/// Whether the digests of this many parts by a function, with bytes around each, are those of `sha2`.
+fn are_the_same(
+    alloc: Global,
+    function: Algorithm,
+    around: Around<'_>,
+    len: usize,
+    count: usize,
+) -> Result<bool, Fail> {
+    let mut shape = Shape::new(alloc, function, (0, 0), (0, 0));
+    shape.before.extend_from_slice(around.0)?;
+    shape.after.extend_from_slice(around.1)?;
     let parts = data(alloc, len.saturating_mul(count))?;
-    let parts = parts.as_slice();
-    for function in FUNCTIONS {
-        for (before, after) in [(salt, &salt[..0]), (&salt[..0], salt), (salt, salt)] {
-            let mut shape = Shape::new(alloc, function, (0, 0), (0, 0));
-            shape.before.extend_from_slice(before)?;
-            shape.after.extend_from_slice(after)?;
-            let expected = one_by_one(alloc, &shape, parts, len, count)?;
-            if side_by_side(alloc, &shape, parts, len, count)? != expected {
+    let expected = one_by_one(alloc, &shape, parts.as_slice(), len, count)?;
+    let all = side_by_side(alloc, function, around, parts.as_slice(), len, count)?;
+    Ok(all == expected)
+}
+
+/// Whether the digests of this many parts are the same by each function, with the salt before the parts, after them,
+/// and both.
+fn all_are_the_same(alloc: Global, salt: &[u8], len: usize, count: usize) -> Result<bool, Fail> {
+    for function in &FUNCTIONS {
+        for around in &[(salt, &salt[..0]), (&salt[..0], salt), (salt, salt)] {
+            if !are_the_same(alloc, *function, *around, len, count)? {
                 return Ok(false);
             }
         }
@@ -206,13 +220,13 @@ fn are_the_same(alloc: Global, salt: &[u8], len: usize, count: usize) -> Result<
 fn wrong_length(alloc: Global) -> Result<Option<(usize, usize, usize)>, Fail> {
     let salts = data(alloc, 269)?;
     let mut turn = 0usize;
-    for salt_len in SALTS {
+    for &salt_len in &SALTS {
         let salt = salts.get(13..salt_len.saturating_add(13)).ok_or("a salt")?;
-        for border in BORDERS {
+        for &border in &BORDERS {
             let message = border.saturating_add(256).saturating_sub(salt_len);
-            for len in [border, message] {
+            for &len in &[border, message] {
                 let count = (turn % 8).saturating_add(1);
-                if !are_the_same(alloc, salt, len, count)? {
+                if !all_are_the_same(alloc, salt, len, count)? {
                     return Ok(Some((salt_len, count, len)));
                 }
                 turn = turn.saturating_add(3);

@@ -4,7 +4,7 @@ use crate::cases::{CURRENT, Case, FILE, ORIGINAL, Row, SHA1, SHA224, SHA256, SHA
 use fixtures::{Shape, Tree};
 use std::alloc::{AllocError, Global};
 use std::test::Fail;
-use verity_hash::{Algorithm, Digest};
+use verity_hash::Algorithm;
 use verity_tree::{
     HashType, MemoryDevice, MemorySource, Plan, SettingFault, Store, TreeSettings, build, compare,
     root_by_levels, root_only,
@@ -91,7 +91,7 @@ const SHAPES: [Row; 14] = [
 ];
 
 /// Whether a tree is built as from plain lists and found to be that of its data.
-fn is_built(alloc: Global, case: &Case, root: &Digest) -> Result<bool, Fail> {
+fn is_built(alloc: Global, case: &Case) -> Result<bool, Fail> {
     let mut store = Store::new(alloc, &case.plan)?;
     let image = case.tree.on_device(alloc, case.shape.hash_block)?;
     let mut device = MemoryDevice::new(vec![in alloc; 0u8; case.shape.hash_block]?);
@@ -101,9 +101,9 @@ fn is_built(alloc: Global, case: &Case, root: &Digest) -> Result<bool, Fail> {
         return Ok(false);
     }
     let built = build(&case.plan, &mut store, &mut source, &mut device);
-    let verdict = compare(&case.plan, &mut store, &mut again, &mut device, root);
+    let verdict = compare(&case.plan, &mut store, &mut again, &mut device, &case.root);
     Ok(
-        built == Ok(*root)
+        built == Ok(case.root)
             && verdict == Ok(())
             && source.rest().is_empty()
             && device.bytes() == image.as_slice(),
@@ -111,25 +111,23 @@ fn is_built(alloc: Global, case: &Case, root: &Digest) -> Result<bool, Fail> {
 }
 
 /// Whether the root hash alone, and that made by levels, are those from plain lists.
-fn has_root(alloc: Global, case: &Case, root: &Digest) -> Result<bool, Fail> {
+fn has_root(alloc: Global, case: &Case) -> Result<bool, Fail> {
     let (plan, bytes) = (&case.plan, case.data.as_slice());
     let mut store = Store::new(alloc, plan)?;
     if !store.fits(plan) || bytes.len() as u64 != plan.wanted() {
         return Ok(false);
     }
     let alone = root_only(plan, &mut store, &mut MemorySource::new(bytes));
-    Ok(alone == Ok(*root) && root_by_levels(alloc, plan, bytes)? == *root)
+    Ok(alone == Ok(case.root) && root_by_levels(alloc, plan, bytes)? == case.root)
 }
 
 /// Whether a row's plan has the levels of its tree, and the tree and its root hash are made as from plain lists.
 fn is_made(alloc: Global, row: &Row) -> Result<bool, Fail> {
     let case = Case::new(alloc, row)?;
-    let root = Digest::from_bytes(case.tree.root.as_slice()).ok_or("a root hash")?;
-    Ok(
-        case.plan.levels() == case.tree.levels.len()
-            && is_built(alloc, &case, &root)?
-            && has_root(alloc, &case, &root)?,
-    )
+    if case.plan.levels() != case.tree.levels.len() {
+        return Ok(false);
+    }
+    Ok(is_built(alloc, &case)? && has_root(alloc, &case)?)
 }
 
 #[test]
@@ -141,17 +139,27 @@ fn trees_of_all_shapes_are_made(rt: HostRuntime) -> Result<(), Fail> {
     Ok(())
 }
 
+/// The levels above this many of the largest data blocks, with hash blocks of a size; the length of their store; and
+/// whether a store that is made fits.
+fn store_numbers(alloc: Global, size: u32, blocks: u64) -> Result<(usize, usize, bool), Fail> {
+    let settings = TreeSettings::verity(SHA256, HashType::Current, &[], LARGEST, size)?;
+    let plan = Plan::for_blocks(&settings, blocks, 1)?;
+    let fits = Store::new(alloc, &plan)?.fits(&plan);
+    Ok((plan.levels(), plan.store_length(), fits))
+}
+
 #[test]
 fn the_longest_store_is_made(rt: HostRuntime) -> Result<(), Fail> {
     let cases = [
         (LARGEST, 17_000_000, (2, 2_097_152, true)),
         (512, 17_000_000_000_000, (11, 530_432, true)),
     ];
-    for (size, blocks, numbers) in cases {
-        let settings = TreeSettings::verity(SHA256, HashType::Current, &[], LARGEST, size)?;
-        let plan = Plan::for_blocks(&settings, blocks, 1)?;
-        let fits = Store::new(rt.alloc(), &plan)?.fits(&plan);
-        assert_eq!(rt; (plan.levels(), plan.store_length(), fits), numbers);
+    for &(size, blocks, numbers) in &cases {
+        assert_eq!(rt;
+            store_numbers(rt.alloc(), size, blocks)?,
+            numbers,
+            "at {size}"
+        );
     }
     Ok(())
 }
