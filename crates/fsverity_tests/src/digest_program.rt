@@ -73,7 +73,7 @@ const REFUSED: [(&str, &str, &str); 4] = [
 #[test]
 fn refused_lines_open_nothing(rt: HostRuntime) -> Result<(), Fail> {
     let alloc = rt.alloc();
-    for (words, start, end) in REFUSED {
+    for &(words, start, end) in &REFUSED {
         let disk = disk(alloc)?;
         let said = run(alloc, &disk, words);
         let text = format!(in alloc; "{start}{end}")?;
@@ -141,7 +141,7 @@ const NULLS_CLOSE: &str = "close /dev/null\nclose /dev/null\nclose /dev/null\n";
 #[test]
 fn null_files_are_open_to_the_end(rt: HostRuntime) -> Result<(), Fail> {
     let alloc = rt.alloc();
-    for (words, held) in HELD {
+    for &(words, held) in &HELD {
         let disk = disk(alloc)?;
         let line = format!(in alloc; "fsverity digest {words}")?;
         // Only what the disk recorded is tested.

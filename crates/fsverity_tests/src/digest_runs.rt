@@ -69,7 +69,7 @@ fn each_fault_of_a_file_has_its_message(rt: HostRuntime) -> Result<(), Fail> {
             "fsverity: file ends before the end of block 0: a b.\n",
         ),
     ];
-    for (file, more, text) in cases {
+    for &(file, more, text) in &cases {
         let files = [file];
         let mut opener = StatingOpener::new(&files, more);
         let said = run(alloc, &["a b"], &mut opener)?;
@@ -97,28 +97,48 @@ fn a_failed_read_ends_a_run(rt: HostRuntime) -> Result<(), Fail> {
     Ok(())
 }
 
+/// Runs digest over a file with both output files, and answers the status.
+fn run_to(
+    alloc: Global,
+    file: &[u8],
+    tree: &mut MemoryDevice,
+    descriptor: &mut Vec<u8>,
+    out: &mut Vec<u8>,
+) -> Result<u8, Fail> {
+    let settings = digest_settings(&DEFAULTS)?;
+    let mut source = MemorySource::new(file);
+    let mut msgs = Vec::new(alloc);
+    Ok(run_digest_to(
+        alloc,
+        &settings,
+        Form::Full,
+        "a b",
+        file.len() as u64,
+        &mut source,
+        true,
+        tree,
+        true,
+        descriptor,
+        out,
+        &mut msgs,
+    ))
+}
+
 #[test]
 fn output_files_are_written(rt: HostRuntime) -> Result<(), Fail> {
     let alloc = rt.alloc();
-    let (image, text, digits) = expected(alloc)?;
     let bytes = data(alloc, 4097)?;
     let mut tree = MemoryDevice::new(Vec::new(alloc));
     let mut descriptor = Vec::new(alloc);
     let mut out = Vec::new(alloc);
-    let status = run_digest_to(
+    let status = run_to(
         alloc,
-        &digest_settings(&DEFAULTS)?,
-        Form::Full,
-        "a b",
-        4097,
-        &mut MemorySource::new(bytes.as_slice()),
-        true,
+        bytes.as_slice(),
         &mut tree,
-        true,
         &mut descriptor,
         &mut out,
-        &mut Vec::new(alloc),
-    );
+    )?;
+    let (image, text, digits) = expected(alloc)?;
     let line = format!(in alloc; "sha256:{digits} a b\n")?;
     let found = [tree.bytes(), descriptor.as_slice(), out.as_slice()];
     let expected = [image.as_slice(), text.as_slice(), line.as_bytes()];

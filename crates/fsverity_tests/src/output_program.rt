@@ -82,7 +82,7 @@ fn changed(alloc: Global, disk: &Disk) -> io::Result<Option<&'static str>> {
 #[test]
 fn refused_files_stay(rt: HostRuntime) -> Result<(), Fail> {
     let alloc = rt.alloc();
-    for (words, refused, opened) in REFUSED {
+    for &(words, refused, opened) in &REFUSED {
         let disk = linked(alloc)?;
         let line = format!(in alloc; "fsverity digest {words}")?;
         let said = run(alloc, &disk, line.as_str());

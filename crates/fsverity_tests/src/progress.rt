@@ -13,13 +13,23 @@ const QUARTER: usize = 1 << 18;
 /// How many bytes of work pass before the line is written again.
 const STEP: u64 = 1 << 16;
 
-/// A disk with files of a quarter of a MiB, of a quarter and a byte, and of a MiB and a tail, on which a later write
-/// fails if that is asked for.
+/// Files of a quarter of a MiB, of a quarter and a byte, and of a MiB and a tail.
+const LARGE: [(&str, usize); 3] = [
+    ("small", QUARTER),
+    ("large", QUARTER + 1),
+    ("long", 4 * QUARTER + 100),
+];
+
+fn make_of_length(alloc: Global, disk: &Disk, name: &str, length: usize) -> io::Result<()> {
+    disk.make(name, vec![in alloc; 5u8; length]?)
+}
+
+/// A disk with large files, on which a later write fails if that is asked for.
 fn disk_with_large(alloc: Global, failing: u64) -> io::Result<Disk> {
     let disk = disk(alloc)?;
-    disk.make("small", vec![in alloc; 5u8; QUARTER]?)?;
-    disk.make("large", vec![in alloc; 5u8; QUARTER + 1]?)?;
-    disk.make("long", vec![in alloc; 5u8; 4 * QUARTER + 100]?)?;
+    for &(name, length) in &LARGE {
+        make_of_length(alloc, &disk, name, length)?;
+    }
     disk.fail(Call::Write, failing)?;
     Ok(disk)
 }
@@ -55,7 +65,7 @@ const RUNS: [(&str, u64, (u64, u64), &str); 6] = [
 #[test]
 fn a_terminal_is_told_how_far_it_is(rt: HostRuntime) -> Result<(), Fail> {
     let alloc = rt.alloc();
-    for (words, failing, (count, total), start) in RUNS {
+    for &(words, failing, (count, total), start) in &RUNS {
         let plain = written(alloc, &disk_with_large(alloc, failing)?, words, None)?;
         let disk = disk_with_large(alloc, failing)?;
         let shown = written(alloc, &disk, words, Some(STEP))?;
@@ -70,7 +80,7 @@ fn a_terminal_is_told_how_far_it_is(rt: HostRuntime) -> Result<(), Fail> {
 #[test]
 fn the_line_is_erased_in_the_end(rt: HostRuntime) -> Result<(), Fail> {
     let alloc = rt.alloc();
-    for words in [
+    for &words in &[
         "fsverity digest large",
         "fsverity digest large --out-descriptor made",
     ] {

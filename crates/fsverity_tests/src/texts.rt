@@ -18,7 +18,7 @@ fn lines_have_four_forms(rt: HostRuntime) -> Result<(), Fail> {
     let alloc = rt.alloc();
     let digest = Digest::from_bytes(&[0xab; 32]).ok_or("32 bytes")?;
     let digits = "ab".repeat(alloc, 32)?;
-    for (form, start, end) in [
+    for &(form, start, end) in &[
         (Form::Full, "sha256:", " a b\n"),
         (Form::Compact, "", "\n"),
         (Form::Builtin, "465356657269747901002000", " a b\n"),

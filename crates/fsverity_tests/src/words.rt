@@ -54,7 +54,7 @@ fn shown(alloc: Global, line: &Line) -> Result<String, AllocError> {
     if line.for_builtin_sig {
         text.push_str(" for-builtin-sig")?;
     }
-    for (name, value) in [
+    for &(name, value) in &[
         ("hash-alg", &line.hash_alg),
         ("block-size", &line.block_size),
         ("salt", &line.salt),
@@ -75,7 +75,7 @@ fn shown(alloc: Global, line: &Line) -> Result<String, AllocError> {
 #[test]
 fn a_line_holds_its_words(rt: HostRuntime) -> Result<(), Fail> {
     let alloc = rt.alloc();
-    for (text, holds) in TAKEN {
+    for &(text, holds) in &TAKEN {
         let words = words_of(alloc, "fsverity", text)?;
         let line = read_words(alloc, words.as_slice())?;
         assert_eq!(rt; shown(alloc, &line)?.as_str(), holds, "at {text}");
@@ -86,7 +86,7 @@ fn a_line_holds_its_words(rt: HostRuntime) -> Result<(), Fail> {
 #[test]
 fn lines_are_refused(rt: HostRuntime) -> Result<(), Fail> {
     let alloc = rt.alloc();
-    for (text, start) in REFUSED {
+    for &(text, start) in &REFUSED {
         let words = words_of(alloc, "fsverity", text)?;
         let fault = read_words(alloc, words.as_slice()).err().ok_or("a fault")?;
         let told = format!(in alloc; "{fault}")?;

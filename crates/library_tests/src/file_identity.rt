@@ -23,7 +23,7 @@ const PATHS: [(&str, bool, bool); 5] = [
 #[test]
 fn the_system_tells_files_apart(rt: HostRuntime) -> Result<(), Fail> {
     let opened = rt.file_identity(&File::open(&rt, PROGRAM)?);
-    for (path, has_identity, is_program) in PATHS {
+    for &(path, has_identity, is_program) in &PATHS {
         let named = rt.path_identity(path);
         let found = (named.is_some(), are_same_file(opened, named));
         assert_eq!(rt; found, (has_identity, is_program), "at {path}");

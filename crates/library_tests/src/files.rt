@@ -137,7 +137,7 @@ fn long_blocks_stand_at_far_offsets(rt: HostRuntime) -> Result<(), Fail> {
         (FAR + 70_100, Some(b"")),
         (100, None),
     ];
-    for piece in [usize::MAX, 1_000] {
+    for &piece in &[usize::MAX, 1_000] {
         let mut device = FileDevice::new(Sparse::new(FAR, Vec::new(alloc), piece, 0));
         let answers = [
             device.write_at(FAR + 100, block.as_slice()),

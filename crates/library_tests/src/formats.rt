@@ -75,7 +75,7 @@ fn described(tree: &TreeSettings, size: u64, root: &[u8]) -> Option<([u8; 256], 
 #[test]
 fn descriptors_are_written_and_hashed(rt: HostRuntime) -> Result<(), Fail> {
     let alloc = rt.alloc();
-    for (algorithm, salt, block, size, head) in DESCRIPTORS {
+    for &(algorithm, salt, block, size, head) in &DESCRIPTORS {
         let tree = TreeSettings::fsverity(algorithm, salt, block)?;
         let shape = Shape::new(alloc, algorithm, (0, 0), (0, 0));
         let root = shape.digest(alloc, b"root")?;
@@ -112,7 +112,7 @@ fn texts_are_put_one_after_another(rt: HostRuntime) {
 
 #[test]
 fn a_text_is_put_as_far_as_there_is_room(rt: HostRuntime) {
-    for (room, answer) in [(8, Ok(())), (7, Err(PutFault(7))), (0, Err(PutFault(0)))] {
+    for &(room, answer) in &[(8, Ok(())), (7, Err(PutFault(7))), (0, Err(PutFault(0)))] {
         let mut narrow = Narrow::new(Vec::new(rt.alloc()), room, 3);
         let found = (
             put_all(&mut narrow, b"8 bytes."),

@@ -25,7 +25,7 @@ fn pieces_are_told_in_order(rt: HostRuntime) -> Result<(), Fail> {
     let path = "a/ü".repeat(alloc, 1024)?;
     let text = format!(in alloc; "Cannot open {path}.\n")?;
     let pieces = ["Cannot open ", path.as_str(), ".\n"];
-    for (room, whole) in [(4110, true), (4109, false), (12, false)] {
+    for &(room, whole) in &[(4110, true), (4109, false), (12, false)] {
         let mut msgs = Narrow::new(Vec::new(alloc), room, 1000);
         let found = (
             write_pieces(&pieces, &mut msgs),
@@ -40,7 +40,7 @@ fn pieces_are_told_in_order(rt: HostRuntime) -> Result<(), Fail> {
 fn long_texts_are_printed_whole(rt: HostRuntime) -> Result<(), Fail> {
     let alloc = rt.alloc();
     let text = "0123456789abcdef".repeat(alloc, 4096)?;
-    for (room, answer) in [
+    for &(room, answer) in &[
         (65_536, Ok(())),
         (65_535, Err(PrintFault::Output(65_535))),
         (0, Err(PrintFault::Output(0))),

@@ -41,7 +41,7 @@ const ANSWERS: [(Option<ErrorKind>, bool); 7] = [
 
 #[test]
 fn a_refused_sync_is_a_failure(rt: HostRuntime) {
-    for (error, passed_over) in ANSWERS {
+    for &(error, passed_over) in &ANSWERS {
         let mut file = Sparse::new(0, Vec::new(rt.alloc()), 1, 0);
         file.sync_error = error;
         let device = FileDevice::new(file);

@@ -110,7 +110,7 @@ impl Contents {
     fn write_down(&mut self, how: &OpenOptions, name: &str) -> Result<(), AllocError> {
         self.opened.push_str(name)?;
         self.opened.push(':')?;
-        for (asked, word) in [
+        for &(asked, word) in &[
             (how.asks_read(), " read"),
             (how.asks_write(), " write"),
             (how.asks_append(), " append"),

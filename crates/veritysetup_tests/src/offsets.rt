@@ -1,7 +1,8 @@
 //! A hash area that ends past the largest offset.
 ghost use Rattle.std.specs.Prelude.{[]};
 
-use crate::images::image_17;
+use crate::images::{Image, image_17};
+use std::alloc::Global;
 use std::test::Fail;
 use verity_tree::{Device, Failed, MemorySource};
 use veritysetup::{VerifyInput, run_verify};
@@ -34,6 +35,19 @@ impl Device for Far<'_> {
     }
 }
 
+/// The status and the messages of verify with a hash offset.
+fn said_at(alloc: Global, image: &Image, root: &str, offset: u64) -> (u8, Vec<u8>) {
+    let mut msgs = Vec::new(alloc);
+    let mut source = MemorySource::new(image.data.as_slice());
+    let mut device = Far {
+        offset,
+        bytes: &image.device[..512.min(image.device.len())],
+    };
+    let input = VerifyInput::Stored { offset, root };
+    let status = run_verify(alloc, &input, &mut source, &mut device, &mut msgs);
+    (status, msgs)
+}
+
 /// A superblock of 17 blocks at the last offset at which its three hash blocks end at the largest offset or before it,
 /// and at the next one.
 #[test]
@@ -41,8 +55,7 @@ fn an_area_past_the_largest_offset_is_too_large(rt: HostRuntime) -> Result<(), F
     let alloc = rt.alloc();
     let image = image_17(alloc)?;
     let root = hex::encode(alloc, image.root.as_slice())?;
-    let root = root.as_str();
-    for (offset, status, message) in [
+    for &(offset, status, message) in &[
         (
             9_223_372_036_854_773_248,
             2,
@@ -54,16 +67,9 @@ fn an_area_past_the_largest_offset_is_too_large(rt: HostRuntime) -> Result<(), F
             "Data or hash area is too large.\n",
         ),
     ] {
-        let mut msgs = Vec::new(alloc);
-        let mut source = MemorySource::new(image.data.as_slice());
-        let mut device = Far {
-            offset,
-            bytes: &image.device[..512.min(image.device.len())],
-        };
-        let input = VerifyInput::Stored { offset, root };
-        let found = run_verify(alloc, &input, &mut source, &mut device, &mut msgs);
-        assert_eq!(rt; found, status, "at {offset}");
-        assert_eq!(rt; msgs.as_slice(), message.as_bytes(), "at {offset}");
+        let (found, msgs) = said_at(alloc, &image, root.as_str(), offset);
+        let said = (found, msgs.as_slice());
+        assert_eq!(rt; said, (status, message.as_bytes()), "at {offset}");
     }
     Ok(())
 }

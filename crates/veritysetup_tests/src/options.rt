@@ -2,7 +2,7 @@
 use std::test::Fail;
 use verity_hash::Algorithm;
 use verity_tree::HashType;
-use veritysetup::{RawOptions, settings_of};
+use veritysetup::{OptionFault, RawOptions, Settings, settings_of};
 
 /// No option is given.
 pub const DEFAULTS: RawOptions<'static> = RawOptions {
@@ -30,23 +30,31 @@ fn counted() -> [u8; 48] {
     random
 }
 
+/// The settings of a file of 8191 bytes, if no option is given.
+fn drawn_settings(random: &[u8; 48]) -> Result<Settings, OptionFault> {
+    settings_of(&DEFAULTS, 8191, Some(random))
+}
+
 #[test]
 fn random_bytes_stand_for_what_is_missing(rt: HostRuntime) -> Result<(), Fail> {
     let random = counted();
-    let settings = settings_of(&DEFAULTS, 8191, Some(&random))?;
-    let tree = settings.plan().settings();
+    let settings = drawn_settings(&random)?;
+    let plan = settings.plan();
+    let tree = plan.settings();
     assert_eq!(rt; settings.hash_type(), HashType::Current);
     assert_eq!(rt; tree.algorithm(), Algorithm::Sha256);
-    assert_eq!(rt; tree.data_block(), 4096);
-    assert_eq!(rt; tree.hash_block(), 4096);
-    assert_eq!(rt; settings.plan().blocks(), 1);
-    assert_eq!(rt; settings.plan().base(), 1);
-    let salt = random.chunks(32).next().ok_or("32 bytes")?;
-    assert_eq!(rt; tree.salt(), salt);
+    let numbers = [
+        tree.data_block().into(),
+        tree.hash_block().into(),
+        plan.blocks(),
+        plan.base(),
+    ];
+    assert_eq!(rt; numbers, [4096_u64, 4096, 1, 1]);
     let uuid = [
         0x20, 0x21, 0x22, 0x23, 0x24, 0x25, 0x46, 0x27, 0xa8, 0x29, 0x2a, 0x2b, 0x2c, 0x2d, 0x2e,
         0x2f,
     ];
-    assert_eq!(rt; settings.uuid(), uuid);
+    let drawn = [tree.salt(), &settings.uuid()];
+    assert_eq!(rt; drawn, [&random[..32], &uuid]);
     Ok(())
 }

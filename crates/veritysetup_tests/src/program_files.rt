@@ -1,9 +1,9 @@
 //! The program over files in memory: which files are opened when, and two names of one file.
 use crate::images::image_17;
 use crate::program_runs::{OPTIONS_17, disk_of, run};
-use fixtures::{REPORT_17, filled, flip};
+use fixtures::{REPORT_17, Said, filled, flip};
 use memory_runtime::{Call, Disk, Kind};
-use std::alloc::Global;
+use std::alloc::{AllocError, Global};
 use std::io;
 use std::test::Fail;
 
@@ -79,7 +79,7 @@ const OPENED: [(&str, &str, u8, &str); 12] = [
 #[test]
 fn files_are_opened_in_order(rt: HostRuntime) -> Result<(), Fail> {
     let alloc = rt.alloc();
-    for (words, opened, status, message) in OPENED {
+    for &(words, opened, status, message) in &OPENED {
         let disk = disk_of(alloc, &[5; 8192])?;
         let said = run(alloc, &disk, words)?;
         let expected = format!(in alloc; "{NULL_FILES}{opened}")?;
@@ -134,7 +134,7 @@ const HELD: [(&str, &str); 6] = [
 #[test]
 fn null_files_are_open_to_the_end(rt: HostRuntime) -> Result<(), Fail> {
     let alloc = rt.alloc();
-    for (words, held) in HELD {
+    for &(words, held) in &HELD {
         let disk = disk_of(alloc, &[5; 8192])?;
         disk.make_kind("images", Kind::Folder, Vec::new(alloc))?;
         disk.make("hash.img", [0; 8192].to_vec(alloc)?)?;
@@ -151,7 +151,7 @@ fn null_files_are_open_to_the_end(rt: HostRuntime) -> Result<(), Fail> {
 #[test]
 fn a_folder_is_not_opened_as_a_file(rt: HostRuntime) -> Result<(), Fail> {
     let alloc = rt.alloc();
-    for words in [
+    for &words in &[
         "format folder hash",
         "format data folder",
         "dump folder",
@@ -204,7 +204,7 @@ const OVERLAPS: [(Kind, &str); 4] = [
 #[test]
 fn data_is_never_overwritten(rt: HostRuntime) -> Result<(), Fail> {
     let alloc = rt.alloc();
-    for (kind, hash) in OVERLAPS {
+    for &(kind, hash) in &OVERLAPS {
         let disk = disk_of_two_names(alloc, kind)?;
         let words = format!(in alloc; "format {OPTIONS_17} data {hash}")?;
         let said = run(alloc, &disk, words.as_str())?;
@@ -216,65 +216,96 @@ fn data_is_never_overwritten(rt: HostRuntime) -> Result<(), Fail> {
     Ok(())
 }
 
+/// The data of the image of 17 blocks and its hash device, one after the other, and the digits of the root hash.
+fn image_in_one_file(alloc: Global) -> Result<(Vec<u8>, String), AllocError> {
+    let image = image_17(alloc)?;
+    let both = filled(alloc, &[image.data.as_slice(), image.device.as_slice()], 0)?;
+    Ok((both, hex::encode(alloc, image.root.as_slice())?))
+}
+
+/// Formats that image into its data's file, and answers the status.
+fn format_in_one_file(alloc: Global, disk: &Disk, hash: &str) -> io::Result<u8> {
+    let words = format!(in alloc;
+        "format {OPTIONS_17} --data-blocks 17 --hash-offset 8704 data {hash}"
+    )?;
+    Ok(run(alloc, disk, words.as_str())?.status)
+}
+
 #[test]
 fn one_file_holds_data_and_tree(rt: HostRuntime) -> Result<(), Fail> {
     let alloc = rt.alloc();
-    let image = image_17(alloc)?;
-    let both = filled(alloc, &[image.data.as_slice(), image.device.as_slice()], 0)?;
-    let root = hex::encode(alloc, image.root.as_slice())?;
-    for hash in ["data", "other"] {
+    let (both, root) = image_in_one_file(alloc)?;
+    for &hash in &["data", "other"] {
         let disk = disk_of_two_names(alloc, Kind::Plain)?;
-        let words = format!(in alloc;
-            "format {OPTIONS_17} --data-blocks 17 --hash-offset 8704 data {hash}"
-        )?;
-        let said = run(alloc, &disk, words.as_str())?;
-        assert_eq!(rt; said.status, 0, "at {hash}");
-        assert_eq!(rt; disk.bytes_of("data")?, both, "at {hash}");
+        let status = format_in_one_file(alloc, &disk, hash)?;
         let words = format!(in alloc; "verify --hash-offset 8704 data {hash} {root}")?;
-        let said = run(alloc, &disk, words.as_str())?;
-        assert_eq!(rt; said.differs(0, b"", b""), None, "at {hash}");
+        let differs = run(alloc, &disk, words.as_str())?.differs(0, b"", b"");
+        let bytes = disk.bytes_of("data")?;
+        let found = (status, bytes.as_slice(), differs);
+        assert_eq!(rt; found, (0, both.as_slice(), None), "at {hash}");
     }
     Ok(())
 }
 
-#[test]
-fn a_tree_is_dumped_and_verified(rt: HostRuntime) -> Result<(), Fail> {
-    let alloc = rt.alloc();
+/// A disk with the image of 17 blocks and with a copy of its hash device that has a changed byte, and the digits of the
+/// root hash.
+fn disk_of_image(alloc: Global) -> io::Result<(Disk, String)> {
     let image = image_17(alloc)?;
     let root = hex::encode(alloc, image.root.as_slice())?;
-    let zeros = "00".repeat(alloc, 32)?;
     let mut changed = image.device.to_vec(alloc)?;
     flip(changed.as_mut_slice(), 1100);
     let disk = disk_of(alloc, image.data.as_slice())?;
     disk.make("hash.img", image.device)?;
     disk.make("changed", changed)?;
+    Ok((disk, root))
+}
+
+#[test]
+fn a_superblock_is_dumped(rt: HostRuntime) -> Result<(), Fail> {
+    let alloc = rt.alloc();
+    let (disk, _root) = disk_of_image(alloc)?;
     let said = run(alloc, &disk, "dump hash.img")?;
     let report = REPORT_17.text(alloc)?;
     assert_eq!(rt; said.differs(0, report.as_bytes(), b""), None);
-    let other_root = format!(in alloc; "Verification failed: root hash is {root}.\n")?;
-    for (files, given, status, message) in [
-        // With a superblock no option but the hash offset is looked at.
-        (
-            "--hash md5 --salt x --data-blocks 0 data hash.img",
-            root.as_str(),
-            0,
-            "",
-        ),
-        ("data hash.img", zeros.as_str(), 2, other_root.as_str()),
-        (
-            "data changed",
-            root.as_str(),
-            2,
-            "Verification failed: level 0 block 0, child 2.\n",
-        ),
-    ] {
-        let words = format!(in alloc; "verify {files} {given}")?;
-        let said = run(alloc, &disk, words.as_str())?;
-        assert_eq!(rt;
-            said.differs(status, b"", message.as_bytes()),
-            None,
-            "at {words}"
-        );
+    Ok(())
+}
+
+/// Words, in which `ROOT` stands for the root hash, the status and the message.
+const VERIFIED: [(&str, u8, &str); 3] = [
+    // With a superblock no option but the hash offset is looked at.
+    (
+        "--hash md5 --salt x --data-blocks 0 data hash.img ROOT",
+        0,
+        "",
+    ),
+    (
+        "data hash.img 0000000000000000000000000000000000000000000000000000000000000000",
+        2,
+        "Verification failed: root hash is ROOT.\n",
+    ),
+    (
+        "data changed ROOT",
+        2,
+        "Verification failed: level 0 block 0, child 2.\n",
+    ),
+];
+
+/// What verify says with these words.
+fn said_of_verify(alloc: Global, disk: &Disk, root: &str, words: &str) -> io::Result<Said> {
+    let words = words.replace(alloc, "ROOT", root)?;
+    let words = format!(in alloc; "verify {words}")?;
+    run(alloc, disk, words.as_str())
+}
+
+#[test]
+fn a_tree_is_verified(rt: HostRuntime) -> Result<(), Fail> {
+    let alloc = rt.alloc();
+    let (disk, root) = disk_of_image(alloc)?;
+    for &(words, status, message) in &VERIFIED {
+        let said = said_of_verify(alloc, &disk, root.as_str(), words)?;
+        let message = message.replace(alloc, "ROOT", root.as_str())?;
+        let differs = said.differs(status, b"", message.as_bytes());
+        assert_eq!(rt; differs, None, "at {words}");
     }
     Ok(())
 }

@@ -45,7 +45,7 @@ fn run_without_random<'a>(alloc: Global, disk: &'a Disk, words: &'a str) -> Said
 fn no_random_bytes_make_no_file(rt: HostRuntime) -> Result<(), Fail> {
     let alloc = rt.alloc();
     let disk = disk_of(alloc, &[5; 8192])?;
-    for words in [
+    for &words in &[
         "veritysetup format data hash",
         "veritysetup format --salt ab data hash",
         "veritysetup format --uuid 00112233-4455-4677-8899-aabbccddeeff data hash",

@@ -116,7 +116,7 @@ fn a_terminal_is_told_how_far_it_is(rt: HostRuntime) -> Result<(), Fail> {
     ];
     let disk = disk_of_files(alloc, &images)?;
     let root = root_of(alloc, vec![in alloc; 5u8; QUARTER + 4096]?.as_slice(), 1)?;
-    for (words, status, lines, start) in SHORT {
+    for &(words, status, lines, start) in &SHORT {
         let words = words.replace(alloc, "ROOT", root.as_str())?;
         check(&rt, &disk, words.as_str(), (status, lines, start))?;
     }
@@ -134,7 +134,7 @@ fn a_terminal_is_told_what_is_covered(rt: HostRuntime) -> Result<(), Fail> {
     ];
     let disk = disk_of_files(alloc, &images)?;
     let root = root_of(alloc, vec![in alloc; 5u8; 4 * QUARTER]?.as_slice(), 2)?;
-    for (words, status, lines, start) in LONG {
+    for &(words, status, lines, start) in &LONG {
         let words = words.replace(alloc, "ROOT", root.as_str())?;
         check(&rt, &disk, words.as_str(), (status, lines, start))?;
     }

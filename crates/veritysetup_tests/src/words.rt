@@ -101,7 +101,7 @@ Usage: veritysetup verify [--hash NAME] [--format TYPE] [--data-block-size BYTES
 
 fn shown(alloc: Global, line: &Line) -> Result<String, AllocError> {
     let mut text = format!(in alloc; "{:?}", line.command)?;
-    for (name, value) in [
+    for &(name, value) in &[
         ("hash", &line.hash),
         ("format", &line.format),
         ("data-block-size", &line.data_block_size),
@@ -125,13 +125,18 @@ fn shown(alloc: Global, line: &Line) -> Result<String, AllocError> {
     Ok(text)
 }
 
+/// What the line of these words holds.
+fn held_by(alloc: Global, text: &str) -> Result<String, Fail> {
+    let words = words_of(alloc, "veritysetup", text)?;
+    let line = read_words(alloc, words.as_slice())?;
+    Ok(shown(alloc, &line)?)
+}
+
 #[test]
 fn a_line_holds_its_words(rt: HostRuntime) -> Result<(), Fail> {
     let alloc = rt.alloc();
-    for (text, holds) in TAKEN {
-        let words = words_of(alloc, "veritysetup", text)?;
-        let line = read_words(alloc, words.as_slice())?;
-        assert_eq!(rt; shown(alloc, &line)?.as_str(), holds, "at {text}");
+    for &(text, holds) in &TAKEN {
+        assert_eq!(rt; held_by(alloc, text)?.as_str(), holds, "at {text}");
     }
     let no_word = read_words(alloc, &[]);
     assert!(rt; matches!(no_word, Err(LineFault::Refused(_))));
@@ -142,7 +147,7 @@ fn a_line_holds_its_words(rt: HostRuntime) -> Result<(), Fail> {
 fn refused_words_open_no_file(rt: HostRuntime) -> Result<(), Fail> {
     let alloc = rt.alloc();
     let disk = disk_of(alloc, &[5; 8192])?;
-    for (words, text, usage) in REFUSED {
+    for &(words, text, usage) in &REFUSED {
         let said = run(alloc, &disk, words)?;
         let expected = format!(in alloc; "error: {text}\n{usage}")?;
         assert_eq!(rt;
@@ -151,6 +156,14 @@ fn refused_words_open_no_file(rt: HostRuntime) -> Result<(), Fail> {
             "at {words}"
         );
     }
+    assert!(rt; disk.opened()?.as_str().is_empty());
+    Ok(())
+}
+
+#[test]
+fn a_word_that_is_no_text_is_refused(rt: HostRuntime) -> Result<(), Fail> {
+    let alloc = rt.alloc();
+    let disk = disk_of(alloc, &[5; 8192])?;
     let (word, shown) = NOT_UTF8;
     let mut runtime = MemoryRuntime::new(alloc, &disk, "veritysetup format data");
     runtime.last_word = Some(word);
