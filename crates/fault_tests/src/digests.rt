@@ -63,12 +63,13 @@ struct Named {
 /// A form of lines: its options, and whether it names the file and has the bytes to be signed.
 type Form = (&'static str, bool, bool);
 
-const FORMS: [Form; 4] = [
-    ("", true, false),
-    (" --compact", false, false),
-    (" --for-builtin-sig", true, true),
-    (" --compact --for-builtin-sig", false, true),
-];
+const WITH_NAME: Form = ("", true, false);
+
+const COMPACT: Form = (" --compact", false, false);
+
+const SIGNED: Form = (" --for-builtin-sig", true, true);
+
+const COMPACT_SIGNED: Form = (" --compact --for-builtin-sig", false, true);
 
 /// Which output files are wanted: `tree` and `made`, for the tree and the descriptor.
 type Outputs = (bool, bool);
@@ -93,26 +94,41 @@ impl Settings {
         }
     }
 
+    /// The digits of the digest of a descriptor.
+    fn digits(&self, alloc: Global, descriptor: &[u8]) -> Result<String, AllocError> {
+        let shape = Shape::new(alloc, self.algorithm, (0, 0), (0, 0));
+        hex::encode(alloc, shape.digest(alloc, descriptor)?.as_slice())
+    }
+
+    /// What comes before the digits in a line.
+    fn before(&self, (_, with_name, signed): Form) -> &'static str {
+        if signed {
+            self.before_signed
+        } else if with_name {
+            self.before
+        } else {
+            ""
+        }
+    }
+
     /// The line of a file with this descriptor.
     fn line(
         &self,
         alloc: Global,
-        (_, with_name, signed): Form,
+        form: Form,
         descriptor: &[u8],
         name: &str,
     ) -> Result<String, AllocError> {
-        let shape = Shape::new(alloc, self.algorithm, (0, 0), (0, 0));
-        let digits = hex::encode(alloc, shape.digest(alloc, descriptor)?.as_slice())?;
-        let before = match (with_name, signed) {
-            (_, true) => self.before_signed,
-            (true, false) => self.before,
-            (false, false) => "",
-        };
-        let (space, name) = if with_name { (" ", name) } else { ("", "") };
-        format!(in alloc; "{before}{digits}{space}{name}\n")
+        let digits = self.digits(alloc, descriptor)?;
+        let before = self.before(form);
+        if form.1 {
+            format!(in alloc; "{before}{digits} {name}\n")
+        } else {
+            format!(in alloc; "{before}{digits}\n")
+        }
     }
 
-    /// Digest of some files, with output files if there is one: each is digested after the other.
+    /// Digest of some files, with output files if there is one.
     fn digest(
         &self,
         alloc: Global,
@@ -123,11 +139,23 @@ impl Settings {
         let words = format!(in alloc; "fsverity digest {}{}", self.options, form.0)?;
         let mut scene = Scene::new(alloc, Program::Fsverity, words)?;
         scene.files.push(("tree", vec![in alloc; 77u8; 5000]?))?;
+        self.digests(&mut scene, form, files, outputs)?;
+        Ok(scene)
+    }
+
+    /// The files are digested, one after the other.
+    fn digests(
+        &self,
+        scene: &mut Scene,
+        form: Form,
+        files: &[Named],
+        outputs: Outputs,
+    ) -> Result<(), AllocError> {
         for file in files {
             let pass = scene.opens_files(*file, outputs)?;
-            self.prints_line(&mut scene, form, *file, pass, outputs.1)?;
+            self.prints_line(scene, form, *file, pass, outputs.1)?;
         }
-        Ok(scene)
+        Ok(())
     }
 
     /// The data of a file is read once, and if it is wanted, each block of the tree is written as it closes, and then
@@ -183,23 +211,23 @@ impl Scene {
 
 /// An empty file, one of 17 blocks of 512 bytes and 100 bytes more, and one of a block and a byte, with trees of such
 /// blocks.
-const FILES: [Named; 3] = [
-    Named {
-        name: "empty",
-        length: 0,
-        levels: 0,
-    },
-    Named {
-        name: "large",
-        length: 8804,
-        levels: 2,
-    },
-    Named {
-        name: "two",
-        length: 513,
-        levels: 1,
-    },
-];
+const EMPTY: Named = Named {
+    name: "empty",
+    length: 0,
+    levels: 0,
+};
+
+const LARGE: Named = Named {
+    name: "large",
+    length: 8804,
+    levels: 2,
+};
+
+const TWO: Named = Named {
+    name: "two",
+    length: 513,
+    levels: 1,
+};
 
 /// A file of 17 blocks of 128 bytes and five bytes, with a tree of such blocks.
 const DEEP: Named = Named {
@@ -208,30 +236,52 @@ const DEEP: Named = Named {
     levels: 5,
 };
 
+/// A form, settings and files, without output files.
+const ALONE: [(Form, &'static Settings, &'static [Named]); 8] = [
+    (WITH_NAME, &SHORT, &[EMPTY, LARGE, TWO]),
+    (WITH_NAME, &LONG, &[DEEP]),
+    (COMPACT, &SHORT, &[EMPTY, LARGE, TWO]),
+    (COMPACT, &LONG, &[DEEP]),
+    (SIGNED, &SHORT, &[EMPTY, LARGE, TWO]),
+    (SIGNED, &LONG, &[DEEP]),
+    (COMPACT_SIGNED, &SHORT, &[EMPTY, LARGE, TWO]),
+    (COMPACT_SIGNED, &LONG, &[DEEP]),
+];
+
+/// The output files, a form, settings and a file.
+const WITH_OUTPUTS: [(Outputs, Form, &'static Settings, Named); 9] = [
+    ((true, true), WITH_NAME, &SHORT, EMPTY),
+    ((true, true), WITH_NAME, &SHORT, LARGE),
+    ((true, true), WITH_NAME, &LONG, DEEP),
+    ((true, false), COMPACT, &SHORT, EMPTY),
+    ((true, false), COMPACT, &SHORT, LARGE),
+    ((true, false), COMPACT, &LONG, DEEP),
+    ((false, true), SIGNED, &SHORT, EMPTY),
+    ((false, true), SIGNED, &SHORT, LARGE),
+    ((false, true), SIGNED, &LONG, DEEP),
+];
+
 #[test]
 fn each_fault_of_digest_is_answered(rt: HostRuntime) -> Result<(), Fail> {
-    for form in FORMS {
-        for (settings, files) in [(&SHORT, FILES.as_slice()), (&LONG, [DEEP].as_slice())] {
-            let scene = settings.digest(rt.alloc(), form, files, (false, false))?;
-            let wrong = scene.first_wrong(Call::Read)?;
-            assert_eq!(rt; wrong, None, "at {}", scene.words);
-        }
+    for (form, settings, files) in &ALONE {
+        let scene = settings.digest(rt.alloc(), *form, files, (false, false))?;
+        let wrong = scene.first_wrong(Call::Read)?;
+        assert_eq!(rt; wrong, None, "at {}{}", settings.options, form.0);
     }
     Ok(())
 }
 
 #[test]
 fn each_fault_with_output_files_is_answered(rt: HostRuntime) -> Result<(), Fail> {
-    for (outputs, form) in [
-        ((true, true), FORMS[0]),
-        ((true, false), FORMS[1]),
-        ((false, true), FORMS[2]),
-    ] {
-        for (settings, file) in [(&SHORT, FILES[0]), (&SHORT, FILES[1]), (&LONG, DEEP)] {
-            let scene = settings.digest(rt.alloc(), form, &[file], outputs)?;
-            let wrong = scene.first_wrong(Call::Seek)?;
-            assert_eq!(rt; wrong, None, "at {}", scene.words);
-        }
+    for (outputs, form, settings, file) in &WITH_OUTPUTS {
+        let scene = settings.digest(rt.alloc(), *form, &[*file], *outputs)?;
+        let wrong = scene.first_wrong(Call::Seek)?;
+        assert_eq!(rt;
+            wrong,
+            None,
+            "at {}{} {}",
+            settings.options, form.0, file.name
+        );
     }
     Ok(())
 }

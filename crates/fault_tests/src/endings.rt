@@ -107,7 +107,7 @@ impl Ending {
 
     /// Whether each call is made just as often, or each but openings and seeks.
     fn has_calls_of(&self, found: &Ending, with_all_calls: bool) -> bool {
-        for ((kind, one), other) in CALLS.iter().zip(self.calls).zip(found.calls) {
+        for ((kind, one), other) in CALLS.iter().zip(self.calls.iter()).zip(found.calls.iter()) {
             let may_differ = !with_all_calls && matches!(kind, Call::Open | Call::Seek);
             if one != other && !may_differ {
                 return false;

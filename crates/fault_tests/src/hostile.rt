@@ -113,19 +113,36 @@ const FIELDS: [(usize, usize); 12] = [
     (344, 168),
 ];
 
+/// Dumps and verifies an image with other bytes in a field of this offset and width.
+fn verified_with_field(
+    alloc: Global,
+    image: &Image,
+    at: usize,
+    width: usize,
+    numbers: &mut Numbers,
+) -> Result<Option<u8>, AllocError> {
+    let field = numbers.field(width);
+    let mut bytes = image.device.to_vec(alloc)?;
+    lay(&mut bytes, &[(at, field.get(..width).unwrap_or(&[]))]);
+    verified(alloc, image, bytes.as_slice())
+}
+
+/// Dumps and verifies an image with a changed byte of the device.
+fn verified_with_change(alloc: Global, image: &Image, at: usize) -> Result<Option<u8>, AllocError> {
+    let mut bytes = image.device.to_vec(alloc)?;
+    flip(&mut bytes, at);
+    verified(alloc, image, bytes.as_slice())
+}
+
 /// Every status but that of too little memory comes up.
 #[test]
 fn superblocks_with_a_spoiled_field_are_judged(rt: HostRuntime) -> Result<(), Fail> {
-    let alloc = rt.alloc();
-    let image = image_17(alloc)?;
+    let image = image_17(rt.alloc())?;
     let mut numbers = Numbers { state: 17 };
     let mut seen = [false; 5];
-    for (at, width) in FIELDS {
+    for &(at, width) in &FIELDS {
         for round in 0..200 {
-            let field = numbers.field(width);
-            let mut bytes = image.device.to_vec(alloc)?;
-            lay(&mut bytes, &[(at, field.get(..width).unwrap_or(&[]))]);
-            let status = verified(alloc, &image, bytes.as_slice())?;
+            let status = verified_with_field(rt.alloc(), &image, at, width, &mut numbers)?;
             assert!(rt; status.is_some(), "at {at}, round {round}");
             if let Some(place) = seen.get_mut(usize::from(status.unwrap_or(3))) {
                 *place = true;
@@ -143,9 +160,7 @@ fn trees_with_a_changed_byte_are_refused(rt: HostRuntime) -> Result<(), Fail> {
     let whole = verified(alloc, &image, image.device.as_slice())?;
     assert_eq!(rt; whole, Some(0));
     for at in 512..2048 {
-        let mut bytes = image.device.to_vec(alloc)?;
-        flip(&mut bytes, at);
-        let status = verified(alloc, &image, bytes.as_slice())?;
+        let status = verified_with_change(alloc, &image, at)?;
         assert_eq!(rt; status, Some(2), "at {at}");
     }
     Ok(())

@@ -96,23 +96,44 @@ impl Setup {
     /// Format: the data is read once, each hash block is written as it closes, then the superblock, then the report is
     /// printed, and the system is asked to sync all of it, and the folder of a new file if that can be opened.
     pub fn format(&self, alloc: Global) -> Result<Scene, AllocError> {
-        let uuid = self.superblock.map_or("", |_| UUID_OPTION);
-        let options = self.options;
-        let words = format!(in alloc; "veritysetup format {options}{uuid} data hash.img")?;
-        let mut scene = Scene::new(alloc, Program::Veritysetup, words)?;
+        let mut scene = Scene::new(alloc, Program::Veritysetup, self.words_of_format(alloc)?)?;
+        self.has_files(&mut scene)?;
+        self.formats(&mut scene)?;
+        Ok(scene)
+    }
+
+    /// The files before format.
+    fn has_files(&self, scene: &mut Scene) -> Result<(), AllocError> {
+        let alloc = scene.alloc;
         scene.files.push(("data", self.data(alloc)?))?;
         if let Some(length) = self.before {
             scene.files.push((HASH, vec![in alloc; 77u8; length]?))?;
         }
+        Ok(())
+    }
+
+    /// The steps of format.
+    fn formats(&self, scene: &mut Scene) -> Result<(), AllocError> {
         scene.measures("data")?;
         scene.opens(HASH, Effect::Made(HASH))?;
-        self.writes(&mut scene)?;
+        self.writes(scene)?;
         scene.calls(Call::Sync, "Cannot write hash.img.\n", Effect::Nothing)?;
         if self.before.is_none() {
             scene.calls(Call::Open, "", Effect::Nothing)?;
             scene.calls(Call::Sync, "Cannot write hash.img.\n", Effect::Nothing)?;
         }
-        Ok(scene)
+        Ok(())
+    }
+
+    /// The words of format.
+    fn words_of_format(&self, alloc: Global) -> Result<String, AllocError> {
+        let uuid = if self.superblock.is_some() {
+            UUID_OPTION
+        } else {
+            ""
+        };
+        let options = self.options;
+        format!(in alloc; "veritysetup format {options}{uuid} data hash.img")
     }
 
     /// The pass, the superblock and the report of format.
@@ -120,13 +141,18 @@ impl Setup {
         let tree = self.tree(scene.alloc)?;
         scene.passes(Pass::Format(HASH, self.tree_at), &tree, self.extent())?;
         if let Some(offset) = self.superblock {
-            let name = self.name.as_bytes();
-            let bytes = superblock(self.hash_type, name, self.sizes, self.blocks, self.salt);
-            let put = Effect::Put(HASH, offset, bytes.to_vec(scene.alloc)?);
-            scene.calls(Call::Seek, "Cannot write superblock.\n", Effect::Nothing)?;
-            scene.calls(Call::Write, "Cannot write superblock.\n", put)?;
+            self.writes_superblock(scene, offset)?;
         }
         scene.prints(self.report(scene.alloc, Some(tree.root.as_slice()))?)
+    }
+
+    /// The superblock is written at an offset.
+    fn writes_superblock(&self, scene: &mut Scene, offset: usize) -> Result<(), AllocError> {
+        let name = self.name.as_bytes();
+        let bytes = superblock(self.hash_type, name, self.sizes, self.blocks, self.salt);
+        let put = Effect::Put(HASH, offset, bytes.to_vec(scene.alloc)?);
+        scene.calls(Call::Seek, "Cannot write superblock.\n", Effect::Nothing)?;
+        scene.calls(Call::Write, "Cannot write superblock.\n", put)
     }
 
     /// The files that format leaves.
@@ -158,13 +184,18 @@ impl Setup {
         let tree = self.tree(alloc)?;
         let words = self.words_of_verify(alloc, tree.root.as_slice())?;
         let mut scene = self.over_made(alloc, words)?;
+        self.verifies(&mut scene, &tree)?;
+        Ok(scene)
+    }
+
+    /// The steps of verify.
+    fn verifies(&self, scene: &mut Scene, tree: &Tree) -> Result<(), AllocError> {
         scene.measures("data")?;
         scene.opens(HASH, Effect::Nothing)?;
         if self.superblock.is_some() {
             scene.reads_superblock()?;
         }
-        scene.passes(Pass::Verify, &tree, self.extent())?;
-        Ok(scene)
+        scene.passes(Pass::Verify, tree, self.extent())
     }
 
     /// Dump: the superblock is read, and its report is printed.
@@ -182,9 +213,6 @@ impl Setup {
 impl Scene {
     /// The superblock is read.
     fn reads_superblock(&mut self) -> Result<(), AllocError> {
-        for call in [Call::Seek, Call::Read] {
-            self.calls(call, "Cannot read superblock.\n", Effect::Nothing)?;
-        }
-        Ok(())
+        self.calls_all(&[Call::Seek, Call::Read], "Cannot read superblock.\n")
     }
 }

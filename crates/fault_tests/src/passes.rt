@@ -40,6 +40,25 @@ impl Pass {
         };
         format!(in alloc; "{what} block {block} of level {level}.\n")
     }
+
+    /// The call that writes or reads this hash block at its place, and what it leaves.
+    fn goes_over(
+        self,
+        alloc: Global,
+        tree: &Tree,
+        size: usize,
+        level: usize,
+        block: usize,
+    ) -> Result<(Call, Effect), AllocError> {
+        let (file, start) = match self {
+            Pass::Format(file, start) => (file, start),
+            Pass::DigestTo(_, file) => (file, 0),
+            Pass::Verify | Pass::Digest(_) => return Ok((Call::Read, Effect::Nothing)),
+        };
+        let at = tree.offset_of(level, block, size).saturating_add(start);
+        let bytes = tree.block(level, block, size).to_vec(alloc)?;
+        Ok((Call::Write, Effect::Put(file, at, bytes)))
+    }
 }
 
 /// A tree to go over: its fan-out, the size of its hash blocks, and the number of data blocks under it.
@@ -80,7 +99,7 @@ impl Scene {
         Ok(())
     }
 
-    /// One hash block is written or read at its place.
+    /// One hash block is written or read at its place, if the pass keeps it.
     fn closes_block(
         &mut self,
         pass: Pass,
@@ -92,15 +111,9 @@ impl Scene {
         if matches!(pass, Pass::Digest(_)) {
             return Ok(());
         }
+        let (call, effect) = pass.goes_over(self.alloc, tree, size, level, block)?;
         let message = pass.stopped(self.alloc, level, block)?;
         self.calls(Call::Seek, message.as_str(), Effect::Nothing)?;
-        let (file, start) = match pass {
-            Pass::Format(file, start) => (file, start),
-            Pass::DigestTo(_, file) => (file, 0),
-            _ => return self.calls(Call::Read, message.as_str(), Effect::Nothing),
-        };
-        let at = tree.offset_of(level, block, size).saturating_add(start);
-        let bytes = tree.block(level, block, size).to_vec(self.alloc)?;
-        self.calls(Call::Write, message.as_str(), Effect::Put(file, at, bytes))
+        self.calls(call, message.as_str(), effect)
     }
 }

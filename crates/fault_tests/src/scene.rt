@@ -72,6 +72,14 @@ impl Scene {
         Ok(())
     }
 
+    /// More calls, which have one message and leave nothing.
+    pub fn calls_all(&mut self, calls: &[Call], message: &str) -> Result<(), AllocError> {
+        for call in calls {
+            self.calls(*call, message, Effect::Nothing)?;
+        }
+        Ok(())
+    }
+
     /// One more text is printed.
     pub fn prints(&mut self, text: String) -> Result<(), AllocError> {
         self.steps.push(Step::Prints(text))?;
@@ -87,11 +95,7 @@ impl Scene {
 
     /// A file is opened, and its length is found by a seek to its end, from which the run goes back to its start.
     pub fn measures(&mut self, name: &str) -> Result<(), AllocError> {
-        for call in [Call::Open, Call::Seek, Call::Seek] {
-            let message = self.program.unopened(self.alloc, name)?;
-            self.steps
-                .push(Step::Calls(call, message, Effect::Nothing))?;
-        }
-        Ok(())
+        let message = self.program.unopened(self.alloc, name)?;
+        self.calls_all(&[Call::Open, Call::Seek, Call::Seek], message.as_str())
     }
 }

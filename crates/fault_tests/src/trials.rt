@@ -13,19 +13,49 @@ use veritysetup::ProgressLine;
 /// messages, and what is wrong.
 type Wrong = ((Call, u64), usize, usize, &'static str);
 
-/// How a run over a disk ended. The files are those of these names that are there.
-fn ending_on(alloc: Global, disk: &Disk, said: Said, names: &Files) -> io::Result<Ending> {
+/// The files of these names that are on a disk.
+fn files_on(alloc: Global, disk: &Disk, names: &Files) -> io::Result<Files> {
     let mut files = Vec::new(alloc);
     for (name, _) in names {
         if disk.has(name)? {
             files.push((*name, disk.bytes_of(name)?))?;
         }
     }
+    Ok(files)
+}
+
+/// How often each of `CALLS` was made over a disk.
+fn calls_on(disk: &Disk) -> io::Result<[u64; 5]> {
     let mut calls = [0; 5];
     for (kind, made) in CALLS.iter().zip(calls.iter_mut()) {
         *made = disk.calls(*kind)?;
     }
-    Ok(Ending { said, files, calls })
+    Ok(calls)
+}
+
+/// The trials in which a call of this kind fails, from the first up to this one.
+fn fail_in_turn(trials: &mut Vec<Trial>, call: Call, last: u64) -> Result<(), AllocError> {
+    for number in 1..=last {
+        let failing = (call, number);
+        trials.push(Trial { failing, ..STEADY })?;
+    }
+    Ok(())
+}
+
+/// The trials in which the output ends at each length up to this one.
+fn end_in_turn(
+    trials: &mut Vec<Trial>,
+    length: usize,
+    takes_nothing: bool,
+) -> Result<(), AllocError> {
+    for room in 0..=length {
+        trials.push(Trial {
+            room,
+            takes_nothing,
+            ..STEADY
+        })?;
+    }
+    Ok(())
 }
 
 impl Scene {
@@ -34,10 +64,16 @@ impl Scene {
         let disk = Disk::new(self.alloc);
         disk.make_kind("/dev/null", Kind::Character, Vec::new(self.alloc))?;
         disk.make_kind(".", Kind::Folder, Vec::new(self.alloc))?;
+        self.put_files(&disk)?;
+        Ok(disk)
+    }
+
+    /// Makes the files on a disk.
+    fn put_files(&self, disk: &Disk) -> io::Result<()> {
         for (name, bytes) in &self.files {
             disk.make(name, bytes.to_vec(self.alloc)?)?;
         }
-        Ok(disk)
+        Ok(())
     }
 
     /// Runs the program over a disk.
@@ -66,7 +102,11 @@ impl Scene {
         let disk = self.disk()?;
         let (call, number) = trial.failing;
         disk.fail(call, number)?;
-        let found = ending_on(self.alloc, &disk, self.run(&disk, trial), &whole.files)?;
+        let found = Ending {
+            said: self.run(&disk, trial),
+            files: files_on(self.alloc, &disk, &whole.files)?,
+            calls: calls_on(&disk)?,
+        };
         let expected = self.ending(trial)?;
         // If the null device can't be opened, the root folder is tried, and a seek that fails may be the end.
         let made = whole.calls.get(call as usize).copied().unwrap_or(0);
@@ -79,25 +119,15 @@ impl Scene {
     /// call of a kind has failed.
     fn trials(&self, whole: &Ending, first: Call) -> Result<Vec<Trial>, AllocError> {
         let mut trials = Vec::new(self.alloc);
-        for (call, made) in CALLS.iter().zip(whole.calls) {
-            for before in 0..=made {
-                let failing = (*call, before.saturating_add(1));
-                trials.push(Trial { failing, ..STEADY })?;
-            }
+        for (call, made) in CALLS.iter().zip(whole.calls.iter()) {
+            fail_in_turn(&mut trials, *call, made.saturating_add(1))?;
         }
-        for takes_nothing in [false, true] {
-            for room in 0..=whole.said.out.len() {
-                trials.push(Trial {
-                    room,
-                    takes_nothing,
-                    ..STEADY
-                })?;
-            }
-        }
+        let length = whole.said.out.len();
+        end_in_turn(&mut trials, length, false)?;
+        end_in_turn(&mut trials, length, true)?;
         let mut trial = STEADY;
         trial.failing = (first, 1);
-        let length = self.ending(&trial)?.said.msgs.len();
-        for room in 0..=length {
+        for room in 0..=self.ending(&trial)?.said.msgs.len() {
             trial.message_room = room;
             trials.push(trial)?;
         }
@@ -106,7 +136,7 @@ impl Scene {
 
     /// The first trial that doesn't end as it should. The messages end at each length after the first call of this kind
     /// has failed.
-    pub fn first_wrong(&self, first: Call) -> Result<Option<Wrong>, Fail> {
+    pub fn first_wrong(self, first: Call) -> Result<Option<Wrong>, Fail> {
         let whole = self.ending(&STEADY)?;
         for trial in self.trials(&whole, first)?.iter() {
             if let Some(what) = self.wrong(trial, &whole)? {
