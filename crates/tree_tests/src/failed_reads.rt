@@ -36,12 +36,11 @@ fn ending(alloc: Global, case: &Case, failing: u64) -> Result<Ending, Fail> {
 }
 
 /// The first read whose failure isn't answered with its block, at once, with as much data read as it should be.
-fn first_wrong(alloc: Global) -> Result<Option<u64>, Fail> {
-    let case = Case::new(alloc, &NINE)?;
+fn first_wrong(alloc: Global, case: &Case) -> Result<Option<u64>, Fail> {
     for (before, &(level, block, rest)) in ORDER.iter().enumerate() {
         let failing = (before as u64).saturating_add(1);
         let answer = Err(CompareFault::DeviceFailed { level, block });
-        if ending(alloc, &case, failing)? != (answer, rest, failing) {
+        if ending(alloc, case, failing)? != (answer, rest, failing) {
             return Ok(Some(failing));
         }
     }
@@ -50,6 +49,7 @@ fn first_wrong(alloc: Global) -> Result<Option<u64>, Fail> {
 
 #[test]
 fn each_failing_read_names_its_block(rt: HostRuntime) -> Result<(), Fail> {
-    assert_eq!(rt; first_wrong(rt.alloc())?, None);
+    let case = Case::new(rt.alloc(), &NINE)?;
+    assert_eq!(rt; first_wrong(rt.alloc(), &case)?, None);
     Ok(())
 }
