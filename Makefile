@@ -39,7 +39,7 @@ check: programs
 gate:
 	rt ci
 
-# Tries each wrong body of crates/*/must-fail by itself that shares a file with others; the gate tries the files.
+# Tries each wrong body of crates/*/must-fail by itself; the gate tries the files.
 wrong-bodies:
 	tests/wrong_bodies.sh
 
@@ -97,7 +97,7 @@ help:
 	@echo 'make test            50 minutes    all tests: gate, the programs as a user runs them, documents, comparisons'
 	@echo 'make check           5 minutes +   all tests but the gate'
 	@echo 'make gate            40 minutes    every proof from nothing, wrong bodies that must be refused, tests of the crates'
-	@echo 'make wrong-bodies    30 minutes    tries each wrong body by itself that shares a file with others'
+	@echo 'make wrong-bodies    30 minutes    tries each wrong body by itself'
 	@echo 'make check-programs  30 seconds +  runs the programs as a user would'
 	@echo 'make out-of-memory   7 minutes +   refuses each request for memory in turn'
 	@echo 'make interop         10 minutes +  compares the programs with those of Debian, over all settings'

@@ -1,7 +1,7 @@
 #!/bin/bash
-# Tries each wrong body by itself that shares its file with others. Of a file in crates/CRATE/must-fail the gate sees
-# only that the prover refuses all of its wrong bodies together. Here each of them, which begins with a line `# NAME`,
-# is put into the code alone, and the prover has to refuse it. Given names of crates, it tries only theirs.
+# Tries each wrong body by itself. Of a file in crates/CRATE/must-fail the gate sees only that the prover refuses all of
+# its wrong bodies together. Here each of them, which begins with a line `# NAME` if the file has several, is put into
+# the code alone, and the prover has to refuse it. Given names of crates, it tries only theirs.
 set -u
 cd "$(dirname "$0")/.."
 . tests/checks.sh
@@ -10,7 +10,7 @@ if ! command -v rt >/dev/null; then
     exit 1
 fi
 
-# A copy of the repository, with a file for each wrong body in place of the files that have several.
+# A copy of the repository, with a file for each wrong body.
 mkdir "$scratch/crates"
 cp crates.txt HANDLES "$scratch"
 for crate in crates/*/; do
@@ -22,14 +22,18 @@ for crate in crates/*/; do
 done
 names=("$@")
 if [ $# -eq 0 ]; then
-    while IFS= read -r name; do names+=("$name"); done < <(grep -l '^# ' crates/*/must-fail/*.edit | cut -d/ -f2 | sort -u)
+    for folder in crates/*/must-fail; do names+=("$(basename "$(dirname "$folder")")"); done
 fi
 bodies=0
 for name in "${names[@]}"; do
     into=$scratch/crates/$name/must-fail
     mkdir "$into"
     for file in "crates/$name"/must-fail/*.edit; do
-        if ! grep -q '^# ' "$file"; then continue; fi
+        if ! grep -q '^# ' "$file"; then
+            cp "$file" "$into"
+            bodies=$((bodies + 1))
+            continue
+        fi
         awk -v into="$into/$(basename "$file" .edit)" '
             /^# / { close(to); to = into "." $2 ".edit"; next }
             { print > to }' "$file"

@@ -209,20 +209,21 @@ impl Scene {
     }
 }
 
-/// An empty file, one of 17 blocks of 512 bytes and 100 bytes more, and one of a block and a byte, with trees of such
-/// blocks.
+/// An empty file, which has no tree.
 const EMPTY: Named = Named {
     name: "empty",
     length: 0,
     levels: 0,
 };
 
+/// A file of 17 blocks of 512 bytes and 100 bytes more, with a tree of such blocks.
 const LARGE: Named = Named {
     name: "large",
     length: 8804,
     levels: 2,
 };
 
+/// A file of a block of 512 bytes and a byte, with a tree of such blocks.
 const TWO: Named = Named {
     name: "two",
     length: 513,

@@ -97,13 +97,13 @@ impl Setup {
     /// printed, and the system is asked to sync all of it, and the folder of a new file if that can be opened.
     pub fn format(&self, alloc: Global) -> Result<Scene, AllocError> {
         let mut scene = Scene::new(alloc, Program::Veritysetup, self.words_of_format(alloc)?)?;
-        self.has_files(&mut scene)?;
+        self.adds_files(&mut scene)?;
         self.formats(&mut scene)?;
         Ok(scene)
     }
 
-    /// The files before format.
-    fn has_files(&self, scene: &mut Scene) -> Result<(), AllocError> {
+    /// The files that are there before format.
+    fn adds_files(&self, scene: &mut Scene) -> Result<(), AllocError> {
         let alloc = scene.alloc;
         scene.files.push(("data", self.data(alloc)?))?;
         if let Some(length) = self.before {

@@ -41,8 +41,8 @@ impl Pass {
         format!(in alloc; "{what} block {block} of level {level}.\n")
     }
 
-    /// The call that writes or reads this hash block at its place, and what it leaves.
-    fn goes_over(
+    /// The call by which a pass writes or reads a hash block at its place, and what that leaves.
+    fn call_of_block(
         self,
         alloc: Global,
         tree: &Tree,
@@ -99,7 +99,7 @@ impl Scene {
         Ok(())
     }
 
-    /// One hash block is written or read at its place, if the pass keeps it.
+    /// One hash block is written or read at its place, unless the pass is that of a plain digest.
     fn closes_block(
         &mut self,
         pass: Pass,
@@ -111,7 +111,7 @@ impl Scene {
         if matches!(pass, Pass::Digest(_)) {
             return Ok(());
         }
-        let (call, effect) = pass.goes_over(self.alloc, tree, size, level, block)?;
+        let (call, effect) = pass.call_of_block(self.alloc, tree, size, level, block)?;
         let message = pass.stopped(self.alloc, level, block)?;
         self.calls(Call::Seek, message.as_str(), Effect::Nothing)?;
         self.calls(call, message.as_str(), effect)

@@ -33,7 +33,7 @@ fn calls_on(disk: &Disk) -> io::Result<[u64; 5]> {
     Ok(calls)
 }
 
-/// The trials in which a call of this kind fails, from the first up to this one.
+/// Adds the trials in which a call of this kind fails, from the first up to this one.
 fn fail_in_turn(trials: &mut Vec<Trial>, call: Call, last: u64) -> Result<(), AllocError> {
     for number in 1..=last {
         let failing = (call, number);
@@ -42,7 +42,7 @@ fn fail_in_turn(trials: &mut Vec<Trial>, call: Call, last: u64) -> Result<(), Al
     Ok(())
 }
 
-/// The trials in which the output ends at each length up to this one.
+/// Adds the trials in which the output ends at each length up to this one.
 fn end_in_turn(
     trials: &mut Vec<Trial>,
     length: usize,

@@ -46,8 +46,8 @@ fn digits_of(alloc: Global, bytes: &[u8]) -> Result<(String, bool), Fail> {
 #[test]
 fn files_have_the_stated_digests(rt: HostRuntime) -> Result<(), Fail> {
     for &(bytes, digits) in &DIGESTS {
-        let (found, is_whole) = digits_of(rt.alloc(), bytes)?;
-        assert_eq!(rt; (found.as_str(), is_whole), (digits, true));
+        let (found, is_right) = digits_of(rt.alloc(), bytes)?;
+        assert_eq!(rt; (found.as_str(), is_right), (digits, true));
     }
     Ok(())
 }

@@ -86,7 +86,7 @@ fn refused_lines_open_nothing(rt: HostRuntime) -> Result<(), Fail> {
 }
 
 #[test]
-fn a_word_that_is_no_text_is_refused(rt: HostRuntime) -> Result<(), Fail> {
+fn a_word_that_is_not_utf8_is_refused(rt: HostRuntime) -> Result<(), Fail> {
     let alloc = rt.alloc();
     let disk = disk(alloc)?;
     let mut memory = MemoryRuntime::new(alloc, &disk, "fsverity digest");

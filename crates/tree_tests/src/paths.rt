@@ -134,8 +134,8 @@ fn above(alloc: Global, first: &[u8], last: &[u8]) -> Result<Vec<u8>, AllocError
     )
 }
 
-/// The answer for the last block of a file of 4097 bytes, of which `last` is the last block filled with zeros, if it is
-/// given as these bytes. The other bytes of the file are zeros.
+/// The answer if these bytes are given for the last block of a file of 4097 bytes. The first 4096 are zeros, and `last`
+/// is the last byte with zeros up to a whole block.
 fn answer_for_last(
     alloc: Global,
     last: &[u8],

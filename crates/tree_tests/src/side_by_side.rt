@@ -201,8 +201,8 @@ fn are_the_same(
     Ok(all == expected)
 }
 
-/// Whether the digests of this many parts are the same by each function, with the salt before the parts, after them,
-/// and both.
+/// Whether the digests of this many parts by each function are those of `sha2`, with the salt before the parts, after
+/// them, and both.
 fn all_are_the_same(alloc: Global, salt: &[u8], len: usize, count: usize) -> Result<bool, Fail> {
     for function in &FUNCTIONS {
         for around in &[(salt, &salt[..0]), (&salt[..0], salt), (salt, salt)] {

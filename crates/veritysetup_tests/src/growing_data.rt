@@ -24,7 +24,7 @@ fn verify(alloc: Global, disk: &Disk, image: &Image, files: &str) -> io::Result<
     run(alloc, disk, words.as_str())
 }
 
-/// The files, with the options of a tree alone.
+/// The files: with a superblock, and a tree alone, with the options that it needs then.
 const FILES: [&str; 2] = [
     "data hash.img",
     "--no-superblock --data-block-size 512 --hash-block-size 512 --salt=- --data-blocks 17 data tree",

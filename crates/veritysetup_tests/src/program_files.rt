@@ -270,7 +270,7 @@ fn a_superblock_is_dumped(rt: HostRuntime) -> Result<(), Fail> {
     Ok(())
 }
 
-/// Words, in which `ROOT` stands for the root hash, the status and the message.
+/// Words, the status and the message; `ROOT` stands for the root hash in both.
 const VERIFIED: [(&str, u8, &str); 3] = [
     // With a superblock no option but the hash offset is looked at.
     (

@@ -161,7 +161,7 @@ fn refused_words_open_no_file(rt: HostRuntime) -> Result<(), Fail> {
 }
 
 #[test]
-fn a_word_that_is_no_text_is_refused(rt: HostRuntime) -> Result<(), Fail> {
+fn a_word_that_is_not_utf8_is_refused(rt: HostRuntime) -> Result<(), Fail> {
     let alloc = rt.alloc();
     let disk = disk_of(alloc, &[5; 8192])?;
     let (word, shown) = NOT_UTF8;
