@@ -54,7 +54,8 @@ fn random_bytes_stand_for_what_is_missing(rt: HostRuntime) -> Result<(), Fail> {
         0x20, 0x21, 0x22, 0x23, 0x24, 0x25, 0x46, 0x27, 0xa8, 0x29, 0x2a, 0x2b, 0x2c, 0x2d, 0x2e,
         0x2f,
     ];
+    let salt = random.get(..32).unwrap_or(&[]);
     let drawn = [tree.salt(), &settings.uuid()];
-    assert_eq!(rt; drawn, [&random[..32], &uuid]);
+    assert_eq!(rt; drawn, [salt, &uuid]);
     Ok(())
 }
