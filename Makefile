@@ -39,7 +39,7 @@ check: programs
 gate:
 	rt ci
 
-# Tries each wrong body of crates/*/must-fail by itself; the gate tries the files.
+# Tries each wrong body of crates/*/must-fail by itself; the gate tries those of a crate together.
 wrong-bodies:
 	tests/wrong_bodies.sh
 

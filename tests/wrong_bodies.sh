@@ -1,7 +1,7 @@
 #!/bin/bash
-# Tries each wrong body by itself. Of a file in crates/CRATE/must-fail the gate sees only that the prover refuses all of
-# its wrong bodies together. Here each of them, which begins with a line `# NAME` if the file has several, is put into
-# the code alone, and the prover has to refuse it. Given names of crates, it tries only theirs.
+# Tries each wrong body by itself. The gate puts all of crates/CRATE/must-fail/wrong_bodies.edit into the code at once.
+# Here each of them, from its line `# NAME` on, is put into the code alone, and the prover has to refuse it. Given names
+# of crates, it tries only theirs.
 set -u
 cd "$(dirname "$0")/.."
 . tests/checks.sh
@@ -28,17 +28,11 @@ bodies=0
 for name in "${names[@]}"; do
     into=$scratch/crates/$name/must-fail
     mkdir "$into"
-    for file in "crates/$name"/must-fail/*.edit; do
-        if ! grep -q '^# ' "$file"; then
-            cp "$file" "$into"
-            bodies=$((bodies + 1))
-            continue
-        fi
-        awk -v into="$into/$(basename "$file" .edit)" '
-            /^# / { close(to); to = into "." $2 ".edit"; next }
-            { print > to }' "$file"
-        bodies=$((bodies + $(grep -c '^# ' "$file")))
-    done
+    file=crates/$name/must-fail/wrong_bodies.edit
+    awk -v into="$into" '
+        /^# / { close(to); to = into "/" $2 ".edit"; next }
+        { print > to }' "$file"
+    bodies=$((bodies + $(grep -c '^# ' "$file")))
 done
 
 # A refusal counts only if a contract isn't met, and not if a proof names something that the change took away.
