@@ -1,9 +1,11 @@
 //! The command lines of veritysetup: what a line holds, and which lines are refused with which text.
 use crate::program_runs::{disk_of, run, said_by};
 use fixtures::{NOT_UTF8, words_of};
-use memory_runtime::MemoryRuntime;
-use std::alloc::{AllocError, Global};
+use memory_runtime::{Disk, MemoryRuntime};
+use std::alloc::Global;
+use std::fmt::{Display, Formatter};
 use std::test::Fail;
+use std::{fmt, io};
 use veritysetup::{Line, LineFault, read_words};
 
 /// Words after the program's name, and the line: the command, the options that are given, and the files.
@@ -99,37 +101,45 @@ Usage: veritysetup verify [--hash NAME] [--format TYPE] [--data-block-size BYTES
            [--hash-offset BYTES] [--no-superblock] DATA HASH ROOT
 ";
 
-fn shown(alloc: Global, line: &Line) -> Result<String, AllocError> {
-    let mut text = format!(in alloc; "{:?}", line.command)?;
-    for &(name, value) in &[
-        ("hash", &line.hash),
-        ("format", &line.format),
-        ("data-block-size", &line.data_block_size),
-        ("hash-block-size", &line.hash_block_size),
-        ("data-blocks", &line.data_blocks),
-        ("salt", &line.salt),
-        ("uuid", &line.uuid),
-        ("hash-offset", &line.hash_offset),
-    ] {
-        if let Some(value) = value {
-            write!(text, " {name}={value}")?;
+/// Shows what a line holds.
+#[derive(Clone, Copy)]
+struct Shown<'a>(&'a Line);
+
+impl Display for Shown<'_> {
+    fn fmt<W: fmt::Write>(&self, f: &mut Formatter<W>) -> fmt::Result {
+        let line = self.0;
+        write!(f, "{:?}", line.command)?;
+        for &(name, value) in &[
+            ("hash", &line.hash),
+            ("format", &line.format),
+            ("data-block-size", &line.data_block_size),
+            ("hash-block-size", &line.hash_block_size),
+            ("data-blocks", &line.data_blocks),
+            ("salt", &line.salt),
+            ("uuid", &line.uuid),
+            ("hash-offset", &line.hash_offset),
+        ] {
+            if let Some(value) = value {
+                write!(f, " {name}={value}")?;
+            }
         }
+        f.write_str(if line.no_superblock {
+            " no-superblock:"
+        } else {
+            ":"
+        })?;
+        for file in &line.files {
+            write!(f, " {file}")?;
+        }
+        Ok(())
     }
-    if line.no_superblock {
-        text.push_str(" no-superblock")?;
-    }
-    text.push_str(":")?;
-    for file in &line.files {
-        write!(text, " {file}")?;
-    }
-    Ok(text)
 }
 
 /// What the line of these words holds.
 fn held_by(alloc: Global, text: &str) -> Result<String, Fail> {
     let words = words_of(alloc, "veritysetup", text)?;
     let line = read_words(alloc, words.as_slice())?;
-    Ok(shown(alloc, &line)?)
+    Ok(format!(in alloc; "{}", Shown(&line))?)
 }
 
 #[test]
@@ -143,18 +153,25 @@ fn a_line_holds_its_words(rt: HostRuntime) -> Result<(), Fail> {
     Ok(())
 }
 
+/// What of a run with these words isn't as expected, if they are to be refused.
+fn differs_refused(
+    alloc: Global,
+    disk: &Disk,
+    words: &str,
+    text: &str,
+    usage: &str,
+) -> io::Result<Option<&'static str>> {
+    let expected = format!(in alloc; "error: {text}\n{usage}")?;
+    Ok(run(alloc, disk, words)?.differs(1, b"", expected.as_bytes()))
+}
+
 #[test]
 fn refused_words_open_no_file(rt: HostRuntime) -> Result<(), Fail> {
     let alloc = rt.alloc();
     let disk = disk_of(alloc, &[5; 8192])?;
     for &(words, text, usage) in &REFUSED {
-        let said = run(alloc, &disk, words)?;
-        let expected = format!(in alloc; "error: {text}\n{usage}")?;
-        assert_eq!(rt;
-            said.differs(1, b"", expected.as_bytes()),
-            None,
-            "at {words}"
-        );
+        let differs = differs_refused(alloc, &disk, words, text, usage)?;
+        assert_eq!(rt; differs, None, "at {words}");
     }
     assert!(rt; disk.opened()?.as_str().is_empty());
     Ok(())
