@@ -1,10 +1,11 @@
 //! The program over files in memory: which files are opened when, and two names of one file.
-use crate::images::image_17;
+use crate::images::{Image, image_17};
 use crate::program_runs::{OPTIONS_17, disk_of, run};
-use fixtures::{REPORT_17, Said, filled, flip};
+use fixtures::{REPORT_17, Said, data, filled, flip};
 use memory_runtime::{Call, Disk, Kind};
 use std::alloc::{AllocError, Global};
 use std::io;
+use std::process::Abort;
 use std::test::Fail;
 
 const NULL_FILES: &str = "/dev/null: read\n/dev/null: read\n/dev/null: read\n";
@@ -75,35 +76,49 @@ const OPENED: [(&str, &str, u8, &str); 12] = [
     ),
 ];
 
-/// Only a run that goes through makes, writes and syncs a file, and prints a report.
+/// Whether a run made `hash`, wrote and synced a file, and printed a report.
+fn effects(disk: &Disk, said: &Said) -> io::Result<[bool; 4]> {
+    let writes = disk.calls(Call::Write)?;
+    let syncs = disk.calls(Call::Sync)?;
+    Ok([
+        disk.has("hash")?,
+        writes > 0,
+        syncs > 0,
+        !said.out.is_empty(),
+    ])
+}
+
+/// A run over a file `data` opens these files after the null files, and says this. Only one that goes through has
+/// effects.
+fn check_opened<R: Abort + AllocGlobal>(
+    rt: &R,
+    words: &str,
+    opened: &str,
+    status: u8,
+    message: &str,
+) -> Result<(), Fail> {
+    let disk = disk_of(rt.alloc(), &[5; 8192])?;
+    let said = run(rt.alloc(), &disk, words)?;
+    let effects = effects(&disk, &said)?;
+    let all = disk.opened()?;
+    let after = all.as_str().strip_prefix(NULL_FILES);
+    let found = (after, said.status, said.msgs.as_slice(), effects);
+    let expected = (Some(opened), status, message.as_bytes(), [status == 0; 4]);
+    assert_eq!(rt; found, expected, "at {words}");
+    Ok(())
+}
+
 #[test]
 fn files_are_opened_in_order(rt: HostRuntime) -> Result<(), Fail> {
-    let alloc = rt.alloc();
     for &(words, opened, status, message) in &OPENED {
-        let disk = disk_of(alloc, &[5; 8192])?;
-        let said = run(alloc, &disk, words)?;
-        let expected = format!(in alloc; "{NULL_FILES}{opened}")?;
-        assert_eq!(rt; disk.opened()?, expected, "at {words}");
-        let out = if status == 0 {
-            said.out.as_slice()
-        } else {
-            b""
-        };
-        assert_eq!(rt;
-            said.differs(status, out, message.as_bytes()),
-            None,
-            "at {words}"
-        );
-        let changes = [
-            disk.has("hash")?,
-            disk.calls(Call::Write)? > 0,
-            disk.calls(Call::Sync)? > 0,
-            !said.out.is_empty(),
-        ];
-        assert_eq!(rt; changes, [status == 0; 4], "at {words}");
+        check_opened(&rt, words, opened, status, message)?;
     }
     Ok(())
 }
+
+const NULL_FILES_OPENED: &str = "open /dev/null\nopen /dev/null\nopen /dev/null\n";
+
+const NULL_FILES_CLOSED: &str = "close /dev/null\nclose /dev/null\nclose /dev/null\n";
 
 /// Words, and what is opened, synced and closed while the null files are open.
 const HELD: [(&str, &str); 6] = [
@@ -131,19 +146,29 @@ const HELD: [(&str, &str); 6] = [
     ),
 ];
 
+/// A disk with files `data` and `hash.img`, and a folder.
+fn disk_with_folder(alloc: Global, folder: &str) -> io::Result<Disk> {
+    let disk = disk_of(alloc, &[5; 8192])?;
+    disk.make_kind(folder, Kind::Folder, Vec::new(alloc))?;
+    disk.make("hash.img", [0; 8192].to_vec(alloc)?)?;
+    Ok(disk)
+}
+
+/// What is opened, synced and closed in a run with these words.
+fn held_by(alloc: Global, words: &str) -> io::Result<String> {
+    let disk = disk_with_folder(alloc, "images")?;
+    // Only what the disk recorded is tested.
+    let _said = run(alloc, &disk, words)?;
+    disk.held()
+}
+
 #[test]
 fn null_files_are_open_to_the_end(rt: HostRuntime) -> Result<(), Fail> {
     let alloc = rt.alloc();
     for &(words, held) in &HELD {
-        let disk = disk_of(alloc, &[5; 8192])?;
-        disk.make_kind("images", Kind::Folder, Vec::new(alloc))?;
-        disk.make("hash.img", [0; 8192].to_vec(alloc)?)?;
-        // Only what the disk recorded is tested.
-        let _said = run(alloc, &disk, words)?;
-        let opened = "open /dev/null\n".repeat(alloc, 3)?;
-        let closed = "close /dev/null\n".repeat(alloc, 3)?;
-        let expected = format!(in alloc; "{opened}{held}{closed}")?;
-        assert_eq!(rt; disk.held()?, expected, "at {words}");
+        let found = held_by(alloc, words)?;
+        let expected = format!(in alloc; "{NULL_FILES_OPENED}{held}{NULL_FILES_CLOSED}")?;
+        assert_eq!(rt; found.as_str(), expected.as_str(), "at {words}");
     }
     Ok(())
 }
@@ -159,14 +184,10 @@ fn a_folder_is_not_opened_as_a_file(rt: HostRuntime) -> Result<(), Fail> {
         "verify data folder ab",
         "verify --no-superblock --salt=- folder hash.img ab",
     ] {
-        let disk = disk_of(alloc, &[5; 8192])?;
-        disk.make_kind("folder", Kind::Folder, Vec::new(alloc))?;
-        disk.make("hash.img", [0; 8192].to_vec(alloc)?)?;
-        let said = run(alloc, &disk, words)?;
-        let message = b"Cannot open folder.\n".as_slice();
-        assert_eq!(rt; said.differs(4, b"", message), None, "at {words}");
-        assert!(rt; !disk.has("hash")?, "at {words}");
-        assert_eq!(rt; disk.calls(Call::Read)?, 0, "at {words}");
+        let disk = disk_with_folder(alloc, "folder")?;
+        let differs = run(alloc, &disk, words)?.differs(4, b"", b"Cannot open folder.\n");
+        let found = (differs, disk.has("hash")?, disk.calls(Call::Read)?);
+        assert_eq!(rt; found, (None, false, 0), "at {words}");
     }
     Ok(())
 }
@@ -177,18 +198,17 @@ fn the_root_folder_stands_for_the_null_device(rt: HostRuntime) -> Result<(), Fai
     let disk = Disk::new(alloc);
     disk.make("data", [5; 8192].to_vec(alloc)?)?;
     disk.make_kind("/", Kind::Character, Vec::new(alloc))?;
-    let said = run(alloc, &disk, "format data hash")?;
-    assert_eq!(rt; said.status, 0);
-    assert!(rt; disk.has("hash")?);
+    let status = run(alloc, &disk, "format data hash")?.status;
+    let found = (status, disk.has("hash")?);
+    assert_eq!(rt; found, (0, true));
     Ok(())
 }
 
 /// A disk with the data of the image of 17 blocks as a file of this kind, named `data` and `other`.
 fn disk_of_two_names(alloc: Global, kind: Kind) -> io::Result<Disk> {
-    let image = image_17(alloc)?;
     let disk = Disk::new(alloc);
     disk.make_kind("/dev/null", Kind::Character, Vec::new(alloc))?;
-    disk.make_kind("data", kind, image.data)?;
+    disk.make_kind("data", kind, data(alloc, 17 * 512)?)?;
     disk.link("data", "other")?;
     Ok(disk)
 }
@@ -207,11 +227,11 @@ fn data_is_never_overwritten(rt: HostRuntime) -> Result<(), Fail> {
     for &(kind, hash) in &OVERLAPS {
         let disk = disk_of_two_names(alloc, kind)?;
         let words = format!(in alloc; "format {OPTIONS_17} data {hash}")?;
-        let said = run(alloc, &disk, words.as_str())?;
-        let message = b"Data area and hash area overlap.\n".as_slice();
-        assert_eq!(rt; said.differs(1, b"", message), None, "at {words}");
-        let opened = format!(in alloc; "{NULL_FILES}data: read\n")?;
-        assert_eq!(rt; disk.opened()?, opened, "at {words}");
+        let message = b"Data area and hash area overlap.\n";
+        let differs = run(alloc, &disk, words.as_str())?.differs(1, b"", message);
+        let opened = disk.opened()?;
+        let found = (differs, opened.as_str().strip_prefix(NULL_FILES));
+        assert_eq!(rt; found, (None, Some("data: read\n")), "at {words}");
     }
     Ok(())
 }
@@ -231,6 +251,12 @@ fn format_in_one_file(alloc: Global, disk: &Disk, hash: &str) -> io::Result<u8> 
     Ok(run(alloc, disk, words.as_str())?.status)
 }
 
+/// What verify says of that file, with the digits of a root hash.
+fn verify_in_one_file(alloc: Global, disk: &Disk, hash: &str, root: &str) -> io::Result<Said> {
+    let words = format!(in alloc; "verify --hash-offset 8704 data {hash} {root}")?;
+    run(alloc, disk, words.as_str())
+}
+
 #[test]
 fn one_file_holds_data_and_tree(rt: HostRuntime) -> Result<(), Fail> {
     let alloc = rt.alloc();
@@ -238,8 +264,8 @@ fn one_file_holds_data_and_tree(rt: HostRuntime) -> Result<(), Fail> {
     for &hash in &["data", "other"] {
         let disk = disk_of_two_names(alloc, Kind::Plain)?;
         let status = format_in_one_file(alloc, &disk, hash)?;
-        let words = format!(in alloc; "verify --hash-offset 8704 data {hash} {root}")?;
-        let differs = run(alloc, &disk, words.as_str())?.differs(0, b"", b"");
+        let said = verify_in_one_file(alloc, &disk, hash, root.as_str())?;
+        let differs = said.differs(0, b"", b"");
         let bytes = disk.bytes_of("data")?;
         let found = (status, bytes.as_slice(), differs);
         assert_eq!(rt; found, (0, both.as_slice(), None), "at {hash}");
@@ -247,23 +273,26 @@ fn one_file_holds_data_and_tree(rt: HostRuntime) -> Result<(), Fail> {
     Ok(())
 }
 
-/// A disk with the image of 17 blocks and with a copy of its hash device that has a changed byte, and the digits of the
-/// root hash.
-fn disk_of_image(alloc: Global) -> io::Result<(Disk, String)> {
-    let image = image_17(alloc)?;
-    let root = hex::encode(alloc, image.root.as_slice())?;
-    let mut changed = image.device.to_vec(alloc)?;
+/// A copy of these bytes, of which one is changed.
+fn changed(alloc: Global, bytes: &[u8]) -> Result<Vec<u8>, AllocError> {
+    let mut changed = bytes.to_vec(alloc)?;
     flip(changed.as_mut_slice(), 1100);
+    Ok(changed)
+}
+
+/// A disk with the image of 17 blocks and with a copy of its hash device that has a changed byte.
+fn disk_of_image(alloc: Global, image: &Image) -> io::Result<Disk> {
+    let device = image.device.as_slice();
     let disk = disk_of(alloc, image.data.as_slice())?;
-    disk.make("hash.img", image.device)?;
-    disk.make("changed", changed)?;
-    Ok((disk, root))
+    disk.make("hash.img", device.to_vec(alloc)?)?;
+    disk.make("changed", changed(alloc, device)?)?;
+    Ok(disk)
 }
 
 #[test]
 fn a_superblock_is_dumped(rt: HostRuntime) -> Result<(), Fail> {
     let alloc = rt.alloc();
-    let (disk, _root) = disk_of_image(alloc)?;
+    let disk = disk_of_image(alloc, &image_17(alloc)?)?;
     let said = run(alloc, &disk, "dump hash.img")?;
     let report = REPORT_17.text(alloc)?;
     assert_eq!(rt; said.differs(0, report.as_bytes(), b""), None);
@@ -274,33 +303,33 @@ fn a_superblock_is_dumped(rt: HostRuntime) -> Result<(), Fail> {
 const VERIFIED: [(&str, u8, &str); 3] = [
     // With a superblock no option but the hash offset is looked at.
     (
-        "--hash md5 --salt x --data-blocks 0 data hash.img ROOT",
+        "verify --hash md5 --salt x --data-blocks 0 data hash.img ROOT",
         0,
         "",
     ),
     (
-        "data hash.img 0000000000000000000000000000000000000000000000000000000000000000",
+        "verify data hash.img 0000000000000000000000000000000000000000000000000000000000000000",
         2,
         "Verification failed: root hash is ROOT.\n",
     ),
     (
-        "data changed ROOT",
+        "verify data changed ROOT",
         2,
         "Verification failed: level 0 block 0, child 2.\n",
     ),
 ];
 
-/// What verify says with these words.
+/// What a run with these words and this root hash says.
 fn said_of_verify(alloc: Global, disk: &Disk, root: &str, words: &str) -> io::Result<Said> {
-    let words = words.replace(alloc, "ROOT", root)?;
-    let words = format!(in alloc; "verify {words}")?;
-    run(alloc, disk, words.as_str())
+    run(alloc, disk, words.replace(alloc, "ROOT", root)?.as_str())
 }
 
 #[test]
 fn a_tree_is_verified(rt: HostRuntime) -> Result<(), Fail> {
     let alloc = rt.alloc();
-    let (disk, root) = disk_of_image(alloc)?;
+    let image = image_17(alloc)?;
+    let disk = disk_of_image(alloc, &image)?;
+    let root = hex::encode(alloc, image.root.as_slice())?;
     for &(words, status, message) in &VERIFIED {
         let said = said_of_verify(alloc, &disk, root.as_str(), words)?;
         let message = message.replace(alloc, "ROOT", root.as_str())?;

@@ -17,11 +17,19 @@ const QUARTER: usize = 1 << 18;
 /// How many bytes of work pass before the line is written again.
 const STEP: u64 = 1 << 16;
 
+/// A writer to standard error, which erases the progress line.
+fn terminal<'a>(
+    progress: &'a ProgressLine<'a, MemoryRuntime<'a>>,
+    disk: &'a Disk,
+) -> ErasingWriter<'a, MemoryRuntime<'a>, StandardError<'a>> {
+    ErasingWriter::new(progress, StandardError::new(disk))
+}
+
 /// The status of a run whose report and messages go to one terminal, or, without a step, to one pipe.
 fn status_of(runtime: &MemoryRuntime<'_>, disk: &Disk) -> u8 {
     let progress = ProgressLine::new(runtime);
-    let mut out = ErasingWriter::new(&progress, StandardError::new(disk));
-    let mut msgs = ErasingWriter::new(&progress, StandardError::new(disk));
+    let mut out = terminal(&progress, disk);
+    let mut msgs = terminal(&progress, disk);
     run_program(runtime, &progress, &mut out, &mut msgs)
 }
 

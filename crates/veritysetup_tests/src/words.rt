@@ -135,10 +135,15 @@ impl Display for Shown<'_> {
     }
 }
 
+/// The line of these words.
+fn line_of(alloc: Global, text: &str) -> Result<Line, Fail> {
+    let words = words_of(alloc, "veritysetup", text)?;
+    Ok(read_words(alloc, words.as_slice())?)
+}
+
 /// What the line of these words holds.
 fn held_by(alloc: Global, text: &str) -> Result<String, Fail> {
-    let words = words_of(alloc, "veritysetup", text)?;
-    let line = read_words(alloc, words.as_slice())?;
+    let line = line_of(alloc, text)?;
     Ok(format!(in alloc; "{}", Shown(&line))?)
 }
 
