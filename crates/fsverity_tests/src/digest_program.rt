@@ -22,7 +22,7 @@ pub fn disk(alloc: Global) -> io::Result<Disk> {
 }
 
 /// Runs the program.
-fn said_by(alloc: Global, runtime: &MemoryRuntime<'_>) -> Said {
+pub fn said_by(alloc: Global, runtime: &MemoryRuntime<'_>) -> Said {
     let mut out = Vec::new(alloc);
     let mut msgs = Vec::new(alloc);
     let progress = ProgressLine::new(runtime);

@@ -1,5 +1,5 @@
 //! The progress line of long work: it is shown only on a terminal, and erased before anything else is written there.
-use crate::digest_program::disk;
+use crate::digest_program::{disk, said_by};
 use fixtures::{is_plain, shown_before};
 use fsverity::{ErasingWriter, ProgressLine, run_program};
 use memory_runtime::{Call, Disk, MemoryRuntime, StandardError};
@@ -36,8 +36,7 @@ fn disk_with_large(alloc: Global, failing: u64) -> io::Result<Disk> {
 
 /// What a run writes when its lines and its messages go to one terminal, or, without a step, to one pipe.
 fn written(alloc: Global, disk: &Disk, words: &str, step: Option<u64>) -> io::Result<Vec<u8>> {
-    let words = format!(in alloc; "fsverity digest {words}")?;
-    let mut runtime = MemoryRuntime::new(alloc, disk, words.as_str());
+    let mut runtime = MemoryRuntime::new(alloc, disk, words);
     runtime.step = step;
     let progress = ProgressLine::new(&runtime);
     let mut out = ErasingWriter::new(&progress, StandardError::new(disk));
@@ -46,20 +45,25 @@ fn written(alloc: Global, disk: &Disk, words: &str, step: Option<u64>) -> io::Re
     disk.standard_error()
 }
 
-/// Words of runs, the write that fails, how many progress lines they show of how many MiB, and how their other output
+/// Command lines, the write that fails, how many progress lines they show of how many MiB, and how their other output
 /// begins.
 const RUNS: [(&str, u64, (u64, u64), &str); 6] = [
-    ("small", 0, (0, 0), "sha256:"),
-    ("long", 0, (16, 1), "sha256:"),
-    ("large missing", 0, (4, 0), "sha256:"),
-    ("large --out-descriptor made", 0, (4, 0), "sha256:"),
+    ("fsverity digest small", 0, (0, 0), "sha256:"),
+    ("fsverity digest long", 0, (16, 1), "sha256:"),
+    ("fsverity digest large missing", 0, (4, 0), "sha256:"),
     (
-        "large --block-size 512 --out-merkle-tree made",
+        "fsverity digest large --out-descriptor made",
+        0,
+        (4, 0),
+        "sha256:",
+    ),
+    (
+        "fsverity digest large --block-size 512 --out-merkle-tree made",
         9,
         (1, 0),
         "fsverity: cannot write tree block 8 of level 0.\n",
     ),
-    ("two empty", 0, (0, 0), "sha256:"),
+    ("fsverity digest two empty", 0, (0, 0), "sha256:"),
 ];
 
 #[test]
@@ -70,8 +74,9 @@ fn a_terminal_is_told_how_far_it_is(rt: HostRuntime) -> Result<(), Fail> {
         let disk = disk_with_large(alloc, failing)?;
         let shown = written(alloc, &disk, words, Some(STEP))?;
         let expected = shown_before(alloc, count, total, plain.as_slice())?;
-        let found = (is_plain(plain.as_slice(), start), shown, disk.looks()?);
-        assert_eq!(rt; found, (true, expected, 1), "at {words}");
+        let looks = disk.looks()?;
+        let found = (is_plain(plain.as_slice(), start), shown.as_slice(), looks);
+        assert_eq!(rt; found, (true, expected.as_slice(), 1), "at {words}");
     }
     Ok(())
 }
@@ -80,6 +85,7 @@ fn a_terminal_is_told_how_far_it_is(rt: HostRuntime) -> Result<(), Fail> {
 #[test]
 fn the_line_is_erased_in_the_end(rt: HostRuntime) -> Result<(), Fail> {
     let alloc = rt.alloc();
+    let expected = shown_before(alloc, 4, 0, &[])?;
     for &words in &[
         "fsverity digest large",
         "fsverity digest large --out-descriptor made",
@@ -87,13 +93,14 @@ fn the_line_is_erased_in_the_end(rt: HostRuntime) -> Result<(), Fail> {
         let disk = disk_with_large(alloc, 0)?;
         let mut runtime = MemoryRuntime::new(alloc, &disk, words);
         runtime.step = Some(STEP);
-        let progress = ProgressLine::new(&runtime);
-        let mut out = Vec::new(alloc);
-        let mut msgs = Vec::new(alloc);
-        let status = run_program(&runtime, &progress, &mut out, &mut msgs);
-        let found = (status, out.starts_with(b"sha256:"), disk.standard_error()?);
-        let expected = shown_before(alloc, 4, 0, &[])?;
-        assert_eq!(rt; found, (0, true, expected), "at {words}");
+        let said = said_by(alloc, &runtime);
+        let shown = disk.standard_error()?;
+        let found = (
+            said.status,
+            said.out.starts_with(b"sha256:"),
+            shown.as_slice(),
+        );
+        assert_eq!(rt; found, (0, true, expected.as_slice()), "at {words}");
     }
     Ok(())
 }
