@@ -94,9 +94,9 @@ help:
 	@echo
 	@echo 'make run             7 minutes     proves and builds fsverity, and prints the digest of a file'
 	@echo 'make programs        11 minutes    proves and builds bin/fsverity and bin/veritysetup [CPU]'
-	@echo 'make test            50 minutes    all tests: gate, the programs as a user runs them, documents, comparisons'
+	@echo 'make test            45 minutes    all tests: gate, the programs as a user runs them, documents, comparisons'
 	@echo 'make check           5 minutes +   all tests but the gate'
-	@echo 'make gate            40 minutes    every proof from nothing, wrong bodies that must be refused, tests of the crates'
+	@echo 'make gate            35 minutes    every proof from nothing, wrong bodies that must be refused, tests of the crates'
 	@echo 'make wrong-bodies    30 minutes    tries each wrong body by itself'
 	@echo 'make check-programs  30 seconds +  runs the programs as a user would'
 	@echo 'make out-of-memory   7 minutes +   refuses each request for memory in turn'
