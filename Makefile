@@ -37,7 +37,7 @@ check: programs
 # The gate: every proof from nothing, the wrong bodies that the prover must refuse, the tests of the crates, and
 # the programs' stored runs.
 gate:
-	rt ci
+	tests/gate.sh
 
 # Tries each wrong body of crates/*/must-fail by itself; the gate tries those of a crate together.
 wrong-bodies:

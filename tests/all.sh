@@ -9,7 +9,7 @@ if [ "${1:-}" = --without-gate ]; then
     parts=(tests/no_gate.sh)
     builds=(bin)
 else
-    parts=('rt ci' tests/built.sh)
+    parts=(tests/gate.sh tests/built.sh)
     builds=(bin/x86-64-v2)
     if [ "$(./processor.sh)" = x86-64-v3 ]; then builds+=(bin/x86-64-v3); fi
 fi
