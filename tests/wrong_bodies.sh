@@ -1,5 +1,5 @@
 #!/bin/bash
-# Tries each wrong body by itself. The gate puts all of crates/CRATE/must-fail/wrong_bodies.edit into the code at once.
+# Tries each wrong body by itself. The gate puts all those of a file in crates/CRATE/must-fail into the code at once.
 # Here each of them, from its line `# NAME` on, is put into the code alone, and the prover has to refuse it. Given names
 # of crates, it tries only theirs.
 set -u
@@ -32,11 +32,10 @@ for name in "${names[@]}"; do
     fi
     into=$scratch/crates/$name/must-fail
     mkdir "$into"
-    file=crates/$name/must-fail/wrong_bodies.edit
     awk -v into="$into" '
         /^# / { close(to); to = into "/" $2 ".edit"; next }
-        { print > to }' "$file"
-    bodies=$((bodies + $(grep -c '^# ' "$file")))
+        { print > to }' "crates/$name"/must-fail/*.edit
+    bodies=$((bodies + $(cat "crates/$name"/must-fail/*.edit | grep -c '^# ')))
 done
 
 # A refusal counts only if a contract isn't met: not if a proof names something that the change took away, and not if
