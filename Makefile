@@ -54,7 +54,7 @@ out-of-memory: programs
 # Compares the programs with Debian's packages cryptsetup-bin and fsverity, which have to be installed, over every
 # combination of the settings; `make test` goes over fewer.
 interop: programs
-	SETTINGS=all tests/run.sh tests/interop/differences.sh tests/interop/superblock.sh tests/interop/fsverity.sh \
+	SETTINGS=all tests/run.sh -- tests/interop/differences.sh tests/interop/superblock.sh tests/interop/fsverity.sh \
 	    tests/interop/format.sh tests/interop/verify.sh
 
 # Random runs of both programs, compared with a second implementation of the definitions in Python and with Debian's

@@ -1,23 +1,26 @@
 #!/bin/bash
 # All tests: the gate, then the programs that it built, run as a user runs them, the examples of the documents, and the
 # comparisons with Debian's programs, if these are installed. These go over the programs for each processor that
-# runs here; a minute of random runs goes over those of bin/. The last line is 'N passed, M failed', over all parts.
+# runs here; a minute of random runs goes over those of bin/. All that comes after the gate and the programs runs side by
+# side. The last line is 'N passed, M failed', over all parts.
 # With --without-gate the programs that are in bin/ are tested, and the output says that the gate was left out.
 set -u
 cd "$(dirname "$0")/.."
 if [ "${1:-}" = --without-gate ]; then
-    parts=(tests/no_gate.sh)
+    parts=(tests/no_gate.sh --)
     builds=(bin)
 else
-    parts=(tests/gate.sh tests/built.sh)
+    parts=(tests/gate.sh tests/built.sh --)
     builds=(bin/x86-64-v2)
     if [ "$(./processor.sh)" = x86-64-v3 ]; then builds+=(bin/x86-64-v3); fi
 fi
-for build in "${builds[@]}"; do
-    # Files of a folder that only others read are not executable.
-    for script in tests/programs/*.sh tests/processor.sh tests/readme.sh tests/manual.sh tests/interop/*.sh; do
+# The longest first, so that no processor waits for one at the end.
+parts+=('tests/memory.sh --short' tests/soak.sh)
+# Files of a folder that only others read are not executable.
+for script in tests/interop/*.sh tests/programs/*.sh tests/processor.sh tests/readme.sh tests/manual.sh; do
+    for build in "${builds[@]}"; do
         if [ -x "$script" ]; then parts+=("env BIN=$build $script"); fi
     done
 done
-parts+=(tests/definitions.sh tests/install.sh tests/completion.sh 'tests/memory.sh --short' tests/soak.sh)
+parts+=(tests/definitions.sh tests/install.sh tests/completion.sh)
 BIN=bin exec tests/run.sh "${parts[@]}"

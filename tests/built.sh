@@ -21,7 +21,8 @@ put() {
 }
 
 # over_gate NAME TO: compiles and links a program for x86-64-v3 as `rt run` does, over the libraries that the gate has
-# proved: `rt run` itself takes none of them, and would prove each a second time.
+# proved: `rt run` itself takes none of them, and would prove each a second time. What the compiler says goes to
+# $scratch/NAME.
 over_gate() {
     local crate=${1}_cli program=$PWD/$2 words=() folder
     for folder in "$PWD"/crates/*/out/rlib "$kit/rlibs"; do words+=(-L "dependency=$folder"); done
@@ -33,19 +34,15 @@ over_gate() {
             --toolchain "$kit/toolchain" --backend llvm --cpu=x86-64-v3 -o "$program.o" &&
             "$kit/bin/rattle-link" --target x86_64-unknown-linux-gnu --toolchain "$kit/toolchain" -o "$program" \
                 "$program.o" "$kit/c/libos_c.a" "$kit/c/liblibc_c.a"
-    ) >"$scratch/log" 2>&1 || cat "$scratch/log"
+    ) >"$scratch/$1" 2>&1
 }
 
-# over_checks NAME TO: builds a program for x86-64-v3 over what earlier checks have proved and kept. If there is such
-# work, the gate has put it back.
+# over_checks NAME TO: the same by `rt run`, over what earlier checks have proved and kept. If there is such work, the
+# gate has put it back.
 over_checks() {
     rm -f "crates/${1}_cli/out/${1}_cli"
-    (cd "crates/${1}_cli" && rt run --cpu=x86-64-v3 </dev/null) >"$scratch/log" 2>&1
-    if grep -q '^logic=proved .* cpu=x86-64-v3 ' "$scratch/log"; then
-        cp "crates/${1}_cli/out/${1}_cli" "$2"
-    else
-        cat "$scratch/log"
-    fi
+    (cd "crates/${1}_cli" && rt run --cpu=x86-64-v3 </dev/null) >"$scratch/$1" 2>&1
+    grep -q '^logic=proved .* cpu=x86-64-v3 ' "$scratch/$1" && cp "crates/${1}_cli/out/${1}_cli" "$2"
 }
 
 for name in fsverity veritysetup; do
@@ -55,9 +52,14 @@ cpu=$(./processor.sh)
 if [ "$cpu" = x86-64-v3 ]; then
     over=over_gate
     if compgen -G 'crates/*/out/rlib/stamp' >/dev/null; then over=over_checks; fi
+    # Both at once: it takes a minute each.
     for name in fsverity veritysetup; do
         rm -f "crates/${name}_cli/out/$name.v3"
-        $over "$name" "crates/${name}_cli/out/$name.v3"
+        $over "$name" "crates/${name}_cli/out/$name.v3" &
+    done
+    wait
+    for name in fsverity veritysetup; do
+        if [ ! -e "crates/${name}_cli/out/$name.v3" ]; then cat "$scratch/$name"; fi
         put "crates/${name}_cli/out/$name.v3" x86-64-v3 "$name"
     done
 else

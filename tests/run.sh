@@ -1,49 +1,98 @@
 #!/bin/bash
-# tests/run.sh PART..: runs each part, a command in one word, and shows its output under a line that says how far the
-# run is. Each part has to end with a line 'N passed, M failed', and so does the whole run, with the sums. The status is
-# 1 if anything failed, or a part ended without that line. A part that ends with status 77 was left out and says why
-# itself.
+# tests/run.sh PART.. [-- PART..]: runs each part, a command in one word, and shows its output under a line that says
+# how far the run is. Parts after `--` run side by side, as many at once as there are processors, and each one's output
+# is shown whole, in the order of the parts. Each part has to end with a line 'N passed, M failed', and so does the
+# whole run, with the sums. The status is 1 if anything failed, or a part ended without that line. A part that ends with
+# status 77 was left out and says why itself.
 set -u
 cd "$(dirname "$0")/.."
-log=$(mktemp)
-trap 'rm -f "$log"' EXIT
+logs=$(mktemp -d)
+trap 'for group in $(jobs -p); do kill -- "-$group"; done 2>/dev/null; rm -rf "$logs"' EXIT
+trap 'exit 130' INT
+trap 'exit 143' TERM
 passed=0
 failed=0
 left_out=()
 broken=()
 
-# count PART STATUS: adds what the part's last line says, and keeps the lines of what it left out.
+# The parts, and how many of them run alone.
+parts=()
+alone=$#
+for word in "$@"; do
+    if [ "$word" = -- ]; then alone=${#parts[@]}; else parts+=("$word"); fi
+done
+
+# run INDEX: runs a part, whose output goes on, and writes its status and its seconds to a file. A part is a command and
+# its words.
+run() {
+    local started=$SECONDS status=0
+    # shellcheck disable=SC2086
+    ${parts[$1]} 2>&1 </dev/null || status=$?
+    echo "$status $((SECONDS - started))" >"$logs/$1.ended"
+}
+
+# title INDEX: the line over a part's output.
+title() {
+    printf '== %s of %s: %s\n' $(($1 + 1)) "${#parts[@]}" "${parts[$1]}"
+}
+
+# count INDEX: adds what the last line of a part's output says, and keeps the lines of what it left out.
 count() {
-    local last good bad line
-    last=$(tail -n 1 "$log")
-    while IFS= read -r line; do left_out+=("${line#left out: }"); done < <(grep '^left out: ' "$log")
+    local part=${parts[$1]} status seconds last good bad line
+    read -r status seconds <"$logs/$1.ended"
+    echo "== $seconds seconds"
+    last=$(tail -n 1 "$logs/$1")
+    while IFS= read -r line; do left_out+=("${line#left out: }"); done < <(grep '^left out: ' "$logs/$1")
     if [[ $last =~ ^([0-9]+)\ passed,\ ([0-9]+)\ failed$ ]]; then
         good=${BASH_REMATCH[1]} bad=${BASH_REMATCH[2]}
         passed=$((passed + good))
         failed=$((failed + bad))
-        if [ "$2" -eq 0 ] && [ "$bad" -eq 0 ]; then return; fi
+        if [ "$status" -eq 0 ] && [ "$bad" -eq 0 ]; then return; fi
         # A status that says more than the count does is a failure of its own.
         if [ "$bad" -eq 0 ]; then failed=$((failed + 1)); fi
-    elif [ "$2" -eq 77 ]; then
+    elif [ "$status" -eq 77 ]; then
         left_out+=("$last")
         return
     else
         failed=$((failed + 1))
     fi
-    broken+=("$1 (status $2)")
+    broken+=("$part (status $status)")
 }
 
-number=0
-for part in "$@"; do
-    number=$((number + 1))
-    printf '== %s of %s: %s\n' "$number" "$#" "$part"
-    started=$SECONDS
-    # A part is a command and its words.
-    # shellcheck disable=SC2086
-    $part 2>&1 </dev/null | tee "$log"
-    count "$part" "${PIPESTATUS[0]}"
-    echo "== $((SECONDS - started)) seconds"
+# shows_ended: shows and counts the parts that have ended, from `shown` on up to the first that still runs.
+shows_ended() {
+    while [ -e "$logs/$shown.ended" ]; do
+        title "$shown"
+        cat "$logs/$shown"
+        count "$shown"
+        shown=$((shown + 1))
+    done
+}
+
+for ((shown = 0; shown < alone && shown < ${#parts[@]}; shown++)); do
+    title "$shown"
+    run "$shown" | tee "$logs/$shown"
+    count "$shown"
 done
+
+# Each part that runs beside others is a group of processes, so that one signal ends all of it.
+set -m
+for ((next = shown; next < ${#parts[@]}; next++)); do
+    while [ "$(jobs -pr | wc -l)" -ge "$(nproc)" ]; do
+        wait -n
+        shows_ended
+    done
+    run "$next" >"$logs/$next" &
+done
+while [ -n "$(jobs -pr)" ]; do
+    wait -n
+    shows_ended
+done
+# What was killed before it could write its status.
+for ((next = shown; next < ${#parts[@]}; next++)); do
+    if [ ! -e "$logs/$next.ended" ]; then echo '137 0' >"$logs/$next.ended"; fi
+done
+shows_ended
 for line in "${left_out[@]}"; do echo "left out: $line"; done
 for part in "${broken[@]}"; do echo "FAILED: $part"; done
 echo "$passed passed, $failed failed"
