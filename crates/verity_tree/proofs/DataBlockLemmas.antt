@@ -17,7 +17,8 @@ use Rattle.verity_tree.specs.Steps.PlainRoots.{digest_of_block}
 use Rattle.verity_tree.specs.Steps.OpenBlocks.{level_digest}
 use Rattle.verity_plan.specs.Plans.{IsPlanned, Planned}
 use Rattle.verity_plan.specs.Settings.{Settings, hash, fan}
-use Rattle.verity_plan.proofs.CountLemmas.{mul-lt_div_ceil, div_ceil-pos}
+use Rattle.std.specs.Int.{div_ceil}
+use Rattle.verity_plan.proofs.CountLemmas.{mul-lt_div_ceil, div_ceil-pos, le-div_ceil}
 use Rattle.verity_plan.proofs.FanLemmas.{some_data}
 use Rattle.verity_tree.proofs.OpenBlockSteps.{place-first}
 use Rattle.std.specs.Prelude.{nat_le}
@@ -114,6 +115,13 @@ pub HasRead-none : (p : Planned) (bytes : List ℕ) → HasRead (bytes_of p 0) b
 HasRead-none p bytes =
     let none : min (0 * p.settings.data_block) p.wanted ≡ 0 = omega arith in
     record { enough = omega (arith, none); rest = ap (λ (k : ℕ). drop k bytes) (sym none) }
+
+-- all data blocks have all bytes that are wanted
+pub bytes_of-all : (p : Planned) → IsPlanned p → bytes_of p p.blocks ≡ p.wanted
+bytes_of-all p planned =
+    let size = p.settings.data_block in
+    let most : div_ceil p.wanted size ≤ p.blocks = omega (arith, planned.blocks_are) in
+    omega (arith, le-div_ceil p.wanted size p.blocks (some_data p.settings planned.valid) most)
 
 -- runs that fit are within the quotient
 le-div : (i n a : ℕ) → 0 < a → i * a ≤ n → i ≤ n / a

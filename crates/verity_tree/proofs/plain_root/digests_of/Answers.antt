@@ -1,15 +1,23 @@
 -- Each block gives its digest, and the blocks end where the bytes do.
-use Rattle.std.proofs.Common.{◌≡◌, ℕ, List, map, arith, sym, ◌∙◌, ap, length}
+use Rattle.std.proofs.Common.{◌≡◌, ℕ, List, map, arith, sym, ◌∙◌, ap, length, ◌*◌, ◌<◌}
 use Rattle.std.proofs.lemmas.List.{take_all}
 use Rattle.std.specs.List.{range_with_len}
 use Rattle.std.specs.Int.{div_ceil}
 use Rattle.std.specs.Fork.{slice_chunk}
 use Rattle.verity_hash.specs.Hashing.{with_zeros}
-use Rattle.verity_plan.specs.Settings.{hash}
+use Rattle.verity_plan.proofs.CountLemmas.{mul-lt_div_ceil}
+use Rattle.verity_plan.specs.Settings.{Settings, IsValid, hash}
+use Rattle.verity_plan.proofs.FanLemmas.{some_data}
 use Rattle.verity_tree.specs.Levels.{block_at}
 use Rattle.verity_tree.specs.Steps.PlainRoots.{digest_of_block}
 use Rattle.verity_tree.proofs.LevelLemmas.{map-hash-cut, take-bytes, mapped_more}
 use Rattle.verity_tree.proofs.plain_root.digests_of.Goals as goal
+
+-- each block begins within the bytes
+begins-within : (s : Settings) → IsValid s → (bytes : List ℕ) (size i count : ℕ) → size ≡ s.data_block
+    → count ≡ div_ceil (length bytes) size → i < count → i * size < length bytes
+begins-within s valid bytes size i count size_is count_is below =
+    mul-lt_div_ceil (length bytes) size i (omega (arith, size_is, some_data s valid)) (omega (arith, count_is, below))
 
 pub loop-i-preserved : goal.loop-i-preserved
 loop-i-preserved c =
@@ -35,3 +43,31 @@ returns c =
     c.loop-i.invariant
     ∙ ap (λ (n : ℕ). map (digest_of_block settings (length bytes) bytes) (range_with_len 0 n)) last
     ∙ sym (map-hash-cut settings count (length bytes) bytes)
+
+pub overflow_mul-from : goal.overflow_mul-from
+overflow_mul-from c = omega (
+  arith,
+  begins-within c.args.settings.now c.data_block-size.ensures.valid c.args.bytes.now c.data_block-size.result
+      c.loop-i.i c.div_ceil-i-end.result c.data_block-size.ensures.value c.div_ceil-i-end.ensures c.loop-i-test.true,
+)
+
+pub overflow_sub-bytes : goal.overflow_sub-bytes
+overflow_sub-bytes c = omega (
+  arith,
+  begins-within c.args.settings.now c.data_block-size.ensures.valid c.args.bytes.now c.data_block-size.result
+      c.loop-i.i c.div_ceil-i-end.result c.data_block-size.ensures.value c.div_ceil-i-end.ensures c.loop-i-test.true,
+)
+
+pub overflow_add-from : goal.overflow_add-from
+overflow_add-from c = omega (
+  arith,
+  begins-within c.args.settings.now c.data_block-size.ensures.valid c.args.bytes.now c.data_block-size.result
+      c.loop-i.i c.div_ceil-i-end.result c.data_block-size.ensures.value c.div_ceil-i-end.ensures c.loop-i-test.true,
+)
+
+pub slice_bounds-filled_block-end : goal.slice_bounds-filled_block-end
+slice_bounds-filled_block-end c = omega (
+  arith,
+  begins-within c.args.settings.now c.data_block-size.ensures.valid c.args.bytes.now c.data_block-size.result
+      c.loop-i.i c.div_ceil-i-end.result c.data_block-size.ensures.value c.div_ceil-i-end.ensures c.loop-i-test.true,
+)

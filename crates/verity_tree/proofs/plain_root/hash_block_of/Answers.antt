@@ -1,0 +1,22 @@
+-- Each digest adds its slot, and zeros fill the block.
+use Rattle.std.proofs.Common.{◌≡◌, ◌-◌, ◌≤◌, arith, length, vec_len}
+use Rattle.verity_tree.proofs.SlotLemmas.{slots-filled, slots-more}
+use Rattle.verity_tree.proofs.plain_root.hash_block_of.Goals as goal
+
+pub loop-digest-preserved : goal.loop-digest-preserved
+loop-digest-preserved c = slots-more c.args.settings.now c.loop-digest.block.items c.push_slot.new.block.items
+    c.args.digests.now c.digest-item.result c.loop-digest.digest-index c.slot_width-width.result
+    c.slot_width-width.ensures.value c.digest-item.is c.loop-digest-test.true c.loop-digest.invariant
+    c.in_ok-push_slot.ensures.ok
+
+pub returns : goal.returns
+returns c =
+    let settings = c.args.settings.now in
+    let before = c.loop-digest.block.items in
+    let all : length c.args.digests.now ≤ c.loop-digest.digest-index = omega (arith, c.loop-digest-test.false) in
+    let long : length before ≤ c.max-size.result =
+    omega (arith, c.max-size.ensures, c.len.ensures, c.loop-digest.block.ok) in
+    let left : c.max-size.result - vec_len c.loop-digest.block ≡ settings.hash_block - length before =
+    omega (arith, c.max-size.ensures, c.len.ensures, c.loop-digest.block.ok, c.hash_block-size.ensures.value) in
+    slots-filled settings before c.resize.new.self.items c.args.digests.now c.loop-digest.digest-index c.max-size.result
+    _ all long left c.loop-digest.invariant c.in_ok-resize.ensures.items
