@@ -19,16 +19,16 @@ pub fn put_all<W: Write>(writer: &mut W, text: &[u8]) -> Result<(), PutFault>
     ensures prefix { IfErr result
         (λ fault. Appends (W.contents writer.old) (W.contents writer.new) (take (bytes_taken fault) text.now)) }
 {
-    let mut taken = 0;
-    while taken < text.len() {
-        match write_retrying(writer, &text[taken..]) {
+    let mut start = 0;
+    while start < text.len() {
+        match write_retrying(writer, &text[start..]) {
             Ok(count) => {
                 if count == 0 {
-                    return Err(PutFault(taken));
+                    return Err(PutFault(start));
                 }
-                taken += count;
+                start += count;
             }
-            Err(_) => return Err(PutFault(taken)),
+            Err(_) => return Err(PutFault(start)),
         }
     }
     Ok(())

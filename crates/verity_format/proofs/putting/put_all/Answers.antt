@@ -5,9 +5,9 @@ use Rattle.std.proofs.lemmas.Grind.{common_steps}
 use Rattle.verity_format.proofs.KnownLemmas.{appends_more}
 use Rattle.verity_format.proofs.putting.put_all.Goals as goal
 
-pub loop-taken-preserved : goal.loop-taken-preserved
-loop-taken-preserved g c = record {
+pub loop-start-preserved : goal.loop-start-preserved
+loop-start-preserved g c = record {
   within = grind (arith, common_steps, c.in-Ok.ensures.bound);
-  bytes = appends_more _ _ _ c.args.text.now c.loop-taken.taken c.in-Ok.count c.loop-taken.invariant.bytes
+  bytes = appends_more _ _ _ c.args.text.now c.loop-start.start c.in-Ok.count c.loop-start.invariant.bytes
       (rw take_rest at c.in-Ok.ensures.prefix);
 }
