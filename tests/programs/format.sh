@@ -142,11 +142,11 @@ one_file() {
         runs "one file: $name after the data" 0 "$(report "$name" 512 512 17 - "$root")" '' \
             "$veritysetup" format --data-blocks 17 --hash-offset 8704 "${image_17_options[@]}" "$both" "$name"
         same_bytes "one file: $name after the data: image" "$scratch/expected" "$both"
+        runs "one file: $name: verify" 0 '' '' "$veritysetup" verify --hash-offset 8704 "$both" "$name" "$root"
     done
     runs 'one file: made again with all blocks' 1 '' "$overlap" \
         "$veritysetup" format --hash-offset 8704 "${image_17_options[@]}" "$both" "$both"
     same_bytes 'one file: made again with all blocks: it stays' "$scratch/expected" "$both"
-    runs 'one file: verify' 0 '' '' "$veritysetup" verify --hash-offset 8704 "$both" "$both" "$root"
 }
 
 # If the report can't be written the image is whole all the same.
