@@ -1,5 +1,5 @@
 //! Images of hash devices, made with `sha2`.
-use fixtures::{Shape, Tree, data, filled, superblock};
+use fixtures::{Shape, data, filled, superblock};
 use std::alloc::{AllocError, Global};
 use verity_hash::Algorithm;
 
@@ -11,32 +11,8 @@ pub struct Image {
     pub root: Vec<u8>,
 }
 
-/// The tree with this many levels above some data, by SHA-256, with data blocks and hash blocks of one size.
-fn tree_of(
-    alloc: Global,
-    size: usize,
-    salt: &[u8],
-    data: &[u8],
-    levels: usize,
-) -> Result<Tree, AllocError> {
-    let mut shape = Shape::new(alloc, Algorithm::Sha256, (size, size), (size / 32, 32));
-    shape.before = Vec::from_slice(alloc, salt)?;
-    shape.tree(alloc, data, levels)
-}
-
-/// A hash device: the superblock, zeros up to the first whole hash block, and the levels, the top first.
-fn device_of(
-    alloc: Global,
-    size: usize,
-    superblock: &[u8],
-    tree: &Tree,
-) -> Result<Vec<u8>, AllocError> {
-    let front = filled(alloc, &[superblock], size)?;
-    let area = tree.on_device(alloc, 0)?;
-    filled(alloc, &[front.as_slice(), area.as_slice()], 0)
-}
-
-/// The image of this many blocks, by SHA-256, with data blocks and hash blocks of one size.
+/// The image of this many blocks, by SHA-256, with data blocks and hash blocks of one size. Its hash device has the
+/// superblock, zeros up to the first whole hash block, and the levels, the top first.
 pub fn image_of(
     alloc: Global,
     size: usize,
@@ -44,10 +20,14 @@ pub fn image_of(
     blocks: usize,
     levels: usize,
 ) -> Result<Image, AllocError> {
-    let superblock = superblock(1, b"sha256", (size, size), blocks, salt);
+    let mut shape = Shape::new(alloc, Algorithm::Sha256, (size, size), (size / 32, 32));
+    shape.before = Vec::from_slice(alloc, salt)?;
     let data = data(alloc, blocks.saturating_mul(size))?;
-    let tree = tree_of(alloc, size, salt, data.as_slice(), levels)?;
-    let device = device_of(alloc, size, &superblock, &tree)?;
+    let tree = shape.tree(alloc, data.as_slice(), levels)?;
+    let superblock = superblock(1, b"sha256", (size, size), blocks, salt);
+    let front = filled(alloc, &[&superblock], size)?;
+    let area = tree.on_device(alloc, 0)?;
+    let device = filled(alloc, &[front.as_slice(), area.as_slice()], 0)?;
     Ok(Image {
         data,
         device,

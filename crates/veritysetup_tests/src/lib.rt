@@ -1,10 +1,10 @@
-//! Tests of what veritysetup does: its command line, the random values for options that are missing, its texts, the
-//! largest runs of format, dump and verify, and the program over files in memory. Expected bytes come from the formats'
-//! public pages, expected digests from `sha2` over stated bytes.
+//! Tests of veritysetup, of what a run of the program doesn't show: which files are opened and held when, two names of
+//! one file, data that grows, random values, the largest offset, the progress line, the texts of faults. Of what such a
+//! run shows as well, there are whole runs of each command here, and a refusal for each place that refuses; the rest of
+//! it is in tests/programs/. Expected bytes come from the formats' public pages, expected digests from `sha2` or
+//! sha256sum over stated bytes.
 #![tactic(auto)]
 
-#[cfg(test)]
-mod extremes;
 #[cfg(test)]
 mod growing_data;
 #[cfg(test)]
@@ -21,5 +21,7 @@ mod program_runs;
 mod progress;
 #[cfg(test)]
 mod texts;
+#[cfg(test)]
+mod whole_runs;
 #[cfg(test)]
 mod words;

@@ -1,8 +1,7 @@
 //! A hash area that ends past the largest offset.
 ghost use Rattle.std.specs.Prelude.{[]};
 
-use crate::images::{Image, image_17};
-use std::alloc::Global;
+use crate::images::image_17;
 use std::test::Fail;
 use verity_tree::{Device, Failed, MemorySource};
 use veritysetup::{VerifyInput, run_verify};
@@ -35,18 +34,19 @@ impl Device for Far<'_> {
     }
 }
 
-/// The status and the messages of verify with a hash offset.
-fn said_at(alloc: Global, image: &Image, root: &str, offset: u64) -> (u8, Vec<u8>) {
-    let mut msgs = Vec::new(alloc);
-    let mut source = MemorySource::new(image.data.as_slice());
-    let mut device = Far {
-        offset,
-        bytes: &image.device[..512.min(image.device.len())],
-    };
-    let input = VerifyInput::Stored { offset, root };
-    let status = run_verify(alloc, &input, &mut source, &mut device, &mut msgs);
-    (status, msgs)
-}
+/// A hash offset, and the status and the message of verify.
+const OFFSETS: [(u64, u8, &str); 2] = [
+    (
+        9_223_372_036_854_773_248,
+        2,
+        "Verification failed: level 0 block 0 is missing.\n",
+    ),
+    (
+        9_223_372_036_854_773_760,
+        1,
+        "Data or hash area is too large.\n",
+    ),
+];
 
 /// A superblock of 17 blocks at the last offset at which its three hash blocks end at the largest offset or before it,
 /// and at the next one.
@@ -55,19 +55,16 @@ fn an_area_past_the_largest_offset_is_too_large(rt: HostRuntime) -> Result<(), F
     let alloc = rt.alloc();
     let image = image_17(alloc)?;
     let root = hex::encode(alloc, image.root.as_slice())?;
-    for &(offset, status, message) in &[
-        (
-            9_223_372_036_854_773_248,
-            2,
-            "Verification failed: level 0 block 0 is missing.\n",
-        ),
-        (
-            9_223_372_036_854_773_760,
-            1,
-            "Data or hash area is too large.\n",
-        ),
-    ] {
-        let (found, msgs) = said_at(alloc, &image, root.as_str(), offset);
+    let bytes = image.device.get(..512).unwrap_or(&[]);
+    for &(offset, status, message) in &OFFSETS {
+        let mut msgs = Vec::new(alloc);
+        let mut source = MemorySource::new(image.data.as_slice());
+        let input = VerifyInput::Stored {
+            offset,
+            root: root.as_str(),
+        };
+        let mut device = Far { offset, bytes };
+        let found = run_verify(alloc, &input, &mut source, &mut device, &mut msgs);
         let said = (found, msgs.as_slice());
         assert_eq!(rt; said, (status, message.as_bytes()), "at {offset}");
     }

@@ -6,10 +6,6 @@ use std::io;
 use std::test::Fail;
 use veritysetup::{ProgressLine, run_program};
 
-/// The options of the image of 17 blocks.
-pub const OPTIONS_17: &str =
-    "--data-block-size 512 --hash-block-size 512 --salt=- --uuid 00112233-4455-4677-8899-aabbccddeeff";
-
 /// A disk with the null device, the current folder and a file `data`.
 pub fn disk_of(alloc: Global, data: &[u8]) -> io::Result<Disk> {
     let disk = Disk::new(alloc);
@@ -20,7 +16,7 @@ pub fn disk_of(alloc: Global, data: &[u8]) -> io::Result<Disk> {
 }
 
 /// Runs the program.
-pub fn said_by(alloc: Global, runtime: &MemoryRuntime<'_>) -> Said {
+fn said_by(alloc: Global, runtime: &MemoryRuntime<'_>) -> Said {
     let mut out = Vec::new(alloc);
     let mut msgs = Vec::new(alloc);
     let progress = ProgressLine::new(runtime);
@@ -28,10 +24,11 @@ pub fn said_by(alloc: Global, runtime: &MemoryRuntime<'_>) -> Said {
     Said { status, out, msgs }
 }
 
-/// Runs the program with these words after its name and the command's.
-pub fn run(alloc: Global, disk: &Disk, words: &str) -> io::Result<Said> {
-    let words = format!(in alloc; "veritysetup {words}")?;
-    Ok(said_by(alloc, &MemoryRuntime::new(alloc, disk, words.as_str())))
+/// Runs the program with these words, its name first, and one more word if there is one.
+pub fn run<'a>(alloc: Global, disk: &'a Disk, words: &'a str, last_word: Option<&'a [u8]>) -> Said {
+    let mut runtime = MemoryRuntime::new(alloc, disk, words);
+    runtime.last_word = last_word;
+    said_by(alloc, &runtime)
 }
 
 /// Runs the program without random bytes.
@@ -51,9 +48,9 @@ fn no_random_bytes_make_no_file(rt: HostRuntime) -> Result<(), Fail> {
         "veritysetup format --uuid 00112233-4455-4677-8899-aabbccddeeff data hash",
     ] {
         let said = run_without_random(alloc, &disk, words);
-        let message = b"Cannot get random bytes.\n".as_slice();
-        assert_eq!(rt; said.differs(4, b"", message), None, "at {words}");
-        assert!(rt; !disk.has("hash")?, "at {words}");
+        let differs = said.differs(4, b"", b"Cannot get random bytes.\n");
+        let found = (differs, disk.has("hash")?);
+        assert_eq!(rt; found, (None, false), "at {words}");
     }
     Ok(())
 }
