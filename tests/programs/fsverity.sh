@@ -48,6 +48,9 @@ several_files() {
     : >"$scratch/second"
     runs 'two files' 0 "sha256:$none $scratch/first
 sha256:$none $scratch/second" '' "$fsverity" digest "$scratch/first" "$scratch/second"
+    runs 'a file named twice' 0 "sha256:$none $scratch/first
+sha256:$none $scratch/second
+sha256:$none $scratch/first" '' "$fsverity" digest "$scratch/first" "$scratch/second" "$scratch/first"
     runs 'three files, the second missing' 1 "sha256:$none $scratch/first" "fsverity: cannot open $scratch/missing." \
         "$fsverity" digest "$scratch/first" "$scratch/missing" "$scratch/second"
 }
@@ -56,6 +59,8 @@ files_that_fail() {
     local folder=$scratch/folder
     mkdir "$folder"
     runs 'a missing file' 1 '' "fsverity: cannot open $scratch/missing." "$fsverity" digest "$scratch/missing"
+    runs 'a missing file with a space in its name' 1 '' "fsverity: cannot open $scratch/mis sing." \
+        "$fsverity" digest "$scratch/mis sing"
     runs 'an empty name' 1 '' 'fsverity: cannot open .' "$fsverity" digest ''
     runs 'a folder' 1 '' "fsverity: cannot open $folder." "$fsverity" digest "$folder"
     mkfifo "$scratch/pipe"
@@ -104,7 +109,7 @@ output_files() {
 
     : >"$scratch/empty"
     runs 'output files of an empty file' 0 "sha256:$(digest "$(printf '%064d' 0)" 0) $scratch/empty" '' \
-        "$fsverity" digest --out-merkle-tree "$scratch/tree" --out-descriptor="$scratch/made" "$scratch/empty"
+        "$fsverity" digest --out-descriptor "$scratch/made" "$scratch/empty" --out-merkle-tree="$scratch/tree"
     same_bytes 'an empty tree file' "$scratch/empty" "$scratch/tree"
     same_bytes 'the descriptor of an empty file' "$scratch/descriptor" "$scratch/made"
     runs 'the null device for both output files' 0 "$line" '' \
