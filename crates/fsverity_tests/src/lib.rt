@@ -1,21 +1,14 @@
-//! Tests of what fsverity does: its command line and options, the digests of files, and the program over files in
-//! memory. Expected bytes come from the kernel's page on fs-verity, expected digests from `sha2` over stated bytes, or
-//! from docs/DEFINITIONS.md.
+//! Tests of what fsverity does over a runtime in memory and over openers: which files are opened when, what is refused
+//! and how, what long work shows, and one whole run with each option. Expected bytes come from the kernel's page on
+//! fs-verity, expected digests from `sha2` over stated bytes, or from docs/DEFINITIONS.md. What a run of the program
+//! itself shows is tested in tests/programs.
 #![tactic(auto)]
 
-#[cfg(test)]
-mod digest;
 #[cfg(test)]
 mod digest_program;
 #[cfg(test)]
 mod digest_runs;
 #[cfg(test)]
-mod output_program;
-#[cfg(test)]
 mod progress;
 #[cfg(test)]
 mod stating_opener;
-#[cfg(test)]
-mod texts;
-#[cfg(test)]
-mod words;

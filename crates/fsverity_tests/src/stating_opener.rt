@@ -1,29 +1,22 @@
-//! An opener that doesn't tell its files, and states wrong lengths for them.
-ghost use Rattle.std.specs.Prelude.{◌≡◌, ◌≤◌, ◌+◌, ℕ, List, [], length};
+//! An opener that doesn't tell its files, and states lengths of its own for them.
+ghost use Rattle.std.specs.Prelude.{◌≡◌, ℕ, List, [], length};
 
 use fsverity::Opener;
 use verity_tree::{Failed, MemorySource};
 
-/// Files in memory whose stated lengths are some bytes too large.
+/// Files in memory, each with the length that is stated for it.
 #[derive(Drop)]
 pub struct StatingOpener<'a> {
-    files: &'a [Option<&'a [u8]>],
-    more: u64,
+    files: &'a [(&'a [u8], u64)],
     next: usize,
-    failures: u64,
 }
 
 impl<'a> StatingOpener<'a> {
-    pub fn new(files: &'a [Option<&'a [u8]>], more: u64) -> Self
+    pub fn new(files: &'a [(&'a [u8], u64)]) -> Self
         ensures count { ⟦<StatingOpener<'a> as Opener>⟧.count result ≡ length files.now }
         ensures next { ⟦<StatingOpener<'a> as Opener>⟧.next result ≡ 0 }
     {
-        StatingOpener {
-            files,
-            more,
-            next: 0,
-            failures: 0,
-        }
+        StatingOpener { files, next: 0 }
     }
 }
 
@@ -38,28 +31,17 @@ impl<'a> Opener for StatingOpener<'a> {
 
     ghost next = { λ o. o.next };
 
-    ghost failures = { λ o. o.failures };
+    ghost failures = { λ _. 0 };
 
     ghost counted = { λ _ untold. absurd untold };
 
     fn start(&mut self) -> Result<(u64, MemorySource<'a>), Failed> {
-        let file = self.files[self.next];
+        let (bytes, length) = self.files[self.next];
         self.next += 1;
-        match file {
-            Some(bytes) => {
-                let length = (bytes.len() as u64).saturating_add(self.more);
-                Ok((length, MemorySource::new(bytes)))
-            }
-            None => {
-                self.failures = self.failures.saturating_add(1);
-                Err(Failed)
-            }
-        }
+        Ok((length, MemorySource::new(bytes)))
     }
 
     fn end(&mut self, stream: MemorySource<'a>) {
-        // Read for the proof: it bounds the count, to which a source over memory adds nothing.
-        let _failures = self.failures;
         drop(stream);
     }
 }
