@@ -2,7 +2,7 @@
 use crate::passes::{Extent, Pass};
 use crate::scene::{Program, Scene};
 use crate::steps::Effect;
-use fixtures::{Shape, Tree, data, descriptor, filled};
+use fixtures::{Shape, Tree, data, descriptor, with_zeros};
 use memory_runtime::Call;
 use std::alloc::{AllocError, Global};
 use std::test::Fail;
@@ -78,7 +78,7 @@ impl Settings {
     /// The tree of a file.
     fn tree(&self, alloc: Global, file: Named) -> Result<Tree, AllocError> {
         let mut shape = Shape::new(alloc, self.algorithm, (self.block, self.block), self.slots);
-        shape.before = filled(alloc, &[self.salt], self.input_block)?;
+        shape.before = with_zeros(alloc, &[self.salt], self.input_block)?;
         let mut tree = shape.tree(alloc, data(alloc, file.length)?.as_slice(), file.levels)?;
         if file.length == 0 {
             tree.root.clear();

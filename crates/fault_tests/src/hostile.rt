@@ -1,6 +1,6 @@
 //! Superblocks and trees from an attacker: dump and verify end with a status that says so and one line, and change
 //! nothing.
-use fixtures::{Shape, Tree, data, filled, flip, flip_bit, lay, superblock};
+use fixtures::{Shape, Tree, data, flip, flip_bit, lay, superblock, with_zeros};
 use std::alloc::{AllocError, Global};
 use std::test::Fail;
 use verity_hash::Algorithm;
@@ -26,7 +26,7 @@ fn image_17(alloc: Global) -> Result<Image, AllocError> {
     let area = tree.on_device(alloc, 0)?;
     Ok(Image {
         data,
-        device: filled(alloc, &[&front, area.as_slice()], 0)?,
+        device: with_zeros(alloc, &[&front, area.as_slice()], 0)?,
         root: hex::encode(alloc, tree.root.as_slice())?,
     })
 }

@@ -1,6 +1,6 @@
 //! The program fsverity over a runtime in memory: what is refused, and leaves all files as they are; which files are
 //! open when; and a run with each option.
-use fixtures::{Said, Shape, data, descriptor, filled};
+use fixtures::{Said, Shape, data, descriptor, with_zeros};
 use fsverity::{ProgressLine, run_program};
 use memory_runtime::{Call, Disk, Kind, MemoryRuntime};
 use sha2::{Digest as Hasher, Sha512};
@@ -43,14 +43,18 @@ pub fn disk(alloc: Global, null: &str) -> io::Result<Disk> {
     Ok(disk)
 }
 
-/// Runs the program over a disk with the words of a command line.
-fn run(alloc: Global, disk: &Disk, words: &str) -> Said {
-    let runtime = MemoryRuntime::new(alloc, disk, words);
+/// Runs the program.
+fn said_by(alloc: Global, runtime: &MemoryRuntime<'_>) -> Said {
     let mut out = Vec::new(alloc);
     let mut msgs = Vec::new(alloc);
-    let progress = ProgressLine::new(&runtime);
-    let status = run_program(&runtime, &progress, &mut out, &mut msgs);
+    let progress = ProgressLine::new(runtime);
+    let status = run_program(runtime, &progress, &mut out, &mut msgs);
     Said { status, out, msgs }
+}
+
+/// Runs the program over a disk with the words of a command line.
+fn run(alloc: Global, disk: &Disk, words: &str) -> Said {
+    said_by(alloc, &MemoryRuntime::new(alloc, disk, words))
 }
 
 /// The text of a command line without a command. It ends with the usage.
@@ -157,6 +161,18 @@ fn refusals_change_no_file(rt: HostRuntime) -> Result<(), Fail> {
     Ok(())
 }
 
+#[test]
+fn a_word_that_is_not_utf8_is_refused(rt: HostRuntime) -> Result<(), Fail> {
+    let alloc = rt.alloc();
+    let disk = disk(alloc, NULL_DEVICE)?;
+    let mut runtime = MemoryRuntime::new(alloc, &disk, "fsverity digest");
+    runtime.last_word = Some(b"\xff");
+    let text = b"error: argument 2 is not UTF-8: \\xff\n";
+    let differs = said_by(alloc, &runtime).differs(2, b"", text);
+    assert_eq!(rt; (differs, disk.opened()?.as_str()), (None, ""));
+    Ok(())
+}
+
 /// The null file that is there, command lines, their statuses, and what is opened and closed while the null files are
 /// open. The root folder serves as null file if there is no null device.
 const HELD: [(&str, &str, u8, &str); 5] = [
@@ -206,7 +222,7 @@ fn null_files_are_open_to_the_end(rt: HostRuntime) -> Result<(), Fail> {
 fn made_of_three(alloc: Global) -> Result<(Vec<u8>, Vec<u8>), AllocError> {
     let bytes = data(alloc, 384)?;
     let mut shape = Shape::new(alloc, Algorithm::Sha512, (128, 128), (2, 64));
-    shape.before = filled(alloc, &[&[0xab, 0xcd]], 128)?;
+    shape.before = with_zeros(alloc, &[&[0xab, 0xcd]], 128)?;
     let tree = shape.tree(alloc, bytes.as_slice(), 2)?;
     let root = tree.root.as_slice();
     let text = descriptor(alloc, &[1, 2, 7, 2], 384, root, &[0xab, 0xcd])?;

@@ -1,7 +1,7 @@
 //! Trees to be made, and the same trees made from plain lists of bytes by the kernel's pages.
 ghost use Rattle.std.specs.Prelude.{◌<◌};
 
-use fixtures::{Shape, Tree, data, filled};
+use fixtures::{Shape, Tree, data, with_zeros};
 use std::alloc::{AllocError, Global};
 use std::test::Fail;
 use verity_hash::{Algorithm, Digest, SaltRule};
@@ -60,7 +60,7 @@ pub fn salted_shape(
         SaltRule::After => shape.after = Vec::from_slice(alloc, salt)?,
         SaltRule::PaddedBefore => {
             let width = salt.len().next_multiple_of(input_block(algorithm));
-            shape.before = filled(alloc, &[salt], width)?;
+            shape.before = with_zeros(alloc, &[salt], width)?;
         }
     }
     Ok(shape)

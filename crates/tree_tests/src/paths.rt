@@ -1,7 +1,7 @@
 //! Data blocks that are checked by their paths: 257 data blocks. All blocks have 512 bytes, so level 2 stands at byte
 //! 512 of the image, level 1 at 1024 and level 0 at 2048. Expected images are made with `sha2`.
 use crate::trees::{small, small_tree};
-use fixtures::{data, filled, flip};
+use fixtures::{data, flip, with_zeros};
 use sha2::{Digest as Hasher, Sha256};
 use std::alloc::{AllocError, Global};
 use std::test::Fail;
@@ -53,7 +53,7 @@ impl Given {
         ];
         Ok(Given {
             block: Vec::from_slice(alloc, block_of(data.as_slice(), i))?,
-            path: filled(alloc, &path, 0)?,
+            path: with_zeros(alloc, &path, 0)?,
             root: Digest::from_bytes(tree.root.as_slice()).ok_or("a root hash")?,
         })
     }
@@ -127,7 +127,7 @@ fn paths_are_judged(rt: HostRuntime) -> Result<(), Fail> {
 
 /// The hash block above two blocks.
 fn above(alloc: Global, first: &[u8], last: &[u8]) -> Result<Vec<u8>, AllocError> {
-    filled(
+    with_zeros(
         alloc,
         &[&Sha256::digest(first), &Sha256::digest(last)],
         4096,
@@ -150,7 +150,7 @@ fn answer_for_last(
 
 #[test]
 fn the_last_block_of_a_file_comes_filled(rt: HostRuntime) -> Result<(), Fail> {
-    let last = filled(rt.alloc(), &[b"a"], 4096)?;
+    let last = with_zeros(rt.alloc(), &[b"a"], 4096)?;
     let whole = answer_for_last(rt.alloc(), last.as_slice(), last.as_slice())?;
     let cut = answer_for_last(rt.alloc(), last.as_slice(), b"a")?;
     assert_eq!(rt; (whole, cut), (Ok(()), Err(PathFault::Length)));

@@ -135,15 +135,15 @@ fn fill<R: Read>(reader: &mut R, buf: &mut [u8]) -> Result<usize, Failed>
     ensures bound { IfOk result (λ k. k ≤ length buf.new) }
     ensures bytes { IfOk result (λ k. Fills (R.remaining reader.old) (R.remaining reader.new) k buf.new) }
 {
-    let mut filled = 0;
-    while filled < buf.len() {
-        let count = read_some(reader, &mut buf[filled..])?;
+    let mut end = 0;
+    while end < buf.len() {
+        let count = read_some(reader, &mut buf[end..])?;
         if count == 0 {
             break;
         }
-        filled += count;
+        end += count;
     }
-    Ok(filled)
+    Ok(end)
 }
 
 // A file system refuses an offset beyond what it can hold, and the file ends before it.

@@ -35,13 +35,13 @@ pub fn read_block<S: Source>(source: &mut S, buf: &mut [u8]) -> Result<usize, Fa
     ensures bytes { S.tells source.old → TakesBlock result buf.new (S.remaining source.old) (S.remaining source.new) }
     ensures count { CountsFailure (S.failures source.old) (S.failures source.new) result }
 {
-    let mut filled = 0;
-    while filled < buf.len() {
-        let count = source.read(&mut buf[filled..])?;
+    let mut end = 0;
+    while end < buf.len() {
+        let count = source.read(&mut buf[end..])?;
         if count == 0 {
             break;
         }
-        filled += count;
+        end += count;
     }
-    Ok(filled)
+    Ok(end)
 }

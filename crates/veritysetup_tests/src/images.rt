@@ -1,5 +1,5 @@
 //! Images of hash devices, made with `sha2`.
-use fixtures::{Shape, data, filled, superblock};
+use fixtures::{Shape, data, superblock, with_zeros};
 use std::alloc::{AllocError, Global};
 use verity_hash::Algorithm;
 
@@ -25,9 +25,9 @@ pub fn image_of(
     let data = data(alloc, blocks.saturating_mul(size))?;
     let tree = shape.tree(alloc, data.as_slice(), levels)?;
     let superblock = superblock(1, b"sha256", (size, size), blocks, salt);
-    let front = filled(alloc, &[&superblock], size)?;
+    let front = with_zeros(alloc, &[&superblock], size)?;
     let area = tree.on_device(alloc, 0)?;
-    let device = filled(alloc, &[front.as_slice(), area.as_slice()], 0)?;
+    let device = with_zeros(alloc, &[front.as_slice(), area.as_slice()], 0)?;
     Ok(Image {
         data,
         device,

@@ -2,7 +2,7 @@
 //! salt and the longest path.
 use crate::images::{Image, image_17, image_of};
 use crate::program_runs::{disk_of, run};
-use fixtures::{REPORT_1, REPORT_17, Report};
+use fixtures::{REPORT_17, Report};
 use std::alloc::{AllocError, Global};
 use std::process::Abort;
 use std::test::Fail;
@@ -51,7 +51,7 @@ fn largest_report<'a>(alloc: Global, path: &'a str, salt: &'a str) -> Result<Str
         blocks: 2,
         sizes: (524_288, 524_288),
         salt,
-        ..REPORT_1
+        ..REPORT_17
     };
     report.text(alloc)
 }

@@ -3,10 +3,10 @@ use Rattle.std.proofs.lemmas.Grind.{common_steps}
 use Rattle.verity_io.proofs.Blocks.{consumes_more}
 use Rattle.verity_io.proofs.file_device.fill.Goals as goal
 
-pub loop-filled-preserved : goal.loop-filled-preserved
-loop-filled-preserved g c = record {
+pub loop-end-preserved : goal.loop-end-preserved
+loop-end-preserved g c = record {
   within = grind (arith, common_steps, c.in_ok-count.ensures.bound);
-  bytes = consumes_more c.loop-filled.filled c.in_ok-count.count _ c.loop-filled.buf c.read_some.new.buf _ _ _
-      c.loop-filled.invariant.within c.in_ok-count.ensures.bound c.loop-filled.invariant.bytes
+  bytes = consumes_more c.loop-end.end c.in_ok-count.count _ c.loop-end.buf c.read_some.new.buf _ _ _
+      c.loop-end.invariant.within c.in_ok-count.ensures.bound c.loop-end.invariant.bytes
       c.in_ok-count.ensures.bytes.0;
 }
