@@ -1,5 +1,5 @@
 #!/bin/bash
-# Runs bin/veritysetup format as a user would: options, drawn values and command lines.
+# Runs bin/veritysetup format as a user would: options and drawn values.
 set -u
 cd "$(dirname "$0")/../.."
 . tests/checks.sh
@@ -161,61 +161,7 @@ places() {
         --hash-block-size=1024 "$hash" --data-block-size 512 --hash-offset=1536 --format 0 --hash sha512
 }
 
-program_usage='Usage: veritysetup format [options] DATA HASH
-       veritysetup dump [--hash-offset BYTES] HASH
-       veritysetup verify [options] DATA HASH ROOT'
-
-format_usage='Usage: veritysetup format [--hash NAME] [--format TYPE] [--data-block-size BYTES]
-           [--hash-block-size BYTES] [--data-blocks NUMBER] [--salt HEX] [--uuid UUID]
-           [--hash-offset BYTES] [--no-superblock] DATA HASH'
-
-# unexpected OPTION: clap's text for an option that a command does not have.
-unexpected() {
-    printf "unexpected argument '%s' found\n\n  tip: to pass '%s' as a value, use '-- %s'" "$1" "$1" "$1"
-}
-
-# refuses_words NAME TEXT USAGE WORD..: the words are refused with clap's text and a usage, and no HASH file is made. A
-# run that waits is stopped.
-refuses_words() {
-    local name=$1 text=$2 usage=$3
-    shift 3
-    rm -f "$hash"
-    runs "$name" 1 '' "error: $text"$'\n\n'"$usage" timeout 20 "$veritysetup" "$@"
-    absent "$name" "$hash"
-}
-
-command_lines() {
-    local pipe=$scratch/pipe missing='the following required arguments were not provided:'
-    local value='a value is required for' twice='cannot be used multiple times' option
-    # Nobody writes to it, so a run that opened it would wait.
-    mkfifo "$pipe"
-    refuses_words 'no words' \
-        "'veritysetup' requires a subcommand but one was not provided"$'\n  [subcommands: format, dump, verify]' \
-        "$program_usage"
-    refuses_words 'an empty word' "unrecognized subcommand ''" "$program_usage" ''
-    refuses_words 'an unknown command' "unrecognized subcommand 'open'" "$program_usage" open "$pipe" "$hash"
-    refuses_words 'a help option' "unexpected argument '--help' found" "$program_usage" --help
-    refuses_words 'a help command' "unrecognized subcommand 'help'" "$program_usage" help
-    refuses_words 'help of a command' "$(unexpected --help)" "$format_usage" format --help
-    refuses_words 'no files' "$missing"$'\n  <DATA>\n  <HASH>' "$format_usage" format
-    refuses_words 'one file' "$missing"$'\n  <HASH>' "$format_usage" format "$pipe"
-    refuses_words 'three files' "unexpected argument '$hash' found" "$format_usage" format "$pipe" "$hash" "$hash"
-    refuses_words 'an unknown option' "$(unexpected --fec-roots)" "$format_usage" format --fec-roots 2 "$pipe" "$hash"
-    refuses_words 'a short option' "$(unexpected -s)" "$format_usage" format -s ab "$pipe" "$hash"
-    for option in hash format data-block-size hash-block-size data-blocks salt uuid hash-offset; do
-        refuses_words "--$option without its value" "$value '--$option <$option>' but none was supplied" \
-            "$format_usage" format "$pipe" "$hash" "--$option"
-        refuses_words "--$option given twice" "the argument '--$option <$option>' $twice" "$format_usage" \
-            format "--$option" 1 "--$option=1" "$pipe" "$hash"
-    done
-    refuses_words '--no-superblock given twice' "the argument '--no-superblock' $twice" "$format_usage" \
-        format --no-superblock "$pipe" --no-superblock "$hash"
-    runs 'a word that is not UTF-8' 1 '' 'error: argument 3 is not UTF-8: \xc3\xb6 \\x~\x7f\x0a\xff\xc3' \
-        timeout 20 "$veritysetup" format "$pipe" $'\xc3\xb6 \\x~\x7f\n\xff\xc3'
-}
-
 drawn_values
 options
 places
-command_lines
 finish

@@ -220,57 +220,6 @@ verifies_at_each_place() {
     done
 }
 
-dump_usage='Usage: veritysetup dump [--hash-offset BYTES] HASH'
-
-verify_usage='Usage: veritysetup verify [--hash NAME] [--format TYPE] [--data-block-size BYTES]
-           [--hash-block-size BYTES] [--data-blocks NUMBER] [--salt HEX]
-           [--hash-offset BYTES] [--no-superblock] DATA HASH ROOT'
-
-# unexpected OPTION: clap's text for an option that a command does not have.
-unexpected() {
-    printf "unexpected argument '%s' found\n\n  tip: to pass '%s' as a value, use '-- %s'" "$1" "$1" "$1"
-}
-
-# refuses_words NAME TEXT USAGE WORD..: the words are refused with clap's text and a usage. A run that waits is stopped.
-refuses_words() {
-    local name=$1 text=$2 usage=$3
-    shift 3
-    runs "$name" 1 '' "error: $text"$'\n\n'"$usage" timeout 20 "$veritysetup" "$@"
-}
-
-command_lines() {
-    local pipe=$scratch/pipe missing='the following required arguments were not provided:'
-    local value='a value is required for' twice='cannot be used multiple times' option
-    # Nobody writes to it, so a run that opened it would wait.
-    mkfifo "$pipe"
-    refuses_words 'dump: no file' "$missing"$'\n  <HASH>' "$dump_usage" dump
-    refuses_words 'dump: two files' "unexpected argument '$pipe' found" "$dump_usage" dump "$pipe" "$pipe"
-    refuses_words 'dump: no superblock' "$(unexpected --no-superblock)" "$dump_usage" dump --no-superblock "$pipe"
-    refuses_words 'dump: help' "$(unexpected --help)" "$dump_usage" dump --help
-    refuses_words 'dump: --hash-offset without its value' \
-        "$value '--hash-offset <hash-offset>' but none was supplied" "$dump_usage" dump "$pipe" --hash-offset
-    refuses_words 'dump: --hash-offset given twice' "the argument '--hash-offset <hash-offset>' $twice" "$dump_usage" \
-        dump --hash-offset 0 "$pipe" --hash-offset=0
-
-    refuses_words 'verify: no files' "$missing"$'\n  <DATA>\n  <HASH>\n  <ROOT>' "$verify_usage" verify
-    refuses_words 'verify: no root hash' "$missing"$'\n  <ROOT>' "$verify_usage" verify "$pipe" "$pipe"
-    refuses_words 'verify: four words' "unexpected argument '$root' found" "$verify_usage" \
-        verify "$pipe" "$pipe" "$root" "$root"
-    refuses_words 'verify: a UUID' "$(unexpected --uuid)" "$verify_usage" \
-        verify --uuid "$UUID" "$pipe" "$pipe" "$root"
-    refuses_words 'verify: help' "$(unexpected -h)" "$verify_usage" verify -h
-    for option in hash format data-block-size hash-block-size data-blocks salt hash-offset; do
-        refuses_words "verify: --$option without its value" "$value '--$option <$option>' but none was supplied" \
-            "$verify_usage" verify "$pipe" "$pipe" "$root" "--$option"
-        refuses_words "verify: --$option given twice" "the argument '--$option <$option>' $twice" "$verify_usage" \
-            verify "--$option" 1 "--$option=1" "$pipe" "$pipe" "$root"
-    done
-    refuses_words 'verify: --no-superblock given twice' "the argument '--no-superblock' $twice" "$verify_usage" \
-        verify --no-superblock "$pipe" "$pipe" "$root" --no-superblock
-    runs 'verify: a root hash that is not UTF-8' 1 '' 'error: argument 4 is not UTF-8: \xff' \
-        timeout 20 "$veritysetup" verify "$pipe" "$pipe" $'\xff'
-}
-
 superblocks
 areas
 trees
@@ -279,5 +228,4 @@ files
 outputs
 memory
 places
-command_lines
 finish
