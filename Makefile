@@ -39,7 +39,7 @@ check: programs
 gate:
 	tests/gate.sh
 
-# Tries each wrong body of crates/*/must-fail by itself; the gate tries those of a crate together.
+# Tries each wrong body of crates/*/must-fail by itself; the gate tries those of a file together.
 wrong-bodies:
 	tests/wrong_bodies.sh
 

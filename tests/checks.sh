@@ -137,9 +137,13 @@ sample() {
     seq 1 $(($1 / 2 + 8)) | head -c "$1"
 }
 
-# sha256 FILE: the digest in hexadecimal.
+# sha256 FILE and sha512 FILE: the digest in hexadecimal.
 sha256() {
     sha256sum <"$1" | cut -c1-64
+}
+
+sha512() {
+    sha512sum <"$1" | cut -c1-128
 }
 
 # digests FILE SIZE [PROGRAM]: writes the digests of a file's blocks of SIZE bytes, one after another, as sha256sum or

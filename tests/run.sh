@@ -1,13 +1,13 @@
 #!/bin/bash
-# tests/run.sh PART.. [-- PART..]: runs each part, a command in one word, and shows its output under a line that says
-# how far the run is. Parts after `--` run side by side, as many at once as there are processors, and each one's output
-# is shown whole, in the order of the parts. Each part has to end with a line 'N passed, M failed', and so does the
-# whole run, with the sums. The status is 1 if anything failed, or a part ended without that line. A part that ends with
-# status 77 was left out and says why itself.
+# tests/run.sh PART.. [-- PART..]: runs each part, a command line in one argument, and shows its output under a line
+# that says how far the run is. Parts after `--` run side by side, as many at once as there are processors, and each
+# one's output is shown whole, in the order of the parts. Each part has to end with a line 'N passed, M failed', and so
+# does the whole run, with the sums. The status is 1 if anything failed, or a part ended without that line. A part that
+# ends with status 77 was left out and says why itself.
 set -u
 cd "$(dirname "$0")/.."
 logs=$(mktemp -d)
-trap 'for group in $(jobs -p); do kill -- "-$group"; done 2>/dev/null; rm -rf "$logs"' EXIT
+trap 'for group in $(jobs -p); do kill -- "-$group"; kill -CONT -- "-$group"; done 2>/dev/null; rm -rf "$logs"' EXIT
 trap 'exit 130' INT
 trap 'exit 143' TERM
 passed=0
@@ -22,8 +22,7 @@ for word in "$@"; do
     if [ "$word" = -- ]; then alone=${#parts[@]}; else parts+=("$word"); fi
 done
 
-# run INDEX: runs a part, whose output goes on, and writes its status and its seconds to a file. A part is a command and
-# its words.
+# run INDEX: runs a part, whose output goes on, and writes its status and its seconds to a file.
 run() {
     local started=$SECONDS status=0
     # shellcheck disable=SC2086
@@ -38,8 +37,9 @@ title() {
 
 # count INDEX: adds what the last line of a part's output says, and keeps the lines of what it left out.
 count() {
-    local part=${parts[$1]} status seconds last good bad line
-    read -r status seconds <"$logs/$1.ended"
+    local part=${parts[$1]} status=137 seconds=0 last good bad line
+    # What was killed has not written its status.
+    if [ -e "$logs/$1.ended" ]; then read -r status seconds <"$logs/$1.ended"; fi
     echo "== $seconds seconds"
     last=$(tail -n 1 "$logs/$1")
     while IFS= read -r line; do left_out+=("${line#left out: }"); done < <(grep '^left out: ' "$logs/$1")
@@ -69,14 +69,15 @@ shows_ended() {
     done
 }
 
+# Each part is a group of processes, so that one signal ends all of it. It runs in the background, so that a signal to
+# this script need not wait for it.
+set -m
 for ((shown = 0; shown < alone && shown < ${#parts[@]}; shown++)); do
     title "$shown"
-    run "$shown" | tee "$logs/$shown"
+    { run "$shown" | tee "$logs/$shown"; } &
+    wait "$!"
     count "$shown"
 done
-
-# Each part that runs beside others is a group of processes, so that one signal ends all of it.
-set -m
 for ((next = shown; next < ${#parts[@]}; next++)); do
     while [ "$(jobs -pr | wc -l)" -ge "$(nproc)" ]; do
         wait -n
@@ -88,11 +89,12 @@ while [ -n "$(jobs -pr)" ]; do
     wait -n
     shows_ended
 done
-# What was killed before it could write its status.
-for ((next = shown; next < ${#parts[@]}; next++)); do
-    if [ ! -e "$logs/$next.ended" ]; then echo '137 0' >"$logs/$next.ended"; fi
+# What is left was killed, or has ended behind it.
+for (( ; shown < ${#parts[@]}; shown++)); do
+    title "$shown"
+    cat "$logs/$shown"
+    count "$shown"
 done
-shows_ended
 for line in "${left_out[@]}"; do echo "left out: $line"; done
 for part in "${broken[@]}"; do echo "FAILED: $part"; done
 echo "$passed passed, $failed failed"

@@ -31,7 +31,7 @@ verify_usage='Usage: veritysetup verify [--hash NAME] [--format TYPE] [--data-bl
 refuses() {
     local name=$1 text=$2 usage=$3
     shift 3
-    runs "$name" 1 '' "error: $text"$'\n\n'"$usage" timeout 20 "$veritysetup" "$@"
+    runs "$name" 1 '' "error: $text"$'\n\n'"$usage" timeout --foreground 20 "$veritysetup" "$@"
     absent "$name" "$hash"
 }
 
@@ -46,8 +46,8 @@ lacks() {
 does_not_have() {
     local name=$1 option=$2 usage=$3
     shift 3
-    refuses "$name" "unexpected argument '$option' found"$'\n\n'"  tip: to pass '$option' as a value, use '-- $option'" \
-        "$usage" "$@"
+    refuses "$name" \
+        "unexpected argument '$option' found"$'\n\n'"  tip: to pass '$option' as a value, use '-- $option'" "$usage" "$@"
 }
 
 # takes_once USAGE COMMAND FILE.. -- OPTION..: each option of a command needs a value, and is given once.
@@ -63,7 +63,8 @@ takes_once() {
         refuses "$command: --$option without its value" \
             "a value is required for '--$option <$option>' but none was supplied" "$usage" \
             "$command" "${files[@]}" "--$option"
-        refuses "$command: --$option twice" "the argument '--$option <$option>' cannot be used multiple times" "$usage" \
+        refuses "$command: --$option twice" \
+            "the argument '--$option <$option>' cannot be used multiple times" "$usage" \
             "$command" "--$option" 1 "${files[@]}" "--$option=1"
     done
 }
@@ -114,9 +115,9 @@ verify() {
 # A word is refused by its number, and shown with each byte that is no printable ASCII character escaped.
 words_that_are_not_utf8() {
     runs 'format: a word that is not UTF-8' 1 '' 'error: argument 3 is not UTF-8: \xc3\xb6 \\x~\x7f\x0a\xff\xc3' \
-        timeout 20 "$veritysetup" format "$pipe" $'\xc3\xb6 \\x~\x7f\n\xff\xc3'
+        timeout --foreground 20 "$veritysetup" format "$pipe" $'\xc3\xb6 \\x~\x7f\n\xff\xc3'
     runs 'verify: a root hash that is not UTF-8' 1 '' 'error: argument 4 is not UTF-8: \xff' \
-        timeout 20 "$veritysetup" verify "$pipe" "$pipe" $'\xff'
+        timeout --foreground 20 "$veritysetup" verify "$pipe" "$pipe" $'\xff'
 }
 
 commands

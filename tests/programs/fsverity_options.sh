@@ -70,11 +70,6 @@ salted_example() {
         "$fsverity" digest "$scratch/one" --salt ABcd --block-size 1024
 }
 
-# sha512 FILE: the digest in hexadecimal.
-sha512() {
-    sha512sum <"$1" | cut -c1-128
-}
-
 # An option and its value are two words or one, and stand before, among or after the files. The same byte, blocks and
 # salt, with SHA-512: the salt is filled up to 128 bytes.
 option_forms() {
@@ -119,18 +114,19 @@ $signed /dev/null" '' "$fsverity" digest "$file" /dev/null --for-builtin-sig
 $signed" '' "$fsverity" digest --for-builtin-sig "$file" --compact /dev/null
 }
 
-# command_line NAME TEXT WORD..: the words are refused with this text and the usage.
+# command_line NAME TEXT WORD..: the words are refused with this text and the usage. A run that waits is stopped.
 command_line() {
     local name=$1 text=$2
     shift 2
     runs "$name" 2 '' "error: $text
 
-$usage" "$fsverity" "$@"
+$usage" timeout --foreground 20 "$fsverity" "$@"
 }
 
 command_lines() {
-    local file=$scratch/empty
-    : >"$file"
+    local file=$scratch/pipe
+    # Nobody writes to it, so a run that opened it would wait.
+    mkfifo "$file"
     command_line 'no words' "'fsverity' requires a subcommand but one was not provided
   [subcommands: digest]"
     command_line 'an unknown command' "unrecognized subcommand 'measure'" measure "$file"

@@ -14,11 +14,6 @@ data=$scratch/data.img
 hash=$scratch/hash.img
 image=$scratch/image.img
 
-# sha512 FILE..: the digest of joined files, in hexadecimal.
-sha512() {
-    cat "$@" | sha512sum | cut -c1-128
-}
-
 # salted BLOCK: the digest of a block with the bytes $before it and those $after it.
 salted() {
     { bytes "$before" && cat "$1" && bytes "$after"; } | sha512sum | cut -c1-128

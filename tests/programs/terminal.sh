@@ -1,6 +1,6 @@
 #!/bin/bash
-# Runs the programs on a terminal of their own, which `script` makes: how far long work is is shown there each 64 MiB,
-# if there are more than 256 MiB, and erased before anything else is written; if standard error goes elsewhere,
+# Runs the programs on a terminal of their own, which `script` makes: long work shows there every 64 MiB how far it
+# is, if there are more than 256 MiB, which is erased before anything else is written; if standard error goes elsewhere,
 # nothing is shown.
 set -u
 cd "$(dirname "$0")/../.."

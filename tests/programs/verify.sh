@@ -18,8 +18,8 @@ refuses_superblock() {
     runs "verify: $1" 1 '' "$2" "$veritysetup" verify "$data" "$3" "$root"
 }
 
-# spoilt NAME TEXT OFFSET HEX: image 17 with one byte changed is refused as a superblock.
-spoilt() {
+# with_changed_byte NAME TEXT OFFSET HEX: image 17 with one byte changed is refused as a superblock.
+with_changed_byte() {
     cp "$image" "$hash"
     set_byte "$hash" "$3" "$4"
     refuses_superblock "$1" "$2" "$hash"
@@ -36,15 +36,15 @@ superblocks() {
     refuses_superblock '511 bytes' 'Superblock is too short.' "$scratch/short"
     : >"$scratch/empty"
     refuses_superblock 'an empty file' 'Superblock is too short.' "$scratch/empty"
-    spoilt 'another signature' 'No verity superblock.' 7 01
-    spoilt 'another version' 'Superblock version 2 is not supported.' 8 02
-    spoilt 'another hash type' 'Superblock hash type 2 is not supported.' 12 02
-    spoilt 'another data block size' 'Superblock data block size 768 is not valid.' 65 03
-    spoilt 'another hash block size' 'Superblock hash block size 256 is not valid.' 69 01
-    spoilt 'another algorithm' 'Superblock hash algorithm is not supported.' 32 41
-    spoilt 'a long salt' 'Superblock salt size 512 is not valid.' 81 02
-    spoilt 'no data blocks' 'No data blocks.' 72 00
-    spoilt 'too many data blocks' 'Data or hash area is too large.' 79 80
+    with_changed_byte 'another signature' 'No verity superblock.' 7 01
+    with_changed_byte 'another version' 'Superblock version 2 is not supported.' 8 02
+    with_changed_byte 'another hash type' 'Superblock hash type 2 is not supported.' 12 02
+    with_changed_byte 'another data block size' 'Superblock data block size 768 is not valid.' 65 03
+    with_changed_byte 'another hash block size' 'Superblock hash block size 256 is not valid.' 69 01
+    with_changed_byte 'another algorithm' 'Superblock hash algorithm is not supported.' 32 41
+    with_changed_byte 'a long salt' 'Superblock salt size 512 is not valid.' 81 02
+    with_changed_byte 'no data blocks' 'No data blocks.' 72 00
+    with_changed_byte 'too many data blocks' 'Data or hash area is too large.' 79 80
 }
 
 # Superblocks and trees elsewhere than at the start of HASH, and trees without a superblock.
@@ -209,8 +209,8 @@ places() {
         "$root" --hash sha512
 }
 
-# verifies_at_each_place NAME OPTION..: verify accepts the chosen image with these options before, between and after
-# DATA, HASH and ROOT.
+# verifies_at_each_place NAME OPTION..: verify accepts the chosen image, which `places` has made, with these options
+# before, between and after DATA, HASH and ROOT.
 verifies_at_each_place() {
     local name=$1 files=("$chosen" "$chosen_hash" "$root") count
     shift

@@ -15,8 +15,9 @@ const STEP: u64 = 1 << 16;
 type Run = (&'static str, u64, bool);
 
 /// What a run writes to a terminal, or, without a step, to a pipe: its messages, and its lines if they don't go
-/// elsewhere. Then how often it is asked whether this is a terminal.
-fn written(alloc: Global, run: Run, step: Option<u64>) -> io::Result<(Vec<u8>, u64)> {
+/// elsewhere. Then how often it is asked whether this is a terminal, and whether the run ends with status 0 and a line if
+/// the lines go elsewhere.
+fn written(alloc: Global, run: Run, step: Option<u64>) -> io::Result<(Vec<u8>, u64, bool)> {
     let (words, failing, is_elsewhere) = run;
     let disk = disk(alloc, NULL_DEVICE)?;
     disk.fail(Call::Write, failing)?;
@@ -24,13 +25,15 @@ fn written(alloc: Global, run: Run, step: Option<u64>) -> io::Result<(Vec<u8>, u
     runtime.step = step;
     let progress = ProgressLine::new(&runtime);
     let mut msgs = ErasingWriter::new(&progress, StandardError::new(&disk));
-    if is_elsewhere {
-        run_program(&runtime, &progress, &mut Vec::new(alloc), &mut msgs);
+    let mut lines = Vec::new(alloc);
+    let status = if is_elsewhere {
+        run_program(&runtime, &progress, &mut lines, &mut msgs)
     } else {
         let mut out = ErasingWriter::new(&progress, StandardError::new(&disk));
-        run_program(&runtime, &progress, &mut out, &mut msgs);
-    }
-    Ok((disk.standard_error()?, disk.looks()?))
+        run_program(&runtime, &progress, &mut out, &mut msgs)
+    };
+    let is_done = !is_elsewhere || status == 0 && lines.starts_with(b"sha256:");
+    Ok((disk.standard_error()?, disk.looks()?, is_done))
 }
 
 /// Runs, how many progress lines they show of how many MiB, and how their other output begins.
@@ -69,11 +72,11 @@ const RUNS: [(Run, (u64, u64), &str); 8] = [
 fn a_terminal_is_told_how_far_it_is(rt: HostRuntime) -> Result<(), Fail> {
     let alloc = rt.alloc();
     for &(run, (count, total), start) in &RUNS {
-        let (plain, _) = written(alloc, run, None)?;
-        let (shown, looks) = written(alloc, run, Some(STEP))?;
+        let (plain, _, _) = written(alloc, run, None)?;
+        let (shown, looks, is_done) = written(alloc, run, Some(STEP))?;
         let expected = shown_before(alloc, count, total, plain.as_slice())?;
-        let found = (is_plain(plain.as_slice(), start), looks, shown);
-        assert_eq!(rt; found, (true, 1, expected), "at {}", run.0);
+        let found = (is_plain(plain.as_slice(), start), is_done, looks, shown);
+        assert_eq!(rt; found, (true, true, 1, expected), "at {}", run.0);
     }
     Ok(())
 }

@@ -1,8 +1,8 @@
-//! Tests of veritysetup, of what a run of the program doesn't show: which files are opened and held when, two names of
-//! one file, data that grows, random values, the largest offset, the progress line, the texts of faults. Of what such a
-//! run shows as well, there are whole runs of each command here, and a refusal for each place that refuses; the rest of
-//! it is in tests/programs/. Expected bytes come from the formats' public pages, expected digests from `sha2` or
-//! sha256sum over stated bytes.
+//! Tests of veritysetup. Most are of what a run of the program doesn't show: which files are opened, in which order, and
+//! how long they stay open, two names of one file, data that grows, random values, the largest offset, the progress
+//! line, the texts of faults. Besides these there are a whole run of each command and a refusal for each place that
+//! refuses. What a run of the program shows is tested in tests/programs. Expected bytes come from the formats' public
+//! pages, expected digests from `sha2` or sha256sum over stated bytes.
 #![tactic(auto)]
 
 #[cfg(test)]

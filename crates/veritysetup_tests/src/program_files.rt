@@ -1,6 +1,6 @@
 //! The program over files in memory: which files are opened when, and two names of one file.
 use crate::program_runs::{disk_of, run};
-use memory_runtime::{Disk, Kind};
+use memory_runtime::{Call, Disk, Kind};
 use std::test::Fail;
 
 /// What is opened first.
@@ -9,6 +9,9 @@ const NULL_FILES: &str = "/dev/null: read\n/dev/null: read\n/dev/null: read\n";
 const NULL_FILES_OPENED: &str = "open /dev/null\nopen /dev/null\nopen /dev/null\n";
 
 const NULL_FILES_CLOSED: &str = "close /dev/null\nclose /dev/null\nclose /dev/null\n";
+
+/// The message for the folder, from which nothing is read.
+const NOT_OPENED: &str = "Cannot open images.\n";
 
 /// Words, what is opened after the null files, what is opened, synced and closed while these are open, and the status
 /// and the message.
@@ -70,20 +73,20 @@ const RUNS: [(&str, &str, &str, u8, &str); 23] = [
         4,
         "Cannot open missing.\n",
     ),
-    // A folder isn't opened as a file.
+    // A folder is opened, but not read.
     (
         "veritysetup format images hash",
         "images: read\n",
         "open images\nclose images\n",
         4,
-        "Cannot open images.\n",
+        NOT_OPENED,
     ),
     (
         "veritysetup format data images",
         "data: read\nimages: read write create\n",
         "open data\nclose data\n",
         4,
-        "Cannot open images.\n",
+        NOT_OPENED,
     ),
     (
         "veritysetup dump hash.img",
@@ -104,7 +107,7 @@ const RUNS: [(&str, &str, &str, u8, &str); 23] = [
         "images: read\n",
         "open images\nclose images\n",
         4,
-        "Cannot open images.\n",
+        NOT_OPENED,
     ),
     (
         "veritysetup dump --hash-offset 1 hash.img",
@@ -146,14 +149,14 @@ const RUNS: [(&str, &str, &str, u8, &str); 23] = [
         "images: read\n",
         "open images\nclose images\n",
         4,
-        "Cannot open images.\n",
+        NOT_OPENED,
     ),
     (
         "veritysetup verify data images ab",
         "data: read\nimages: read\n",
         "open data\nopen images\nclose images\nclose data\n",
         4,
-        "Cannot open images.\n",
+        NOT_OPENED,
     ),
     (
         "veritysetup verify --hash-offset 1 data hash.img ab",
@@ -174,7 +177,7 @@ const RUNS: [(&str, &str, &str, u8, &str); 23] = [
         "images: read\n",
         "open images\nclose images\n",
         4,
-        "Cannot open images.\n",
+        NOT_OPENED,
     ),
 ];
 
@@ -199,6 +202,7 @@ fn files_are_opened_and_held_in_order(rt: HostRuntime) -> Result<(), Fail> {
             said.status,
             said.msgs.as_slice(),
             said.out.is_empty(),
+            message == NOT_OPENED && disk.calls(Call::Read)? == 0,
         );
         let expected = (
             Some(opened),
@@ -206,6 +210,7 @@ fn files_are_opened_and_held_in_order(rt: HostRuntime) -> Result<(), Fail> {
             status,
             message.as_bytes(),
             status != 0,
+            message == NOT_OPENED,
         );
         assert_eq!(rt; found, expected, "at {words}");
     }

@@ -119,7 +119,7 @@ fn a_terminal_is_told_how_far_it_is(rt: HostRuntime) -> Result<(), Fail> {
             "at {words}"
         );
     }
-    // Each of the runs asks once whether somebody looks on.
+    // Each of the runs asks once whether standard error is a terminal.
     assert_eq!(rt; disk.looks()?, 18);
     Ok(())
 }
@@ -134,7 +134,7 @@ impl Read for Endless {
     }
 }
 
-/// What a terminal gets during the reading of 5000 MiB, if the line comes each 1200 MiB.
+/// What a terminal gets during the reading of 5000 MiB, if the line comes every 1200 MiB.
 const LINES: &str =
     "\r1200 of 5000 MiB, 2400 MiB/s\x1b[K\r2400 of 5000 MiB, 2400 MiB/s\x1b[K\r3600 of 5000 MiB, 2400 MiB/s\x1b[K\r4800 of 5000 MiB, 2400 MiB/s\x1b[K";
 

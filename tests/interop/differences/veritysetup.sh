@@ -17,9 +17,9 @@ both_format() {
     root=$(sed -n 's/^Root hash:[[:space:]]*//p' "$scratch/report")
 }
 
-# spoilt OFFSET HEX TEXT: both dumps refuse the image with this byte: theirs with a text, ours with the one that
-# follows.
-spoilt() {
+# with_changed_byte OFFSET HEX TEXT: both dumps refuse the image with this byte: theirs with a text, ours with the one
+# that follows.
+with_changed_byte() {
     cp "$scratch/image" "$hash"
     set_byte "$hash" "$1" "$2"
     theirs 1 '' any veritysetup dump "$hash"
@@ -138,13 +138,13 @@ theirs 2 '' any veritysetup verify --no-superblock "$data" "$hash" "$root"
 refused "$veritysetup" verify --no-superblock "$data" "$hash" "$root"
 
 row 'a superblock that is refused'
-spoilt 7 01 'is not a valid' 'No verity superblock.'
-spoilt 8 02 'Unsupported VERITY version 2.' 'Superblock version 2 is not supported.'
-spoilt 12 02 'Unsupported VERITY hash type 2.' 'Superblock hash type 2 is not supported.'
-spoilt 65 03 'Unsupported VERITY block size.' 'Superblock data block size 768 is not valid.'
-spoilt 69 01 'Unsupported VERITY block size.' 'Superblock hash block size 256 is not valid.'
-spoilt 32 41 'Hash algorithm Aha256 not supported.' 'Superblock hash algorithm is not supported.'
-spoilt 81 02 'VERITY header corrupted.' 'Superblock salt size 513 is not valid.'
+with_changed_byte 7 01 'is not a valid' 'No verity superblock.'
+with_changed_byte 8 02 'Unsupported VERITY version 2.' 'Superblock version 2 is not supported.'
+with_changed_byte 12 02 'Unsupported VERITY hash type 2.' 'Superblock hash type 2 is not supported.'
+with_changed_byte 65 03 'Unsupported VERITY block size.' 'Superblock data block size 768 is not valid.'
+with_changed_byte 69 01 'Unsupported VERITY block size.' 'Superblock hash block size 256 is not valid.'
+with_changed_byte 32 41 'Hash algorithm Aha256 not supported.' 'Superblock hash algorithm is not supported.'
+with_changed_byte 81 02 'VERITY header corrupted.' 'Superblock salt size 513 is not valid.'
 
 row 'a superblock of 0 data blocks'
 cp "$scratch/image" "$hash"
