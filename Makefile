@@ -94,7 +94,7 @@ help:
 	@echo
 	@echo 'make run             7 minutes     proves and builds fsverity, and prints the digest of a file'
 	@echo 'make programs        11 minutes    proves and builds bin/fsverity and bin/veritysetup [CPU]'
-	@echo 'make test            45 minutes    all tests: gate, the programs as a user runs them, documents, comparisons'
+	@echo 'make test            40 minutes    all tests: gate, the programs as a user runs them, documents, comparisons'
 	@echo 'make check           5 minutes +   all tests but the gate'
 	@echo 'make gate            35 minutes    every proof from nothing, wrong bodies that must be refused, tests of the crates'
 	@echo 'make wrong-bodies    30 minutes    tries each wrong body by itself'
