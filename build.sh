@@ -4,6 +4,7 @@
 # bin/PROGRAM.made keeps for which processor and of what that was built, so that nothing is done if both are the same.
 set -euo pipefail
 cd "$(dirname "$0")"
+. ./building.sh
 crate=$1 program=$2 cpu=${3:-x86-64-v2}
 built=crates/$crate/out/$crate
 log=$(mktemp)
@@ -12,20 +13,8 @@ trap 'rm -f "$log"' EXIT
 # Prints the processor, the sum of all that programs are built of, and that of the program.
 made() {
     echo "$cpu"
-    { rt version && find crates.txt crates/*/{src,specs,proofs} -type f -print0 2>/dev/null | sort -z | xargs -0 sha256sum; } |
-        sha256sum
+    sources
     sha256sum "bin/$program"
-}
-
-# Reads what `rt` says, and names each crate that it has proved.
-name_proved() {
-    local first second name=
-    while read -r first second _; do
-        case $first in
-        crate) name=${second%:} ;;
-        logic=proved) echo "    $name is proved" ;;
-        esac
-    done
 }
 
 if [ -x "bin/$program" ] && [ -e "bin/$program.made" ] && cmp -s <(made) "bin/$program.made"; then

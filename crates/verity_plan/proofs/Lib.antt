@@ -1,5 +1,6 @@
 pub mod LeastLemmas
 pub mod CountLemmas
+pub mod IndexLemmas
 pub mod FanLemmas
 pub mod FitLemmas
 pub mod PlaceLemmas

@@ -4,7 +4,7 @@
 -- Levels: Linux kernel, dm-verity page, "Hash Tree". Places, counted in hash blocks: the top level first and level 0
 -- last, without gaps (the same page, "On-disk format": a depth at a time, from the root; cryptsetup's on-disk format
 -- page; Linux kernel, fs-verity page, "FS_IOC_READ_VERITY_METADATA").
-use Rattle.std.specs.Prelude.{◌<◌, ◌≤◌, ℕ, ◌+◌, ◌^◌, nat_le, ◌≡◌, ◌-◌, ◌*◌, ◌/◌, ◌&&◌, ◌==◌, Bool, true, false, Option}
+use Rattle.std.specs.Prelude.{◌<◌, ◌≤◌, ℕ, ◌+◌, ◌^◌, nat_le, ◌≡◌, ◌-◌, ◌*◌, ◌/◌, ◌%◌, ◌&&◌, ◌==◌, Bool, true, false, Option}
 use Rattle.std.specs.Prelude.{Some, None, Result, Ok, Err, if◌then◌else◌}
 use Rattle.std.specs.List.{range_with_len, sum_by}
 use Rattle.std.specs.Int.{div_ceil}
@@ -79,6 +79,16 @@ base_of offset true hash_block =
     if nat_le (offset + superblock_size) most_bytes then Some (div_ceil (offset + superblock_size) hash_block) else None
 base_of offset false hash_block = if nat_le offset most_bytes then Some (offset / hash_block) else None
 
+-- what a hash offset is a multiple of: a superblock's length, and without a superblock the size of a hash block
+-- (veritysetup(8), `--hash-offset`)
+abbrev pub offset_unit : Bool → ℕ → ℕ
+offset_unit true hash_block = superblock_size
+offset_unit false hash_block = hash_block
+
+-- this number of bytes, if it is a multiple of a unit
+abbrev pub multiple_of : ℕ → ℕ → Option ℕ
+multiple_of unit bytes = if bytes % unit == 0 then Some bytes else None
+
 -- of a plan, the number of levels
 abbrev pub level_count_of : Planned → ℕ
 level_count_of p = level_count (fan p.settings) p.blocks
@@ -136,3 +146,12 @@ plan_for_blocks s blocks base =
 abbrev pub plan_for_bytes : Settings → ℕ → ℕ → Result Planned PlanFault
 plan_for_bytes s size base = checked_plan
     (record { settings = s; blocks = block_count s size; wanted = size; base = base })
+
+-- the plan for this number of data blocks if the tree begins at this hash block; without one the hash area is too large
+abbrev pub plan_from : Settings → ℕ → Option ℕ → Result Planned PlanFault
+plan_from tree blocks (Some base) = plan_for_blocks tree blocks base
+plan_from tree blocks None = if blocks == 0 then Err NoData else Err TooLarge
+
+-- the plan for this number of data blocks with this hash offset, after a superblock if there is one
+abbrev pub plan_at : Settings → ℕ → ℕ → Bool → Result Planned PlanFault
+plan_at tree blocks offset superblock = plan_from tree blocks (base_of offset superblock tree.hash_block)

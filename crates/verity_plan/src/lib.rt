@@ -10,7 +10,7 @@ mod plan_fault;
 mod setting_fault;
 mod settings;
 
-pub use base::{SUPERBLOCK_SIZE, base_of};
+pub use base::{SUPERBLOCK_SIZE, base_of, multiple_of, offset_unit, plan_at};
 pub use hash_type::HashType;
 pub use plan::Plan;
 pub use plan_fault::PlanFault;

@@ -1,5 +1,5 @@
 //! What is read, and where each hash block goes.
-ghost use Rattle.std.specs.Prelude.{◌≡◌, ℕ, ◌+◌, ◌-◌, ◌*◌, ◌^◌, ◌≤◌, ◌<◌, [], length, slice_index_or};
+ghost use Rattle.std.specs.Prelude.{◌≡◌, ℕ, ◌+◌, ◌-◌, ◌*◌, ◌/◌, ◌^◌, ◌≤◌, ◌<◌, [], length, slice_index_or};
 ghost use Rattle.std.specs.Fork.{slice_chunk};
 ghost use Rattle.verity_io.specs.Writing.{most_bytes};
 ghost use Rattle.verity_plan.specs.Plans.{Planned, IsPlanned, start_byte_of, level_count_of, level_size_of, place_of, end_place_of};
@@ -156,6 +156,31 @@ impl Plan {
         ensures room { result + self.now.settings.hash_block ≤ most_bytes }
     {
         self.place(level, block) * u64::from(self.settings.hash_block())
+    }
+
+    /// The number of the block that stands so many levels above data block `i`, counted from 0 in its level: the hash
+    /// block of level 0 stands one level above (Linux kernel, dm-verity page, "Hash Tree").
+    pub fn index_above(&self, i: u64, levels: usize) -> u64
+        ensures { result ≡ i / fan self.now.settings ^ levels }
+    {
+        let fan = self.settings.fan() as u64;
+        let mut index = i;
+        for below in 0..levels {
+            index /= fan;
+        }
+        index
+    }
+
+    /// The byte at which the hash block of a level stands that is above data block `i`.
+    pub fn byte_above(&self, i: u64, level: usize) -> u64
+        requires index { i < self.now.blocks }
+        requires level { level < level_count_of self.now }
+        ensures value { result ≡ start_byte_of self.now level (i / fan self.now.settings ^ (level + 1)) }
+        ensures room { result + self.now.settings.hash_block ≤ most_bytes }
+    {
+        // Called for the proof: its contract says that the plan can be carried out, so it has few levels.
+        let _blocks = self.blocks();
+        self.byte(level, self.index_above(i, level + 1))
     }
 
     /// The width of a slot, in bytes.

@@ -17,7 +17,8 @@ use Rattle.verity_tree.specs.Steps.OpenBlocks.{IsNext}
 use Rattle.verity_tree.specs.Steps.OpenBlocks.{IsKept, cascade_state, arrival}
 use Rattle.verity_io.specs.Writing.{put}
 use Rattle.verity_tree.specs.Verdicts.{NoneDiffers, HoldsBlockAt}
-use Rattle.verity_tree.proofs.QuotientLemmas.{quotient-below, quotient-next, IsReached-full}
+use Rattle.verity_plan.proofs.IndexLemmas.{quotient-below, quotient-next}
+use Rattle.verity_tree.proofs.QuotientLemmas.{IsReached-full}
 use Rattle.verity_tree.proofs.OpenBlockSteps.{level_digest-below, level_digest-next, level_digest-root, place-first}
 use Rattle.verity_tree.proofs.OrderSplit.{closing-prefix, closes-reached, closes-last, first_closing-more}
 use Rattle.verity_tree.proofs.OrderSplit.{closes-none, device_with-more}

@@ -23,7 +23,7 @@ use Rattle.verity_plan.proofs.CountLemmas.{IsLevelCount-level_count}
 use Rattle.verity_tree.proofs.PathSteps.{div-pow-zero}
 use Rattle.verity_tree.proofs.OpenBlockLemmas.{block-up, length-hash, length-slots}
 use Rattle.verity_tree.proofs.OpenBlockSteps.{level_digest-below}
-use Rattle.verity_tree.proofs.QuotientLemmas.{quotient-below, quotient-next}
+use Rattle.verity_plan.proofs.IndexLemmas.{quotient-below, quotient-next}
 use Rattle.verity_tree.proofs.TreeLemmas.{height-level_count}
 
 -- the true chain, by levels up

@@ -21,3 +21,4 @@ pub mod PathSteps
 pub mod PieceLemmas
 pub mod ChainLemmas
 pub mod PathLemmas
+pub mod LinkLemmas

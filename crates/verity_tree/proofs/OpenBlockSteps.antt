@@ -19,7 +19,8 @@ use Rattle.verity_tree.specs.Steps.OpenBlocks.{IsCarrying}
 use Rattle.verity_tree.specs.Steps.OpenBlocks.{IsNext, IsClosed, IsKept, IsCarriedOn, cascade_state, arrival}
 use Rattle.verity_plan.proofs.CountLemmas.{IsLevelCount-level_count, mul_le}
 use Rattle.verity_tree.proofs.TreeLemmas.{length-blocks_up, height-level_count}
-use Rattle.verity_tree.proofs.QuotientLemmas.{quotient-next, quotient-below, div_ceil-last, IsReached-zero}
+use Rattle.verity_plan.proofs.IndexLemmas.{quotient-next, quotient-below}
+use Rattle.verity_tree.proofs.QuotientLemmas.{div_ceil-last, IsReached-zero}
 use Rattle.verity_tree.proofs.QuotientLemmas.{quotient-reached, IsReached-full, slots-full, slots-more, quotient-stays}
 use Rattle.verity_tree.proofs.OpenBlockLemmas.{open-push, open-close, block-up}
 use Rattle.verity_plan.proofs.FitLemmas.{digest-slot}

@@ -13,7 +13,8 @@ use Rattle.std.specs.Prelude.{◌==◌, ◌&&◌, ◌⊎◌}
 use Rattle.verity_plan.specs.Plans.{level_count, level_size, IsTreeBlock}
 use Rattle.verity_tree.specs.ClosingOrder.{BlockIndex, block_index, closes, closing_with, closed_after, times, ClosesOnce}
 use Rattle.verity_plan.proofs.CountLemmas.{div_ceil-le}
-use Rattle.verity_tree.proofs.QuotientLemmas.{quotient-below, div_ceil-last}
+use Rattle.verity_plan.proofs.IndexLemmas.{quotient-below}
+use Rattle.verity_tree.proofs.QuotientLemmas.{div_ceil-last}
 
 -- the levels that pass a test, each with a block
 abbrev indices : (ℕ → ℕ) → (ℕ → Bool) → List ℕ → List BlockIndex

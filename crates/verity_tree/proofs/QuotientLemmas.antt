@@ -2,24 +2,11 @@
 use Rattle.std.proofs.Common.{◌≡◌, ℕ, zero, suc, ◌+◌, ◌-◌, ◌*◌, ◌/◌, ◌%◌, ◌^◌, ◌<◌, ◌≤◌, arith, sym, ◌∙◌, ap, inl, inr}
 use Rattle.std.proofs.lemmas.Bool.{cases_lt}
 use Rattle.std.proofs.lemmas.Nat.{div-add-mod', mod_below, mod-mul-add, div-mul-add}
-use Rattle.std.proofs.Math.Nat.{div-div-eq-div-mul, pow-suc, pow-zero, one-le-pow}
+use Rattle.std.proofs.Math.Nat.{pow-suc, pow-zero, one-le-pow}
 use Rattle.std.specs.Int.{div_ceil}
 use Rattle.verity_tree.specs.Steps.OpenBlocks.{IsReached}
 use Rattle.verity_plan.proofs.CountLemmas.{le-div_ceil, div_ceil-le}
-
--- one level up a place is divided by the fan
-pub quotient-next : (f i m : ℕ) → i / f ^ (m + 1) ≡ i / f ^ m / f
-quotient-next f i m =
-    let e : m + 1 ≡ suc m = omega arith in
-    ap (λ (k : ℕ). i / f ^ k) e ∙ ap (λ (k : ℕ). i / k) (pow-suc f m) ∙ sym (div-div-eq-div-mul i (f ^ m) f)
-
--- the place above number i is below the count, rounded up
-pub quotient-below : (i n w : ℕ) → 0 < w → i < n → i / w < div_ceil n w
-quotient-below i n w some below =
-    elim (cases_lt (i / w) (div_ceil n w)) [
-      | inl less ↦ less
-      | inr most ↦ absurd (omega (arith, le-div_ceil n w (i / w) some most, div-add-mod' i w, below))
-    ]
+use Rattle.verity_plan.proofs.IndexLemmas.{quotient-next}
 
 -- a number of data blocks, divided and rounded up, is one more than the place of the last
 pub div_ceil-last : (i w : ℕ) → 0 < w → div_ceil (i + 1) w ≡ i / w + 1

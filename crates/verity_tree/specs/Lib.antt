@@ -6,5 +6,6 @@ pub mod Building
 pub mod Verdicts
 pub mod Comparing
 pub mod Paths
+pub mod Links
 pub mod Steps
 pub mod Stores

@@ -1,6 +1,6 @@
 //! Laws of the definitions of trees: each holds for all settings and data. Those of slots, counts and places are
 //! `verity_plan`'s, and stand here too.
-ghost use Rattle.std.specs.Prelude.{◌≡◌, ◌⊎◌, ℕ, ◌+◌, ◌-◌, ◌/◌, ◌^◌, ◌<◌, ◌≤◌, List, [], length, slice_index_or};
+ghost use Rattle.std.specs.Prelude.{◌≡◌, ◌⊎◌, ◌↔◌, ℕ, ◌+◌, ◌-◌, ◌/◌, ◌^◌, ◌<◌, ◌≤◌, List, [], length, slice_index_or};
 ghost use Rattle.std.specs.Prelude.{Result, Ok};
 ghost use Rattle.std.specs.Int.{div_ceil};
 ghost use Rattle.verity_plan.specs.Plans.{level_count, level_size, Planned, IsPlanned, level_count_of};
@@ -8,7 +8,8 @@ ghost use Rattle.verity_plan.specs.Settings.{Settings, fan};
 ghost use Rattle.verity_tree.specs.ClosingOrder.{ClosesOnce, closed_after, times};
 ghost use Rattle.verity_tree.specs.TreeOnDevice.{tree_block, HoldsTree};
 ghost use Rattle.verity_tree.specs.Levels.{data_blocks, level, height, root};
-ghost use Rattle.verity_tree.specs.Paths.{ChecksBlock, HasCollision, IsAccepted, true_path};
+ghost use Rattle.verity_tree.specs.Links.{AreLinked, IsCollision, checked_link, checked_top, joined};
+ghost use Rattle.verity_tree.specs.Paths.{ChecksBlock, HasCollision, IsAccepted, true_chain, true_path};
 ghost use Rattle.verity_tree.specs.Verdicts.{verdict};
 ghost use Rattle.verity_tree.specs.declared.path.PathFault.{PathFault};
 
@@ -72,4 +73,25 @@ pub fn true_paths_are_accepted()
         → IsAccepted p i (slice_index_or (data_blocks p bytes) i [])
         (true_path p.settings (data_blocks p bytes) i (level_count_of p))
         (root p.settings (data_blocks p bytes)) }
+{}
+
+/// Blocks that are accepted one by one, each by the hash block above it and the top one by the root hash, are just what is
+/// accepted as a data block and its path.
+pub fn accepted_links_are_accepted_paths()
+    ensures { (p : Planned) (i : ℕ) (blocks : ℕ → List ℕ) (root : List ℕ)
+        → ((l : ℕ) → l < level_count_of p → length (blocks (l + 1)) ≡ p.settings.hash_block)
+        → AreLinked p i blocks root ↔ IsAccepted p i (blocks 0) (joined blocks (level_count_of p)) root }
+{}
+
+/// A block that is accepted by a hash block of the tree, or by the root hash, is the tree's; or the two are different and
+/// have one salted hash.
+pub fn accepted_links_are_true()
+    ensures link { (p : Planned) (bytes : List ℕ) (i l : ℕ) (block : List ℕ) → IsPlanned p
+        → checked_link p i l block (true_chain p.settings (data_blocks p bytes) i (l + 1)) ≡ Ok tt
+        → (block ≡ true_chain p.settings (data_blocks p bytes) i l)
+        ⊎ IsCollision p.settings block (true_chain p.settings (data_blocks p bytes) i l) }
+    ensures top { (p : Planned) (bytes : List ℕ) (i : ℕ) (block : List ℕ) → IsPlanned p
+        → checked_top p i block (root p.settings (data_blocks p bytes)) ≡ Ok tt
+        → (block ≡ true_chain p.settings (data_blocks p bytes) i (level_count_of p))
+        ⊎ IsCollision p.settings block (true_chain p.settings (data_blocks p bytes) i (level_count_of p)) }
 {}

@@ -6,6 +6,7 @@
 mod building;
 mod comparing;
 pub mod laws;
+mod link;
 mod part;
 mod pass;
 mod path;
@@ -14,6 +15,7 @@ mod store;
 
 pub use building::{BuildFault, build, root_only};
 pub use comparing::{CompareFault, compare};
+pub use link::{LinkFault, check_link, check_top};
 pub use part::Part;
 pub use path::{PathFault, check_block};
 pub use plain_root::root_by_levels;

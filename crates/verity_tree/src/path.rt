@@ -61,7 +61,7 @@ pub fn check_block(
 }
 
 /// Whether a hash block has this digest in a slot.
-fn has_digest(plan: &Plan, block: &[u8], slot: usize, digest: &Digest) -> bool
+pub(crate) fn has_digest(plan: &Plan, block: &[u8], slot: usize, digest: &Digest) -> bool
     requires { slot * slot_width plan.now.settings + digest_len plan.now.settings ≤ length block.now }
     ensures { result ≡ bytes_eq digest.now (digest_in plan.now.settings block.now slot) }
 {

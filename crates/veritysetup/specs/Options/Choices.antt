@@ -4,14 +4,14 @@
 use Rattle.std.specs.Prelude.{ℕ, ◌/◌, ◌&&◌, Bool, not, nat_lt, List, Option, Result, Ok, Err, ok_or, unwrap_or, if◌then◌else◌}
 use Rattle.verity_plan.specs.Settings.{rule_of, type_of_number}
 use Rattle.command_line.specs.Options.{algorithm_or_default, default_block_size, number_or, ◌>>=◌}
-use Rattle.veritysetup.specs.Options.OptionTexts.{OptionTexts, superblock_uuid, block_size_of, multiple_of, number_if_given, offset_unit, root_if_given, salt_or_random, uuid_or_random}
+use Rattle.veritysetup.specs.Options.OptionTexts.{OptionTexts, superblock_uuid, block_size_of, number_if_given, root_if_given, salt_or_random, uuid_or_random}
 use Rattle.veritysetup.specs.declared.options.option_fault.OptionName.TheVariants.{Format, DataBlockSize, HashBlockSize, DataBlocks, HashOffset}
 use Rattle.veritysetup.specs.declared.options.option_fault.OptionFault.{OptionFault}
 use Rattle.veritysetup.specs.declared.options.option_fault.OptionFault.TheVariants.{BadNumber, UnknownHash, BadHashType, BadBlockSize, BadSalt, BadUuid, BadHashOffset, NoData, TooLarge, Overlap, BadRoot}
-use Rattle.verity_plan.specs.Plans.{Planned, superblock_size}
+use Rattle.verity_plan.specs.Plans.{Planned, multiple_of, offset_unit, plan_at, superblock_size}
 use Rattle.verity_plan.specs.declared.plan_fault.PlanFault.{PlanFault}
 use Rattle.verity_plan.specs.declared.plan_fault.PlanFault.TheVariants as plan
-use Rattle.veritysetup.specs.Options.VeritySettings.{VeritySettings, plan_at}
+use Rattle.veritysetup.specs.Options.VeritySettings.{VeritySettings}
 use Rattle.veritysetup.specs.declared.options.numbers.OptionNumbers.{OptionNumbers}
 use Rattle.veritysetup.specs.declared.options.parameters.Parameters.{Parameters}
 

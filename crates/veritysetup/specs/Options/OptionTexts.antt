@@ -1,11 +1,10 @@
 -- What the texts of options stand for, one by one, with the defaults of veritysetup(8).
-use Rattle.std.specs.Prelude.{ℕ, ◌%◌, ◌==◌, Bool, true, false, List, [], replicate, take, drop, codes}
+use Rattle.std.specs.Prelude.{ℕ, Bool, true, false, List, [], replicate, take, drop, codes}
 use Rattle.std.specs.Prelude.{Option, Some, None, option_map, if◌then◌else◌}
 use Rattle.std.specs.Str.{bytes_eq}
 use Rattle.uuid.specs.Text.{parsed}
 use Rattle.verity_hash.specs.declared.algorithm.Algorithm.{Algorithm}
 use Rattle.verity_hash.specs.declared.salting.SaltRule.TheVariants.{Before}
-use Rattle.verity_plan.specs.Plans.{superblock_size}
 use Rattle.verity_plan.specs.Settings.{is_verity_block_size, most_salt}
 use Rattle.command_line.specs.Options.{number_of, salt_of}
 use Rattle.veritysetup.specs.Options.Uuids.{random_uuid}
@@ -50,15 +49,6 @@ number_if_given (Some text) = option_map (λ number. Some number) (number_of tex
 -- a block size of dm-verity
 abbrev pub block_size_of : ℕ → Option ℕ
 block_size_of number = if is_verity_block_size number then Some number else None
-
--- what a hash offset is a multiple of: a superblock's length, and without a superblock the size of a hash block
-abbrev pub offset_unit : Bool → ℕ → ℕ
-offset_unit true hash_block = superblock_size
-offset_unit false hash_block = hash_block
-
--- this number of bytes, if it is a multiple of a unit
-abbrev pub multiple_of : ℕ → ℕ → Option ℕ
-multiple_of unit bytes = if bytes % unit == 0 then Some bytes else None
 
 -- a salt, in which `-` means the empty one; by default the first 32 random bytes
 abbrev pub salt_or_random : Option (List ℕ) → Option (List ℕ) → Option (List ℕ)

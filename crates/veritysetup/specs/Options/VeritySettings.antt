@@ -1,15 +1,13 @@
 -- The settings of a hash device, which the options choose (veritysetup(8), "format", "root_hash"; cryptsetup's on-disk
 -- format page). A root hash is written in hexadecimal digits of either case, two for each byte of a digest.
-use Rattle.std.specs.Prelude.{ℕ, ◌*◌, ◌==◌, List, length, Option, None, if◌then◌else◌, ◌≡◌, Bool, Some, Result, Err}
+use Rattle.std.specs.Prelude.{ℕ, ◌*◌, ◌==◌, List, length, Option, None, if◌then◌else◌, ◌≡◌, Bool, Some}
 use Rattle.std.specs.Result.{result_ok}
 use Rattle.hex.specs.Hex.{decode_of}
 use Rattle.verity_hash.specs.Hashing.{digest_len_of}
 use Rattle.verity_hash.specs.declared.algorithm.Algorithm.{Algorithm}
-use Rattle.verity_plan.specs.Settings.{Settings, rule_of}
-use Rattle.verity_plan.specs.Plans.{Planned, base_of, plan_for_blocks}
+use Rattle.verity_plan.specs.Settings.{rule_of}
+use Rattle.verity_plan.specs.Plans.{Planned, base_of}
 use Rattle.verity_plan.specs.declared.hash_type.HashType.{HashType}
-use Rattle.verity_plan.specs.declared.plan_fault.PlanFault.{PlanFault}
-use Rattle.verity_plan.specs.declared.plan_fault.PlanFault.TheVariants.{NoData, TooLarge}
 
 -- the bytes of a root hash
 abbrev pub read_root : Algorithm → List ℕ → Option (List ℕ)
@@ -24,15 +22,6 @@ pub record VeritySettings : Type 0 where
   pub superblock : Bool
   pub plan : Planned
   pub root : Option (List ℕ)
-
--- the plan for this number of data blocks if the tree begins at this hash block; without one the hash area is too large
-abbrev pub plan_from : Settings → ℕ → Option ℕ → Result Planned PlanFault
-plan_from tree blocks (Some base) = plan_for_blocks tree blocks base
-plan_from tree blocks None = if blocks == 0 then Err NoData else Err TooLarge
-
--- the plan for this number of data blocks with this hash offset, after a superblock if there is one
-abbrev pub plan_at : Settings → ℕ → ℕ → Bool → Result Planned PlanFault
-plan_at tree blocks offset superblock = plan_from tree blocks (base_of offset superblock tree.hash_block)
 
 -- the tree is of the hash type, over whole data blocks, and begins at the offset, or after the superblock there
 pub record PartsAgree (s : VeritySettings) : Type 0 where

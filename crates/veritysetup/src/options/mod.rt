@@ -7,5 +7,4 @@ pub(crate) mod parameters;
 pub(crate) mod raw_options;
 pub(crate) mod root_hash;
 pub(crate) mod settings;
-pub(crate) mod tree_plan;
 pub(crate) mod uuids;

@@ -5,7 +5,6 @@ ghost use Rattle.veritysetup.specs.Options.OptionTexts.{uuid_or_random};
 ghost use Rattle.verity_plan.specs.Settings.{rule_of};
 ghost use Rattle.veritysetup.specs.Options.Choices.{parameters};
 
-use crate::options::hash_offset::{multiple_of, offset_unit};
 use crate::options::numbers::OptionNumbers;
 use crate::options::option_fault::{OptionFault, OptionName};
 use crate::options::raw_options::RawOptions;
@@ -13,7 +12,7 @@ use crate::options::uuids::{random_uuid, read_uuid};
 use command_line::{algorithm_or_default, read_salt};
 use uuid::Uuid;
 use verity_hash::ShortBytes;
-use verity_plan::{MOST_SALT, is_verity_block_size};
+use verity_plan::{MOST_SALT, is_verity_block_size, multiple_of, offset_unit};
 use verity_tree::{HashType, TreeSettings};
 
 /// What a tree is made by, and where it goes on the hash device.

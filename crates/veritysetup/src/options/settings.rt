@@ -10,11 +10,11 @@ use crate::options::option_fault::OptionFault;
 use crate::options::parameters::Parameters;
 use crate::options::raw_options::RawOptions;
 use crate::options::root_hash::root_if_given;
-use crate::options::tree_plan::plan_at;
 use std::marker::Model;
 use uuid::Uuid;
 use verity_format::Superblock;
 use verity_hash::Digest;
+use verity_plan::plan_at;
 use verity_tree::{HashType, Plan, PlanFault};
 
 /// The settings of a hash device. Only `settings_of` makes them, so the parts agree: the plan's tree is of the hash

@@ -4,11 +4,11 @@ ghost use Rattle.verity_io.specs.Counting.{Counts};
 ghost use Rattle.veritysetup.specs.Runs.VerifySteps.{IsTrustedTree, IsStoredTree, device_unread};
 
 use crate::options::root_hash::read_root;
-use crate::options::tree_plan::plan_at;
 use crate::runs::stored_superblock::stored_superblock;
 use crate::runs::verify_fault::InputFault;
 use crate::runs::verify_input::VerifyInput;
 use verity_hash::Digest;
+use verity_plan::plan_at;
 use verity_tree::{Device, Plan};
 
 /// What a stored tree is compared by.

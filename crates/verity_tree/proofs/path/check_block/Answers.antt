@@ -6,7 +6,7 @@ use Rattle.verity_plan.specs.Settings.{fan, hash}
 use Rattle.verity_tree.proofs.PathSteps.{HasLengths-read, bytes_eq-false, chain-more, digest_above-top, range-block}
 use Rattle.verity_tree.proofs.PathSteps.{read-is, slot-in-block}
 use Rattle.verity_plan.proofs.PlanLemmas.{store_few}
-use Rattle.verity_tree.proofs.QuotientLemmas.{quotient-next}
+use Rattle.verity_plan.proofs.IndexLemmas.{quotient-next}
 use Rattle.verity_tree.proofs.path.check_block.Goals as goal
 
 pub overflow_mul-levels : goal.overflow_mul-levels

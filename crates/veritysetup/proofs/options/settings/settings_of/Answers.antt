@@ -1,9 +1,8 @@
 use Rattle.std.proofs.Common.{◌≡◌, ◌∙◌, ◌*◌, ℕ, ap, sym, refl, Bool, true, false, cond, Option, Some, None, Ok, Err}
-use Rattle.verity_plan.specs.Plans.{Planned}
+use Rattle.verity_plan.specs.Plans.{Planned, plan_from}
 use Rattle.verity_plan.specs.Settings.{Settings}
 use Rattle.verity_plan.proofs.PlanLemmas.{planned_is}
 use Rattle.verity_plan.specs.declared.plan_fault.PlanFault.TheVariants.{NoData, TooLarge}
-use Rattle.veritysetup.specs.Options.VeritySettings.{plan_from}
 use Rattle.veritysetup.proofs.options.settings.settings_of.Goals as goal
 
 -- the plan that whole data blocks have from this hash block on

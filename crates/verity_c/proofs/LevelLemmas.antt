@@ -1,0 +1,14 @@
+-- Each level has a first block.
+use Rattle.std.proofs.Common.{ℕ, ◌+◌, ◌^◌, ◌<◌, subst}
+use Rattle.std.proofs.Math.Nat.{zero-div}
+use Rattle.verity_plan.specs.Plans.{HasBlock, IsPlanned, Planned, level_count_of}
+use Rattle.verity_plan.specs.Settings.{fan}
+use Rattle.verity_plan.proofs.FitLemmas.{fan-pos}
+use Rattle.verity_plan.proofs.IndexLemmas.{HasBlock-above}
+use Rattle.verity_tree.proofs.DataBlockLemmas.{blocks-some}
+
+-- the first block of a level is the one above data block 0
+pub HasBlock-first : (p : Planned) (l : ℕ) → IsPlanned p → l < level_count_of p → HasBlock p l 0
+HasBlock-first p l h low =
+    subst (HasBlock p l) (zero-div (fan p.settings ^ (l + 1)))
+    (HasBlock-above p 0 l (fan-pos p.settings h.valid) (blocks-some p h) low)

@@ -1,0 +1,5 @@
+use Rattle.verity_c.proofs.ReadLemmas.{filled}
+use Rattle.verity_c.proofs.superblock.salt_field.Goals as goal
+
+pub returns : goal.returns
+returns c = filled c.args.salt.now _ c.copy_from_slice.ensures.after

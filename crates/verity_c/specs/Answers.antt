@@ -1,0 +1,106 @@
+-- What each call of the library for C answers: its status, and what it leaves in what it was handed to fill. A fault leaves
+-- that as it was.
+use Rattle.std.specs.Prelude.{◌≡◌, ℕ, ◌+◌, ◌/◌, ◌^◌, ◌==◌, List, length, nat_le, not, Option, Some, None}
+use Rattle.std.specs.Prelude.{Result, Ok, Err, if◌then◌else◌}
+use Rattle.verity_format.specs.Descriptors.{digest_of_file}
+use Rattle.verity_format.specs.Superblocks.{IsSuperblock, SuperblockFields}
+use Rattle.verity_format.specs.declared.super_fault.SuperFault.{SuperFault}
+use Rattle.verity_plan.specs.Plans.{Planned, level_count_of, level_size_of, start_byte_of}
+use Rattle.verity_plan.specs.Settings.{Settings, digest_len, fan}
+use Rattle.verity_tree.specs.Links.{checked_link, checked_top}
+use Rattle.verity_tree.specs.Paths.{ChecksBlock}
+use Rattle.verity_tree.specs.declared.path.PathFault.{PathFault}
+use Rattle.verity_tree.specs.declared.path.PathFault.TheVariants.{DiffersAt}
+use Rattle.verity_c.specs.Parameters.{parameters_of}
+use Rattle.verity_c.specs.Statuses.{code_of, done, fault_of_superblock, link_status, path_status}
+use Rattle.verity_c.specs.declared.fault.Fault.{Fault}
+use Rattle.verity_c.specs.declared.fault.Fault.TheVariants.{Index, Level, Length, Root}
+use Rattle.verity_c.specs.declared.parameters.VerityParams.{VerityParams}
+
+-- what a number becomes by a value or a fault
+abbrev pub number_or : ℕ → Result ℕ Fault → ℕ
+number_or before (Ok number) = number
+number_or before (Err _) = before
+
+-- the number of levels of a plan
+abbrev pub levels_in : Result Planned Fault → Result ℕ Fault
+levels_in (Err fault) = Err fault
+levels_in (Ok p) = Ok (level_count_of p)
+
+-- where a level begins, in bytes, and how many hash blocks it has
+abbrev pub level_start_in : Result Planned Fault → ℕ → Result ℕ Fault
+level_start_in (Err fault) level = Err fault
+level_start_in (Ok p) level = if nat_le (level_count_of p) level then Err Level else Ok (start_byte_of p level 0)
+
+abbrev pub level_blocks_in : Result Planned Fault → ℕ → Result ℕ Fault
+level_blocks_in (Err fault) level = Err fault
+level_blocks_in (Ok p) level = if nat_le (level_count_of p) level then Err Level else Ok (level_size_of p level)
+
+-- the byte at which the hash block of a level stands that is above data block i
+abbrev pub byte_above_in : Result Planned Fault → ℕ → ℕ → Result ℕ Fault
+byte_above_in (Err fault) i level = Err fault
+byte_above_in (Ok p) i level = if nat_le p.blocks i then Err Index
+    else (if nat_le (level_count_of p) level then Err Level
+    else Ok (start_byte_of p level (i / fan p.settings ^ (level + 1))))
+
+-- the status of a block that is checked by the hash block above it
+abbrev pub link_status_in : Result Planned Fault → ℕ → ℕ → List ℕ → List ℕ → ℕ
+link_status_in (Err fault) i level block above = code_of fault
+link_status_in (Ok p) i level block above = link_status (checked_link p i level block above)
+
+-- the plan, if the root hash is as long as its digests
+abbrev pub with_root : Result Planned Fault → List ℕ → Result Planned Fault
+with_root (Err fault) root = Err fault
+with_root (Ok p) root = if length root == digest_len p.settings then Ok p else Err Root
+
+-- the status of a top block that is checked by the root hash
+abbrev pub top_status_in : Result Planned Fault → ℕ → List ℕ → List ℕ → ℕ
+top_status_in (Err fault) i block root = code_of fault
+top_status_in (Ok p) i block root = link_status (checked_top p i block root)
+
+-- what the number of a level becomes: the lowest that differs, if one does
+abbrev pub level_or : ℕ → Result Unit PathFault → ℕ
+level_or before (Err (DiffersAt level)) = level
+level_or before _ = before
+
+-- the status of a data block that is checked by its path, and what the level becomes
+pub record AnswersPath (p : Planned) (i : ℕ) (block path root : List ℕ) (status before after : ℕ) : Type 0 where
+  pub answer : Result Unit PathFault
+  pub checked : ChecksBlock p i block path root answer
+  pub status_is : status ≡ path_status answer
+  pub level_is : after ≡ level_or before answer
+
+pub record AnswersFault (fault : Fault) (status before after : ℕ) : Type 0 where
+  pub status_is : status ≡ code_of fault
+  pub level_is : after ≡ before
+
+abbrev pub AnswersBlock : Result Planned Fault → ℕ → List ℕ → List ℕ → List ℕ → ℕ → ℕ → ℕ → Type 0
+AnswersBlock (Err fault) i block path root status before after = AnswersFault fault status before after
+AnswersBlock (Ok p) i block path root status before after = AnswersPath p i block path root status before after
+
+-- the status of bytes that are read as a superblock
+abbrev pub superblock_status : Option SuperFault → ℕ
+superblock_status None = done
+superblock_status (Some fault) = code_of (fault_of_superblock fault)
+
+-- what the parameters become by these bytes: those of the superblock at this hash offset
+pub record AreRead (bytes : List ℕ) (offset : ℕ) (after : VerityParams) : Type 0 where
+  pub superblock : SuperblockFields
+  pub said : IsSuperblock bytes superblock
+  pub parameters : after ≡ parameters_of superblock offset
+
+abbrev pub ReadsParameters : Option SuperFault → List ℕ → ℕ → VerityParams → VerityParams → Type 0
+ReadsParameters None bytes offset before after = AreRead bytes offset after
+ReadsParameters (Some _) bytes offset before after = after ≡ before
+
+-- the digest of a file with these settings, this size and this root hash, if there is room for just it
+abbrev pub file_digest_in : Result Settings Fault → ℕ → List ℕ → ℕ → Result (List ℕ) Fault
+file_digest_in (Err fault) size root room = Err fault
+file_digest_in (Ok tree) size root room = if not (length root == digest_len tree) then Err Root
+    else (if not (room == digest_len tree) then Err Length
+    else Ok (digest_of_file (record { tree = tree; size = size; root = root })))
+
+-- what a buffer becomes by bytes or a fault
+abbrev pub bytes_or : List ℕ → Result (List ℕ) Fault → List ℕ
+bytes_or before (Ok bytes) = bytes
+bytes_or before (Err _) = before

@@ -1,0 +1,103 @@
+-- What the parameters of the library for C say: the settings and the plan that they make, or the first fault; and the
+-- parameters that a superblock says. Numbers of hash functions are the Linux kernel's for fs-verity
+-- (`FS_VERITY_HASH_ALG_*`) and go on from there.
+use Rattle.std.specs.Prelude.{ℕ, ◌==◌, length, take, nat_le, Option, Some, None, Result, Ok, Err, if◌then◌else◌}
+use Rattle.verity_hash.specs.Hashing.{with_zeros}
+use Rattle.verity_hash.specs.declared.algorithm.Algorithm.TheVariants as algorithm
+use Rattle.verity_hash.specs.declared.algorithm.Algorithm.{Algorithm as HashFunction}
+use Rattle.verity_format.specs.Superblocks.{SuperblockFields}
+use Rattle.verity_plan.specs.Plans.{Planned, multiple_of, offset_unit, plan_at, plan_for_bytes}
+use Rattle.verity_plan.specs.Settings.{Settings, fsverity_settings, most_verity_salt, type_number, type_of_number, verity_settings}
+use Rattle.verity_plan.specs.Settings.{most_salt}
+use Rattle.verity_plan.specs.declared.hash_type.HashType.{HashType as TypeOfHash}
+use Rattle.verity_plan.specs.declared.plan_fault.PlanFault.{PlanFault}
+use Rattle.verity_plan.specs.declared.setting_fault.SettingFault.{SettingFault}
+use Rattle.verity_hash.specs.declared.salting.SaltRule.TheVariants.{PaddedBefore}
+use Rattle.verity_c.specs.Statuses.{fault_of_plan, fault_of_setting}
+use Rattle.verity_c.specs.declared.fault.Fault.{Fault}
+use Rattle.verity_c.specs.declared.fault.Fault.TheVariants.{Algorithm, HashType, SaltSize, HashOffset}
+use Rattle.verity_c.specs.declared.parameters.FsverityParams.{FsverityParams}
+use Rattle.verity_c.specs.declared.parameters.VerityParams.{VerityParams}
+
+-- the number of a hash function, and the hash function of a number
+abbrev pub number_of : HashFunction → ℕ
+number_of algorithm.Sha256 = 1
+number_of algorithm.Sha512 = 2
+number_of algorithm.Sha1 = 3
+number_of algorithm.Sha224 = 4
+number_of algorithm.Sha384 = 5
+
+abbrev pub algorithm_of : ℕ → Option HashFunction
+algorithm_of number = if number == 1 then Some algorithm.Sha256
+    else (if number == 2 then Some algorithm.Sha512
+    else (if number == 3 then Some algorithm.Sha1
+    else (if number == 4 then Some algorithm.Sha224
+    else (if number == 5 then Some algorithm.Sha384 else None))))
+
+-- the settings, if as many bytes count of the salt as it has
+abbrev pub with_salt_of : ℕ → ℕ → Result Settings SettingFault → Result Settings Fault
+with_salt_of most size (Err fault) = Err (fault_of_setting fault)
+with_salt_of most size (Ok tree) = if nat_le size most then Ok tree else Err SaltSize
+
+-- the settings of dm-verity that parameters make, or the first fault
+abbrev pub tree_by : Option HashFunction → Option TypeOfHash → VerityParams → Result Settings Fault
+tree_by None hash_type params = Err Algorithm
+tree_by (Some function) None params = Err HashType
+tree_by (Some function) (Some hash_type) params = with_salt_of most_verity_salt params.salt_size
+    (verity_settings function hash_type (take params.salt_size params.salt) params.data_block_size
+    params.hash_block_size)
+
+abbrev pub tree_of : VerityParams → Result Settings Fault
+tree_of params = tree_by (algorithm_of params.hash_algorithm) (type_of_number params.hash_type) params
+
+-- a plan, or its fault
+abbrev pub planned : Result Planned PlanFault → Result Planned Fault
+planned (Ok plan) = Ok plan
+planned (Err fault) = Err (fault_of_plan fault)
+
+-- the plan of a tree at the hash offset, if that is a multiple of its unit
+abbrev pub plan_if : Option ℕ → Settings → VerityParams → Result Planned Fault
+plan_if None tree params = Err HashOffset
+plan_if (Some offset) tree params =
+    planned (plan_at tree params.data_blocks offset (params.no_superblock == 0))
+
+abbrev pub plan_by : Result Settings Fault → VerityParams → Result Planned Fault
+plan_by (Err fault) params = Err fault
+plan_by (Ok tree) params =
+    plan_if (multiple_of (offset_unit (params.no_superblock == 0) tree.hash_block) params.hash_offset) tree params
+
+-- the plan of dm-verity that parameters make, or the first fault
+abbrev pub plan_of : VerityParams → Result Planned Fault
+plan_of params = plan_by (tree_of params) params
+
+-- the settings of fs-verity that parameters make, or the first fault
+abbrev pub fsverity_tree_by : Option HashFunction → FsverityParams → Result Settings Fault
+fsverity_tree_by None params = Err Algorithm
+fsverity_tree_by (Some function) params = with_salt_of (most_salt PaddedBefore) params.salt_size
+    (fsverity_settings function (take params.salt_size params.salt) params.block_size)
+
+abbrev pub fsverity_tree_of : FsverityParams → Result Settings Fault
+fsverity_tree_of params = fsverity_tree_by (algorithm_of params.hash_algorithm) params
+
+-- the plan of fs-verity that parameters make, or the first fault
+abbrev pub fsverity_plan_by : Result Settings Fault → ℕ → Result Planned Fault
+fsverity_plan_by (Err fault) size = Err fault
+fsverity_plan_by (Ok tree) size = planned (plan_for_bytes tree size 0)
+
+abbrev pub fsverity_plan_of : FsverityParams → Result Planned Fault
+fsverity_plan_of params = fsverity_plan_by (fsverity_tree_of params) params.size
+
+-- the parameters that a superblock at this hash offset says
+abbrev pub parameters_of : SuperblockFields → ℕ → VerityParams
+parameters_of v offset = record {
+  hash_algorithm = number_of v.tree.algorithm;
+  hash_type = type_number v.hash_type;
+  data_block_size = v.tree.data_block;
+  hash_block_size = v.tree.hash_block;
+  data_blocks = v.blocks;
+  hash_offset = offset;
+  no_superblock = 0;
+  salt_size = length v.tree.salt;
+  salt = with_zeros most_verity_salt v.tree.salt;
+  uuid = v.uuid;
+}

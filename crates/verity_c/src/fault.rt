@@ -1,0 +1,139 @@
+//! Why a call of the library has no answer but its status.
+ghost use Rattle.std.specs.Prelude.{◌≡◌, Ok};
+ghost use Rattle.verity_c.specs.Statuses.{code_of, fault_of_plan, fault_of_setting, fault_of_superblock, link_status};
+ghost use Rattle.verity_c.specs.Statuses.{path_status};
+
+use verity_format::SuperFault;
+use verity_plan::{PlanFault, SettingFault};
+use verity_tree::{LinkFault, PathFault};
+
+/// The status of a call that has done what it is for.
+pub(crate) const DONE: u32 = 0;
+
+/// Why a call has not done what it is for; each has a status of its own in verity.h.
+#[derive(Clone, Copy, Debug, PartialEq, Eq)]
+pub(crate) enum Fault {
+    /// A block is not the one that the digest above it, or the root hash, stands for.
+    Differs,
+    /// There is no data block of this number.
+    Index,
+    /// The tree has no level of this number.
+    Level,
+    /// A block, a path or a buffer has another length.
+    Length,
+    /// The root hash is not as long as a digest of the hash function.
+    Root,
+    /// The hash function is not known.
+    Algorithm,
+    /// The hash type is not 0 or 1.
+    HashType,
+    /// The data block size, or fs-verity's block size, is past its limits.
+    DataBlockSize,
+    /// The hash block size is past its limits.
+    HashBlockSize,
+    /// The salt is too long.
+    SaltSize,
+    /// The hash offset is no multiple of what it has to be.
+    HashOffset,
+    /// There is no data block.
+    NoData,
+    /// The data or the hash area would have more than 2^63 - 1 bytes.
+    TooLarge,
+    /// There are fewer bytes than a superblock has.
+    Short,
+    /// The bytes don't begin as a superblock does.
+    Signature,
+    /// The superblock is of another version.
+    Version,
+}
+
+impl Fault {
+    /// Its status in verity.h.
+    pub(crate) fn code(self) -> u32
+        ensures { result ≡ code_of self }
+    {
+        match self {
+            Fault::Differs => 1,
+            Fault::Index => 2,
+            Fault::Level => 3,
+            Fault::Length => 4,
+            Fault::Root => 5,
+            Fault::Algorithm => 6,
+            Fault::HashType => 7,
+            Fault::DataBlockSize => 8,
+            Fault::HashBlockSize => 9,
+            Fault::SaltSize => 10,
+            Fault::HashOffset => 11,
+            Fault::NoData => 12,
+            Fault::TooLarge => 13,
+            Fault::Short => 14,
+            Fault::Signature => 15,
+            Fault::Version => 16,
+        }
+    }
+
+    /// Of settings.
+    pub(crate) fn of_setting(fault: SettingFault) -> Fault
+        ensures { result ≡ fault_of_setting fault }
+    {
+        match fault {
+            SettingFault::Algorithm => Fault::Algorithm,
+            SettingFault::DataBlockSize => Fault::DataBlockSize,
+            SettingFault::HashBlockSize => Fault::HashBlockSize,
+            SettingFault::SaltSize => Fault::SaltSize,
+        }
+    }
+
+    /// Of a plan.
+    pub(crate) fn of_plan(fault: PlanFault) -> Fault
+        ensures { result ≡ fault_of_plan fault }
+    {
+        match fault {
+            PlanFault::NoData => Fault::NoData,
+            PlanFault::TooLarge => Fault::TooLarge,
+        }
+    }
+
+    /// Of bytes that are no superblock.
+    pub(crate) fn of_superblock(fault: SuperFault) -> Fault
+        ensures { result ≡ fault_of_superblock fault }
+    {
+        match fault {
+            SuperFault::Short => Fault::Short,
+            SuperFault::Signature => Fault::Signature,
+            SuperFault::Version(_) => Fault::Version,
+            SuperFault::HashType(_) => Fault::HashType,
+            SuperFault::DataBlockSize(_) => Fault::DataBlockSize,
+            SuperFault::HashBlockSize(_) => Fault::HashBlockSize,
+            SuperFault::Algorithm => Fault::Algorithm,
+            SuperFault::SaltSize(_) => Fault::SaltSize,
+            SuperFault::NoData => Fault::NoData,
+            SuperFault::TooLarge => Fault::TooLarge,
+        }
+    }
+}
+
+/// The status of a checked data block and its path.
+pub(crate) fn path_status(answer: Result<(), PathFault>) -> u32
+    ensures { result ≡ path_status answer }
+{
+    match answer {
+        Ok(()) => DONE,
+        Err(PathFault::Index) => Fault::Index.code(),
+        Err(PathFault::Length) => Fault::Length.code(),
+        Err(PathFault::DiffersAt(_)) => Fault::Differs.code(),
+    }
+}
+
+/// The status of a checked link.
+pub(crate) fn link_status(answer: Result<(), LinkFault>) -> u32
+    ensures { result ≡ link_status answer }
+{
+    match answer {
+        Ok(()) => DONE,
+        Err(LinkFault::Index) => Fault::Index.code(),
+        Err(LinkFault::Level) => Fault::Level.code(),
+        Err(LinkFault::Length) => Fault::Length.code(),
+        Err(LinkFault::Differs) => Fault::Differs.code(),
+    }
+}

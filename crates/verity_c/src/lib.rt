@@ -1,0 +1,25 @@
+//! The library for C, `libverity`: superblocks, plans and checks of dm-verity and fs-verity, for programs that aren't
+//! written in Rattle. Each export says again what the libraries below prove of it. `include/verity.h` has the same
+//! functions in C, with what a caller owes: pointers and lengths that are right. Nothing is required of a value, so
+//! whatever numbers, bytes and structs are handed in, a call returns with its answer.
+#![tactic(auto)]
+
+mod blocks;
+mod fault;
+mod files;
+pub mod laws;
+mod levels;
+mod links;
+mod parameters;
+mod plans;
+mod superblock;
+
+pub use blocks::{fsverity_check_block, verity_check_block};
+pub use files::fsverity_file_digest;
+pub use levels::{
+    fsverity_block_above, fsverity_level, fsverity_levels, verity_block_above, verity_level,
+    verity_levels,
+};
+pub use links::{fsverity_check_link, fsverity_check_top, verity_check_link, verity_check_top};
+pub use parameters::{FsverityParams, VerityParams};
+pub use superblock::verity_read_superblock;

@@ -1,0 +1,111 @@
+//! The settings and plans that parameters make.
+ghost use Rattle.std.specs.Prelude.{◌≡◌, ◌≤◌, length, take};
+ghost use Rattle.verity_c.specs.Parameters.{algorithm_of, fsverity_plan_of, fsverity_tree_of, number_of, plan_of};
+ghost use Rattle.verity_c.specs.Parameters.{tree_of};
+
+use crate::fault::Fault;
+use crate::parameters::{FsverityParams, VerityParams};
+use verity_hash::Algorithm;
+use verity_plan::{HashType, Plan, TreeSettings, multiple_of, offset_unit, plan_at};
+
+/// The hash function of a number in verity.h.
+fn algorithm_of(number: u32) -> Option<Algorithm>
+    ensures { result ≡ algorithm_of number }
+{
+    match number {
+        1 => Some(Algorithm::Sha256),
+        2 => Some(Algorithm::Sha512),
+        3 => Some(Algorithm::Sha1),
+        4 => Some(Algorithm::Sha224),
+        5 => Some(Algorithm::Sha384),
+        _ => None,
+    }
+}
+
+/// The number of a hash function in verity.h.
+pub(crate) fn number_of(algorithm: Algorithm) -> u32
+    ensures { result ≡ number_of algorithm }
+{
+    match algorithm {
+        Algorithm::Sha256 => 1,
+        Algorithm::Sha512 => 2,
+        Algorithm::Sha1 => 3,
+        Algorithm::Sha224 => 4,
+        Algorithm::Sha384 => 5,
+    }
+}
+
+/// The bytes of a salt that count, as far as there are as many.
+fn counting(salt: &[u8], size: u32) -> &[u8]
+    ensures { result.now ≡ take size salt.now }
+{
+    &salt[..salt.len().min(size as usize)]
+}
+
+/// The settings of dm-verity that parameters make, or the first of `Algorithm`, `HashType`, `DataBlockSize`,
+/// `HashBlockSize`, `SaltSize`.
+fn tree_of(params: &VerityParams) -> Result<TreeSettings, Fault>
+    ensures { result ≡ tree_of params.now }
+{
+    let Some(algorithm) = algorithm_of(params.hash_algorithm) else {
+        return Err(Fault::Algorithm);
+    };
+    let Some(hash_type) = HashType::from_number(u64::from(params.hash_type)) else {
+        return Err(Fault::HashType);
+    };
+    let salt = counting(&params.salt, params.salt_size);
+    let (data_block, hash_block) = (params.data_block_size, params.hash_block_size);
+    match TreeSettings::verity(algorithm, hash_type, salt, data_block, hash_block) {
+        Ok(tree) if params.salt_size as usize <= params.salt.len() => Ok(tree),
+        Ok(_) => Err(Fault::SaltSize),
+        Err(fault) => Err(Fault::of_setting(fault)),
+    }
+}
+
+/// The plan of dm-verity that parameters make, or the first fault: that of the settings, `HashOffset`, `NoData`,
+/// `TooLarge`.
+pub(crate) fn plan_of(params: &VerityParams) -> Result<Plan, Fault>
+    ensures { result ≡ plan_of params.now }
+{
+    let tree = match tree_of(params) {
+        Ok(tree) => tree,
+        Err(fault) => return Err(fault),
+    };
+    let superblock = params.no_superblock == 0;
+    let Some(offset) = multiple_of(offset_unit(superblock, &tree), params.hash_offset) else {
+        return Err(Fault::HashOffset);
+    };
+    match plan_at(&tree, params.data_blocks, offset, superblock) {
+        Ok(plan) => Ok(plan),
+        Err(fault) => Err(Fault::of_plan(fault)),
+    }
+}
+
+/// The settings of fs-verity that parameters make, or the first of `Algorithm`, `DataBlockSize`, `SaltSize`.
+pub(crate) fn fsverity_tree_of(params: &FsverityParams) -> Result<TreeSettings, Fault>
+    ensures { result ≡ fsverity_tree_of params.now }
+{
+    let Some(algorithm) = algorithm_of(params.hash_algorithm) else {
+        return Err(Fault::Algorithm);
+    };
+    let salt = counting(&params.salt, params.salt_size);
+    match TreeSettings::fsverity(algorithm, salt, params.block_size) {
+        Ok(tree) if params.salt_size as usize <= params.salt.len() => Ok(tree),
+        Ok(_) => Err(Fault::SaltSize),
+        Err(fault) => Err(Fault::of_setting(fault)),
+    }
+}
+
+/// The plan of fs-verity that parameters make, or the first fault: that of the settings, `NoData`, `TooLarge`.
+pub(crate) fn fsverity_plan_of(params: &FsverityParams) -> Result<Plan, Fault>
+    ensures { result ≡ fsverity_plan_of params.now }
+{
+    let tree = match fsverity_tree_of(params) {
+        Ok(tree) => tree,
+        Err(fault) => return Err(fault),
+    };
+    match Plan::for_bytes(&tree, params.size, 0) {
+        Ok(plan) => Ok(plan),
+        Err(fault) => Err(Fault::of_plan(fault)),
+    }
+}

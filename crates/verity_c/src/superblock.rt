@@ -1,0 +1,67 @@
+//! Reading a superblock into parameters.
+ghost use Rattle.std.specs.Prelude.{◌≡◌, ◌≤◌, length, None};
+ghost use Rattle.verity_hash.specs.Hashing.{with_zeros};
+ghost use Rattle.verity_plan.specs.Settings.{most_verity_salt};
+ghost use Rattle.verity_format.specs.Superblocks.{superblock_fault};
+ghost use Rattle.verity_c.specs.Answers.{ReadsParameters, superblock_status};
+ghost use Rattle.verity_c.specs.Parameters.{parameters_of};
+
+use crate::fault::{DONE, Fault};
+use crate::parameters::VerityParams;
+use crate::plans::number_of;
+use verity_format::laws::bytes_say_a_superblock_or_fail_a_test;
+use verity_format::{Superblock, read_superblock};
+
+/// Reads the superblock that the first 512 bytes say into parameters (cryptsetup's on-disk format page, "dm-verity
+/// header"). The hash offset, the byte of the hash device at which these bytes stand, goes into them as it is given.
+///
+/// The status is 0, or that of the first of `Short`, `Signature`, `Version`, `HashType`, `DataBlockSize`,
+/// `HashBlockSize`, `Algorithm`, `SaltSize`, `NoData`, `TooLarge`. Then the parameters stay as they were.
+#[unsafe(no_mangle)]
+pub extern "C" fn verity_read_superblock(
+    bytes: &[u8],
+    hash_offset: u64,
+    params: &mut VerityParams,
+) -> u32
+    ensures status { result ≡ superblock_status (superblock_fault bytes.now) }
+    ensures params { ReadsParameters (superblock_fault bytes.now) bytes.now hash_offset params.old params.new }
+{
+    bytes_say_a_superblock_or_fail_a_test();
+    match read_superblock(bytes) {
+        Ok(superblock) => {
+            *params = parameters_of(&superblock, hash_offset);
+            DONE
+        }
+        Err(fault) => Fault::of_superblock(fault).code(),
+    }
+}
+
+/// The parameters that a superblock at this hash offset says.
+fn parameters_of(superblock: &Superblock, hash_offset: u64) -> VerityParams
+    ensures { result ≡ parameters_of superblock.now hash_offset }
+{
+    let tree = superblock.tree();
+    let salt = tree.salt();
+    VerityParams {
+        hash_algorithm: number_of(tree.algorithm()),
+        hash_type: superblock.hash_type().number(),
+        data_block_size: tree.data_block(),
+        hash_block_size: tree.hash_block(),
+        data_blocks: superblock.blocks(),
+        hash_offset,
+        no_superblock: 0,
+        salt_size: salt.len() as u32,
+        salt: salt_field(salt),
+        uuid: superblock.uuid(),
+    }
+}
+
+/// A salt, and zeros after it.
+fn salt_field(salt: &[u8]) -> [u8; 256]
+    requires { length salt.now ≤ most_verity_salt }
+    ensures { result ≡ with_zeros most_verity_salt salt.now }
+{
+    let mut field = [0; 256];
+    field[..salt.len()].copy_from_slice(salt);
+    field
+}

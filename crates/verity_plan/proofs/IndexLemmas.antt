@@ -1,0 +1,31 @@
+-- The number of the block that stands some levels above a data block.
+use Rattle.std.proofs.Common.{◌≡◌, ℕ, suc, ◌+◌, ◌/◌, ◌^◌, ◌<◌, arith, sym, ◌∙◌, ap, inl, inr}
+use Rattle.std.proofs.lemmas.Bool.{cases_lt}
+use Rattle.std.proofs.lemmas.Nat.{div-add-mod'}
+use Rattle.std.proofs.Math.Nat.{div-div-eq-div-mul, one-le-pow, pow-suc}
+use Rattle.std.specs.Int.{div_ceil}
+use Rattle.verity_plan.specs.Plans.{HasBlock, Planned, level_count_of}
+use Rattle.verity_plan.specs.Settings.{fan}
+use Rattle.verity_plan.proofs.CountLemmas.{le-div_ceil}
+
+-- one level up a place is divided by the fan
+pub quotient-next : (f i m : ℕ) → i / f ^ (m + 1) ≡ i / f ^ m / f
+quotient-next f i m =
+    let e : m + 1 ≡ suc m = omega arith in
+    ap (λ (k : ℕ). i / f ^ k) e ∙ ap (λ (k : ℕ). i / k) (pow-suc f m) ∙ sym (div-div-eq-div-mul i (f ^ m) f)
+
+-- the place above number i is below the count, rounded up
+pub quotient-below : (i n w : ℕ) → 0 < w → i < n → i / w < div_ceil n w
+quotient-below i n w some below =
+    elim (cases_lt (i / w) (div_ceil n w)) [
+      | inl less ↦ less
+      | inr most ↦ absurd (omega (arith, le-div_ceil n w (i / w) some most, div-add-mod' i w, below))
+    ]
+
+-- the tree has the hash block of each level above a data block
+pub HasBlock-above : (p : Planned) (i l : ℕ) → 0 < fan p.settings → i < p.blocks → l < level_count_of p
+    → HasBlock p l (i / fan p.settings ^ (l + 1))
+HasBlock-above p i l some below low = record {
+  level_below = low;
+  block_below = quotient-below i p.blocks (fan p.settings ^ (l + 1)) (one-le-pow (l + 1) (fan p.settings) some) below;
+}
