@@ -4,6 +4,10 @@
 # processor.
 CPU = $(shell ./processor.sh)
 
+# For what `make library` builds: x86_64, the static library for CPU and the shared one for SHARED_CPU; or aarch64.
+TARGET = x86_64
+SHARED_CPU = x86-64-v2
+
 # Where `make install` puts things, and what it adds to the programs' names, so that they can stand beside Debian's.
 PREFIX = /usr/local
 DESTDIR =
@@ -13,8 +17,8 @@ SUFFIX = -proved
 SECONDS = 1800
 SEED =
 
-.PHONY: run programs test check gate wrong-bodies check-programs out-of-memory interop soak kernel bench reproducible \
-    install uninstall clean help
+.PHONY: run programs library test check gate wrong-bodies check-programs check-library out-of-memory interop soak kernel bench \
+    reproducible install uninstall clean help
 
 # Proves and builds the one program that this needs, and prints the digest of a real file.
 run:
@@ -26,12 +30,16 @@ programs:
 	./build.sh fsverity_cli fsverity $(CPU)
 	./build.sh veritysetup_cli veritysetup $(CPU)
 
+# Proves and builds the library for C: lib/libverity.a and lib/libverity.so.1, or those for 64-bit ARM in lib/aarch64.
+library:
+	./library.sh $(TARGET) $(CPU) $(SHARED_CPU)
+
 # All tests: the gate, then the programs that it built, the documents' examples, and Debian's programs beside them.
 test:
 	tests/all.sh
 
 # The same without the gate: nothing is proved anew.
-check: programs
+check: programs library
 	tests/all.sh --without-gate
 
 # The gate: every proof from nothing, the wrong bodies that the prover must refuse, the tests of the crates, and
@@ -46,6 +54,10 @@ wrong-bodies:
 # Runs the programs as a user would. Needs no other tool.
 check-programs: programs
 	tests/programs.sh
+
+# Calls the library from C, compares it with Debian's programs, and runs its examples. Needs a C compiler.
+check-library: library
+	tests/library.sh
 
 # Refuses each request for memory in turn, of the run functions and of the programs. Needs a C compiler.
 out-of-memory: programs
@@ -76,7 +88,7 @@ bench: programs
 reproducible: programs
 	tests/reproducible.sh
 
-# Installs programs, manual pages and bash's completion; or removes just these. Nothing is built here, so that no proof
+# Installs programs, manual pages and bash's completion, and the library if it is built; or removes just these. Nothing is built here, so that no proof
 # runs as root.
 install uninstall: export PREFIX := $(PREFIX)
 install uninstall: export DESTDIR := $(DESTDIR)
@@ -86,7 +98,7 @@ install uninstall:
 
 # Removes what was built, and what is kept of the proofs, so that all is proved anew.
 clean:
-	rm -rf bin crates/*/out
+	rm -rf bin lib crates/*/out
 
 help:
 	@echo 'Times are for four cores. A + means: make programs runs first, which takes 11 minutes the first time.'
@@ -94,11 +106,13 @@ help:
 	@echo
 	@echo 'make run             7 minutes     proves and builds fsverity, and prints the digest of a file'
 	@echo 'make programs        11 minutes    proves and builds bin/fsverity and bin/veritysetup [CPU]'
+	@echo 'make library         1 minute      proves and builds lib/libverity.a and lib/libverity.so.1 [TARGET, CPU, SHARED_CPU]'
 	@echo 'make test            40 minutes    all tests: gate, the programs as a user runs them, documents, comparisons'
 	@echo 'make check           5 minutes +   all tests but the gate'
 	@echo 'make gate            35 minutes    every proof from nothing, wrong bodies that must be refused, tests of the crates'
 	@echo 'make wrong-bodies    30 minutes    tries each wrong body by itself'
 	@echo 'make check-programs  30 seconds +  runs the programs as a user would'
+	@echo 'make check-library   3 minutes +   calls the library from C, and runs its examples'
 	@echo 'make out-of-memory   7 minutes +   refuses each request for memory in turn'
 	@echo 'make interop         10 minutes +  compares the programs with those of Debian, over all settings'
 	@echo 'make soak            30 minutes +  random runs of both programs, compared with other programs [SECONDS, SEED]'

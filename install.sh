@@ -1,7 +1,8 @@
 #!/bin/bash
 # install.sh install|uninstall: puts the programs of bin/, their manual pages and bash's completion of their words below
 # DESTDIR and PREFIX, with SUFFIX at the end of their names; or removes just these files. The pages and the completion
-# then speak of the programs by these names. Nothing is built here, so that no proof runs as root.
+# then speak of the programs by these names. If lib/ has the library for C, that goes there too, by its own names, with
+# its header, its page and what pkg-config says of it. Nothing is built here, so that no proof runs as root.
 set -euo pipefail
 cd "$(dirname "$0")"
 prefix=${DESTDIR-}${PREFIX-/usr/local}
@@ -13,6 +14,8 @@ fi
 bin=$prefix/bin
 pages=$prefix/share/man
 completions=$prefix/share/bash-completion/completions
+libraries=$prefix/lib
+headers=$prefix/include
 
 # Prints a page with the installed names in its headings, footer, examples and references.
 page() {
@@ -31,6 +34,32 @@ put() {
     install -m "$1" /dev/stdin "$2"
 }
 
+# pkg_config: prints what pkg-config is told of the library, with the version that its header has.
+pkg_config() {
+    local version
+    version=$(awk '/^#define VERITY_VERSION_/ { printf "%s%s", dot, $3; dot = "." }' include/verity.h)
+    cat <<END
+prefix=${PREFIX-/usr/local}
+libdir=\${prefix}/lib
+includedir=\${prefix}/include
+
+Name: libverity
+Description: superblocks, plans and checks of dm-verity and fs-verity
+Version: $version
+Libs: -L\${libdir} -lverity
+Cflags: -I\${includedir}
+END
+}
+
+install_library() {
+    put 644 "$libraries/libverity.a" <lib/libverity.a
+    put 755 "$libraries/libverity.so.1" <lib/libverity.so.1
+    ln -sfn libverity.so.1 "$libraries/libverity.so"
+    pkg_config | put 644 "$libraries/pkgconfig/verity.pc"
+    put 644 "$headers/verity.h" <include/verity.h
+    page man/verity.3 | put 644 "$pages/man3/verity.3"
+}
+
 install_all() {
     if [ ! -x bin/fsverity ] || [ ! -x bin/veritysetup ]; then
         echo "run 'make programs' first" >&2
@@ -43,11 +72,14 @@ install_all() {
         page "man/$name.$section" | put 644 "$pages/man$section/$name$suffix.$section"
         completion "completions/$name" | put 644 "$completions/$name$suffix"
     done
+    if [ -e lib/libverity.a ] && [ -e lib/libverity.so.1 ]; then install_library; fi
 }
 
 uninstall_all() {
     rm -f "$bin/fsverity$suffix" "$pages/man1/fsverity$suffix.1" "$completions/fsverity$suffix"
     rm -f "$bin/veritysetup$suffix" "$pages/man8/veritysetup$suffix.8" "$completions/veritysetup$suffix"
+    rm -f "$libraries/libverity.a" "$libraries/libverity.so" "$libraries/libverity.so.1" "$libraries/pkgconfig/verity.pc"
+    rm -f "$headers/verity.h" "$pages/man3/verity.3"
 }
 
 case ${1-} in

@@ -1,7 +1,7 @@
 #!/bin/bash
 # All tests: the gate, then the programs that it built, run as a user runs them, the examples of the documents, and the
 # comparisons with Debian's programs, if these are installed. These go over the programs for each processor that
-# runs here; a minute of random runs goes over those of bin/. All that comes after the gate and the programs runs side by
+# runs here; a minute of random runs goes over those of bin/. The library for C is called from C, and its examples run. All that comes after the gate and the programs runs side by
 # side. The last line is 'N passed, M failed', over all parts.
 # With --without-gate the programs that are in bin/ are tested, and the output says that the gate was left out.
 set -u
@@ -9,10 +9,15 @@ cd "$(dirname "$0")/.."
 if [ "${1:-}" = --without-gate ]; then
     parts=(tests/no_gate.sh --)
     builds=(bin)
+    libraries=(lib)
 else
     parts=(tests/gate.sh tests/built.sh --)
     builds=(bin/x86-64-v2)
-    if [ "$(./processor.sh)" = x86-64-v3 ]; then builds+=(bin/x86-64-v3); fi
+    libraries=(lib)
+    if [ "$(./processor.sh)" = x86-64-v3 ]; then
+        builds+=(bin/x86-64-v3)
+        libraries+=(lib/x86-64-v3)
+    fi
 fi
 # The longest first, so that no processor waits for one at the end.
 parts+=('tests/memory.sh --short' tests/soak.sh)
@@ -21,6 +26,10 @@ for script in tests/interop/*.sh tests/programs/*.sh tests/processor.sh tests/re
     for build in "${builds[@]}"; do
         if [ -x "$script" ]; then parts+=("env BIN=$build $script"); fi
     done
+done
+for library in "${libraries[@]}"; do parts+=("env LIB=$library tests/library/images.sh"); done
+for script in tests/library/*.sh; do
+    if [ -x "$script" ] && [ "$script" != tests/library/images.sh ]; then parts+=("$script"); fi
 done
 parts+=(tests/definitions.sh tests/install.sh tests/completion.sh)
 BIN=bin exec tests/run.sh "${parts[@]}"

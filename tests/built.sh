@@ -1,6 +1,6 @@
 #!/bin/bash
 # Takes the programs that the gate built into bin/x86-64-v2/, and if this processor has all of x86-64-v3 builds them
-# for that into bin/x86-64-v3/. bin/ gets those for this processor. The gate removes what earlier runs left before it
+# for that into bin/x86-64-v3/. bin/ gets those for this processor, and lib/ the library for C. The gate removes what earlier runs left before it
 # begins, so these are the programs that it has just proved.
 set -u
 cd "$(dirname "$0")/.."
@@ -65,6 +65,34 @@ if [ "$cpu" = x86-64-v3 ]; then
 else
     echo "left out: programs for x86-64-v3: this processor doesn't have all of it"
 fi
+# The library for C: for x86-64-v2 and 64-bit ARM, and for x86-64-v3 if that runs here. The gate proves it, but builds
+# none.
+folders=(lib lib/aarch64)
+if [ "$cpu" = x86-64-v3 ]; then folders+=(lib/x86-64-v3); fi
+
+# library FOLDER: builds the libraries of a folder. What is said goes to $scratch/library.NUMBER.
+library() {
+    local words=(x86_64)
+    case $1 in
+    lib/aarch64) words=(aarch64) ;;
+    lib/x86-64-v3) words=(x86_64 x86-64-v3 x86-64-v3) ;;
+    esac
+    if [ "${#words[@]}" -gt 1 ]; then export LIB=$1; else unset LIB; fi
+    rm -f "$1"/libverity.*
+    ./library.sh "${words[@]}" >"$scratch/${1//\//-}" 2>&1
+}
+
+if compgen -G 'crates/*/out/rlib/stamp' >/dev/null; then
+    for folder in "${folders[@]}"; do (library "$folder"); done
+else
+    # All at once: each proves the crate for its own processor.
+    for folder in "${folders[@]}"; do (OVER_GATE=yes && export OVER_GATE && library "$folder") & done
+    wait
+fi
+for folder in "${folders[@]}"; do
+    cat "$scratch/${folder//\//-}"
+    if [ -e "$folder/libverity.a" ]; then pass; else fail "$folder/libverity.a" 'it was not built'; fi
+done
 for name in fsverity veritysetup; do
     rm -f "bin/$name" "bin/$name.made"
     cp "bin/$cpu/$name"{,.made} bin

@@ -1,6 +1,7 @@
 #!/bin/bash
 # Runs `make install` into folders, with a space in their names too, and compares the files there, their modes and bytes
-# with what README.md says; man finds the pages there, and they and the completion speak of the installed names. After
+# with what README.md says; man finds the pages there, and they and the completion speak of the installed names. If the
+# library for C is built, it is installed too, and a program is built by what pkg-config says of it. After
 # `make uninstall` just these files are gone.
 set -u
 cd "$(dirname "$0")/.."
@@ -41,18 +42,26 @@ completes() {
     same "completion of $2" "complete -F _complete_${2%%-*} $2" "$(bash -c '. "$1" && complete -p' - "$1")"
 }
 
-# installs FOLDER PREFIX SUFFIX WORD..: `make install` with these words puts the six files there, and nothing else.
+# library_files PREFIX: the files of the library with their modes, if it is built.
+library_files() {
+    if [ ! -e lib/libverity.a ]; then return; fi
+    printf '%s\n' "644 $1/include/verity.h" "644 $1/lib/libverity.a" "755 $1/lib/libverity.so.1" \
+        "644 $1/lib/pkgconfig/verity.pc" "644 $1/share/man/man3/verity.3"
+}
+
+# installs FOLDER PREFIX SUFFIX WORD..: `make install` with these words puts the six files there, and those of the
+# library, and nothing else.
 installs() {
     local folder=$scratch/$1 prefix=$2 suffix=$3 share
     shift 3
     (umask 022 && make -s install DESTDIR="$folder" "$@") >"$scratch/.made" 2>&1 </dev/null
     is_text "$folder: what make says" '' "$scratch/.made"
-    same "$folder: files" "755 $prefix/bin/fsverity$suffix
-755 $prefix/bin/veritysetup$suffix
-644 $prefix/share/bash-completion/completions/fsverity$suffix
-644 $prefix/share/bash-completion/completions/veritysetup$suffix
-644 $prefix/share/man/man1/fsverity$suffix.1
-644 $prefix/share/man/man8/veritysetup$suffix.8" "$(listed "$folder")"
+    same "$folder: files" "$({
+        printf '755 %s\n' "$prefix/bin/fsverity$suffix" "$prefix/bin/veritysetup$suffix"
+        printf '644 %s\n' "$prefix/share/bash-completion/completions/"{fsverity,veritysetup}"$suffix" \
+            "$prefix/share/man/man1/fsverity$suffix.1" "$prefix/share/man/man8/veritysetup$suffix.8"
+        library_files "$prefix"
+    } | sort -k 2)" "$(listed "$folder")"
     same_bytes "$folder: fsverity" bin/fsverity "$folder/$prefix/bin/fsverity$suffix"
     same_bytes "$folder: veritysetup" bin/veritysetup "$folder/$prefix/bin/veritysetup$suffix"
     share=$folder/$prefix/share
@@ -61,7 +70,7 @@ installs() {
     completes "$share/bash-completion/completions/fsverity$suffix" "fsverity$suffix"
     completes "$share/bash-completion/completions/veritysetup$suffix" "veritysetup$suffix"
     if command -v mandoc >/dev/null; then
-        same "$folder: mandoc -T lint" '' "$(mandoc -T lint -W warning "$share"/man/man[18]/* 2>/dev/null)"
+        same "$folder: mandoc -T lint" '' "$(mandoc -T lint -W warning "$share"/man/man[1-8]/* 2>/dev/null)"
     fi
 }
 
@@ -80,6 +89,20 @@ uninstalls() {
     same "$folder: what uninstall leaves" "$beside" "$(listed "$folder")"
 }
 
+# links FOLDER PREFIX: a program is built by what pkg-config says of the installed library, against the shared one by its
+# short name, and runs with it.
+links() {
+    local folder=$scratch/$1 prefix=$2 words
+    printf '%s\n' '#include <verity.h>' 'int main(void) { struct verity_params params;' \
+        'return verity_read_superblock((const uint8_t *)"", 1, 0, &params) != VERITY_SHORT_SUPERBLOCK; }' >"$scratch/user.c"
+    words=$(PKG_CONFIG_PATH=$folder/$prefix/lib/pkgconfig PKG_CONFIG_SYSROOT_DIR=$folder pkg-config --cflags --libs verity)
+    same "$folder: libverity.so" libverity.so.1 "$(readlink "$folder/$prefix/lib/libverity.so")"
+    # shellcheck disable=SC2086
+    runs "$folder: a program is built" 0 '' '' cc "$scratch/user.c" $words -o "$scratch/user"
+    runs "$folder: it runs" 0 '' '' env LD_LIBRARY_PATH="$folder/$prefix/lib" "$scratch/user"
+    same "$folder: version" "$version" "$(PKG_CONFIG_PATH=$folder/$prefix/lib/pkgconfig pkg-config --modversion verity)"
+}
+
 # finds_page FOLDER SECTION NAME: man finds the installed page.
 finds_page() {
     same "man $2 $3" "$1/man$2/$3.$2" "$(MANPATH=$1 man -w "$2" "$3" 2>&1)"
@@ -95,7 +118,15 @@ if man --version 2>/dev/null | grep -q '^man [0-9]'; then
 else
     echo 'left out: man is not installed'
 fi
+if [ -e lib/libverity.a ]; then
+    if command -v pkg-config >/dev/null && command -v cc >/dev/null; then
+        links plain usr/local
+    else
+        echo 'left out: what pkg-config says: pkg-config or cc is not installed'
+    fi
+fi
 uninstalls plain
+same 'libverity.so after uninstall' '' "$(find "$scratch/plain" -name libverity.so)"
 uninstalls named PREFIX=/usr SUFFIX=
 uninstalls 'a space  and "quotes"' PREFIX='/opt/our programs' SUFFIX=-x.y
 runs 'a suffix with a slash' 2 '' any make -s --no-print-directory install DESTDIR="$scratch/none" SUFFIX=/x

@@ -17,10 +17,10 @@ pub use verity_format::{
 };
 pub use verity_hash::{Algorithm, Digest, SaltRule, ShortBytes, salted, salted_rows};
 pub use verity_tree::{
-    BuildFault, CompareFault, Device, Failed, FileDevice, FileSource, Fused, HashType,
+    BuildFault, CompareFault, Device, Failed, FileDevice, FileSource, Fused, HashType, LinkFault,
     MemoryDevice, MemorySource, Nowhere, Part, PathFault, Plan, PlanFault, SettingFault, Source,
-    Store, TreeSettings, base_of, build, check_block, compare, laws as tree_laws, root_by_levels,
-    root_only,
+    Store, TreeSettings, base_of, build, check_block, check_link, check_top, compare,
+    laws as tree_laws, root_by_levels, root_only,
 };
 pub use veritysetup::{
     CommandName, ErasingWriter, Line, LineFault, OUT_OF_MEMORY, OptionFault, OptionName,

@@ -17,31 +17,41 @@ use Rattle.verity_c.specs.declared.fault.Fault.{Fault}
 use Rattle.verity_c.specs.declared.fault.Fault.TheVariants.{Index, Level, Length, Root}
 use Rattle.verity_c.specs.declared.parameters.VerityParams.{VerityParams}
 
--- what a number becomes by a value or a fault
-abbrev pub number_or : ℕ → Result ℕ Fault → ℕ
-number_or before (Ok number) = number
-number_or before (Err _) = before
+-- what a number or a buffer becomes by a value or a fault
+abbrev pub value_or : {A : Type 0} → A → Result A Fault → A
+value_or before (Ok value) = value
+value_or before (Err _) = before
+
+-- a number that a plan has
+abbrev pub number_in : Result Planned Fault → (Planned → ℕ) → Result ℕ Fault
+number_in (Err fault) number = Err fault
+number_in (Ok p) number = Ok (number p)
+
+-- the plan, if it has this level
+abbrev pub with_level : Result Planned Fault → ℕ → Result Planned Fault
+with_level (Err fault) level = Err fault
+with_level (Ok p) level = if nat_le (level_count_of p) level then Err Level else Ok p
+
+-- the plan, if it has this data block and this level
+abbrev pub with_block : Result Planned Fault → ℕ → ℕ → Result Planned Fault
+with_block (Err fault) i level = Err fault
+with_block (Ok p) i level = if nat_le p.blocks i then Err Index else with_level (Ok p) level
 
 -- the number of levels of a plan
-abbrev pub levels_in : Result Planned Fault → Result ℕ Fault
-levels_in (Err fault) = Err fault
-levels_in (Ok p) = Ok (level_count_of p)
+abbrev pub level_count_in : Result Planned Fault → Result ℕ Fault
+level_count_in plan = number_in plan level_count_of
 
 -- where a level begins, in bytes, and how many hash blocks it has
 abbrev pub level_start_in : Result Planned Fault → ℕ → Result ℕ Fault
-level_start_in (Err fault) level = Err fault
-level_start_in (Ok p) level = if nat_le (level_count_of p) level then Err Level else Ok (start_byte_of p level 0)
+level_start_in plan level = number_in (with_level plan level) (λ p. start_byte_of p level 0)
 
 abbrev pub level_blocks_in : Result Planned Fault → ℕ → Result ℕ Fault
-level_blocks_in (Err fault) level = Err fault
-level_blocks_in (Ok p) level = if nat_le (level_count_of p) level then Err Level else Ok (level_size_of p level)
+level_blocks_in plan level = number_in (with_level plan level) (λ p. level_size_of p level)
 
 -- the byte at which the hash block of a level stands that is above data block i
-abbrev pub byte_above_in : Result Planned Fault → ℕ → ℕ → Result ℕ Fault
-byte_above_in (Err fault) i level = Err fault
-byte_above_in (Ok p) i level = if nat_le p.blocks i then Err Index
-    else (if nat_le (level_count_of p) level then Err Level
-    else Ok (start_byte_of p level (i / fan p.settings ^ (level + 1))))
+abbrev pub hash_block_start_in : Result Planned Fault → ℕ → ℕ → Result ℕ Fault
+hash_block_start_in plan i level =
+    number_in (with_block plan i level) (λ p. start_byte_of p level (i / fan p.settings ^ (level + 1)))
 
 -- the status of a block that is checked by the hash block above it
 abbrev pub link_status_in : Result Planned Fault → ℕ → ℕ → List ℕ → List ℕ → ℕ
@@ -99,8 +109,3 @@ file_digest_in (Err fault) size root room = Err fault
 file_digest_in (Ok tree) size root room = if not (length root == digest_len tree) then Err Root
     else (if not (room == digest_len tree) then Err Length
     else Ok (digest_of_file (record { tree = tree; size = size; root = root })))
-
--- what a buffer becomes by bytes or a fault
-abbrev pub bytes_or : List ℕ → Result (List ℕ) Fault → List ℕ
-bytes_or before (Ok bytes) = bytes
-bytes_or before (Err _) = before

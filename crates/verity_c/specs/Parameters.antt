@@ -34,18 +34,19 @@ algorithm_of number = if number == 1 then Some algorithm.Sha256
     else (if number == 4 then Some algorithm.Sha224
     else (if number == 5 then Some algorithm.Sha384 else None))))
 
--- the settings, if as many bytes count of the salt as it has
-abbrev pub with_salt_of : ℕ → ℕ → Result Settings SettingFault → Result Settings Fault
-with_salt_of most size (Err fault) = Err (fault_of_setting fault)
-with_salt_of most size (Ok tree) = if nat_le size most then Ok tree else Err SaltSize
+-- the settings, if no more bytes of the salt are to count than there can be
+abbrev pub if_salt_fits : Result Settings SettingFault → ℕ → ℕ → Result Settings Fault
+if_salt_fits (Err fault) size most = Err (fault_of_setting fault)
+if_salt_fits (Ok tree) size most = if nat_le size most then Ok tree else Err SaltSize
 
 -- the settings of dm-verity that parameters make, or the first fault
 abbrev pub tree_by : Option HashFunction → Option TypeOfHash → VerityParams → Result Settings Fault
 tree_by None hash_type params = Err Algorithm
 tree_by (Some function) None params = Err HashType
-tree_by (Some function) (Some hash_type) params = with_salt_of most_verity_salt params.salt_size
+tree_by (Some function) (Some hash_type) params = if_salt_fits
     (verity_settings function hash_type (take params.salt_size params.salt) params.data_block_size
     params.hash_block_size)
+    params.salt_size most_verity_salt
 
 abbrev pub tree_of : VerityParams → Result Settings Fault
 tree_of params = tree_by (algorithm_of params.hash_algorithm) (type_of_number params.hash_type) params
@@ -73,8 +74,9 @@ plan_of params = plan_by (tree_of params) params
 -- the settings of fs-verity that parameters make, or the first fault
 abbrev pub fsverity_tree_by : Option HashFunction → FsverityParams → Result Settings Fault
 fsverity_tree_by None params = Err Algorithm
-fsverity_tree_by (Some function) params = with_salt_of (most_salt PaddedBefore) params.salt_size
+fsverity_tree_by (Some function) params = if_salt_fits
     (fsverity_settings function (take params.salt_size params.salt) params.block_size)
+    params.salt_size (most_salt PaddedBefore)
 
 abbrev pub fsverity_tree_of : FsverityParams → Result Settings Fault
 fsverity_tree_of params = fsverity_tree_by (algorithm_of params.hash_algorithm) params

@@ -14,8 +14,8 @@ use verity_tree::{PathFault, check_block};
 /// Checks data block `index`, counted from 0, by its path: the hash blocks above it, one after another, level 0 first.
 ///
 /// The status is 0, or that of the first fault of the parameters, or of `Root`, `Index`, `Length`, `Differs`. For
-/// `Differs`, `level` becomes the lowest level whose hash block doesn't have the digest of the block below, or the number
-/// of levels if only the root hash is another. Otherwise it stays as it was.
+/// `Differs`, `level` becomes the lowest level at which the hash of the block below isn't the digest in its slot, or the
+/// number of levels if the hash of the top block isn't the root hash. Otherwise it stays as it was.
 #[unsafe(no_mangle)]
 pub extern "C" fn verity_check_block(
     params: &VerityParams,

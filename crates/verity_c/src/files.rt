@@ -1,6 +1,6 @@
 //! The file digest of fs-verity.
 ghost use Rattle.std.specs.Prelude.{◌≡◌, length};
-ghost use Rattle.verity_c.specs.Answers.{bytes_or, file_digest_in};
+ghost use Rattle.verity_c.specs.Answers.{file_digest_in, value_or};
 ghost use Rattle.verity_c.specs.Parameters.{fsverity_tree_of};
 ghost use Rattle.verity_c.specs.Statuses.{status_of};
 
@@ -25,7 +25,7 @@ pub extern "C" fn fsverity_file_digest(
     ensures status { result
         ≡ status_of (file_digest_in (fsverity_tree_of params.now) params.now.size root.now (length digest.old)) }
     ensures digest { digest.new
-        ≡ bytes_or digest.old
+        ≡ value_or digest.old
         (file_digest_in (fsverity_tree_of params.now) params.now.size root.now (length digest.old)) }
 {
     let tree = match fsverity_tree_of(params) {
@@ -38,6 +38,7 @@ pub extern "C" fn fsverity_file_digest(
     if digest.len() != tree.algorithm().digest_len() {
         return Fault::Length.code();
     }
+    // Settings of fs-verity and a root hash of their length have a descriptor, so this is never answered.
     let Some(descriptor) = Descriptor::of(&tree, params.size, &root) else {
         return Fault::Algorithm.code();
     };

@@ -4,7 +4,7 @@ ghost use Rattle.verity_format.specs.Superblocks.{IsValidSuperblock, SuperblockF
 ghost use Rattle.verity_plan.specs.Plans.{plan_at, superblock_size};
 ghost use Rattle.verity_c.specs.Parameters.{parameters_of, plan_of, planned};
 
-/// The parameters that are read of a superblock make the plan of its tree at the hash offset.
+/// The parameters that are read of a superblock make the plan of its tree at the hash offset, if that is a multiple of 512.
 pub fn read_parameters_make_the_plan()
     ensures { (v : SuperblockFields) (offset : ℕ) → IsValidSuperblock v → offset % superblock_size ≡ 0
         → plan_of (parameters_of v offset) ≡ planned (plan_at v.tree v.blocks offset true) }

@@ -1,6 +1,6 @@
 //! How many levels a tree has, where each begins, and where the hash blocks above a data block stand.
 ghost use Rattle.std.specs.Prelude.{◌≡◌};
-ghost use Rattle.verity_c.specs.Answers.{byte_above_in, level_blocks_in, level_start_in, levels_in, number_or};
+ghost use Rattle.verity_c.specs.Answers.{level_blocks_in, level_count_in, level_start_in, hash_block_start_in, value_or};
 ghost use Rattle.verity_c.specs.Parameters.{fsverity_plan_of, plan_of};
 ghost use Rattle.verity_c.specs.Statuses.{status_of};
 
@@ -13,25 +13,25 @@ use verity_plan::Plan;
 ///
 /// The status is 0, or that of the first fault of the parameters. Then the number stays as it was.
 #[unsafe(no_mangle)]
-pub extern "C" fn verity_levels(params: &VerityParams, levels: &mut usize) -> u32
-    ensures status { result ≡ status_of (levels_in (plan_of params.now)) }
-    ensures levels { levels.new ≡ number_or levels.old (levels_in (plan_of params.now)) }
+pub extern "C" fn verity_level_count(params: &VerityParams, levels: &mut usize) -> u32
+    ensures status { result ≡ status_of (level_count_in (plan_of params.now)) }
+    ensures levels { levels.new ≡ value_or levels.old (level_count_in (plan_of params.now)) }
 {
-    put_levels(plan_of(params), levels)
+    put_level_count(plan_of(params), levels)
 }
 
 /// The same of a file's fs-verity tree.
 #[unsafe(no_mangle)]
-pub extern "C" fn fsverity_levels(params: &FsverityParams, levels: &mut usize) -> u32
-    ensures status { result ≡ status_of (levels_in (fsverity_plan_of params.now)) }
-    ensures levels { levels.new ≡ number_or levels.old (levels_in (fsverity_plan_of params.now)) }
+pub extern "C" fn fsverity_level_count(params: &FsverityParams, levels: &mut usize) -> u32
+    ensures status { result ≡ status_of (level_count_in (fsverity_plan_of params.now)) }
+    ensures levels { levels.new ≡ value_or levels.old (level_count_in (fsverity_plan_of params.now)) }
 {
-    put_levels(fsverity_plan_of(params), levels)
+    put_level_count(fsverity_plan_of(params), levels)
 }
 
-fn put_levels(plan: Result<Plan, Fault>, levels: &mut usize) -> u32
-    ensures status { result ≡ status_of (levels_in plan) }
-    ensures levels { levels.new ≡ number_or levels.old (levels_in plan) }
+fn put_level_count(plan: Result<Plan, Fault>, levels: &mut usize) -> u32
+    ensures status { result ≡ status_of (level_count_in plan) }
+    ensures levels { levels.new ≡ value_or levels.old (level_count_in plan) }
 {
     match plan {
         Ok(plan) => {
@@ -47,38 +47,43 @@ fn put_levels(plan: Result<Plan, Fault>, levels: &mut usize) -> u32
 ///
 /// The status is 0, or that of the first fault of the parameters, or of `Level`. Then both numbers stay as they were.
 #[unsafe(no_mangle)]
-pub extern "C" fn verity_level(
+pub extern "C" fn verity_level_start(
     params: &VerityParams,
     level: usize,
     start: &mut u64,
     blocks: &mut u64,
 ) -> u32
     ensures status { result ≡ status_of (level_start_in (plan_of params.now) level) }
-    ensures start { start.new ≡ number_or start.old (level_start_in (plan_of params.now) level) }
-    ensures blocks { blocks.new ≡ number_or blocks.old (level_blocks_in (plan_of params.now) level) }
+    ensures start { start.new ≡ value_or start.old (level_start_in (plan_of params.now) level) }
+    ensures blocks { blocks.new ≡ value_or blocks.old (level_blocks_in (plan_of params.now) level) }
 {
-    put_level(plan_of(params), level, start, blocks)
+    put_level_start(plan_of(params), level, start, blocks)
 }
 
 /// The same of a file's fs-verity tree, in bytes from the beginning of the tree.
 #[unsafe(no_mangle)]
-pub extern "C" fn fsverity_level(
+pub extern "C" fn fsverity_level_start(
     params: &FsverityParams,
     level: usize,
     start: &mut u64,
     blocks: &mut u64,
 ) -> u32
     ensures status { result ≡ status_of (level_start_in (fsverity_plan_of params.now) level) }
-    ensures start { start.new ≡ number_or start.old (level_start_in (fsverity_plan_of params.now) level) }
-    ensures blocks { blocks.new ≡ number_or blocks.old (level_blocks_in (fsverity_plan_of params.now) level) }
+    ensures start { start.new ≡ value_or start.old (level_start_in (fsverity_plan_of params.now) level) }
+    ensures blocks { blocks.new ≡ value_or blocks.old (level_blocks_in (fsverity_plan_of params.now) level) }
 {
-    put_level(fsverity_plan_of(params), level, start, blocks)
+    put_level_start(fsverity_plan_of(params), level, start, blocks)
 }
 
-fn put_level(plan: Result<Plan, Fault>, level: usize, start: &mut u64, blocks: &mut u64) -> u32
+fn put_level_start(
+    plan: Result<Plan, Fault>,
+    level: usize,
+    start: &mut u64,
+    blocks: &mut u64,
+) -> u32
     ensures status { result ≡ status_of (level_start_in plan level) }
-    ensures start { start.new ≡ number_or start.old (level_start_in plan level) }
-    ensures blocks { blocks.new ≡ number_or blocks.old (level_blocks_in plan level) }
+    ensures start { start.new ≡ value_or start.old (level_start_in plan level) }
+    ensures blocks { blocks.new ≡ value_or blocks.old (level_blocks_in plan level) }
 {
     let plan = match plan {
         Ok(plan) => plan,
@@ -99,35 +104,35 @@ fn put_level(plan: Result<Plan, Fault>, level: usize, start: &mut u64, blocks: &
 ///
 /// The status is 0, or that of the first fault of the parameters, or of `Index`, `Level`. Then the byte stays as it was.
 #[unsafe(no_mangle)]
-pub extern "C" fn verity_block_above(
+pub extern "C" fn verity_hash_block_start(
     params: &VerityParams,
     index: u64,
     level: usize,
     start: &mut u64,
 ) -> u32
-    ensures status { result ≡ status_of (byte_above_in (plan_of params.now) index level) }
-    ensures start { start.new ≡ number_or start.old (byte_above_in (plan_of params.now) index level) }
+    ensures status { result ≡ status_of (hash_block_start_in (plan_of params.now) index level) }
+    ensures start { start.new ≡ value_or start.old (hash_block_start_in (plan_of params.now) index level) }
 {
-    put_block_above(plan_of(params), index, level, start)
+    put_hash_block_start(plan_of(params), index, level, start)
 }
 
 /// The same of a file's fs-verity tree, in bytes from the beginning of the tree.
 #[unsafe(no_mangle)]
-pub extern "C" fn fsverity_block_above(
+pub extern "C" fn fsverity_hash_block_start(
     params: &FsverityParams,
     index: u64,
     level: usize,
     start: &mut u64,
 ) -> u32
-    ensures status { result ≡ status_of (byte_above_in (fsverity_plan_of params.now) index level) }
-    ensures start { start.new ≡ number_or start.old (byte_above_in (fsverity_plan_of params.now) index level) }
+    ensures status { result ≡ status_of (hash_block_start_in (fsverity_plan_of params.now) index level) }
+    ensures start { start.new ≡ value_or start.old (hash_block_start_in (fsverity_plan_of params.now) index level) }
 {
-    put_block_above(fsverity_plan_of(params), index, level, start)
+    put_hash_block_start(fsverity_plan_of(params), index, level, start)
 }
 
-fn put_block_above(plan: Result<Plan, Fault>, index: u64, level: usize, start: &mut u64) -> u32
-    ensures status { result ≡ status_of (byte_above_in plan index level) }
-    ensures start { start.new ≡ number_or start.old (byte_above_in plan index level) }
+fn put_hash_block_start(plan: Result<Plan, Fault>, index: u64, level: usize, start: &mut u64) -> u32
+    ensures status { result ≡ status_of (hash_block_start_in plan index level) }
+    ensures start { start.new ≡ value_or start.old (hash_block_start_in plan index level) }
 {
     let plan = match plan {
         Ok(plan) => plan,

@@ -17,8 +17,8 @@ mod superblock;
 pub use blocks::{fsverity_check_block, verity_check_block};
 pub use files::fsverity_file_digest;
 pub use levels::{
-    fsverity_block_above, fsverity_level, fsverity_levels, verity_block_above, verity_level,
-    verity_levels,
+    fsverity_hash_block_start, fsverity_level_count, fsverity_level_start, verity_hash_block_start,
+    verity_level_count, verity_level_start,
 };
 pub use links::{fsverity_check_link, fsverity_check_top, verity_check_link, verity_check_top};
 pub use parameters::{FsverityParams, VerityParams};

@@ -1,12 +1,12 @@
 //! The settings and plans that parameters make.
 ghost use Rattle.std.specs.Prelude.{◌≡◌, ◌≤◌, length, take};
-ghost use Rattle.verity_c.specs.Parameters.{algorithm_of, fsverity_plan_of, fsverity_tree_of, number_of, plan_of};
-ghost use Rattle.verity_c.specs.Parameters.{tree_of};
+ghost use Rattle.verity_c.specs.Parameters.{algorithm_of, fsverity_plan_of, fsverity_tree_of, if_salt_fits, number_of};
+ghost use Rattle.verity_c.specs.Parameters.{plan_of, tree_of};
 
 use crate::fault::Fault;
 use crate::parameters::{FsverityParams, VerityParams};
 use verity_hash::Algorithm;
-use verity_plan::{HashType, Plan, TreeSettings, multiple_of, offset_unit, plan_at};
+use verity_plan::{HashType, Plan, SettingFault, TreeSettings, multiple_of, offset_unit, plan_at};
 
 /// The hash function of a number in verity.h.
 fn algorithm_of(number: u32) -> Option<Algorithm>
@@ -42,6 +42,22 @@ fn counting(salt: &[u8], size: u32) -> &[u8]
     &salt[..salt.len().min(size as usize)]
 }
 
+/// The settings, if no more bytes of the salt are to count than there can be, or the first fault: that of the settings,
+/// `SaltSize`.
+fn if_salt_fits(
+    tree: Result<TreeSettings, SettingFault>,
+    size: u32,
+    most: usize,
+) -> Result<TreeSettings, Fault>
+    ensures { result ≡ if_salt_fits tree size most }
+{
+    match tree {
+        Ok(tree) if size as usize <= most => Ok(tree),
+        Ok(_) => Err(Fault::SaltSize),
+        Err(fault) => Err(Fault::of_setting(fault)),
+    }
+}
+
 /// The settings of dm-verity that parameters make, or the first of `Algorithm`, `HashType`, `DataBlockSize`,
 /// `HashBlockSize`, `SaltSize`.
 fn tree_of(params: &VerityParams) -> Result<TreeSettings, Fault>
@@ -55,11 +71,8 @@ fn tree_of(params: &VerityParams) -> Result<TreeSettings, Fault>
     };
     let salt = counting(&params.salt, params.salt_size);
     let (data_block, hash_block) = (params.data_block_size, params.hash_block_size);
-    match TreeSettings::verity(algorithm, hash_type, salt, data_block, hash_block) {
-        Ok(tree) if params.salt_size as usize <= params.salt.len() => Ok(tree),
-        Ok(_) => Err(Fault::SaltSize),
-        Err(fault) => Err(Fault::of_setting(fault)),
-    }
+    let tree = TreeSettings::verity(algorithm, hash_type, salt, data_block, hash_block);
+    if_salt_fits(tree, params.salt_size, params.salt.len())
 }
 
 /// The plan of dm-verity that parameters make, or the first fault: that of the settings, `HashOffset`, `NoData`,
@@ -89,11 +102,8 @@ pub(crate) fn fsverity_tree_of(params: &FsverityParams) -> Result<TreeSettings, 
         return Err(Fault::Algorithm);
     };
     let salt = counting(&params.salt, params.salt_size);
-    match TreeSettings::fsverity(algorithm, salt, params.block_size) {
-        Ok(tree) if params.salt_size as usize <= params.salt.len() => Ok(tree),
-        Ok(_) => Err(Fault::SaltSize),
-        Err(fault) => Err(Fault::of_setting(fault)),
-    }
+    let tree = TreeSettings::fsverity(algorithm, salt, params.block_size);
+    if_salt_fits(tree, params.salt_size, params.salt.len())
 }
 
 /// The plan of fs-verity that parameters make, or the first fault: that of the settings, `NoData`, `TooLarge`.

@@ -1,6 +1,6 @@
 use Rattle.std.proofs.Common.{arith}
 use Rattle.verity_c.proofs.LevelLemmas.{HasBlock-first}
-use Rattle.verity_c.proofs.levels.put_level.Goals as goal
+use Rattle.verity_c.proofs.levels.put_level_start.Goals as goal
 
 pub byte-requires : goal.byte-requires
 byte-requires c =

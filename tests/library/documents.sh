@@ -1,0 +1,88 @@
+#!/bin/bash
+# Builds and runs the examples of include/verity.h, of man/verity.3 and of README.md word for word, over an image of
+# Debian's veritysetup, and compares what header and page say of functions, statuses and the version.
+set -u
+cd "$(dirname "$0")/../.."
+. tests/checks.sh
+LIB=$(realpath "${LIB:-lib}")
+needs cc gcc
+needs_other veritysetup cryptsetup-bin
+root=$PWD
+mkdir -p "$scratch/run" "$scratch/installed/lib/pkgconfig" "$scratch/installed/include"
+
+# page_part NUMBER: the NUMBERth example of the page.
+page_part() {
+    awk -v wanted="$1" '/^\.Bd -literal/ { part++; shown = part == wanted; next } /^\.Ed/ { shown = 0 } shown' man/verity.3
+}
+
+# The program of the page is that of the header.
+page_part 1 >"$scratch/run/check.c"
+sed -nE '/^ \*     #include <stdio.h>/,/^ \*\//s/^ \*( {5})?//p' include/verity.h | sed '$d' >"$scratch/header.c"
+same_bytes "the header's example and the page's" "$scratch/run/check.c" "$scratch/header.c"
+
+# It is built against the library as it is installed, and run over an image with a changed block.
+cp "$LIB/libverity.a" "$LIB/libverity.so.1" "$scratch/installed/lib"
+ln -s libverity.so.1 "$scratch/installed/lib/libverity.so"
+cp include/verity.h "$scratch/installed/include"
+sample $((300 * 4096)) >"$scratch/run/image.ext4"
+report=$(veritysetup format "$scratch/run/image.ext4" "$scratch/run/image.hash")
+hash=$(awk '/^Root hash:/ { print $3 }' <<<"$report")
+cd "$scratch/run" || exit 1
+if command -v pkg-config >/dev/null && command -v xxd >/dev/null; then
+    printf '%s\n' "prefix=$scratch/installed" 'Name: libverity' 'Description: as installed' 'Version: 1' \
+        'Libs: -L${prefix}/lib -lverity' 'Cflags: -I${prefix}/include' >"$scratch/installed/lib/pkgconfig/verity.pc"
+    export PKG_CONFIG_PATH=$scratch/installed/lib/pkgconfig LD_LIBRARY_PATH=$scratch/installed/lib
+    while IFS= read -r line; do
+        case $line in
+        '$ '*)
+            command=${line#\$ }
+            said=$(root=$hash && eval "$command" 2>&1)
+            ;;
+        *) same "man/verity.3: $command" "$line" "$said" ;;
+        esac
+    done < <(cd "$root" && page_part 2)
+    same 'the example is built' yes "$([ -x check ] && echo yes)"
+    flip image.ext4 5000 1
+    bytes "$hash" | ./check image.ext4 image.hash 1
+    same 'a changed block' 1 "$?"
+    bytes "$hash" | ./check image.ext4 image.hash 0
+    same 'the block before it' 0 "$?"
+    bytes "$hash" | ./check image.ext4 image.hash 300
+    same 'no such block' 2 "$?"
+    flip image.ext4 5000 1
+else
+    echo "left out: the page's commands: pkg-config or xxd is not installed"
+fi
+
+# README's program: a superblock, a data block, its path and the root hash come one after another.
+awk '/^    #include "verity.h"|^    #include <stdio.h>/ { shown = 1 } shown && !/^(    .*)?$/ { exit } shown { print substr($0, 5) }' \
+    "$root/README.md" >readme.c
+same 'README.md: it is there' yes "$(grep -q verity_check_block readme.c && echo yes)"
+runs 'README.md: it is built' 0 '' '' cc -Wall -I"$root/include" readme.c "$LIB/libverity.a" -o readme
+# The path of data block 1: level 1 is block 1 of the hash device, and level 0 begins with block 2.
+{
+    head -c 512 image.hash
+    dd if=image.ext4 bs=4096 skip=1 count=1 status=none
+    dd if=image.hash bs=4096 skip=2 count=1 status=none
+    dd if=image.hash bs=4096 skip=1 count=1 status=none
+    bytes "$hash"
+} >input
+./readme <input
+same 'README.md: the right block' 0 "$?"
+flip input 600 1
+./readme <input
+same 'README.md: a changed block' 1 "$?"
+cd "$root" || exit 1
+
+# Header and page have the same functions, statuses and version.
+functions=$(grep -oE '\b(verity|fsverity)_[a-z_]+\(' include/verity.h | tr -d '(' | sort -u)
+same 'functions of man/verity.3' "$(grep -vx 'verity_status\|verity_params' <<<"$functions")" \
+    "$(awk '$1 == ".Fn" { print $2 }' man/verity.3 | sort -u)"
+same 'statuses of man/verity.3' "$(sed -nE '/^enum verity_status/,/^}/s/^ *(VERITY_[A-Z_]+) = .*/\1/p' include/verity.h | sort -u)" \
+    "$(grep -oE '^\.(It )?Dv .*' man/verity.3 | grep -oE 'VERITY_[A-Z_]+' | sort -u)"
+version=$(sed -nE 's/^## ([0-9.]+) .*/\1/p' CHANGELOG.md | head -n 1)
+same 'version of the header' "$version" \
+    "$(awk '/^#define VERITY_VERSION_/ { printf "%s%s", dot, $3; dot = "." }' include/verity.h)"
+same 'version of the page' ".Os libverity $version" "$(grep '^\.Os' man/verity.3)"
+if command -v mandoc >/dev/null; then same 'mandoc -T lint' '' "$(mandoc -T lint -W style man/verity.3 2>/dev/null)"; fi
+finish

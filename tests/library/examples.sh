@@ -1,0 +1,401 @@
+#!/bin/bash
+# Builds the examples of the library for C by the commands in their comments, and runs them over images and files of
+# Debian's veritysetup and fsverity: right blocks are handed out, changed ones are refused. Then measures how much stack
+# each function of the library takes, which include/verity.h states. LIB is the folder with the library. Where the
+# tools for 64-bit ARM are there, boot_check and the stack are tried by them too.
+set -u
+cd "$(dirname "$0")/../.."
+. tests/checks.sh
+LIB=$(realpath "${LIB:-lib}")
+for file in libverity.a libverity.so.1; do
+    if [ ! -e "$LIB/$file" ]; then
+        echo "$0: $LIB/$file is not there: build the library first" >&2
+        exit 1
+    fi
+done
+needs gcc gcc
+needs veritysetup cryptsetup-bin
+
+UUID=12345678-1234-4234-8234-123456789abc
+SALT=$(printf 'ab%.0s' {1..32})
+seconds=20
+
+# has TOOL PACKAGE WHAT: whether a tool is there. Otherwise says that something is left out.
+has() {
+    command -v "$1" >/dev/null || {
+        echo "left out: $3: $1 is not installed (Debian: $2)"
+        return 1
+    }
+}
+
+# build FILE COMPILER OPTION..: builds an example by the command in its comment that begins with this compiler, and by
+# further options, with the library in LIB. What it makes goes to the scratch folder.
+build() {
+    local file=$1 compiler=$2 command
+    shift 2
+    command=$(sed -n "/^ \*     $compiler /,/[^\\\\]\$/s/^ \*//p" "$file" | sed 's/\\$//' | tr '\n' ' ')
+    command=$(sed -E 's| lib/| "$LIB"/|g; s| -o +| -o "$scratch"/|' <<<"${command#"${command%%[! ]*}"}")
+    if [[ $command != "$compiler "* ]]; then
+        fail "$file: build" "its comment has no command that begins with $compiler"
+        return 1
+    fi
+    if eval "$command -Wall -Wextra -Wpedantic -Werror $*" >"$scratch/built" 2>&1; then
+        pass
+    else
+        fail "$file: build" "$(cat "$scratch/built")"
+        return 1
+    fi
+}
+
+# image NAME BLOCKS BLOCK_SIZE OPTION..: makes NAME.data and NAME.hash by Debian's veritysetup. Sets root.
+image() {
+    local name=$scratch/$1 blocks=$2 size=$3
+    shift 3
+    sample $((blocks * size)) >"$name.data"
+    veritysetup format --uuid $UUID --salt "$SALT" --data-block-size "$size" "$@" "$name.data" "$name.hash" >"$name.txt" \
+        2>&1 || fail "$name" "$(cat "$name.txt")"
+    root=$(sed -n 's/^Root hash:[[:space:]]*//p' "$name.txt")
+}
+
+# another ROOT: a root hash that differs in its last digit.
+another() {
+    tr 0123456789abcdef 123456789abcdef0 <<<"${1: -1}" | sed "s/^/${1%?}/"
+}
+
+# block_of FILE SIZE INDEX: one block.
+block_of() {
+    dd if="$1" bs="$2" skip="$3" count=1 status=none
+}
+
+# ------------------------------------------------ boot_check ------------------------------------------------
+
+# reads NAME SIZE INDEX WORD..: the block is handed out.
+reads() {
+    local name=$1 size=$2 index=$3
+    shift 3
+    "${boot[@]}" "$@" >"$scratch/block" 2>"$scratch/.err"
+    same "${boot[*]##*/}: $name, block $index: status" 0 $?
+    block_of "$scratch/$name.data" "$size" "$index" >"$scratch/expected"
+    same_bytes "${boot[*]##*/}: $name, block $index" "$scratch/expected" "$scratch/block"
+}
+
+# refuses WHAT MESSAGE WORD..: no byte is handed out.
+refuses() {
+    local what=$1 message=$2
+    shift 2
+    runs "${boot[*]##*/}: $what" 1 '' "$message" "${boot[@]}" "$@"
+}
+
+# boot_image BLOCKS BLOCK_SIZE LEVELS OFFSET OPTION..: right blocks, another root hash and an index past the end.
+boot_image() {
+    local blocks=$1 size=$2 levels=$3 offset=$4 index words=()
+    shift 4
+    rm -f "$scratch"/boot.*
+    image boot "$blocks" "$size" --hash-offset "$offset" "$@"
+    words=("$scratch/boot.data" "$scratch/boot.hash")
+    for index in 0 $((blocks / 2)) $((blocks - 1)); do
+        reads boot "$size" "$index" "${words[@]}" "$root" "$index" "$offset"
+    done
+    refuses "$*: another root hash" "status 1, level $levels" "${words[@]}" "$(another "$root")" 0 "$offset"
+    refuses "$*: a root hash that is too short" 'status 5' "${words[@]}" "${root%??}" 0 "$offset"
+    refuses "$*: past the end" 'status 2' "${words[@]}" "$root" "$blocks" "$offset"
+    refuses "$*: the largest index" 'status 2' "${words[@]}" "$root" 18446744073709551615 "$offset"
+    flip "$scratch/boot.data" $((size - 1)) 128
+    refuses "$*: a changed data block" 'status 1, level 0' "${words[@]}" "$root" 0 "$offset"
+    if [ "$blocks" -gt 1 ]; then reads boot "$size" 1 "${words[@]}" "$root" 1 "$offset"; fi
+}
+
+# boot_tree: changes in a tree of two levels. Its top block stands after the superblock's, at byte 4096.
+boot_tree() {
+    local words=("$scratch/tree.data" "$scratch/tree.hash")
+    image tree 300 4096
+    words+=("$root")
+    flip "$scratch/tree.hash" 8192 1
+    refuses 'a changed digest of level 0' 'status 1, level 0' "${words[@]}" 0
+    refuses 'another digest of its hash block' 'status 1, level 1' "${words[@]}" 1
+    reads tree 4096 128 "${words[@]}" 128
+    flip "$scratch/tree.hash" 8192 1
+    flip "$scratch/tree.hash" 4096 1
+    refuses 'a changed digest of level 1' 'status 1, level 1' "${words[@]}" 127
+    refuses 'another digest of its hash block' 'status 1, level 2' "${words[@]}" 128
+    flip "$scratch/tree.hash" 4096 1
+    reads tree 4096 127 "${words[@]}" 127
+    flip "$scratch/tree.hash" 0 1
+    refuses 'a changed superblock' 'status 15' "${words[@]}" 0
+    flip "$scratch/tree.hash" 0 1
+    truncate -s 16384 "$scratch/tree.hash"
+    refuses 'a missing hash block' 'status 100' "${words[@]}" 299
+    truncate -s 4096 "$scratch/tree.data"
+    refuses 'a missing data block' 'status 100' "${words[@]}" 1
+}
+
+boot_all() {
+    local algorithm type
+    for algorithm in sha256 sha512 sha1; do
+        for type in 0 1; do
+            boot_image 1 4096 0 0 --hash $algorithm --format $type
+            boot_image 60 4096 1 4096 --hash $algorithm --format $type
+            boot_image 200 4096 2 0 --hash $algorithm --format $type
+        done
+        boot_image 300 512 3 1024 --hash $algorithm --format 1 --hash-block-size 512
+    done
+    boot_tree
+}
+
+boot_checks() {
+    if [ "$(uname -m)" = x86_64 ] && build examples/boot_check.c gcc; then
+        boot=("$scratch/boot_check")
+        boot_all
+    fi
+    if has aarch64-linux-gnu-gcc gcc-aarch64-linux-gnu 'boot_check for 64-bit ARM' &&
+        has qemu-aarch64 qemu-user 'boot_check for 64-bit ARM'; then
+        if [ ! -e "$LIB/aarch64/libverity.a" ]; then
+            echo "left out: boot_check for 64-bit ARM: $LIB/aarch64/libverity.a is not there"
+        elif build examples/boot_check.c aarch64-linux-gnu-gcc; then
+            boot=(qemu-aarch64 "$scratch/boot_check_arm")
+            boot_all
+        fi
+    fi
+}
+
+# -------------------------------------------------- nbdkit --------------------------------------------------
+
+# served WORD.. COMMAND: runs a command of the shell while nbdkit serves an image. What the command prints goes to
+# $scratch/served, and what nbdkit says to $scratch/said.
+served() {
+    timeout $seconds nbdkit -v -U - "$scratch/nbdkit-verity-plugin.so" "${@:1:$#-1}" --run "${!#}" \
+        >"$scratch/served" 2>"$scratch/said" </dev/null
+}
+
+# copies NAME HASH_BLOCKS WORD..: the whole data, and how many hash blocks were read for it.
+copies() {
+    local name=$1 hash_blocks=$2 words=("${@:3}")
+    rm -f "$scratch/copy"
+    served "${words[@]}" "nbdcopy --synchronous \"\$uri\" '$scratch/copy'"
+    same "nbdkit: $name: status" 0 $?
+    same_bytes "nbdkit: $name" "$scratch/$name.data" "$scratch/copy"
+    same "nbdkit: $name: hash blocks read" "$hash_blocks" \
+        "$(grep -c 'debug: a hash block of level [0-9]* is read at byte [0-9]*$' "$scratch/said")"
+    rm -f "$scratch/copy"
+    served "${words[@]}" "nbdcopy \"\$uri\" '$scratch/copy'"
+    same_bytes "nbdkit: $name, by several connections" "$scratch/$name.data" "$scratch/copy"
+}
+
+# gives OFFSET LENGTH: bytes that are read are those of the data.
+gives() {
+    served "${words[@]}" "qemu-io -r -f raw -c 'read -v $1 $2' \"\$uri\""
+    tail -c +$(($1 + 1)) "$scratch/tree.data" | head -c "$2" | od -An -v -w16 -tx1 | tr -d ' ' >"$scratch/expected"
+    sed -nE 's/^[0-9a-f]{8}: (( [0-9a-f]{2}){1,16}) .*/\1/p' "$scratch/served" | tr -d ' ' >"$scratch/block"
+    same_bytes "nbdkit: $2 bytes from byte $1" "$scratch/expected" "$scratch/block"
+}
+
+# is_refused MESSAGE OFFSET LENGTH: a read is an input error, the second time too, and nbdkit says why.
+is_refused() {
+    served "${words[@]}" "qemu-io -r -f raw -c 'read $2 $3' -c 'read $2 $3' \"\$uri\""
+    same "nbdkit: $1: read" 2 "$(grep -c '^read failed: Input/output error$' "$scratch/served")"
+    same "nbdkit: $1" 2 "$(grep -c "error: $1\$" "$scratch/said")"
+}
+
+# The tree of 1024 data blocks has 64 hash blocks of level 0, 4 of level 1 and the top block, each for 16 blocks. The
+# top block stands at byte 512, level 1 at 1024 and level 0 at 3072.
+nbdkit_checks() {
+    local words
+    has nbdkit nbdkit nbdkit-verity-plugin && has nbdcopy libnbd-bin nbdkit-verity-plugin || return
+    if ! gcc -include nbdkit-plugin.h -D NBDKIT_API_VERSION=2 -fsyntax-only -x c /dev/null 2>/dev/null; then
+        echo 'left out: nbdkit-verity-plugin: nbdkit-plugin.h is not installed (Debian: nbdkit-plugin-dev)'
+        return
+    fi
+    build examples/nbdkit-verity-plugin.c gcc || return
+    rm -f "$scratch"/*.hash
+
+    image one 1 4096
+    copies one 0 data="$scratch/one.data" hash="$scratch/one.hash" roothash="$root"
+    image large 3000 1024 --hash sha512 --hash-block-size 1024 --hash-offset 2048
+    copies large $((($(stat -c %s "$scratch/large.hash") - 2048 - 1024) / 1024)) data="$scratch/large.data" \
+        hash="$scratch/large.hash" roothash="$root" hashoffset=2048
+    image tree 1024 4096 --hash-block-size 512
+    words=(data="$scratch/tree.data" hash="$scratch/tree.hash" roothash="$root")
+    copies tree 69 "${words[@]}"
+
+    has qemu-io qemu-utils 'nbdkit-verity-plugin: single reads' || return
+    gives 0 1
+    gives 4095 2
+    gives 5000 20000
+    gives $((1024 * 4096 - 1)) 1
+    flip "$scratch/tree.data" $((7 * 4096 + 5)) 1
+    is_refused 'data block 7: it isn.t the one that level 0 has the digest of' $((7 * 4096)) 1
+    is_refused 'data block 7: it isn.t the one that level 0 has the digest of' 5000 60000
+    gives $((6 * 4096)) 4096
+    gives $((8 * 4096)) 4096
+    flip "$scratch/tree.data" $((7 * 4096 + 5)) 1
+    flip "$scratch/tree.hash" 3072 1
+    is_refused 'data block 15: a hash block above it isn.t the one that level 1 has the digest of' $((15 * 4096)) 512
+    gives $((16 * 4096)) 4096
+    flip "$scratch/tree.hash" 3072 1
+    flip "$scratch/tree.hash" 1024 1
+    is_refused 'data block 255: a hash block above it isn.t the one that level 2 has the digest of' $((255 * 4096)) 512
+    gives $((256 * 4096)) 4096
+    flip "$scratch/tree.hash" 1024 1
+    flip "$scratch/tree.hash" 512 1
+    is_refused 'data block 1023: a hash block above it isn.t the one of the root hash' $((1023 * 4096)) 512
+    flip "$scratch/tree.hash" 512 1
+    gives $((1023 * 4096)) 4096
+    words[2]=roothash=$(another "$root")
+    is_refused 'data block 0: a hash block above it isn.t the one of the root hash' 0 512
+    words[2]=roothash=$root
+    truncate -s 8192 "$scratch/tree.data"
+    is_refused 'data block 2 can.t be read' 8192 512
+}
+
+# ----------------------------------------------- check_blocks.py ----------------------------------------------
+
+python=(env VERITY_LIBRARY="$LIB/libverity.so.1" python3 examples/check_blocks.py)
+
+# fsverity_file NAME LENGTH OPTION..: a file with its tree. Sets digest.
+fsverity_file() {
+    local file=$scratch/$1
+    sample "$2" >"$file"
+    shift 2
+    digest=$(fsverity digest "$@" --out-merkle-tree="$file.tree" "$file")
+    digest=${digest%% *}
+}
+
+python_checks() {
+    local algorithm length words
+    has python3 python3 check_blocks.py || return
+    rm -f "$scratch"/*.hash
+    image one 1 4096
+    runs 'check_blocks.py: one block' 0 '1 blocks are right' '' "${python[@]}" "$scratch/one.data" "$scratch/one.hash" \
+        "$root"
+    image tree 300 1024 --hash sha512 --hash-block-size 512 --format 0
+    words=("${python[@]}" "$scratch/tree.data" "$scratch/tree.hash")
+    runs 'check_blocks.py: an image' 0 '300 blocks are right' '' "${words[@]}" "$root"
+    runs 'check_blocks.py: past the end' 1 'block 300: there is no such block' '' "${words[@]}" "$root" 299 300
+    runs 'check_blocks.py: another root hash' 1 'block 9: level 3 differs' '' "${words[@]}" "$(another "$root")" 9
+    flip "$scratch/tree.data" 5000 1
+    flip "$scratch/tree.data" $((299 * 1024)) 1
+    runs 'check_blocks.py: changed data' 1 $'block 4: level 0 differs\nblock 299: level 0 differs' '' \
+        "${words[@]}" "$root"
+    runs 'check_blocks.py: a block that is right' 0 '1 blocks are right' '' "${words[@]}" "$root" 5
+    truncate -s $((299 * 1024 + 1000)) "$scratch/tree.data"
+    runs 'check_blocks.py: short data' 1 'block 299: status 4' '' "${words[@]}" "$root" 0 299
+
+    has fsverity fsverity 'check_blocks.py: files' || return
+    for algorithm in sha256 sha512; do
+        for length in 0 1 4096 4097 1000000; do
+            fsverity_file file $length --hash-alg=$algorithm
+            runs "check_blocks.py: $algorithm, $length bytes" 0 "$(((length + 4095) / 4096)) blocks are right" '' \
+                "${python[@]}" --fsverity "$scratch/file" "$scratch/file.tree" "$digest"
+        done
+    done
+    fsverity_file file 1000000
+    words=("${python[@]}" --fsverity "$scratch/file" "$scratch/file.tree")
+    runs 'check_blocks.py: another file digest' 1 '' 'the file digest is another' "${words[@]}" "$(another "$digest")"
+    flip "$scratch/file" 999999 1
+    runs 'check_blocks.py: a changed file' 1 'block 244: level 0 differs' '' "${words[@]}" "$digest"
+    flip "$scratch/file" 999999 1
+    flip "$scratch/file.tree" 4096 1
+    runs 'check_blocks.py: a changed digest' 1 $'block 0: level 0 differs\nblock 1: level 1 differs' '' \
+        "${words[@]}" "$digest" 0 1 128
+    flip "$scratch/file.tree" 0 1
+    runs 'check_blocks.py: a changed top block' 1 '' 'the file digest is another' "${words[@]}" "$digest"
+}
+
+# --------------------------------------------------- Stack ---------------------------------------------------
+
+# deep_paths: writes files for tests/library/stack.c: blocks of the deepest trees there are, and of usual ones.
+deep_paths() {
+    python3 - "$scratch" <<'END'
+import hashlib, itertools, random, struct, sys
+source = random.Random(1)
+
+def path(index, blocks, block_size, fit, slot, digest):
+    """A random data block, random hash blocks above it that have its digest, and the root hash."""
+    block = source.randbytes(block_size)
+    parts = [block]
+    while blocks > 1:
+        above = bytearray(source.randbytes(hash_block_size))
+        place = index % fit * slot
+        found = digest(parts[-1])
+        above[place:place + len(found)] = found
+        parts.append(bytes(above))
+        index, blocks = index // fit, -(-blocks // fit)
+    return b''.join(parts) + digest(parts[-1])
+
+def write(name, index, start, rest):
+    with open(f'{sys.argv[1]}/{name}.path', 'wb') as file:
+        file.write(struct.pack('<Q', index) + start.ljust(512, b'\0') + rest)
+
+for name, kind, salt_size, size in itertools.product(
+        ['sha256', 'sha512', 'sha1', 'sha224', 'sha384'], [0, 1], [0, 1, 32, 256], [512, 4096]):
+    hash_block_size, digest_size, salt = size, hashlib.new(name).digest_size, source.randbytes(salt_size)
+    fit = 1 << (size // digest_size).bit_length() - 1
+    slot = size // fit if kind == 1 else digest_size
+    blocks = (2**63 - 1) // size if size == 512 else 100000
+    index = blocks - 2
+    start = struct.pack('<8sII16s32sIIQH6x256s', b'verity', 1, kind, source.randbytes(16), name.encode(), size, size,
+                        blocks, salt_size, salt)
+    write(f'image-{name}-{kind}-{salt_size}-{size}', index, start, path(index, blocks, size, fit, slot,
+          lambda block: hashlib.new(name, salt + block if kind == 1 else block + salt).digest()))
+
+for name, salt_size, size in itertools.product(['sha256', 'sha512'], [0, 1, 32], [0, 1024, 4096]):
+    hash_block_size, salt = size or 2 * hashlib.new(name).digest_size, source.randbytes(salt_size)
+    file_size = 2**60 + 77
+    blocks = -(-file_size // hash_block_size)
+    padded = salt.ljust(hashlib.new(name).block_size, b'\0') if salt else b''
+    start = struct.pack('<BBBBIQ64s32s', 1, {'sha256': 1, 'sha512': 2}[name], hash_block_size.bit_length() - 1,
+                        salt_size, 0, file_size, b'', salt)
+    write(f'file-{name}-{salt_size}-{size}', blocks - 2, start, path(
+        blocks - 2, blocks, hash_block_size, hash_block_size // hashlib.new(name).digest_size,
+        hashlib.new(name).digest_size, lambda block: hashlib.new(name, padded + block).digest()))
+END
+}
+
+# stack_of NAME LIBRARY RUNNER COMPILER..: measures the stack and compares it with what the header states.
+stack_of() {
+    local name=$1 library=$2 runner=$3 function taken
+    shift 3
+    if ! "$@" -std=c11 -O2 -static -Wall -Wextra -Wpedantic -Werror -Iinclude -o "$scratch/stack" \
+        tests/library/stack.c "$library" >"$scratch/built" 2>&1; then
+        fail "stack.c for $name" "$(cat "$scratch/built")"
+        return
+    fi
+    # The runner is one word or none.
+    # shellcheck disable=SC2086
+    if timeout $seconds $runner "$scratch/stack" "$scratch"/*.path >"$scratch/taken" 2>"$scratch/.err"; then
+        pass
+    else
+        fail "stack for $name" "tests/library/stack.c ends with $?: $(cat "$scratch/.err")"
+        return
+    fi
+    same "stack for $name: the functions" \
+        "$(sed -nE 's/^uint32_t ([a-z_]+)\(.*/\1/p' include/verity.h | sort)" "$(cut -d' ' -f1 "$scratch/taken" | sort)"
+    echo "bytes of stack for $name:"
+    while read -r function taken; do
+        printf '    %-24s %5d\n' "$function" "$taken"
+        if [ "$taken" -gt 0 ] && [ "$taken" -le "$stated" ]; then
+            pass
+        else
+            fail "stack of $function for $name" "stated: up to $stated bytes" "found:  $taken"
+        fi
+    done <"$scratch/taken"
+}
+
+stack_checks() {
+    has python3 python3 'the stack' || return
+    stated=$(($(sed -n 's/.*takes up to \([0-9]*\) KiB of stack.*/\1/p' include/verity.h) * 1024))
+    deep_paths
+    if [ "$(uname -m)" = x86_64 ]; then stack_of x86-64 "$LIB/libverity.a" '' gcc; fi
+    if [ ! -e "$LIB/aarch64/libverity.a" ]; then
+        echo "left out: the stack for 64-bit ARM: $LIB/aarch64/libverity.a is not there"
+    elif has aarch64-linux-gnu-gcc gcc-aarch64-linux-gnu 'the stack for 64-bit ARM' &&
+        has qemu-aarch64 qemu-user 'the stack for 64-bit ARM'; then
+        stack_of '64-bit ARM' "$LIB/aarch64/libverity.a" qemu-aarch64 aarch64-linux-gnu-gcc
+    fi
+}
+
+boot_checks
+nbdkit_checks
+python_checks
+stack_checks
+finish

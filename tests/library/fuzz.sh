@@ -1,0 +1,16 @@
+#!/bin/bash
+# Two million calls of the library with random and with spoiled input: superblocks, parameters, blocks, paths, root
+# hashes and lengths. Each answer is the one that an own reading of verity.h gives, and just what has to be accepted is.
+# SEED=N draws other input, CALLS=N makes so many calls, LIB=FOLDER takes the library of another folder.
+set -u
+cd "$(dirname "$0")/../.."
+. tests/checks.sh
+. tests/library/library.sh
+needs gcc gcc
+needs python3 python3
+has_library "$LIB/libverity.a"
+
+if compiles "$scratch/fuzz" gcc -O2 tests/library/fuzz.c tests/library/support.c "$LIB/libverity.a"; then
+    tries_random "$scratch/fuzz" "${CALLS:-2000000}"
+fi
+finish

@@ -1,0 +1,157 @@
+#!/bin/bash
+# The header in C99, C11 and C++, in two files of one program; the structs as the compiled library reads and fills them;
+# and the names of the library: the header's functions alone are shown, and nothing is needed but memcpy, memmove and
+# memset. LIB=FOLDER takes the library of another folder.
+set -u
+cd "$(dirname "$0")/../.."
+. tests/checks.sh
+. tests/library/library.sh
+needs gcc gcc
+needs nm binutils
+needs readelf binutils
+has_library "$LIB/libverity.a"
+has_library "$LIB/libverity.so.1"
+strict=(-Wall -Wextra -Wpedantic -Werror -Iinclude)
+
+# The functions that the header names, without its comments.
+functions=$(sed 's|/\*.*\*/||; /\/\*/,/\*\//d' include/verity.h | grep -oE '\b(fs)?verity_[a-z_]+\(' | tr -d '(' | sort)
+
+# in_language NAME COMPILER WORD..: two files that include the header, twice, make one program with each library.
+in_language() {
+    local name=$1 library suffix=c
+    shift
+    case $1 in *++) suffix=cc ;; esac
+    printf '%s\n' '#include "verity.h"' '#include "verity.h"' 'size_t levels_of(const struct verity_params *);' \
+        'size_t levels_of(const struct verity_params *params)' '{' '    size_t levels = 7;' \
+        '    return verity_level_count(params, &levels) == VERITY_OK ? levels : 9;' '}' >"$scratch/one.$suffix"
+    {
+        printf '%s\n' '#include <string.h>' '#include "verity.h"' 'size_t levels_of(const struct verity_params *);' \
+            'typedef void (*function)(void);' 'static function all[] = {'
+        sed 's/.*/    (function)&,/' <<<"$functions"
+        printf '%s\n' '};' 'int main(void)' '{' '    struct verity_params params;' \
+            '    memset(&params, 0, sizeof params);' '    params.hash_algorithm = VERITY_SHA256;' \
+            '    params.data_block_size = params.hash_block_size = 512;' '    params.data_blocks = 17;' \
+            '    return levels_of(&params) == 2 && all[0] != 0 ? 0 : 1;' '}'
+    } >"$scratch/two.$suffix"
+    for library in libverity.a libverity.so.1; do
+        runs "$name, $library" 0 '' '' "$@" "${strict[@]}" -Wno-cast-function-type "$scratch/one.$suffix" \
+            "$scratch/two.$suffix" "$LIB/$library" -Wl,-rpath,"$(realpath "$LIB")" -o "$scratch/two"
+        runs "$name, $library: the program" 0 '' '' "$scratch/two"
+    done
+}
+
+in_language C99 gcc -std=c99
+in_language C11 gcc -std=c11
+if command -v g++ >/dev/null; then
+    in_language C++17 g++ -std=c++17
+else
+    echo 'left out: the header in C++: g++ is not installed'
+fi
+
+# The places of the fields, and what the library fills there by a superblock in which each field differs.
+cat >"$scratch/layout.c" <<'EOC'
+#include <stdio.h>
+#include <string.h>
+#include "verity.h"
+
+#define AT(type, field, offset) _Static_assert(offsetof(struct type, field) == (offset), #field)
+AT(verity_params, hash_algorithm, 0);
+AT(verity_params, hash_type, 4);
+AT(verity_params, data_block_size, 8);
+AT(verity_params, hash_block_size, 12);
+AT(verity_params, data_blocks, 16);
+AT(verity_params, hash_offset, 24);
+AT(verity_params, no_superblock, 32);
+AT(verity_params, salt_size, 36);
+AT(verity_params, salt, 40);
+AT(verity_params, uuid, 296);
+_Static_assert(sizeof(struct verity_params) == 312, "verity_params");
+AT(fsverity_params, hash_algorithm, 0);
+AT(fsverity_params, block_size, 4);
+AT(fsverity_params, size, 8);
+AT(fsverity_params, salt_size, 16);
+AT(fsverity_params, salt, 20);
+_Static_assert(sizeof(struct fsverity_params) == 56, "fsverity_params");
+
+static void show(const char *name, const unsigned char *bytes, size_t length)
+{
+    size_t i;
+
+    printf("%s", name);
+    for (i = 0; i < length; i++)
+        printf("%s%02x", i ? "" : " ", bytes[i]);
+    printf("\n");
+}
+
+/* Reads a superblock into the middle of painted bytes, and prints these; and the digest of parameters of raw bytes. */
+int main(void)
+{
+    unsigned char superblock[512], digest[64];
+    static const unsigned char root[64];
+    union {
+        struct verity_params params;
+        unsigned char bytes[sizeof(struct verity_params)];
+    } filled[3];
+    union {
+        struct fsverity_params params;
+        unsigned char bytes[sizeof(struct fsverity_params)];
+    } file;
+    size_t i;
+
+    if (fread(superblock, 1, 512, stdin) != 512)
+        return 2;
+    memset(filled, 0xa5, sizeof filled);
+    printf("%u\n", verity_read_superblock(superblock, 512, 0x1122334455667788, &filled[1].params));
+    for (i = 0; i < 3; i++)
+        show(i == 1 ? "read" : "beside", filled[i].bytes, sizeof filled[i]);
+    /* Algorithm 2, blocks of 2048 bytes, size 0x0807060504030201, 3 bytes of salt. */
+    memset(file.bytes, 0xa5, sizeof file);
+    memcpy(file.bytes, "\2\0\0\0\0\10\0\0\1\2\3\4\5\6\7\10\3\0\0\0abc", 23);
+    printf("%u\n", fsverity_file_digest(&file.params, root, 64, digest, 64));
+    show("digest", digest, 64);
+    return 0;
+}
+EOC
+if compiles "$scratch/layout" gcc "$scratch/layout.c" "$LIB/libverity.a"; then
+    # SHA-384, type 1, data blocks of 1024, hash blocks of 4096, 0x0000010203040506 blocks, salt 'salt'.
+    {
+        bytes 7665726974790000
+        little_endian 4 1
+        little_endian 4 1
+        bytes 000102030405060708090a0b0c0d0e0f
+        printf sha384 && zeros 26
+        little_endian 4 1024
+        little_endian 4 4096
+        bytes 0605040302010000
+        little_endian 2 4
+        zeros 6
+        printf salt && zeros 420
+    } >"$scratch/superblock"
+    paint=$(printf 'a5%.0s' $(seq 312))
+    read_bytes=05000000010000000004000000100000060504030201000088776655443322110000000004000000
+    read_bytes+=73616c74$(printf '00%.0s' $(seq 252))000102030405060708090a0b0c0d0e0f
+    # The descriptor: version, algorithm, logarithm of the block size, salt size, four zeros, size, root hash, salt.
+    { bytes 01020b03000000000102030405060708 && zeros 64 && printf abc && zeros 173; } >"$scratch/descriptor"
+    same 'length of the descriptor' 256 "$(stat -c %s "$scratch/descriptor")"
+    "$scratch/layout" <"$scratch/superblock" >"$scratch/layout.txt"
+    same 'the structs' "0
+beside $paint
+read $read_bytes
+beside $paint
+0
+digest $(sha512 "$scratch/descriptor")" "$(cat "$scratch/layout.txt")"
+fi
+
+same 'functions of the header' 14 "$(wc -l <<<"$functions")"
+same 'functions that the shared library shows' "$functions" \
+    "$(nm -D --defined-only "$LIB/libverity.so.1" | awk '{ print $3 }' | sort)"
+same 'functions that the static library shows' "$functions" \
+    "$(nm -g --defined-only "$LIB/libverity.a" | awk 'NF == 3 { print $3 }' | sort)"
+same 'the soname' libverity.so.1 "$(readelf -d "$LIB/libverity.so.1" | sed -n 's/.*soname: \[\(.*\)\]/\1/p')"
+same 'what the static library needs' 'memcpy memmove memset' \
+    "$(nm -u "$LIB/libverity.a" | awk '$1 == "U" { print $2 }' | sort -u | tr '\n' ' ' | sed 's/ $//')"
+same 'what the shared library needs' 'memcpy memmove memset' \
+    "$(nm -D -u "$LIB/libverity.so.1" | awk '{ sub("@.*", "", $2); print $2 }' | sort -u | tr '\n' ' ' | sed 's/ $//')"
+same 'the version' '1 1 0' "$(sed -nE 's/^#define VERITY_VERSION_(MAJOR|MINOR|PATCH) ([0-9]+)$/\2/p' include/verity.h |
+    tr '\n' ' ' | sed 's/ $//')"
+finish

@@ -1,0 +1,225 @@
+/*
+ * stack.c - measures how much stack the library's functions take.
+ *
+ *     stack FILE...
+ *
+ * Each FILE is one data block of a tree with the hash blocks above it: the number of the data block in 8 bytes, low
+ * byte first; 512 bytes that begin with a superblock or a descriptor of fs-verity; the data block; the hash blocks, level
+ * 0
+ * first; the root hash. Each function is called with these, and with faults in them, on a stack filled with one byte.
+ * Printed is the most that a function changed of it, in bytes, less what an empty call changes. A FILE whose data block
+ * isn't accepted is a failure, since then the whole way hasn't been measured.
+ */
+#define _XOPEN_SOURCE 700
+#include <stdint.h>
+#include <stdio.h>
+#include <stdlib.h>
+#include <string.h>
+#include <ucontext.h>
+
+#include "verity.h"
+
+enum { STACK_SIZE = 24576, PATTERN = 0xa5, FILE_ROOM = 1 << 20 };
+
+static _Alignas(64) uint8_t stack[STACK_SIZE];
+static ucontext_t main_context, call_context;
+static size_t empty;
+
+/* The arguments of the calls, and what they fill. */
+static struct verity_params params, filled;
+static struct fsverity_params file_params;
+static uint8_t superblock[512], *block, *path, *root, digest[2 * VERITY_MAX_DIGEST_SIZE];
+static size_t block_size, hash_block_size, levels, at_level, root_length, found_levels, found_level;
+static uint64_t index_of_block, found_start, found_blocks;
+static uint32_t status;
+
+/* The block that is checked at a level. */
+static const uint8_t *below(size_t level) {
+    return level == 0 ? block : path + (level - 1) * hash_block_size;
+}
+
+static size_t size_below(size_t level) {
+    return level == 0 ? block_size : hash_block_size;
+}
+
+static void empty_call(void) {
+    status = VERITY_OK;
+}
+
+static void read_superblock_call(void) {
+    status = verity_read_superblock(superblock, sizeof superblock, 0, &filled);
+}
+
+static void file_digest_call(void) {
+    status = fsverity_file_digest(&file_params, root, root_length, digest, root_length);
+}
+
+#define CALLS(kind, the_params) \
+    static void kind##_level_count_call(void) { \
+        status = kind##_level_count(&the_params, &found_levels); \
+    } \
+    static void kind##_level_start_call(void) { \
+        status = kind##_level_start(&the_params, at_level, &found_start, &found_blocks); \
+    } \
+    static void kind##_hash_block_start_call(void) { \
+        status = kind##_hash_block_start(&the_params, index_of_block, at_level, &found_start); \
+    } \
+    static void kind##_check_block_call(void) { \
+        status = kind##_check_block(&the_params, index_of_block, block, block_size, path, levels * hash_block_size, \
+                                    root, root_length, &found_level); \
+    } \
+    static void kind##_check_link_call(void) { \
+        status = kind##_check_link(&the_params, index_of_block, at_level, below(at_level), size_below(at_level), \
+                                   path + at_level * hash_block_size, hash_block_size); \
+    } \
+    static void kind##_check_top_call(void) { \
+        status = kind##_check_top(&the_params, index_of_block, below(levels), size_below(levels), root, root_length); \
+    }
+
+CALLS(verity, params)
+CALLS(fsverity, file_params)
+
+enum { ONCE, EACH_LEVEL };
+
+static struct function {
+    const char *name;
+    void (*call)(void);
+    int of_files; /* whether it is one of fs-verity's */
+    int times;
+    size_t most;
+} functions[] = {
+    {"verity_read_superblock", read_superblock_call, 0, ONCE, 0},
+    {"verity_level_count", verity_level_count_call, 0, ONCE, 0},
+    {"verity_level_start", verity_level_start_call, 0, EACH_LEVEL, 0},
+    {"verity_hash_block_start", verity_hash_block_start_call, 0, EACH_LEVEL, 0},
+    {"verity_check_block", verity_check_block_call, 0, ONCE, 0},
+    {"verity_check_link", verity_check_link_call, 0, EACH_LEVEL, 0},
+    {"verity_check_top", verity_check_top_call, 0, ONCE, 0},
+    {"fsverity_level_count", fsverity_level_count_call, 1, ONCE, 0},
+    {"fsverity_level_start", fsverity_level_start_call, 1, EACH_LEVEL, 0},
+    {"fsverity_hash_block_start", fsverity_hash_block_start_call, 1, EACH_LEVEL, 0},
+    {"fsverity_check_block", fsverity_check_block_call, 1, ONCE, 0},
+    {"fsverity_check_link", fsverity_check_link_call, 1, EACH_LEVEL, 0},
+    {"fsverity_check_top", fsverity_check_top_call, 1, ONCE, 0},
+    {"fsverity_file_digest", file_digest_call, 1, ONCE, 0},
+};
+
+enum { FUNCTIONS = sizeof functions / sizeof functions[0] };
+
+/* How many bytes of the stack a call changes. */
+static size_t measured(void (*call)(void)) {
+    size_t unchanged = 0;
+
+    memset(stack, PATTERN, sizeof stack);
+    getcontext(&call_context);
+    call_context.uc_stack.ss_sp = stack;
+    call_context.uc_stack.ss_size = sizeof stack;
+    call_context.uc_link = &main_context;
+    makecontext(&call_context, call, 0);
+    swapcontext(&main_context, &call_context);
+    while (unchanged < sizeof stack && stack[unchanged] == PATTERN)
+        unchanged++;
+    return sizeof stack - unchanged;
+}
+
+static void measure(struct function *function, int must_be_right) {
+    size_t found = measured(function->call);
+
+    if (must_be_right && status != VERITY_OK) {
+        fprintf(stderr, "%s: status %u\n", function->name, (unsigned)status);
+        exit(1);
+    }
+    if (found > empty && found - empty > function->most)
+        function->most = found - empty;
+}
+
+/* Measures each function with the arguments as they are, those for one level from a level up to another. */
+static void measure_all(int of_files, size_t first, size_t last, int must_be_right) {
+    for (size_t i = 0; i < FUNCTIONS; i++) {
+        if (functions[i].of_files != of_files)
+            continue;
+        for (at_level = first; at_level <= (functions[i].times == EACH_LEVEL ? last : first); at_level++)
+            measure(&functions[i], must_be_right);
+    }
+}
+
+static void measure_with_changed(uint8_t *byte, int of_files, size_t level) {
+    *byte ^= 1;
+    measure_all(of_files, level, level, 0);
+    *byte ^= 1;
+}
+
+static uint64_t little_endian(const uint8_t *bytes, size_t width) {
+    return width == 0 ? 0 : bytes[0] | little_endian(bytes + 1, width - 1) << 8;
+}
+
+/* Takes the parameters of a descriptor. */
+static void read_descriptor(const uint8_t *bytes) {
+    file_params.hash_algorithm = bytes[1];
+    file_params.block_size = UINT32_C(1) << bytes[2];
+    file_params.salt_size = bytes[3];
+    file_params.size = little_endian(bytes + 8, 8);
+    memcpy(file_params.salt, bytes + 80, sizeof file_params.salt);
+}
+
+static void measure_file(uint8_t *bytes, size_t length) {
+    int of_files = bytes[8] == 1;
+
+    index_of_block = little_endian(bytes, 8);
+    memcpy(superblock, bytes + 8, sizeof superblock);
+    if (of_files) {
+        read_descriptor(superblock);
+        block_size = hash_block_size = file_params.block_size;
+        status = fsverity_level_count(&file_params, &levels);
+    } else {
+        status = verity_read_superblock(superblock, sizeof superblock, 0, &params);
+        block_size = params.data_block_size;
+        hash_block_size = params.hash_block_size;
+        if (status == VERITY_OK)
+            status = verity_level_count(&params, &levels);
+    }
+    if (status != VERITY_OK || levels == 0 || length < 8 + sizeof superblock + block_size + levels * hash_block_size) {
+        fprintf(stderr, "the file has other parameters: status %u\n", (unsigned)status);
+        exit(1);
+    }
+    block = bytes + 8 + sizeof superblock;
+    path = block + block_size;
+    root = path + levels * hash_block_size;
+    root_length = (size_t)(bytes + length - root);
+
+    measure_all(of_files, 0, levels - 1, 1);
+    measure_with_changed(block, of_files, 0);
+    measure_with_changed(root, of_files, levels);
+    for (size_t level = 0; level < levels; level++)
+        measure_with_changed(path + level * hash_block_size, of_files, level);
+    for (size_t i = 0; i < sizeof superblock && !of_files; i++) {
+        superblock[i] ^= 1;
+        measure(&functions[0], 0);
+        superblock[i] ^= 1;
+    }
+    measure_with_changed((uint8_t *)&index_of_block + 7, of_files, 0);
+    measure_with_changed((uint8_t *)&root_length, of_files, 0);
+    measure_with_changed((uint8_t *)&block_size, of_files, 0);
+    measure_with_changed((uint8_t *)&params.data_blocks, of_files, 0);
+    measure_with_changed((uint8_t *)&params.salt_size + 2, of_files, 0);
+    measure_with_changed((uint8_t *)&file_params.salt_size + 2, of_files, 0);
+    measure_with_changed((uint8_t *)&file_params.size + 7, of_files, 0);
+}
+
+int main(int count, char **names) {
+    uint8_t *bytes = malloc(FILE_ROOM);
+
+    empty = measured(empty_call);
+    for (int i = 1; i < count; i++) {
+        FILE *file = fopen(names[i], "rb");
+        if (bytes == NULL || file == NULL) {
+            perror(names[i]);
+            return 1;
+        }
+        measure_file(bytes, fread(bytes, 1, FILE_ROOM, file));
+        fclose(file);
+    }
+    for (size_t i = 0; i < FUNCTIONS; i++)
+        printf("%s %zu\n", functions[i].name, functions[i].most);
+    return 0;
+}
