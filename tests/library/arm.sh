@@ -4,7 +4,7 @@
 set -u
 cd "$(dirname "$0")/../.."
 . tests/checks.sh
-. tests/library/library.sh
+. tests/library/common.sh
 ARM_LIB=${ARM_LIB:-lib/aarch64}
 needs aarch64-linux-gnu-gcc gcc-aarch64-linux-gnu
 needs qemu-aarch64 qemu-user

@@ -5,7 +5,7 @@
 set -u
 cd "$(dirname "$0")/../.."
 . tests/checks.sh
-. tests/library/library.sh
+. tests/library/common.sh
 needs gcc gcc
 needs nm binutils
 needs readelf binutils

@@ -6,7 +6,7 @@
 set -u
 cd "$(dirname "$0")/../.."
 . tests/checks.sh
-. tests/library/library.sh
+. tests/library/common.sh
 needs gcc gcc
 needs python3 python3
 has_library "$LIB/libverity.a"

@@ -4,9 +4,9 @@
  *     stack FILE...
  *
  * Each FILE is one data block of a tree with the hash blocks above it: the number of the data block in 8 bytes, low
- * byte first; 512 bytes that begin with a superblock or a descriptor of fs-verity; the data block; the hash blocks, level
- * 0
- * first; the root hash. Each function is called with these, and with faults in them, on a stack filled with one byte.
+ * byte first; 512 bytes that begin with a superblock or a descriptor of fs-verity; the data block; the hash blocks,
+ * level 0 first; the root hash. Each function is called with these, and with faults in them, on a stack filled with one
+ * byte.
  * Printed is the most that a function changed of it, in bytes, less what an empty call changes. A FILE whose data block
  * isn't accepted is a failure, since then the whole way hasn't been measured.
  */
