@@ -17,8 +17,8 @@ SUFFIX = -proved
 SECONDS = 1800
 SEED =
 
-.PHONY: run programs library test check gate wrong-bodies check-programs check-library out-of-memory interop soak kernel bench \
-    reproducible install uninstall clean help
+.PHONY: run programs library libraries test check gate wrong-bodies check-programs check-library out-of-memory interop \
+    soak kernel bench reproducible install uninstall clean help
 
 # Proves and builds the one program that this needs, and prints the digest of a real file.
 run:
@@ -34,12 +34,17 @@ programs:
 library:
 	./library.sh $(TARGET) $(CPU) $(SHARED_CPU)
 
+# Both, for the tests.
+libraries:
+	./library.sh x86_64 $(CPU) $(SHARED_CPU)
+	./library.sh aarch64
+
 # All tests: the gate, then the programs that it built, the documents' examples, and Debian's programs beside them.
 test:
 	tests/all.sh
 
 # The same without the gate: nothing is proved anew.
-check: programs library
+check: programs libraries
 	tests/all.sh --without-gate
 
 # The gate: every proof from nothing, the wrong bodies that the prover must refuse, the tests of the crates, and
@@ -56,7 +61,7 @@ check-programs: programs
 	tests/programs.sh
 
 # Calls the library from C, compares it with Debian's programs, and runs its examples. Needs a C compiler.
-check-library: library
+check-library: libraries
 	tests/library.sh
 
 # Refuses each request for memory in turn, of the run functions and of the programs. Needs a C compiler.
@@ -88,8 +93,8 @@ bench: programs
 reproducible: programs
 	tests/reproducible.sh
 
-# Installs programs, manual pages and bash's completion, and the library if it is built; or removes just these. Nothing is built here, so that no proof
-# runs as root.
+# Installs programs, manual pages and bash's completion, and the library if it is built; or removes just these. Nothing
+# is built here, so that no proof runs as root.
 install uninstall: export PREFIX := $(PREFIX)
 install uninstall: export DESTDIR := $(DESTDIR)
 install uninstall: export SUFFIX := $(SUFFIX)
@@ -101,12 +106,12 @@ clean:
 	rm -rf bin lib crates/*/out
 
 help:
-	@echo 'Times are for four cores. A + means: make programs runs first, which takes 11 minutes the first time.'
+	@echo 'Times are for four cores. A + means: what it needs is built first; the programs take 11 minutes the first time.'
 	@echo 'In brackets: what you can set, as in: make soak SECONDS=60'
 	@echo
 	@echo 'make run             7 minutes     proves and builds fsverity, and prints the digest of a file'
 	@echo 'make programs        11 minutes    proves and builds bin/fsverity and bin/veritysetup [CPU]'
-	@echo 'make library         1 minute      proves and builds lib/libverity.a and lib/libverity.so.1 [TARGET, CPU, SHARED_CPU]'
+	@echo 'make library         6 minutes     proves and builds the library for C [TARGET, CPU, SHARED_CPU]'
 	@echo 'make test            40 minutes    all tests: gate, the programs as a user runs them, documents, comparisons'
 	@echo 'make check           5 minutes +   all tests but the gate'
 	@echo 'make gate            35 minutes    every proof from nothing, wrong bodies that must be refused, tests of the crates'

@@ -44,10 +44,10 @@ libdir=\${prefix}/lib
 includedir=\${prefix}/include
 
 Name: libverity
-Description: superblocks, plans and checks of dm-verity and fs-verity
+Description: reads superblocks, finds hash blocks and checks blocks of dm-verity and fs-verity
 Version: $version
-Libs: -L\${libdir} -lverity
-Cflags: -I\${includedir}
+Libs: -L"\${libdir}" -lverity
+Cflags: -I"\${includedir}"
 END
 }
 
@@ -73,6 +73,9 @@ install_all() {
         completion "completions/$name" | put 644 "$completions/$name$suffix"
     done
     if [ -e lib/libverity.a ] && [ -e lib/libverity.so.1 ]; then install_library; fi
+    if [ -e lib/libverity.a ] && [ ! -e lib/libverity.so.1 ]; then
+        echo "libverity.so.1 isn't built, so the library is left out" >&2
+    fi
 }
 
 uninstall_all() {

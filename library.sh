@@ -1,9 +1,9 @@
 #!/bin/bash
 # library.sh TARGET [CPU [SHARED_CPU]]: proves and builds the library for C into lib/. For x86_64 that is libverity.a for
 # the processor CPU, x86-64-v2 or x86-64-v3, and libverity.so.1 for SHARED_CPU. For aarch64 it is aarch64/libverity.a,
-# for any 64-bit ARM, and if Debian's cross compiler is there aarch64/libverity.so.1. A file NAME.made beside each keeps
+# for any 64-bit ARM. A shared library is left out if the compiler that links it isn't there. A file NAME.made beside each keeps
 # for what and of what it was built, so that nothing is done if both are the same. LIB=FOLDER takes another folder than
-# lib/. With OVER_GATE=yes the crates below are those that the gate has just proved.
+# lib/, counted from here. With OVER_GATE=yes the crates below are those that the gate has just proved.
 set -euo pipefail
 cd "$(dirname "$0")"
 . ./building.sh
@@ -89,8 +89,9 @@ build() {
         archive "$2" "$scratch/libverity.a"
         put "$scratch/libverity.a" "$1/libverity.a" "$2"
     fi
-    if ! command -v "$4" >/dev/null; then
-        echo "$1/libverity.so.1: left out, since $4 isn't installed"
+    if ! "$4" -shared -nostartfiles -x c /dev/null -o "$scratch/empty" 2>/dev/null; then
+        echo "$1/libverity.so.1: left out, since $4 isn't installed or can't link"
+        rm -f "$1"/libverity.so*
         return
     fi
     if ! is_made "$1/libverity.so.1" "$3"; then

@@ -1,5 +1,5 @@
 /*
- * verity.h - superblocks, plans and checks of dm-verity and fs-verity.
+ * verity.h - reads superblocks, finds hash blocks and checks blocks of dm-verity and fs-verity.
  *
  * Each function is proved: whatever numbers, bytes and structs it is handed, it returns, and its answer is that of the
  * definitions. The library takes no memory, keeps nothing between calls, opens and prints nothing, and takes no lock:
@@ -200,8 +200,8 @@ uint32_t verity_check_block(const struct verity_params *params, uint64_t index, 
                             size_t root_length, size_t *level);
 
 /*
- * Checks one block by the hash block of a level above data block index. For level 0 the block is that data block, and
- * for a higher level the hash block above it one level down. The hash block must be the one whose start
+ * Checks one block by a hash block: the one of this level that is above data block index. For level 0 the block is that
+ * data block, and for a higher level the hash block above it one level down. The hash block must be the one whose start
  * verity_hash_block_start gives for index and level, and have been accepted itself, with the same parameters. Then a
  * block that is accepted is the tree's, unless two different blocks with one salted hash were found. So hash blocks
  * that were accepted can be kept, each under its start.

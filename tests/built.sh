@@ -1,7 +1,7 @@
 #!/bin/bash
 # Takes the programs that the gate built into bin/x86-64-v2/, and if this processor has all of x86-64-v3 builds them
-# for that into bin/x86-64-v3/. bin/ gets those for this processor, and lib/ the library for C. The gate removes what earlier runs left before it
-# begins, so these are the programs that it has just proved.
+# for that into bin/x86-64-v3/. bin/ gets those for this processor, and lib/ the library for C. The gate removes what
+# earlier runs left before it begins, so these are the programs that it has just proved.
 set -u
 cd "$(dirname "$0")/.."
 . tests/checks.sh
@@ -70,7 +70,7 @@ fi
 folders=(lib lib/aarch64)
 if [ "$cpu" = x86-64-v3 ]; then folders+=(lib/x86-64-v3); fi
 
-# library FOLDER: builds the libraries of a folder. What is said goes to $scratch/library.NUMBER.
+# library FOLDER: builds the libraries of a folder. What is said goes to a file named after it, in $scratch.
 library() {
     local words=(x86_64)
     case $1 in
@@ -79,7 +79,7 @@ library() {
     esac
     if [ "${#words[@]}" -gt 1 ]; then export LIB=$1; else unset LIB; fi
     rm -f "$1"/libverity.*
-    ./library.sh "${words[@]}" >"$scratch/${1//\//-}" 2>&1
+    ./library.sh "${words[@]}" >"$scratch/${1//\//-}" 2>&1 && : >"$scratch/${1//\//-}.built"
 }
 
 if compgen -G 'crates/*/out/rlib/stamp' >/dev/null; then
@@ -91,7 +91,7 @@ else
 fi
 for folder in "${folders[@]}"; do
     cat "$scratch/${folder//\//-}"
-    if [ -e "$folder/libverity.a" ]; then pass; else fail "$folder/libverity.a" 'it was not built'; fi
+    if [ -e "$scratch/${folder//\//-}.built" ]; then pass; else fail "$folder" 'its library was not built'; fi
 done
 for name in fsverity veritysetup; do
     rm -f "bin/$name" "bin/$name.made"

@@ -44,7 +44,7 @@ completes() {
 
 # library_files PREFIX: the files of the library with their modes, if it is built.
 library_files() {
-    if [ ! -e lib/libverity.a ]; then return; fi
+    if [ ! -e lib/libverity.a ] || [ ! -e lib/libverity.so.1 ]; then return; fi
     printf '%s\n' "644 $1/include/verity.h" "644 $1/lib/libverity.a" "755 $1/lib/libverity.so.1" \
         "644 $1/lib/pkgconfig/verity.pc" "644 $1/share/man/man3/verity.3"
 }
@@ -118,9 +118,11 @@ if man --version 2>/dev/null | grep -q '^man [0-9]'; then
 else
     echo 'left out: man is not installed'
 fi
-if [ -e lib/libverity.a ]; then
+if [ -e lib/libverity.a ] && [ -e lib/libverity.so.1 ]; then
     if command -v pkg-config >/dev/null && command -v cc >/dev/null; then
         links plain usr/local
+        same 'a space: pkg-config' "-L/opt/our\\ programs/lib -lverity " \
+            "$(PKG_CONFIG_PATH="$scratch/a space  and \"quotes\"/opt/our programs/lib/pkgconfig" pkg-config --libs verity | sed 's/ *$/ /')"
     else
         echo 'left out: what pkg-config says: pkg-config or cc is not installed'
     fi

@@ -9,6 +9,10 @@ ARM_LIB=${ARM_LIB:-lib/aarch64}
 needs aarch64-linux-gnu-gcc gcc-aarch64-linux-gnu
 needs qemu-aarch64 qemu-user
 needs python3 python3
+if ! aarch64-linux-gnu-gcc -include stdio.h -fsyntax-only -x c /dev/null 2>/dev/null; then
+    echo "$0: the C library for 64-bit ARM is not installed (Debian: libc6-dev-arm64-cross)"
+    exit "$LEFT_OUT"
+fi
 if [ ! -e "$ARM_LIB/libverity.a" ]; then
     echo "$0: $ARM_LIB/libverity.a is not there"
     exit "$LEFT_OUT"

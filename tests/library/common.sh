@@ -10,7 +10,7 @@ warnings=(-std=c11 -Wall -Wextra -Wpedantic -Werror)
 # has_library FILE: stops if a file of the library was not built.
 has_library() {
     if [ ! -e "$1" ]; then
-        echo "$0: $1 is not there: build the library first" >&2
+        echo "$0: $1 is not there: run 'make library' first" >&2
         exit 1
     fi
 }

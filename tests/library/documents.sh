@@ -4,7 +4,10 @@
 set -u
 cd "$(dirname "$0")/../.."
 . tests/checks.sh
-LIB=$(realpath "${LIB:-lib}")
+. tests/library/common.sh
+LIB=$(realpath "$LIB")
+has_library "$LIB/libverity.a"
+has_library "$LIB/libverity.so.1"
 needs cc gcc
 needs_other veritysetup cryptsetup-bin
 root=$PWD

@@ -18,7 +18,8 @@ needs veritysetup cryptsetup-bin
 
 UUID=12345678-1234-4234-8234-123456789abc
 SALT=$(printf 'ab%.0s' {1..32})
-seconds=20
+# Longer than any of these takes, on a slow machine too.
+seconds=120
 
 # has TOOL PACKAGE WHAT: whether a tool is there. Otherwise says that something is left out.
 has() {
