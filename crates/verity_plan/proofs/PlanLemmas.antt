@@ -10,7 +10,7 @@ use Rattle.std.proofs.lemmas.Nat.{div-add-mod', mod_below}
 use Rattle.std.specs.Prelude.{◌==◌, Bool, nat_le, nat_eq, true, false, Ok, Err}
 use Rattle.verity_io.specs.Writing.{most_bytes}
 use Rattle.verity_plan.specs.Plans.{checked_plan, Planned, IsPlanned, HasBlock, start_byte_of, place_of, level_count_of, end_place_of}
-use Rattle.verity_plan.specs.Plans.{store_length_of, has_room, level_count, level_size}
+use Rattle.verity_plan.specs.Plans.{store_length_of, has_room, level_count, level_size, most_level_count}
 use Rattle.verity_plan.specs.declared.plan_fault.PlanFault.TheVariants.{NoData, TooLarge}
 use Rattle.std.specs.Int.{div_ceil}
 use Rattle.verity_plan.specs.Settings.{fan}
@@ -71,14 +71,27 @@ blocks_few p h =
     let some : 1 ≤ p.settings.data_block = omega (arith, some_data p.settings h.valid) in
     omega (arith, mul-le-mul_left p.blocks some, h.data_most)
 
+-- some data blocks have at most 63 levels
+pub level_count-few : (f n : ℕ) → 2 ≤ f → n ≤ most_bytes → level_count f n ≤ 63
+level_count-few f n two few =
+    let count = IsLevelCount-level_count f n two in
+    elim (cases_lt 63 (level_count f n)) [
+      | inl more ↦ absurd (omega (arith, count.least 63 more, pow-le-pow_left two 63, few))
+      | inr most ↦ most
+    ]
+
 -- a plan has at most 63 levels
 pub levels_few : (p : Planned) → IsPlanned p → level_count_of p ≤ 63
-levels_few p h =
-    let two = fan-two p.settings h.valid in
-    let count = IsLevelCount-level_count (fan p.settings) p.blocks two in
-    elim (cases_lt 63 (level_count_of p)) [
-      | inl more ↦ absurd (omega (arith, count.least 63 more, pow-le-pow_left two 63, blocks_few p h))
-      | inr few ↦ few
+levels_few p h = level_count-few (fan p.settings) p.blocks (fan-two p.settings h.valid) (blocks_few p h)
+
+-- more data blocks have no fewer levels
+pub level_count-le : (f n m : ℕ) → 2 ≤ f → n ≤ m → level_count f n ≤ level_count f m
+level_count-le f n m two le =
+    let few = IsLevelCount-level_count f n two in
+    let many = IsLevelCount-level_count f m two in
+    elim (cases_lt (level_count f m) (level_count f n)) [
+      | inl more ↦ absurd (omega (arith, few.least (level_count f m) more, many.enough, le))
+      | inr most ↦ most
     ]
 
 -- a number past a quotient is past it as a product, and one within it is within it
@@ -148,3 +161,14 @@ planned_is asked plan is = by_tests (asked.blocks == 0) (has_room asked) is
     by_tests true room e = absurd cc
     by_tests false true e = cc
     by_tests false false e = absurd cc
+
+-- no plan has more levels than the largest tree of its settings
+pub levels_most : (p : Planned) → IsPlanned p → level_count_of p ≤ most_level_count p.settings
+levels_most p h =
+    let some : 0 < p.settings.data_block = some_data p.settings h.valid in
+    let few : p.blocks ≤ most_bytes / p.settings.data_block =
+    elim (cases_lt (most_bytes / p.settings.data_block) p.blocks) [
+      | inl past ↦ absurd (omega (arith, past-quotient most_bytes p.settings.data_block p.blocks some past, h.data_most))
+      | inr within ↦ within
+    ] in
+    level_count-le (fan p.settings) p.blocks (most_bytes / p.settings.data_block) (fan-two p.settings h.valid) few

@@ -93,6 +93,10 @@ multiple_of unit bytes = if bytes % unit == 0 then Some bytes else None
 abbrev pub level_count_of : Planned → ℕ
 level_count_of p = level_count (fan p.settings) p.blocks
 
+-- the number of levels of the largest tree that settings allow
+abbrev pub most_level_count : Settings → ℕ
+most_level_count s = level_count (fan s) (most_bytes / s.data_block)
+
 -- the number of blocks of a level
 abbrev pub level_size_of : Planned → ℕ → ℕ
 level_size_of p level = level_size (fan p.settings) p.blocks level

@@ -4,7 +4,7 @@ ghost use Rattle.std.specs.Fork.{slice_chunk};
 ghost use Rattle.verity_io.specs.Writing.{most_bytes};
 ghost use Rattle.verity_plan.specs.Plans.{Planned, IsPlanned, start_byte_of, level_count_of, level_size_of, place_of, end_place_of};
 ghost use Rattle.verity_plan.specs.Plans.{store_length_of, size_under, HasBlock, checked_plan, plan_for_blocks};
-ghost use Rattle.verity_plan.specs.Plans.{plan_for_bytes, level_count, blocks_from};
+ghost use Rattle.verity_plan.specs.Plans.{plan_for_bytes, level_count, blocks_from, most_level_count};
 ghost use Rattle.verity_plan.specs.Settings.{digest_len, fan, hash, slot_width};
 
 use crate::{PlanFault, TreeSettings};
@@ -101,6 +101,16 @@ impl Plan {
             levels: above.levels,
             end,
         })
+    }
+
+    /// The number of levels of the largest tree under these settings, above as many data blocks as 2^63 - 1 bytes have
+    /// room for: no plan has more.
+    pub fn most_levels(settings: &TreeSettings) -> usize
+        ensures value { result ≡ most_level_count settings.now }
+        ensures few { result ≤ 63 }
+    {
+        let largest = MOST_BYTES / u64::from(settings.data_block());
+        levels_above(settings.fan() as u64, largest).levels
     }
 
     /// What the tree is made by.
