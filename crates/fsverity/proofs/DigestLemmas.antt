@@ -8,7 +8,8 @@ use Rattle.verity_tree.specs.Reading.{EndsWithin, FailsWithin}
 use Rattle.verity_tree.specs.TreeOnDevice.{tree_on_device}
 use Rattle.verity_plan.specs.Plans.{Planned}
 use Rattle.verity_plan.specs.Settings.{Settings}
-use Rattle.fsverity.specs.Runs.FileDigest.{plan_of_file, root_of_file, with_tree}
+use Rattle.fsverity.specs.Runs.FileDigest.{plan_of_file, with_tree}
+use Rattle.verity_tree.specs.Levels.{root_of_file}
 
 -- a source that ended within block i holds so many blocks, and not all that is wanted
 pub ends_short : (p : Planned) (i : ℕ) (before after : List ℕ) → EndsWithin p i before after →

@@ -2,29 +2,107 @@
 //! or taken away.
 #![tactic(auto)]
 
-pub use fsverity::{
-    DigestFault, DigestOptions, ErasingWriter as FsverityErasingWriter, FileDigest, FileOpener,
-    Form, FsOptionFault, FusedOpener, Line as FsverityLine, LineFault as FsverityLineFault,
-    MemoryOpener, OUT_OF_MEMORY as FSVERITY_OUT_OF_MEMORY, Opener, OutputFault, PrintFault,
-    ProgressLine as FsverityProgressLine, RunFault, digest_file, digest_file_with_tree,
-    digest_line, digest_message as fsverity_digest_message, digest_settings,
-    option_message as fsverity_option_message, read_words as fsverity_read_words, run_digest,
-    run_digest_to, run_program as fsverity_run_program,
-};
-pub use verity_format::{
-    Descriptor, Formatted, PutFault, SuperFault, Superblock, file_digest, formatted_digest,
-    laws as format_laws, put_all, read_superblock, write_descriptor, write_superblock,
-};
-pub use verity_hash::{Algorithm, Digest, SaltRule, ShortBytes, salted, salted_rows};
-pub use verity_tree::{
-    BuildFault, CompareFault, Device, Failed, FileDevice, FileSource, Fused, HashType, LinkFault,
-    MemoryDevice, MemorySource, Nowhere, Part, PathFault, Plan, PlanFault, SettingFault, Source,
-    Store, TreeSettings, base_of, build, check_block, check_link, check_top, compare,
-    laws as tree_laws, root_by_levels, root_only,
-};
-pub use veritysetup::{
-    CommandName, ErasingWriter, Line, LineFault, OUT_OF_MEMORY, OptionFault, OptionName,
-    ProgressLine, RawOptions, Settings, VerifyInput, build_message, compare_message, draw,
-    offset_of, option_message, read_words, report, report_bare, run_dump, run_format, run_program,
-    run_verify, settings_of, super_message,
-};
+pub use fsverity::DigestFault;
+pub use fsverity::DigestOptions;
+pub use fsverity::ErasingWriter as FsverityErasingWriter;
+pub use fsverity::FileDigest;
+pub use fsverity::FileOpener;
+pub use fsverity::Form;
+pub use fsverity::FsOptionFault;
+pub use fsverity::FusedOpener;
+pub use fsverity::Line as FsverityLine;
+pub use fsverity::LineFault as FsverityLineFault;
+pub use fsverity::MemoryOpener;
+pub use fsverity::OUT_OF_MEMORY as FSVERITY_OUT_OF_MEMORY;
+pub use fsverity::Opener;
+pub use fsverity::OutputFault;
+pub use fsverity::PrintFault;
+pub use fsverity::ProgressLine as FsverityProgressLine;
+pub use fsverity::RunFault;
+pub use fsverity::digest_file;
+pub use fsverity::digest_file_with_tree;
+pub use fsverity::digest_line;
+pub use fsverity::digest_message as fsverity_digest_message;
+pub use fsverity::digest_settings;
+pub use fsverity::option_message as fsverity_option_message;
+pub use fsverity::read_words as fsverity_read_words;
+pub use fsverity::run_digest;
+pub use fsverity::run_digest_to;
+pub use fsverity::run_program as fsverity_run_program;
+pub use verity_format::Descriptor;
+pub use verity_format::Formatted;
+pub use verity_format::PutFault;
+pub use verity_format::SuperFault;
+pub use verity_format::Superblock;
+pub use verity_format::file_digest;
+pub use verity_format::formatted_digest;
+pub use verity_format::laws as format_laws;
+pub use verity_format::put_all;
+pub use verity_format::read_superblock;
+pub use verity_format::write_descriptor;
+pub use verity_format::write_superblock;
+pub use verity_hash::Algorithm;
+pub use verity_hash::Digest;
+pub use verity_hash::SaltRule;
+pub use verity_hash::ShortBytes;
+pub use verity_hash::salted;
+pub use verity_hash::salted_rows;
+pub use verity_tree::BuildFault;
+pub use verity_tree::CompareFault;
+pub use verity_tree::Device;
+pub use verity_tree::Failed;
+pub use verity_tree::Fed;
+pub use verity_tree::FeedFault;
+pub use verity_tree::FileBuilder;
+pub use verity_tree::FileDevice;
+pub use verity_tree::FileSource;
+pub use verity_tree::Fused;
+pub use verity_tree::HashBlock;
+pub use verity_tree::HashType;
+pub use verity_tree::LinkFault;
+pub use verity_tree::MemoryDevice;
+pub use verity_tree::MemorySource;
+pub use verity_tree::Nowhere;
+pub use verity_tree::Part;
+pub use verity_tree::PathFault;
+pub use verity_tree::Plan;
+pub use verity_tree::PlanFault;
+pub use verity_tree::SettingFault;
+pub use verity_tree::Source;
+pub use verity_tree::Store;
+pub use verity_tree::TreeBuilder;
+pub use verity_tree::TreeSettings;
+pub use verity_tree::base_of;
+pub use verity_tree::build;
+pub use verity_tree::check_block;
+pub use verity_tree::check_link;
+pub use verity_tree::check_top;
+pub use verity_tree::compare;
+pub use verity_tree::laws as tree_laws;
+pub use verity_tree::root_by_levels;
+pub use verity_tree::root_only;
+pub use veritysetup::CommandName;
+pub use veritysetup::ErasingWriter;
+pub use veritysetup::Line;
+pub use veritysetup::LineFault;
+pub use veritysetup::OUT_OF_MEMORY;
+pub use veritysetup::OptionFault;
+pub use veritysetup::OptionName;
+pub use veritysetup::ProgressLine;
+pub use veritysetup::RawOptions;
+pub use veritysetup::Settings;
+pub use veritysetup::VerifyInput;
+pub use veritysetup::build_message;
+pub use veritysetup::compare_message;
+pub use veritysetup::draw;
+pub use veritysetup::offset_of;
+pub use veritysetup::option_message;
+pub use veritysetup::read_words;
+pub use veritysetup::report;
+pub use veritysetup::report_bare;
+pub use veritysetup::run_dump;
+pub use veritysetup::run_format;
+pub use veritysetup::run_program;
+pub use veritysetup::run_verify;
+pub use veritysetup::settings_of;
+pub use veritysetup::super_message;

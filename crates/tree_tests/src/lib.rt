@@ -11,6 +11,8 @@ mod failed_reads;
 #[cfg(test)]
 mod faults_in_turn;
 #[cfg(test)]
+mod feeding;
+#[cfg(test)]
 mod paths;
 #[cfg(test)]
 mod pieces;

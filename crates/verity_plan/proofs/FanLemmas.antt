@@ -171,6 +171,10 @@ slot_count-below len size some =
 pub two_slots : (s : Settings) → IsValid s → 2 * digest_len s ≤ s.hash_block
 two_slots s valid = two_slots_by s.rule s.algorithm s.hash_block valid.hash_size
 
+-- and so has a data block
+pub two_digests : (s : Settings) → IsValid s → 2 * digest_len s ≤ s.data_block
+two_digests s valid = two_slots_by s.rule s.algorithm s.data_block valid.data_size
+
 -- a data block has a byte
 pub some_data : (s : Settings) → IsValid s → 0 < s.data_block
 some_data s valid = some_block s.rule s.algorithm s.data_block valid.data_size

@@ -11,7 +11,8 @@ use Rattle.verity_plan.specs.Plans.{level_count, level_size, place, start_byte, 
 use Rattle.verity_tree.specs.ClosingOrder.{closing_with, closes}
 use Rattle.verity_tree.specs.TreeOnDevice.{stored_block, tree_block, device_with}
 use Rattle.verity_tree.specs.ClosingOrder.{BlockIndex, block_index}
-use Rattle.verity_tree.specs.Steps.Cascade.{EndsBlock, first_closing}
+use Rattle.verity_tree.specs.Steps.Cascade.{EndsBlock}
+use Rattle.verity_tree.specs.ClosingOrder.{first_closing}
 use Rattle.verity_tree.specs.Steps.OpenBlocks.{digests_under, open_block, open_block_with, IsReached, IsCarrying}
 use Rattle.verity_tree.specs.Steps.OpenBlocks.{IsNext}
 use Rattle.verity_tree.specs.Steps.OpenBlocks.{IsKept, cascade_state, arrival}

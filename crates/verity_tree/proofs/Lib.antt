@@ -5,10 +5,12 @@ pub mod RootLemmas
 pub mod OrderLemmas
 pub mod OrderSplit
 pub mod PrefixLemmas
+pub mod FirstBlockLemmas
 pub mod QuotientLemmas
 pub mod OpenBlockLemmas
 pub mod OpenBlockSteps
 pub mod CascadeLemmas
+pub mod ClosedLevelLemmas
 pub mod ReadingAheadLemmas
 pub mod OnePassLemmas
 pub mod DataBlockLemmas
@@ -22,3 +24,8 @@ pub mod PieceLemmas
 pub mod ChainLemmas
 pub mod PathLemmas
 pub mod LinkLemmas
+pub mod ClimbLemmas
+pub mod HandedOutLemmas
+pub mod PieceOfBytesLemmas
+pub mod AdvanceLemmas
+pub mod FeedingLemmas

@@ -18,7 +18,8 @@ use Rattle.verity_io.specs.Writing.{Spoiled}
 use Rattle.verity_tree.proofs.OrderSplit.{closing-front, closed_after-front, closed_after-more, device_with-append, device_with-closed_after}
 use Rattle.verity_tree.specs.Reading.{ReadsUpTo, bytes_of}
 use Rattle.verity_io.specs.Reading.{HasRead}
-use Rattle.verity_tree.specs.Steps.Cascade.{first_closing, ClosesWith}
+use Rattle.verity_tree.specs.Steps.Cascade.{ClosesWith}
+use Rattle.verity_tree.specs.ClosingOrder.{first_closing}
 use Rattle.verity_plan.specs.Plans.{Planned, start_byte_of}
 use Rattle.verity_tree.specs.Steps.OpenBlocks.{digests_under, open_block, HasOpenBlocks}
 use Rattle.verity_tree.proofs.OpenBlockSteps.{hash_block_of-none}

@@ -11,7 +11,7 @@ use Rattle.std.specs.Prelude.{◌==◌, ◌||◌, slice_index_or}
 use Rattle.verity_plan.specs.Plans.{level_count, start_byte}
 use Rattle.verity_tree.specs.ClosingOrder.{BlockIndex, block_index, closes, closing_with, closed_after}
 use Rattle.verity_tree.specs.TreeOnDevice.{device_with}
-use Rattle.verity_tree.specs.Steps.Cascade.{first_closing}
+use Rattle.verity_tree.specs.ClosingOrder.{first_closing}
 use Rattle.verity_plan.specs.Settings.{Settings, fan}
 use Rattle.verity_tree.specs.Steps.OpenBlocks.{IsReached}
 use Rattle.verity_tree.specs.Levels.{blocks_up}

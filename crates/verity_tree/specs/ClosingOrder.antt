@@ -1,10 +1,11 @@
 -- The closing order, in which hash blocks close, and so are written and compared, as the data blocks come one after
 -- another: a block closes when it is full, or with the last data block. That order is this project's own; the kernel's
 -- pages leave it open.
-use Rattle.std.specs.Prelude.{◌≡◌, ◌<◌, ℕ, zero, suc, ◌+◌, ◌/◌, ◌%◌, ◌^◌, Bool, ◌||◌, ◌&&◌, ◌==◌, List, [], ◌∷◌, ◌++◌}
+use Rattle.std.specs.Prelude.{◌≡◌, ◌<◌, ℕ, zero, suc, ◌+◌, ◌-◌, ◌/◌, ◌%◌, ◌^◌, Bool, ◌||◌, ◌&&◌, ◌==◌, List, [], ◌∷◌, ◌++◌}
 use Rattle.std.specs.Prelude.{map, filter}
 use Rattle.std.specs.List.{range_with_len, count_by}
-use Rattle.verity_plan.specs.Plans.{level_count, IsTreeBlock}
+use Rattle.verity_plan.specs.Plans.{level_count, IsTreeBlock, Planned}
+use Rattle.verity_plan.specs.Settings.{Settings, fan}
 
 -- a hash block of a tree, by its level and its index in the level
 pub record BlockIndex : Type 0 where
@@ -22,6 +23,10 @@ closes fan n i level = ((i + 1) % fan ^ (level + 1) == 0) || (i + 1 == n)
 abbrev pub closing_with : ℕ → ℕ → ℕ → List BlockIndex
 closing_with fan n i = map (λ level. block_index level (i / fan ^ (level + 1)))
     (filter (closes fan n i) (range_with_len 0 (level_count fan n)))
+
+-- the blocks of the levels below m that close with data block i, if all of them do
+abbrev pub first_closing : ℕ → ℕ → ℕ → List BlockIndex
+first_closing fan i m = map (λ level. block_index level (i / fan ^ (level + 1))) (range_with_len 0 m)
 
 -- the blocks that have closed after i data blocks, in closing order
 unfoldable pub closed_after : ℕ → ℕ → ℕ → List BlockIndex
@@ -41,3 +46,13 @@ times level index hash_blocks = count_by (λ block. (block.level == level) && (b
 pub record ClosesOnce (fan n : ℕ) : Type 0 where
   pub once : (l j : ℕ) → IsTreeBlock fan n l j → times l j (closed_after fan n n) ≡ 1
   pub only : (l j : ℕ) → 0 < times l j (closed_after fan n n) → IsTreeBlock fan n l j
+
+-- the number of data blocks before the one that the last of some bytes is in
+abbrev pub blocks_before : Settings → ℕ → ℕ
+blocks_before s count = (count - 1) / s.data_block
+
+-- the hash blocks that were handed out, in closing order, when so many bytes were fed and the hash blocks of so many
+-- levels above the last of them were handed out
+abbrev pub handed_out : Planned → ℕ → ℕ → List BlockIndex
+handed_out p count closed = closed_after (fan p.settings) p.blocks (blocks_before p.settings count)
+    ++ first_closing (fan p.settings) (blocks_before p.settings count) closed

@@ -4,5 +4,6 @@ pub mod DataBlocks
 pub mod ClosedBlocks
 pub mod Cascade
 pub mod ReadingAhead
+pub mod Feeding
 pub mod OnePass
 pub mod PlainRoots

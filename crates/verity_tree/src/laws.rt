@@ -6,7 +6,11 @@ ghost use Rattle.std.specs.Int.{div_ceil};
 ghost use Rattle.verity_plan.specs.Plans.{level_count, level_size, Planned, IsPlanned, level_count_of};
 ghost use Rattle.verity_plan.specs.Settings.{Settings, fan};
 ghost use Rattle.verity_tree.specs.ClosingOrder.{ClosesOnce, closed_after, times};
+ghost use Rattle.std.specs.List.{flat_map};
+ghost use Rattle.verity_tree.specs.Feeding.{BuildsInCalls, FeedCall, FeedsCalls, FeedsPieces, IsFed, IsFedFile};
 ghost use Rattle.verity_tree.specs.TreeOnDevice.{tree_block, HoldsTree};
+ghost use Rattle.verity_tree.specs.declared.file_builder.FileBuilder.{FileBuilder};
+ghost use Rattle.verity_tree.specs.declared.tree_builder.TreeBuilder.{TreeBuilder};
 ghost use Rattle.verity_tree.specs.Levels.{data_blocks, level, height, root};
 ghost use Rattle.verity_tree.specs.Links.{AreLinked, IsCollision, checked_link, checked_top, joined};
 ghost use Rattle.verity_tree.specs.Paths.{ChecksBlock, HasCollision, IsAccepted, true_chain, true_path};
@@ -94,4 +98,21 @@ pub fn accepted_links_are_true()
         → checked_top p i block (root p.settings (data_blocks p bytes)) ≡ Ok tt
         → (block ≡ true_chain p.settings (data_blocks p bytes) i (level_count_of p))
         ⊎ IsCollision p.settings block (true_chain p.settings (data_blocks p bytes) i (level_count_of p)) }
+{}
+
+/// A file that is fed in pieces, whatever they are, is their bytes joined; so `end` answers its root hash.
+pub fn any_pieces_are_the_file()
+    ensures { (b after : FileBuilder) (memory memory_after : List ℕ) (pieces : List (List ℕ)) → IsFedFile b memory []
+        → FeedsPieces b memory pieces after memory_after
+        → IsFedFile after memory_after (flat_map (λ piece. piece) pieces) }
+{}
+
+/// A tree that is built in any calls is what `build` leaves on the device: its data are the bytes that were taken, joined,
+/// and its hash blocks were handed out in closing order, each once. So `end` answers its root hash.
+pub fn any_calls_build_the_tree()
+    ensures { (b after : TreeBuilder) (memory memory_after device : List ℕ) (calls : List FeedCall)
+        → IsPlanned b.plan → IsFed b memory [] → FeedsCalls b memory calls after memory_after
+        → after.fed ≡ b.plan.wanted → after.closed ≡ level_count_of b.plan
+        → IsFed after memory_after (flat_map (λ call. call.taken) calls)
+        × BuildsInCalls b.plan (flat_map (λ call. call.taken) calls) calls device }
 {}

@@ -5,6 +5,9 @@
 
 mod building;
 mod comparing;
+mod feed_fault;
+mod feeding;
+mod file_builder;
 pub mod laws;
 mod link;
 mod part;
@@ -12,14 +15,18 @@ mod pass;
 mod path;
 mod plain_root;
 mod store;
+mod tree_builder;
 
 pub use building::{BuildFault, build, root_only};
 pub use comparing::{CompareFault, compare};
+pub use feed_fault::FeedFault;
+pub use file_builder::FileBuilder;
 pub use link::{LinkFault, check_link, check_top};
 pub use part::Part;
 pub use path::{PathFault, check_block};
 pub use plain_root::root_by_levels;
 pub use store::Store;
+pub use tree_builder::{Fed, HashBlock, TreeBuilder};
 pub use verity_io::{
     Device, Failed, FileDevice, FileSource, Fused, MemoryDevice, MemorySource, Nowhere, Source,
 };

@@ -6,7 +6,8 @@ use Rattle.verity_hash.specs.declared.digest.Digest.{Digest}
 use Rattle.verity_io.specs.Counting.{Rose}
 use Rattle.verity_io.specs.Reading.{HasRead}
 use Rattle.verity_plan.specs.Settings.{Settings}
-use Rattle.fsverity.specs.Runs.FileDigest.{FaultsIn, IsFileDigest, root_of_file}
+use Rattle.fsverity.specs.Runs.FileDigest.{FaultsIn, IsFileDigest}
+use Rattle.verity_tree.specs.Levels.{root_of_file}
 use Rattle.fsverity.specs.Openers.Opening.{OpenerChange}
 use Rattle.fsverity.specs.Runs.Digest.{IsLargeAt, IsWrittenPrefix, file_line, has_digest}
 use Rattle.fsverity.specs.declared.runs.file_digest.FileDigest.{FileDigest}

@@ -4,7 +4,7 @@ use Rattle.std.specs.Prelude.{◌≡◌, ℕ, ◌+◌, ◌*◌, ◌/◌, ◌<◌
 use Rattle.std.specs.Int.{div_ceil}
 use Rattle.verity_format.specs.Descriptors.{DescriptorFields, descriptor_bytes, digest_of_file}
 use Rattle.verity_io.specs.Reading.{HasRead}
-use Rattle.verity_tree.specs.Levels.{cut, data_blocks, root}
+use Rattle.verity_tree.specs.Levels.{cut, data_blocks, root, root_of_file}
 use Rattle.verity_tree.specs.Building.{BuildsOnDevice}
 use Rattle.verity_tree.specs.TreeOnDevice.{tree_on_device}
 use Rattle.verity_tree.specs.Reading.{ReadsUpTo}
@@ -15,11 +15,6 @@ use Rattle.verity_plan.specs.Settings.{Settings, digest_len}
 use Rattle.fsverity.specs.declared.runs.digest_fault.DigestFault.{DigestFault}
 use Rattle.fsverity.specs.declared.runs.digest_fault.DigestFault.TheVariants.{TooLarge, SourceShort, SourceFailed, DeviceFailed, Memory}
 use Rattle.fsverity.specs.declared.runs.file_digest.FileDigest.{FileDigest}
-
--- the root hash of the first size bytes: zeros for an empty file
-abbrev pub root_of_file : Settings → ℕ → List ℕ → List ℕ
-root_of_file s size bytes =
-    if size == 0 then replicate (digest_len s) 0 else root s (cut s (div_ceil size s.data_block) size bytes)
 
 -- the descriptor of so many bytes with this root hash
 abbrev pub descriptor_of : Settings → ℕ → List ℕ → DescriptorFields

@@ -7,7 +7,8 @@ use Rattle.verity_format.specs.Descriptors.{descriptor_bytes, digest_of_file}
 use Rattle.verity_io.specs.Counting.{Change, Counts}
 use Rattle.verity_io.specs.Reading.{HasRead}
 use Rattle.verity_plan.specs.Settings.{Settings}
-use Rattle.fsverity.specs.Runs.FileDigest.{FaultsIn, Stands, descriptor_of, device_failed, is_too_large, root_of_file, source_failed, with_tree}
+use Rattle.fsverity.specs.Runs.FileDigest.{FaultsIn, Stands, descriptor_of, device_failed, is_too_large, source_failed, with_tree}
+use Rattle.verity_tree.specs.Levels.{root_of_file}
 use Rattle.fsverity.specs.Texts.Lines.{line}
 use Rattle.fsverity.specs.Texts.Messages.{output_fault_message}
 use Rattle.fsverity.specs.declared.runs.digest_fault.DigestFault.{DigestFault}

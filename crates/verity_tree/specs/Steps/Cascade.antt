@@ -1,12 +1,10 @@
 -- One data block's digest on its way up through the levels whose blocks close.
 -- For the private steps; not needed to read a public contract.
 use Rattle.std.specs.Prelude.{◌≡◌, ◌⊎◌, ℕ, ◌+◌, ◌/◌, ◌%◌, ◌<◌, ◌≤◌, ◌^◌, Bool, true, false, List, map, Result, Ok, Err}
-use Rattle.std.specs.List.{range_with_len}
 use Rattle.verity_hash.specs.declared.digest.Digest.{Digest}
 use Rattle.verity_plan.specs.Settings.{Settings, hash, fan}
-use Rattle.verity_tree.specs.ClosingOrder.{closing_with, closes}
+use Rattle.verity_tree.specs.ClosingOrder.{closing_with, closes, first_closing}
 use Rattle.verity_tree.specs.TreeOnDevice.{tree_block, device_with, stored_block}
-use Rattle.verity_tree.specs.ClosingOrder.{BlockIndex, block_index}
 use Rattle.verity_plan.specs.Plans.{Planned, start_byte_of, level_count_of}
 use Rattle.verity_tree.specs.declared.pass.cascade.Stop.{Stop}
 use Rattle.verity_tree.specs.declared.pass.closed_block.Task.{Task}
@@ -16,10 +14,6 @@ use Rattle.verity_tree.specs.Steps.OpenBlocks.{Arrival, IsNext, open_block_with,
 use Rattle.verity_io.specs.Writing.{put, Spoiled}
 use Rattle.verity_tree.specs.declared.pass.cascade.LevelStep.{LevelStep}
 use Rattle.verity_tree.specs.declared.pass.cascade.LevelStep.TheVariants.{Open, Closed, Stopped}
-
--- the blocks of the levels below m that close with data block i, if all of them do
-abbrev pub first_closing : ℕ → ℕ → ℕ → List BlockIndex
-first_closing fan i m = map (λ level. block_index level (i / fan ^ (level + 1))) (range_with_len 0 m)
 
 -- data block i is the last below a block of level 0
 abbrev pub EndsBlock : ℕ → ℕ → ℕ → Type 0

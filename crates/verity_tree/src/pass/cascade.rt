@@ -46,7 +46,7 @@ struct NextDigest<'a> {
 }
 
 /// Puts a digest into a block.
-fn put_slot(block: &mut [u8], from: usize, digest: &Digest)
+pub(crate) fn put_slot(block: &mut [u8], from: usize, digest: &Digest)
     requires { from + length digest.now ≤ length block.old }
     ensures { block.new ≡ take from block.old ++ digest.now ++ drop (from + length digest.now) block.old }
 {

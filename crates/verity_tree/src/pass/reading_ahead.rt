@@ -94,7 +94,7 @@ pub(crate) fn take_next<S: Source>(
 
 /// How many data blocks from `i` on are read together into a window of this length: as many as it has room for, and
 /// none past the last data block below a hash block. It is 1 if they are hashed one by one.
-fn rows_from(plan: &Plan, window: usize, i: u64) -> usize
+pub(crate) fn rows_from(plan: &Plan, window: usize, i: u64) -> usize
     requires { i < plan.now.blocks }
     ensures some { 0 < result }
     ensures most { result ≤ 8 }

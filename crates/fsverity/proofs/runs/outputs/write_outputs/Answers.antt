@@ -1,5 +1,5 @@
 use Rattle.std.proofs.Common.{refl}
-use Rattle.fsverity.specs.Runs.FileDigest.{root_of_file}
+use Rattle.verity_tree.specs.Levels.{root_of_file}
 use Rattle.fsverity.proofs.FormLemmas.{Keeps-same}
 use Rattle.fsverity.proofs.runs.outputs.write_outputs.Goals as goal
 

@@ -3,7 +3,7 @@ use Rattle.std.proofs.Common.{◌∙◌}
 use Rattle.std.proofs.Common.{◌≡◌, ◌≤◌}
 use Rattle.verity_tree.specs.ClosingOrder.{BlockIndex, closing_with, closes}
 use Rattle.verity_tree.specs.TreeOnDevice.{tree_block, device_with, stored_block}
-use Rattle.verity_tree.specs.Steps.Cascade.{first_closing}
+use Rattle.verity_tree.specs.ClosingOrder.{first_closing}
 use Rattle.verity_plan.specs.Plans.{level_count, start_byte, start_byte_of, level_count_of}
 use Rattle.verity_tree.specs.Steps.OpenBlocks.{IsCarrying, digests_under, open_block_with, cascade_state}
 use Rattle.verity_plan.specs.Settings.{fan}

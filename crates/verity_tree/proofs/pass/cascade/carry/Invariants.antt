@@ -1,7 +1,8 @@
 use Rattle.std.proofs.Common.{◌≡◌, ◌<◌, ℕ, ◌/◌, ◌^◌, List, length}
 use Rattle.verity_plan.specs.Settings.{fan, digest_len}
 use Rattle.verity_tree.specs.Steps.OpenBlocks.{HasOpenBlocks, level_digest, IsCarrying, cascade_state}
-use Rattle.verity_tree.specs.Steps.Cascade.{EndsBlock, first_closing}
+use Rattle.verity_tree.specs.Steps.Cascade.{EndsBlock}
+use Rattle.verity_tree.specs.ClosingOrder.{first_closing}
 use Rattle.verity_tree.specs.TreeOnDevice.{device_with}
 use Rattle.verity_plan.specs.Plans.{level_count_of}
 use Rattle.verity_tree.specs.Verdicts.{NoneDiffers}

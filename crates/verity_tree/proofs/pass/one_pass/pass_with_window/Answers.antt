@@ -1,7 +1,7 @@
 use Rattle.std.proofs.Common.{List, arith, length, refl, rules, subst, sym, ℕ, ◌+◌, ◌<◌, ◌∙◌, ◌≡◌, ◌≤◌}
 use Rattle.verity_tree.specs.ClosingOrder.{closing_with, closed_after}
 use Rattle.verity_tree.specs.TreeOnDevice.{tree_block, device_with}
-use Rattle.verity_tree.specs.Steps.Cascade.{first_closing}
+use Rattle.verity_tree.specs.ClosingOrder.{first_closing}
 use Rattle.verity_tree.specs.Levels.{data_blocks}
 use Rattle.verity_plan.specs.Plans.{level_count_of}
 use Rattle.verity_tree.proofs.OnePassLemmas.{HasOpenBlocks-zeros, reads-up-to, image-next, image-stopped}

@@ -1,0 +1,178 @@
+//! Trees that are built as pieces of their data come, beside trees made from plain lists of bytes.
+use crate::cases::{CURRENT, Case, FILE, ORIGINAL, Row, SHA1, SHA224, SHA256, SHA384, SHA512};
+use crate::trees::small;
+use std::alloc::Global;
+use std::test::Fail;
+use verity_hash::{Digest, SaltRule};
+use verity_io::MOST_BYTES;
+use verity_tree::{
+    Device, Fed, FeedFault, FileBuilder, HashBlock, MemoryDevice, Plan, TreeBuilder,
+};
+
+/// Powers of the fan-out, a block more and less, a single block, and a last block that isn't full; plain and salted, and
+/// hashed alone and side by side.
+const SHAPES: [Row; 11] = [
+    (CURRENT, SHA256, b"", (512, 512), (16, 32), (512, 0)),
+    (CURRENT, SHA256, b"", (512, 512), (16, 32), (8192, 1)),
+    (CURRENT, SHA256, b"salt", (512, 512), (16, 32), (8704, 2)),
+    (CURRENT, SHA1, b"", (512, 512), (16, 32), (8192, 1)),
+    (ORIGINAL, SHA384, b"salt", (512, 1024), (16, 48), (9216, 2)),
+    (CURRENT, SHA224, b"salt", (1024, 512), (16, 32), (15_360, 1)),
+    (CURRENT, SHA512, b"salt", (4096, 512), (8, 64), (40_960, 2)),
+    (FILE, SHA256, b"salt", (512, 512), (16, 32), (1, 0)),
+    (FILE, SHA256, b"", (64, 64), (2, 32), (1024, 4)),
+    (FILE, SHA256, b"salt", (64, 64), (2, 32), (1025, 5)),
+    (FILE, SHA512, b"salt", (128, 128), (2, 64), (1153, 4)),
+];
+
+/// The lengths of pieces: fewer bytes than a block, a block, more, all at once, and 0 for lengths that change.
+const PIECES: [usize; 8] = [1, 7, 511, 512, 4095, 4097, 50_000, 0];
+
+/// The length of the next piece: this one, or for 0 one below 5000, 0 at first and another at each step.
+fn next_length(piece: usize, step: usize) -> usize {
+    if piece > 0 {
+        return piece;
+    }
+    step.wrapping_mul(2_654_435_761) % 5000
+}
+
+/// Writes a hash block that was handed out at its place.
+fn write(
+    device: &mut MemoryDevice,
+    memory: &[u8],
+    block: &HashBlock,
+    size: usize,
+) -> Result<(), Fail> {
+    let Some(bytes) = memory.get(block.at..block.at.saturating_add(size)) else {
+        return Err("a hash block outside the memory".into());
+    };
+    match block.byte.checked_add(bytes.len() as u64) {
+        Some(end) if end <= MOST_BYTES => {}
+        _ => return Err("a hash block too far out".into()),
+    }
+    match device.write_at(block.byte, bytes) {
+        Ok(()) => Ok(()),
+        Err(_) => Err("cannot write".into()),
+    }
+}
+
+/// Feeds a piece, in memory of the right length.
+fn feed(builder: &mut TreeBuilder, memory: &mut [u8], piece: &[u8]) -> Result<Fed, Fail> {
+    if memory.len() != TreeBuilder::memory_length(&builder.plan) {
+        return Err("another length".into());
+    }
+    Ok(builder.feed(memory, piece)?)
+}
+
+/// What a builder answers at the end, with memory of the right length.
+fn end(builder: &TreeBuilder, memory: &mut [u8]) -> Result<Digest, Fail> {
+    if memory.len() != TreeBuilder::memory_length(&builder.plan) {
+        return Err("another length".into());
+    }
+    Ok(builder.end(memory)?)
+}
+
+/// Feeds a piece of a file, in memory of the right length.
+fn feed_file(builder: &mut FileBuilder, memory: &mut [u8], piece: &[u8]) -> Result<(), Fail> {
+    if memory.len() != FileBuilder::memory_length(&builder.settings) {
+        return Err("another length".into());
+    }
+    Ok(builder.feed(memory, piece)?)
+}
+
+/// The root hash of some data that is fed in pieces of a length, with each hash block written as it is handed out.
+fn build_in_pieces(
+    alloc: Global,
+    plan: &Plan,
+    data: &[u8],
+    piece: usize,
+    device: &mut MemoryDevice,
+) -> Result<Digest, Fail> {
+    let mut memory = vec![in alloc; 0xa5u8; TreeBuilder::memory_length(plan)]?;
+    let mut builder = TreeBuilder::begin(plan, memory.as_mut_slice());
+    let mut rest = data;
+    for step in 0..data.len().saturating_mul(2).saturating_add(8) {
+        let next = &rest[..next_length(piece, step).min(rest.len())];
+        let fed = feed(&mut builder, memory.as_mut_slice(), next)?;
+        rest = rest.get(fed.taken..).ok_or("more than there are")?;
+        match fed.hash_block {
+            Some(block) => write(device, memory.as_slice(), &block, plan.hash_block())?,
+            None if rest.is_empty() => break,
+            None => {}
+        }
+    }
+    end(&builder, memory.as_mut_slice())
+}
+
+/// The root hash of a file that is fed in pieces of a length.
+fn digest_in_pieces(alloc: Global, plan: &Plan, data: &[u8], piece: usize) -> Result<Digest, Fail> {
+    let settings = plan.settings();
+    let mut memory = vec![in alloc; 0xa5u8; FileBuilder::memory_length(settings)]?;
+    let mut builder = FileBuilder::begin(settings, memory.as_mut_slice());
+    let mut rest = data;
+    for step in 0..data.len().saturating_mul(2).saturating_add(8) {
+        let (next, after) = rest.split_at(next_length(piece, step).min(rest.len()));
+        feed_file(&mut builder, memory.as_mut_slice(), next)?;
+        rest = after;
+    }
+    if memory.len() != FileBuilder::memory_length(&builder.settings) {
+        return Err("another length".into());
+    }
+    Ok(builder.end(memory.as_mut_slice())?)
+}
+
+/// Whether a tree that is built in pieces of a length is that from plain lists, and so is a file's root hash.
+fn is_built(alloc: Global, case: &Case, rule: SaltRule, piece: usize) -> Result<bool, Fail> {
+    let (plan, data) = (&case.plan, case.data.as_slice());
+    let image = case.tree.on_device(alloc, case.shape.hash_block)?;
+    let mut device = MemoryDevice::new(vec![in alloc; 0u8; case.shape.hash_block]?);
+    let built = build_in_pieces(alloc, plan, data, piece, &mut device)?;
+    if rule == FILE && digest_in_pieces(alloc, plan, data, piece)? != case.root {
+        return Ok(false);
+    }
+    Ok(built == case.root && device.bytes() == image.as_slice())
+}
+
+#[test]
+fn trees_are_built_in_pieces(rt: HostRuntime) -> Result<(), Fail> {
+    for row in &SHAPES {
+        let case = Case::new(rt.alloc(), row)?;
+        for &piece in &PIECES {
+            let built = is_built(rt.alloc(), &case, row.0, piece)?;
+            assert!(rt; built, "at {row:?} in pieces of {piece}");
+        }
+    }
+    Ok(())
+}
+
+/// What a builder of the tree above 17 blocks of 512 bytes answers to one piece of so many bytes, and then at the end.
+fn answers(alloc: Global, count: usize) -> Result<(Option<FeedFault>, Option<FeedFault>), Fail> {
+    let plan = Plan::for_blocks(&small()?, 17, 1)?;
+    let mut memory = vec![in alloc; 0u8; TreeBuilder::memory_length(&plan)]?;
+    let piece = vec![in alloc; 7u8; count]?;
+    let mut builder = TreeBuilder::begin(&plan, memory.as_mut_slice());
+    if memory.len() != TreeBuilder::memory_length(&builder.plan) {
+        return Err("another length".into());
+    }
+    let fed = builder.feed(memory.as_mut_slice(), piece.as_slice()).err();
+    if memory.len() != TreeBuilder::memory_length(&builder.plan) {
+        return Err("another length".into());
+    }
+    Ok((fed, builder.end(memory.as_mut_slice()).err()))
+}
+
+#[test]
+fn too_few_and_too_many_bytes_are_refused(rt: HostRuntime) -> Result<(), Fail> {
+    let long = Some(FeedFault::TooLong);
+    let short = |block| Some(FeedFault::TooShort(block));
+    let cases = [
+        (0, (None, short(0))),
+        (513, (None, short(1))),
+        (17 * 512 + 1, (long, short(0))),
+        (8192, (None, short(16))),
+    ];
+    for &(count, expected) in &cases {
+        assert_eq!(rt; answers(rt.alloc(), count)?, expected, "at {count}");
+    }
+    Ok(())
+}

@@ -1,0 +1,333 @@
+-- Steps of a tree that is built as pieces of its data come: what stands before a step, and what comes of several.
+use Rattle.std.proofs.Common.{◌≡◌, ℕ, zero, suc, ◌+◌, ◌-◌, ◌*◌, ◌/◌, ◌%◌, ◌^◌, ◌<◌, ◌≤◌, ◌⊎◌, Bool, true, false, eqb, List, []}
+use Rattle.std.proofs.Common.{◌++◌, ◌∷◌, get_or, take, drop, length, arith, sym, ◌∙◌, ap, subst, inl, inr, refl, append_assoc}
+use Rattle.std.proofs.Common.{length-append, length-drop}
+use Rattle.std.proofs.lemmas.Bool.{cases_lt}
+use Rattle.std.proofs.lemmas.Bool.Decides.{nat_tests}
+use Rattle.std.proofs.lemmas.Nat.{div-add-mod', div-mul-add, mod_below}
+use Rattle.std.proofs.lemmas.List.{append-nil, drop-take, length-take-le, take-append-drop, take-take, take_all}
+use Rattle.std.proofs.lemmas.List.FromFn.{get_or-map-range_with_len}
+use Rattle.std.proofs.Math.Nat.{div-eq_of_lt, pow-zero}
+use Rattle.std.specs.Fork.{slice_chunk}
+use Rattle.verity_hash.specs.Hashing.{with_zeros}
+use Rattle.verity_plan.specs.Plans.{IsPlanned, Planned, block_count, level_count, level_count_of}
+use Rattle.verity_plan.specs.Settings.{fan, hash}
+use Rattle.verity_plan.proofs.CountLemmas.{IsLevelCount-level_count, le-div_ceil}
+use Rattle.verity_plan.proofs.FanLemmas.{fan-some, fan-two, some_data}
+use Rattle.verity_plan.proofs.IndexLemmas.{quotient-below}
+use Rattle.verity_tree.specs.ClosingOrder.{BlockIndex, closed_after}
+use Rattle.verity_tree.specs.Levels.{block_at, blocks_up, cut, data_blocks, height, root}
+use Rattle.verity_tree.specs.Steps.Feeding.{Climbs, EndsDataBlock, FeedsOn, Hands, HasFed, IsHandingOut, IsSettled}
+use Rattle.verity_tree.specs.Steps.Feeding.{Stands, current_bytes, first_blocks, handed_at}
+use Rattle.verity_tree.specs.ClosingOrder.{handed_out}
+use Rattle.verity_tree.specs.ClosingOrder.{blocks_before}
+use Rattle.verity_tree.specs.Steps.OpenBlocks.{HasOpenBlocks}
+use Rattle.verity_tree.proofs.DataBlockLemmas.{blocks-some}
+use Rattle.verity_tree.proofs.FirstBlockLemmas.{plan-first_blocks}
+use Rattle.verity_tree.proofs.LevelLemmas.{length-cut}
+use Rattle.verity_tree.proofs.TreeLemmas.{height-level_count}
+
+-- a number that is a multiple is the one after those of the runs before its last
+last-multiple : (n w : ℕ) → 0 < w → 0 < n → n % w ≡ 0 → n ≡ ((n - 1) / w + 1) * w
+last-multiple n w wide some whole =
+    let q = n / w in
+    let split : q * w + n % w ≡ n = div-add-mod' n w in
+    let more : 0 < q = elim (cases_lt 0 q) [
+      | inl more ↦ more
+      | inr none ↦
+          let zero_is : q ≡ 0 = omega (arith, none) in
+          absurd (omega (arith, split, whole, some, ap (λ (k : ℕ). k * w) zero_is))
+    ] in
+    let one : q ≡ q - 1 + 1 = omega (arith, more) in
+    let area : q * w ≡ (q - 1) * w + w =
+    ap (λ (k : ℕ). k * w) one ∙ (let t : (q - 1 + 1) * w ≡ (q - 1) * w + w = omega arith in t) in
+    let before : n - 1 ≡ (q - 1) * w + (w - 1) = omega (arith, split, whole, area, wide) in
+    let less : w - 1 < w = omega (arith, wide) in
+    let last : (n - 1) / w ≡ q - 1 = ap (λ (k : ℕ). k / w) before ∙ div-mul-add (q - 1) w (w - 1) less in
+    let next : (n - 1) / w + 1 ≡ q = omega (arith, last, one) in
+    let whole_is : n ≡ q * w = omega (arith, split, whole) in
+    whole_is ∙ ap (λ (k : ℕ). k * w) (sym next)
+
+-- as many whole data blocks as that
+whole-quotient : (n w k : ℕ) → 0 < w → n ≡ k * w → n / w ≡ k
+whole-quotient n w k wide h =
+    let e : n ≡ k * w + 0 = omega (arith, h) in
+    ap (λ (x : ℕ). x / w) e ∙ div-mul-add k w 0 wide
+
+-- a number that isn't a multiple has its last in the run that isn't whole
+partial-quotient : (n w : ℕ) → 0 < w → (n ≡ 0) ⊎ (0 < n % w) → n / w ≡ (n - 1) / w
+partial-quotient n w wide ends = elim ends [
+  | inl none ↦
+      let e : n ≡ n - 1 = omega (arith, none) in
+      ap (λ (x : ℕ). x / w) e
+  | inr part ↦
+      let split : n / w * w + n % w ≡ n = div-add-mod' n w in
+      let low : n % w < w = mod_below n w wide in
+      let before : n - 1 ≡ n / w * w + (n % w - 1) = omega (arith, split, part) in
+      let less : n % w - 1 < w = omega (arith, low) in
+      sym (ap (λ (x : ℕ). x / w) before ∙ div-mul-add (n / w) w (n % w - 1) less)
+]
+
+-- when a data block ends it does so whichever hash blocks above it were handed out
+pub Stands-ends : (p : Planned) (levels closed : ℕ) (fed opened current : List ℕ) → IsPlanned p → 0 < length fed
+    → length fed ≤ p.wanted
+    → (0 < closed) ⊎ ((length fed % p.settings.data_block ≡ 0) ⊎ (length fed ≡ p.wanted))
+    → Stands p levels fed closed opened current → EndsDataBlock p (length fed)
+Stands-ends p levels zero fed opened current planned some most ends h = record {
+  some = some;
+  most = most;
+  ends = elim ends [
+    | inl none ↦ absurd (omega (arith, none))
+    | inr last ↦ elim last [
+      | inl whole ↦ inl (last-multiple (length fed) p.settings.data_block (some_data p.settings planned.valid) some whole)
+      | inr all ↦ inr all
+    ]
+  ];
+}
+Stands-ends p levels (suc level) fed opened current planned some most ends h = h.ends
+
+-- before any hash block was handed out above the last byte
+handed_out-none : (p : Planned) (count : ℕ)
+    → handed_out p count 0 ≡ closed_after (fan p.settings) p.blocks (blocks_before p.settings count)
+handed_out-none p count = append-nil (closed_after (fan p.settings) p.blocks (blocks_before p.settings count))
+
+-- bytes may come: the whole data blocks have come to the open blocks, and all that closed with them was handed out
+pub record TakesMore (p : Planned) (levels : ℕ) (fed : List ℕ) (closed : ℕ) (opened current : List ℕ) : Type 0 where
+  pub settled : IsSettled p.settings levels fed opened current
+  pub order : closed_after (fan p.settings) p.blocks (length fed / p.settings.data_block)
+      ≡ handed_out p (length fed) closed
+
+-- the data block that the last byte is in isn't whole
+partial-settled : (p : Planned) (levels : ℕ) (fed opened current : List ℕ) → IsPlanned p
+    → (length fed ≡ 0) ⊎ (0 < length fed % p.settings.data_block)
+    → HasFed p.settings levels fed opened current → TakesMore p levels fed 0 opened current
+partial-settled p levels fed opened current planned part h =
+    let s = p.settings in
+    let size = s.data_block in
+    let n = length fed in
+    let wide : 0 < size = some_data s planned.valid in
+    let same : n / size ≡ blocks_before s n = partial-quotient n size wide part in
+    let short : length (current_bytes s fed) < size =
+    omega (
+      arith,
+      length-drop (blocks_before s n * size) fed,
+      ap (λ (k : ℕ). k * size) same,
+      div-add-mod' n size,
+      mod_below n size wide,
+    ) in
+    record {
+      settled = record {
+        stands = subst (λ (k : ℕ). HasOpenBlocks s (first_blocks s k fed) 0 levels k opened) (sym same) h.stands;
+        holds = λ bytes is.
+            let e : current_bytes s fed ≡ bytes =
+            ap (λ (k : ℕ). drop (k * size) fed) (sym same) ∙ sym is in
+            subst (λ (xs : List ℕ). take (length xs) current ≡ xs) e (h.holds.partial short);
+      };
+      order = ap (closed_after (fan s) p.blocks) same ∙ sym (handed_out-none p n);
+    }
+
+-- nothing was carried up, since no data block has ended
+pub Stands-settled : (p : Planned) (levels closed : ℕ) (fed opened current : List ℕ) → IsPlanned p
+    → (length fed ≡ 0) ⊎ ((closed ≡ 0) × (0 < length fed % p.settings.data_block))
+    → Stands p levels fed closed opened current → TakesMore p levels fed closed opened current
+Stands-settled p levels zero fed opened current planned part h =
+    let either : (length fed ≡ 0) ⊎ (0 < length fed % p.settings.data_block) = elim part [
+      | inl none ↦ inl none
+      | inr within ↦ inr within.1
+    ] in
+    partial-settled p levels fed opened current planned either h
+Stands-settled p levels (suc level) fed opened current planned part h = elim part [
+  | inl none ↦ absurd (omega (arith, none, h.ends.some))
+  | inr within ↦ absurd (omega (arith, within.0))
+]
+
+-- a digest was carried up and no hash block has closed
+pub Climbs-settled : (p : Planned) (levels closed : ℕ) (fed opened current : List ℕ) → IsPlanned p
+    → length fed ≤ p.wanted → Climbs p levels fed closed false opened → TakesMore p levels fed closed opened current
+Climbs-settled p levels closed fed opened current planned most h =
+    let s = p.settings in
+    let size = s.data_block in
+    let n = length fed in
+    let m = blocks_before s n + 1 in
+    let wide : 0 < size = some_data s planned.valid in
+    let same : n / size ≡ m = whole-quotient n size m wide h.0 in
+    let enough : m * size ≤ n = omega (arith, h.0) in
+    let first : HasOpenBlocks s (first_blocks s m fed) 0 levels m opened =
+    plan-first_blocks p m levels fed opened planned enough most h.1 in
+    record {
+      settled = record {
+        stands = subst (λ (k : ℕ). HasOpenBlocks s (first_blocks s k fed) 0 levels k opened) (sym same) first;
+        holds = λ bytes is.
+            let none : length (drop (n / size * size) fed) ≡ 0 =
+            omega (arith, length-drop (n / size * size) fed, ap (λ (k : ℕ). k * size) same, h.0) in
+            no_bytes bytes current (ap length is ∙ none);
+      };
+      order = ap (closed_after (fan s) p.blocks) same ∙ h.2;
+    }
+  where
+    no_bytes : (bytes current : List ℕ) → length bytes ≡ 0 → take (length bytes) current ≡ bytes
+    no_bytes [] current none = refl
+    no_bytes (x ∷ xs) current none = absurd (omega (arith, none))
+
+-- a hash block has closed
+pub FeedsOn-climbs : (p : Planned) (levels closed new_closed : ℕ) (fed opened current : List ℕ)
+    → new_closed ≡ closed + 1 → Climbs p levels fed closed true opened
+    → FeedsOn p levels fed closed [] true new_closed opened current
+FeedsOn-climbs p levels closed new_closed fed opened current next h =
+    let same : fed ++ [] ≡ fed = append-nil fed in
+    let stands : Stands p levels fed (suc closed) opened current = h.0 in
+    let one : suc closed ≡ new_closed = omega (arith, next) in
+    let last : closed ≡ new_closed - 1 = omega (arith, next) in
+    record {
+      stands = subst (λ (n : ℕ). Stands p levels (fed ++ []) n opened current) one
+          (subst (λ (xs : List ℕ). Stands p levels xs (suc closed) opened current) (sym same) stands);
+      order = subst (λ (xs : List ℕ). Hands p (length fed) closed (length xs) new_closed true) (sym same)
+          (subst (λ (n : ℕ). Hands p (length fed) closed (length fed) n true) (sym next)
+          (subst (λ (n : ℕ). handed_out p (length fed) (closed + 1)
+          ≡ handed_out p (length fed) closed ++ handed_at p (length fed) n ∷ [])
+          (let e : closed ≡ closed + 1 - 1 = omega arith in e) h.1));
+    }
+
+-- bytes were taken
+pub FeedsOn-takes : (p : Planned) (levels closed taken : ℕ) (fed more before held opened current : List ℕ)
+    → length more ≡ taken → 0 < taken → TakesMore p levels fed closed before held
+    → closed_after (fan p.settings) p.blocks (blocks_before p.settings (length fed + taken))
+    ≡ closed_after (fan p.settings) p.blocks (length fed / p.settings.data_block)
+    → HasFed p.settings levels (fed ++ more) opened current
+    → FeedsOn p levels fed closed more (eqb taken 0) 0 opened current
+FeedsOn-takes p levels closed taken fed more before held opened current many some settled none stands =
+    let tested : eqb taken 0 ≡ false = grind (arith, nat_tests, some) in
+    let count : length (fed ++ more) ≡ length fed + taken = length-append fed more ∙ ap (λ (n : ℕ). length fed + n) many in
+    let hands : Hands p (length fed) closed (length (fed ++ more)) 0 false =
+    ap (λ (n : ℕ). handed_out p n 0) count ∙ handed_out-none p (length fed + taken) ∙ none ∙ settled.order in
+    record {
+      stands = stands;
+      order = subst (λ (b : Bool). Hands p (length fed) closed (length (fed ++ more)) 0 b) (sym tested) hands;
+    }
+
+-- bytes were fed and no hash block has closed, and then more
+pub FeedsOn-more : (p : Planned) (levels closed middle new_closed : ℕ) (fed more further before held opened current : List ℕ)
+    (closes : Bool) → FeedsOn p levels fed closed more false middle before held
+    → FeedsOn p levels (fed ++ more) middle further closes new_closed opened current
+    → FeedsOn p levels fed closed (more ++ further) closes new_closed opened current
+FeedsOn-more p levels closed middle new_closed fed more further before held opened current closes first second =
+    let same : (fed ++ more) ++ further ≡ fed ++ (more ++ further) = append_assoc fed more further in
+    record {
+      stands = subst (λ (xs : List ℕ). Stands p levels xs new_closed opened current) same second.stands;
+      order = subst (λ (xs : List ℕ). Hands p (length fed) closed (length xs) new_closed closes) same
+          (hands-more p (length fed) closed (length (fed ++ more)) middle (length ((fed ++ more) ++ further)) new_closed
+          closes first.order second.order);
+    }
+  where
+    hands-more : (p : Planned) (a c b d e f : ℕ) (closes : Bool) → Hands p a c b d false → Hands p b d e f closes
+        → Hands p a c e f closes
+    hands-more p a c b d e f true one two =
+        two ∙ ap (λ (xs : List BlockIndex). xs ++ handed_at p e (f - 1) ∷ []) one
+    hands-more p a c b d e f false one two = two ∙ one
+
+-- no byte was fed
+pub FeedsOn-none : (p : Planned) (levels closed : ℕ) (fed opened current : List ℕ)
+    → Stands p levels fed closed opened current → FeedsOn p levels fed closed [] false closed opened current
+FeedsOn-none p levels closed fed opened current h =
+    let same : fed ++ [] ≡ fed = append-nil fed in
+    record {
+      stands = subst (λ (xs : List ℕ). Stands p levels xs closed opened current) (sym same) h;
+      order = ap (λ (xs : List ℕ). handed_out p (length xs) closed) same;
+    }
+
+-- the bytes of a piece up to a place, and those of its rest up to another
+pub take-rest : (n m : ℕ) (piece : List ℕ)
+    → take n piece ++ take m (take (length piece - n) (drop n piece)) ≡ take (n + m) piece
+take-rest n m piece =
+    let rest : take (length piece - n) (drop n piece) ≡ drop n piece =
+    take_all (length piece - n) (drop n piece) (omega (arith, length-drop n piece)) in
+    ap (λ (xs : List ℕ). take n piece ++ take m xs) rest
+    ∙ ap (λ (xs : List ℕ). xs ++ take m (drop n piece)) (sym (take-take n (n + m) piece (omega arith)))
+    ∙ ap (λ (xs : List ℕ). take n (take (n + m) piece) ++ xs) (sym (drop-take n m piece))
+    ∙ take-append-drop n (take (n + m) piece)
+
+-- how many bytes were fed with those of a piece up to a place
+pub length-fed : (fed piece : List ℕ) (count taken all : ℕ) → length fed ≡ count → taken ≤ length piece
+    → all ≡ count + taken → length (fed ++ take taken piece) ≡ all
+length-fed fed piece count taken all many most is =
+    omega (arith, length-append fed (take taken piece), length-take-le taken piece most, many, is)
+
+-- a tree's levels by its data blocks
+height-is : (p : Planned) (fed : List ℕ) → height p.settings (data_blocks p fed) ≡ level_count_of p
+height-is p fed =
+    let s = p.settings in
+    height-level_count s (data_blocks p fed) (fan-some s)
+    ∙ ap (level_count (fan s)) (length-cut s p.blocks p.wanted fed)
+
+-- the data blocks of a plan are no more than its levels have room for
+blocks-most : (p : Planned) → IsPlanned p → p.blocks ≤ fan p.settings ^ level_count_of p
+blocks-most p planned = (IsLevelCount-level_count (fan p.settings) p.blocks (fan-two p.settings planned.valid)).enough
+
+-- without levels there is one data block
+single-most : (p : Planned) → IsPlanned p → level_count_of p ≡ 0 → p.wanted ≤ p.settings.data_block
+single-most p planned none =
+    let s = p.settings in
+    let one : p.blocks ≤ 1 =
+    omega (arith, blocks-most p planned, ap (λ (n : ℕ). fan s ^ n) none, pow-zero (fan s)) in
+    omega (
+      arith,
+      le-div_ceil p.wanted s.data_block 1 (some_data s planned.valid) (omega (arith, one, planned.blocks_are)),
+    )
+
+pub single-current : (p : Planned) (fed : List ℕ) → IsPlanned p → level_count_of p ≡ 0 → length fed ≡ p.wanted
+    → current_bytes p.settings fed ≡ fed
+single-current p fed planned none all =
+    let size = p.settings.data_block in
+    let less : length fed - 1 < size = omega (arith, single-most p planned none, all, planned.some) in
+    let first : blocks_before p.settings (length fed) * size ≡ 0 =
+    omega (arith, ap (λ (n : ℕ). n * size) (div-eq_of_lt less)) in
+    ap (λ (n : ℕ). drop n fed) first
+
+pub single-within : (p : Planned) (fed : List ℕ) → IsPlanned p → level_count_of p ≡ 0 → length fed ≡ p.wanted
+    → length fed ≤ p.settings.data_block
+single-within p fed planned none all = omega (arith, single-most p planned none, all)
+
+-- its digest is the root
+pub single-root : (p : Planned) (fed : List ℕ) → IsPlanned p → level_count_of p ≡ 0 → length fed ≡ p.wanted
+    → hash p.settings (with_zeros p.settings.data_block fed) ≡ root p.settings (data_blocks p fed)
+unfolding root blocks_up cut
+single-root p fed planned none all =
+    let s = p.settings in
+    let size = s.data_block in
+    let wanted : take p.wanted fed ≡ fed = take_all p.wanted fed (omega (arith, all)) in
+    let start : 0 * size ≡ 0 = omega arith in
+    let whole : take size fed ≡ fed = take_all size fed (single-within p fed planned none all) in
+    let block : block_at size (take p.wanted fed) 0 ≡ with_zeros size fed =
+    ap (λ (xs : List ℕ). with_zeros size (take size (drop (0 * size) xs))) wanted
+    ∙ ap (λ (n : ℕ). with_zeros size (take size (drop n fed))) start
+    ∙ ap (with_zeros size) whole in
+    let first : get_or (data_blocks p fed) 0 [] ≡ with_zeros size fed =
+    get_or-map-range_with_len (block_at size (take p.wanted fed)) 0 p.blocks 0 0 [] (blocks-some p planned) (omega arith)
+    ∙ block in
+    sym (ap (λ (l : ℕ). hash s (get_or (blocks_up s (data_blocks p fed) l) 0 [])) (height-is p fed ∙ none)
+    ∙ ap (hash s) first)
+
+-- the hash block of the top level that closed above the last byte gives the root
+pub top-root : (p : Planned) (levels level : ℕ) (fed opened : List ℕ) → IsPlanned p → level_count_of p ≡ level + 1
+    → length fed ≡ p.wanted → IsHandingOut p levels level fed opened
+    → hash p.settings (slice_chunk opened p.settings.hash_block level) ≡ root p.settings (data_blocks p fed)
+unfolding root
+top-root p levels level fed opened planned top all h =
+    let s = p.settings in
+    let f = fan s in
+    let n = length fed in
+    let i = blocks_before s n in
+    let blocks = data_blocks p fed in
+    let before : n - 1 < n = omega (arith, h.ends.some) in
+    let below : i < p.blocks =
+    omega (
+      arith,
+      quotient-below (n - 1) n s.data_block (some_data s planned.valid) before,
+      planned.blocks_are,
+      ap (λ (k : ℕ). block_count s k) all,
+    ) in
+    let few : i < f ^ (level + 1) = omega (arith, below, blocks-most p planned, ap (λ (k : ℕ). f ^ k) top) in
+    let first : i / f ^ (level + 1) ≡ 0 = div-eq_of_lt few in
+    ap (hash s) h.closed.stands
+    ∙ ap (λ (k : ℕ). hash s (get_or (blocks_up s blocks (level + 1)) k [])) first
+    ∙ ap (λ (l : ℕ). hash s (get_or (blocks_up s blocks l) 0 [])) (sym (height-is p fed ∙ top))

@@ -1,0 +1,208 @@
+-- How digests come from the last byte's data block up through the levels whose hash blocks close.
+use Rattle.std.proofs.Common.{◌≡◌, ℕ, zero, suc, ◌+◌, ◌-◌, ◌*◌, ◌/◌, ◌%◌, ◌^◌, ◌<◌, ◌≤◌, List, [], ◌∷◌, ◌++◌, length}
+use Rattle.std.proofs.Common.{true, false, take, drop, arith, sym, ◌∙◌, ap, subst, inl, inr, length-drop, append_assoc}
+use Rattle.std.proofs.lemmas.Bool.{cases_lt}
+use Rattle.std.proofs.lemmas.List.{take_all}
+use Rattle.std.proofs.lemmas.Nat.{div-add-mod', mod_below}
+use Rattle.std.proofs.Math.Nat.{mul-add-mod_self_right, mul-le-mul_right}
+use Rattle.std.specs.Int.{div_ceil}
+use Rattle.verity_hash.specs.Hashing.{with_zeros}
+use Rattle.verity_plan.specs.Plans.{IsPlanned, Planned, level_count_of}
+use Rattle.verity_plan.specs.Settings.{Settings, fan, hash}
+use Rattle.verity_plan.proofs.CountLemmas.{IsLevelCount-level_count, div_ceil-le, le-div_ceil}
+use Rattle.verity_plan.proofs.FanLemmas.{fan-some, fan-two, some_data}
+use Rattle.verity_plan.proofs.IndexLemmas.{quotient-below}
+use Rattle.verity_tree.specs.ClosingOrder.{BlockIndex, closed_after}
+use Rattle.verity_tree.specs.Levels.{data_blocks}
+use Rattle.verity_tree.specs.ClosingOrder.{first_closing}
+use Rattle.verity_tree.specs.Steps.Feeding.{Climbs, EndsDataBlock, HasClosed, HasFed, IsHandingOut, Stands}
+use Rattle.verity_tree.specs.Steps.Feeding.{current_bytes, handed_at}
+use Rattle.verity_tree.specs.ClosingOrder.{blocks_before}
+use Rattle.verity_tree.specs.Steps.OpenBlocks.{HasOpenBlocks, IsCarrying, cascade_state}
+use Rattle.verity_tree.proofs.CascadeLemmas.{reached-down}
+use Rattle.verity_tree.proofs.DataBlockLemmas.{level_digest-data}
+use Rattle.verity_tree.proofs.FirstBlockLemmas.{first_blocks-plan}
+use Rattle.verity_tree.proofs.LevelLemmas.{length-cut}
+use Rattle.verity_tree.proofs.OpenBlockSteps.{IsCarrying-first}
+use Rattle.verity_tree.proofs.QuotientLemmas.{div_ceil-last}
+use Rattle.verity_tree.proofs.OrderSplit.{closed_after-more, closes-none, closes-reached, closing-prefix, first_closing-more}
+
+-- the place of the last of some bytes is in its data block
+pub last-place : (count size : ℕ) → 0 < size → 0 < count
+    → ((count - 1) / size * size < count) × (count ≤ (count - 1) / size * size + size)
+last-place count size wide some =
+    let split : (count - 1) / size * size + (count - 1) % size ≡ count - 1 = div-add-mod' (count - 1) size in
+    let low : (count - 1) % size < size = mod_below (count - 1) size wide in
+    (omega (arith, split, some), omega (arith, split, low))
+
+-- how many bytes there are of the last byte's data block
+pub length-current : (s : Settings) (fed : List ℕ)
+    → length (current_bytes s fed) ≡ length fed - blocks_before s (length fed) * s.data_block
+length-current s fed = length-drop (blocks_before s (length fed) * s.data_block) fed
+
+-- and their number is that of all bytes, but for whole data blocks
+pub current-place : (s : Settings) (fed : List ℕ) → 0 < s.data_block → 0 < length fed
+    → length (current_bytes s fed) % s.data_block ≡ length fed % s.data_block
+current-place s fed wide some =
+    let size = s.data_block in
+    let before = blocks_before s (length fed) * size in
+    let place = last-place (length fed) size wide some in
+    let split : before + (length fed - before) ≡ length fed = omega (arith, place.0) in
+    ap (λ (n : ℕ). n % size) (length-current s fed)
+    ∙ sym (mul-add-mod_self_right (blocks_before s (length fed)) size (length fed - before))
+    ∙ ap (λ (n : ℕ). n % size) split
+
+-- the last byte's data block is one of the plan's
+pub last-below : (p : Planned) (count : ℕ) → IsPlanned p → 0 < count → count ≤ p.wanted
+    → blocks_before p.settings count < p.blocks
+last-below p count planned some most =
+    let wide = some_data p.settings planned.valid in
+    omega (
+      arith,
+      quotient-below (count - 1) p.wanted p.settings.data_block wide (omega (arith, some, most)),
+      planned.blocks_are,
+    )
+
+-- the last byte's data block comes to level 0
+pub carrying-current : (p : Planned) (levels : ℕ) (fed opened current digest : List ℕ) → IsPlanned p
+    → EndsDataBlock p (length fed) → HasFed p.settings levels fed opened current
+    → digest ≡ hash p.settings (with_zeros p.settings.data_block (current_bytes p.settings fed))
+    → IsCarrying p.settings (data_blocks p fed) (cascade_state (blocks_before p.settings (length fed)) 0 levels) opened
+    digest
+carrying-current p levels fed opened current digest planned ends h is =
+    let s = p.settings in
+    let size = s.data_block in
+    let i = blocks_before s (length fed) in
+    let place = last-place (length fed) size (some_data s planned.valid) ends.some in
+    let few : length (current_bytes s fed) ≤ size = omega (arith, length-current s fed, place.1) in
+    let block : with_zeros size (current_bytes s fed) ≡ with_zeros size (take size (drop (i * size) (take p.wanted fed))) =
+    ap (with_zeros size)
+    (sym (ap (λ (bytes : List ℕ). take size (drop (i * size) bytes)) (take_all p.wanted fed ends.most)
+    ∙ take_all size (drop (i * size) fed) few)) in
+    IsCarrying-first s (data_blocks p fed) i levels opened digest
+    (level_digest-data s p.blocks p.wanted i fed digest (last-below p (length fed) planned ends.some ends.most)
+    (is ∙ ap (hash s) block))
+    (first_blocks-plan p i levels fed opened planned (omega (arith, place.0)) ends.most h.stands)
+
+-- a hash block was handed out
+pub handing-out : (p : Planned) (levels level : ℕ) (fed opened current : List ℕ) → 0 < level
+    → Stands p levels fed level opened current → IsHandingOut p levels (level - 1) fed opened
+handing-out p levels zero fed opened current some h = absurd (omega (arith, some))
+handing-out p levels (suc m) fed opened current some h =
+    let e : m ≡ suc m - 1 = omega arith in
+    subst (λ (n : ℕ). IsHandingOut p levels n fed opened) e h
+
+-- nothing was handed out
+pub nothing-out : (p : Planned) (levels level : ℕ) (fed opened current : List ℕ) → level ≡ 0
+    → Stands p levels fed level opened current → HasFed p.settings levels fed opened current
+nothing-out p levels level fed opened current none h =
+    subst (λ (n : ℕ). Stands p levels fed n opened current) none h
+
+-- more data blocks come after the last byte's only if that is whole
+pub whole-count : (p : Planned) (count : ℕ) → IsPlanned p → EndsDataBlock p count
+    → blocks_before p.settings count + 1 < p.blocks
+    → count ≡ (blocks_before p.settings count + 1) * p.settings.data_block
+whole-count p count planned ends more =
+    let s = p.settings in
+    let size = s.data_block in
+    let wide = some_data s planned.valid in
+    elim ends.ends [
+      | inl whole ↦ whole
+      | inr all ↦
+          let i = blocks_before s count in
+          let place = last-place count size wide ends.some in
+          let most : p.wanted ≤ (i + 1) * size = omega (arith, all, place.1) in
+          absurd (omega (arith, more, planned.blocks_are, div_ceil-le p.wanted size (i + 1) wide most))
+    ]
+
+-- the last byte is the last of all if its data block is
+pub all-count : (p : Planned) (count : ℕ) → IsPlanned p → EndsDataBlock p count
+    → blocks_before p.settings count + 1 ≡ p.blocks → count ≡ p.wanted
+all-count p count planned ends last =
+    let s = p.settings in
+    let size = s.data_block in
+    let wide = some_data s planned.valid in
+    elim ends.ends [
+      | inl whole ↦
+          let most = le-div_ceil p.wanted size p.blocks wide (omega (arith, planned.blocks_are)) in
+          let area : (blocks_before s count + 1) * size ≡ p.blocks * size = ap (λ (n : ℕ). n * size) last in
+          omega (arith, whole, most, area, ends.most)
+      | inr all ↦ all
+    ]
+
+-- the hash block of a level has closed, and is handed out next
+pub climbs-closed : (p : Planned) (levels level : ℕ) (fed opened : List ℕ) → EndsDataBlock p (length fed)
+    → level < level_count_of p
+    → HasClosed p.settings (data_blocks p fed) (blocks_before p.settings (length fed)) level levels opened
+    → Climbs p levels fed level true opened
+climbs-closed p levels level fed opened ends below closed =
+    let f = fan p.settings in
+    let i = blocks_before p.settings (length fed) in (
+      record { ends = ends; level_below = below; closed = closed },
+      ap (λ (xs : List BlockIndex). closed_after f p.blocks i ++ xs) (first_closing-more f i level)
+          ∙ sym (append_assoc (closed_after f p.blocks i) (first_closing f i level) (handed_at p (length fed) level ∷ [])),
+    )
+
+-- the level's open block has room for more, and all data blocks that are whole have come to the open blocks
+pub climbs-kept : (p : Planned) (levels level : ℕ) (fed before digest opened : List ℕ) → IsPlanned p
+    → EndsDataBlock p (length fed) → level ≤ level_count_of p
+    → IsCarrying p.settings (data_blocks p fed) (cascade_state (blocks_before p.settings (length fed)) level levels)
+    before digest
+    → blocks_before p.settings (length fed) / fan p.settings ^ level % fan p.settings + 1 < fan p.settings
+    → blocks_before p.settings (length fed) + 1 < length (data_blocks p fed)
+    → HasOpenBlocks p.settings (data_blocks p fed) 0 levels (blocks_before p.settings (length fed) + 1) opened
+    → Climbs p levels fed level false opened
+climbs-kept p levels level fed before digest opened planned ends within h room more stands =
+    let s = p.settings in
+    let f = fan s in
+    let some = fan-some s in
+    let i = blocks_before s (length fed) in
+    let many : length (data_blocks p fed) ≡ p.blocks = length-cut s p.blocks p.wanted fed in
+    let next : i + 1 < p.blocks = omega (arith, more, many) in
+    let reached = h.reached more in (
+      whole-count p (length fed) planned ends next,
+      stands,
+      closed_after-more f p.blocks i
+          ∙ ap (λ (xs : List BlockIndex). closed_after f p.blocks i ++ xs)
+          (closing-prefix f p.blocks i level within
+          (λ l low. closes-reached f p.blocks i l some (reached-down f i level (l + 1) some reached (omega (arith, low))))
+          (λ l high below. closes-none f p.blocks i level l some reached room next high)),
+    )
+
+-- past all levels no digest comes but with the last byte of all
+pub climbs-past : (p : Planned) (levels level : ℕ) (fed before digest : List ℕ) → IsPlanned p
+    → EndsDataBlock p (length fed) → level_count_of p ≤ level → level ≤ level_count_of p
+    → (length fed ≡ p.wanted → level < level_count_of p)
+    → IsCarrying p.settings (data_blocks p fed) (cascade_state (blocks_before p.settings (length fed)) level levels)
+    before digest → ⊥
+climbs-past p levels level fed before digest planned ends past within more h =
+    let s = p.settings in
+    let f = fan s in
+    let i = blocks_before s (length fed) in
+    let many : length (data_blocks p fed) ≡ p.blocks = length-cut s p.blocks p.wanted fed in
+    let below = last-below p (length fed) planned ends.some ends.most in
+    let top : level ≡ level_count_of p = omega (arith, past, within) in
+    let most : p.blocks ≤ f ^ level =
+    omega (
+      arith,
+      (IsLevelCount-level_count f p.blocks (fan-two s planned.valid)).enough,
+      ap (λ (n : ℕ). f ^ n) top,
+    ) in
+    elim (cases_lt (i + 1) p.blocks) [
+      | inl less ↦
+          let whole = (h.reached (omega (arith, less, many))).whole in
+          let one : 1 ≤ i / f ^ level + 1 = omega arith in
+          omega (arith, whole, mul-le-mul_right (f ^ level) one, most, less)
+      | inr last ↦
+          let all = all-count p (length fed) planned ends (omega (arith, last, below)) in
+          omega (arith, past, more all)
+    ]
+
+-- the last byte of all is in the last data block
+pub last-block : (p : Planned) → IsPlanned p → blocks_before p.settings p.wanted + 1 ≡ p.blocks
+last-block p planned =
+    let size = p.settings.data_block in
+    let e : p.wanted - 1 + 1 ≡ p.wanted = omega (arith, planned.some) in
+    sym (div_ceil-last (p.wanted - 1) size (some_data p.settings planned.valid))
+    ∙ ap (λ (n : ℕ). div_ceil n size) e
+    ∙ sym planned.blocks_are

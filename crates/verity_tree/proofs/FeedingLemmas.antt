@@ -1,0 +1,242 @@
+-- The memory of a builder between two calls: its open blocks, and what comes after them.
+use Rattle.std.proofs.Common.{List, [], ap, arith, drop, length, refl, replicate, subst, sym, take, ℕ, suc}
+use Rattle.std.proofs.Common.{Some, None, true, false, Bool, inl, inr, length-drop}
+use Rattle.std.proofs.Common.{◌*◌, ◌++◌, ◌+◌, ◌-◌, ◌/◌, ◌<◌, ◌^◌, ◌∙◌, ◌∷◌, ◌≡◌, ◌≤◌}
+use Rattle.std.proofs.lemmas.List.{append-nil, take-append-le, drop-append-le, take-replicate}
+use Rattle.std.proofs.Math.Nat.{zero-div}
+use Rattle.std.proofs.Math.Seq.{drop-append_seam, drop-nil, take-append_seam}
+use Rattle.verity_plan.specs.Plans.{IsPlanned, Planned, block_count, checked_plan, has_room, level_count_of, most_level_count}
+use Rattle.verity_plan.specs.Plans.{plan_for_bytes, start_byte_of}
+use Rattle.verity_plan.specs.declared.plan_fault.PlanFault.TheVariants.{NoData, TooLarge as NoRoom}
+use Rattle.verity_io.specs.Writing.{most_bytes}
+use Rattle.std.proofs.Common.{cond}
+use Rattle.std.proofs.lemmas.Bool.{cases_lt}
+use Rattle.std.proofs.lemmas.Bool.Decides.{nat_tests}
+use Rattle.std.specs.Prelude.{◌==◌, Err, Ok, nat_eq}
+use Rattle.verity_plan.specs.Settings.{IsValid, Settings, fan}
+use Rattle.verity_plan.proofs.CountLemmas.{div_ceil-pos, le-div_ceil, mul_le}
+use Rattle.verity_plan.proofs.FanLemmas.{fan-some, some_data}
+use Rattle.verity_plan.proofs.PlanLemmas.{checked_plan-large, has_room-data, levels_most, planned_is}
+use Rattle.verity_tree.specs.Feeding.{Feeds, IsFed, IsFedFile, IsHandedOut, after_open_blocks, open_blocks}
+use Rattle.verity_tree.specs.Levels.{data_blocks}
+use Rattle.verity_tree.specs.TreeOnDevice.{tree_block}
+use Rattle.verity_tree.proofs.HandedOutLemmas.{handed-out-stays}
+use Rattle.verity_tree.specs.Steps.Feeding.{FeedsOn, HasFed, HoldsCurrent, IsHandingOut, Stands}
+use Rattle.verity_tree.specs.ClosingOrder.{blocks_before}
+use Rattle.verity_tree.specs.Steps.Feeding.{current_bytes, first_blocks, handed_at}
+use Rattle.verity_tree.specs.ClosingOrder.{handed_out}
+use Rattle.verity_tree.specs.Steps.OpenBlocks.{HasOpenBlocks}
+use Rattle.verity_tree.specs.declared.file_builder.FileBuilder.{FileBuilder}
+use Rattle.verity_tree.specs.declared.tree_builder.HashBlock.{HashBlock}
+use Rattle.verity_tree.specs.declared.tree_builder.TreeBuilder.{TreeBuilder}
+use Rattle.verity_tree.specs.ClosingOrder.{block_index}
+use Rattle.verity_tree.proofs.OnePassLemmas.{HasOpenBlocks-zeros}
+
+-- no bytes are held anywhere
+HoldsCurrent-none : (s : Settings) (bytes current : List ℕ) → 0 < s.data_block → bytes ≡ [] → HoldsCurrent s bytes current
+HoldsCurrent-none s bytes current some none = subst (λ (xs : List ℕ). HoldsCurrent s xs current) (sym none)
+    (record { partial = λ _. refl; whole = λ full. absurd (omega (arith, full, some)) })
+
+-- memory of zeros, to which nothing was fed
+pub HasFed-none : (s : Settings) (levels n : ℕ) (memory : List ℕ) → 0 < s.data_block → levels * s.hash_block ≤ n
+    → memory ≡ replicate n 0
+    → HasFed s levels [] (open_blocks s levels memory) (after_open_blocks s levels memory)
+HasFed-none s levels n memory some room zeros =
+    let opened = open_blocks s levels memory in
+    let first : blocks_before s 0 ≡ 0 = zero-div s.data_block in
+    let places : levels * s.hash_block ≤ levels * s.hash_block = omega arith in
+    let all : opened ≡ replicate (levels * s.hash_block) 0 =
+    ap (take (levels * s.hash_block)) zeros ∙ take-replicate (levels * s.hash_block) n 0 room in
+    record {
+      stands = subst (λ (i : ℕ). HasOpenBlocks s (first_blocks s i []) 0 levels i opened) (sym first)
+          (HasOpenBlocks-zeros s (first_blocks s 0 []) levels (levels * s.hash_block) opened (fan-some s) all places);
+      holds = HoldsCurrent-none s (current_bytes s []) (after_open_blocks s levels memory) some
+          (drop-nil (blocks_before s 0 * s.data_block));
+    }
+
+-- what is known of the two parts of some memory, which are put together
+pub joined : (P : List ℕ → List ℕ → Type 0) (n : ℕ) (opened current : List ℕ) → length opened ≡ n → P opened current
+    → P (take n (opened ++ current)) (drop n (opened ++ current))
+joined P n opened current size h =
+    let front : take n (opened ++ current) ≡ opened =
+    ap (λ (m : ℕ). take m (opened ++ current)) (sym size) ∙ take-append_seam opened current in
+    let back : drop n (opened ++ current) ≡ current =
+    ap (λ (m : ℕ). drop m (opened ++ current)) (sym size) ∙ drop-append_seam opened current in
+    subst (λ (xs : List ℕ). P (take n (opened ++ current)) xs) (sym back)
+    (subst (λ (xs : List ℕ). P xs current) (sym front) h)
+
+-- and which some memory is split into
+pub parted : (P : List ℕ → List ℕ → Type 0) (n m : ℕ) (memory opened current : List ℕ) → n ≡ m
+    → opened ≡ take n memory → current ≡ drop n memory → P (take m memory) (drop m memory) → P opened current
+parted P n m memory opened current same front back h =
+    let first : opened ≡ take m memory = front ∙ ap (λ (k : ℕ). take k memory) same in
+    let second : current ≡ drop m memory = back ∙ ap (λ (k : ℕ). drop k memory) same in
+    subst (λ (xs : List ℕ). P opened xs) (sym second) (subst (λ (xs : List ℕ). P xs (drop m memory)) (sym first) h)
+
+-- what was fed to a builder stands in the two parts of its memory
+pub IsFed-parted : (b : TreeBuilder) (n : ℕ) (memory opened current fed : List ℕ)
+    → n ≡ level_count_of b.plan * b.plan.settings.hash_block → opened ≡ take n memory → current ≡ drop n memory
+    → IsFed b memory fed → Stands b.plan (level_count_of b.plan) fed b.closed opened current
+IsFed-parted b n memory opened current fed same front back h =
+    parted (λ (xs ys : List ℕ). Stands b.plan (level_count_of b.plan) fed b.closed xs ys) n
+    (level_count_of b.plan * b.plan.settings.hash_block) memory opened current same front back h.stands
+
+pub IsFedFile-parted : (b : FileBuilder) (n : ℕ) (memory opened current fed : List ℕ)
+    → n ≡ most_level_count b.settings * b.settings.hash_block → opened ≡ take n memory → current ≡ drop n memory
+    → IsFedFile b memory fed → HasFed b.settings (most_level_count b.settings) fed opened current
+IsFedFile-parted b n memory opened current fed same front back h =
+    parted (λ (xs ys : List ℕ). HasFed b.settings (most_level_count b.settings) fed xs ys) n
+    (most_level_count b.settings * b.settings.hash_block) memory opened current same front back h.stands
+
+-- an open block of the joined memory
+block-joined : (size level : ℕ) (opened current : List ℕ) → level * size + size ≤ length opened
+    → take size (drop (level * size) (opened ++ current)) ≡ take size (drop (level * size) opened)
+block-joined size level opened current room =
+    let from : level * size ≤ length opened = omega (arith, room) in
+    ap (take size) (drop-append-le (level * size) opened current from)
+    ∙ take-append-le size (drop (level * size) opened) current (omega (arith, length-drop (level * size) opened, room))
+
+-- the hash block that closed last stands in the joined memory
+pub IsHandedOut-joined : (p : Planned) (levels : ℕ) (fed opened current : List ℕ) (block : HashBlock)
+    → IsPlanned p → level_count_of p ≤ levels → levels * p.settings.hash_block ≤ length opened
+    → IsHandingOut p levels block.level fed opened
+    → block.index ≡ blocks_before p.settings (length fed) / fan p.settings ^ (block.level + 1)
+    → block.byte ≡ start_byte_of p block.level block.index → block.at ≡ block.level * p.settings.hash_block
+    → IsHandedOut p fed (opened ++ current) block
+IsHandedOut-joined p levels fed opened current block planned most room h index byte at =
+    let s = p.settings in
+    let size = s.hash_block in
+    let step : block.level + 1 ≤ levels = omega (arith, h.level_below, most) in
+    let within : block.level * size + size ≤ length opened =
+    omega (arith, room, mul_le (block.level + 1) levels size step) in
+    record {
+      level_below = h.level_below;
+      at_is = at;
+      byte_is = byte;
+      bytes = λ more fits.
+          ap (λ (n : ℕ). take size (drop n (opened ++ current))) at
+          ∙ block-joined size block.level opened current within
+          ∙ h.closed.stands
+          ∙ handed-out-stays p levels block.level fed more opened planned h fits
+          ∙ ap (tree_block s (data_blocks p (fed ++ more)) block.level) (sym index);
+    }
+
+-- after a call without a hash block that has closed
+pub Feeds-none : (before : TreeBuilder) (count closed : ℕ) (fed more opened current : List ℕ)
+    → length fed ≡ before.fed → length (fed ++ more) ≡ count
+    → length opened ≡ level_count_of before.plan * before.plan.settings.hash_block
+    → FeedsOn before.plan (level_count_of before.plan) fed before.closed more false closed opened current
+    → Feeds before (record { plan = before.plan; fed = count; closed = closed }) fed more (opened ++ current) None
+Feeds-none before count closed fed more opened current had has size h =
+    let p = before.plan in
+    let levels = level_count_of p in
+    record {
+      is_fed = record {
+        count = has;
+        stands = joined (λ (xs ys : List ℕ). Stands p levels (fed ++ more) closed xs ys)
+            (levels * p.settings.hash_block) opened current size h.stands;
+      };
+      order = ap (λ (n : ℕ). handed_out p n closed) (sym has)
+          ∙ h.order
+          ∙ ap (λ (n : ℕ). handed_out p n before.closed) had
+          ∙ sym (append-nil (handed_out p before.fed before.closed));
+      stands = λ block is. absurd cc;
+    }
+
+-- and after one with it
+pub Feeds-some : (before : TreeBuilder) (count closed : ℕ) (fed more opened current : List ℕ) (block : HashBlock)
+    → IsPlanned before.plan
+    → length fed ≡ before.fed → length (fed ++ more) ≡ count
+    → length opened ≡ level_count_of before.plan * before.plan.settings.hash_block
+    → FeedsOn before.plan (level_count_of before.plan) fed before.closed more true closed opened current
+    → closed ≡ block.level + 1
+    → block.index ≡ blocks_before before.plan.settings count / fan before.plan.settings ^ (block.level + 1)
+    → block.byte ≡ start_byte_of before.plan block.level block.index
+    → block.at ≡ block.level * before.plan.settings.hash_block
+    → Feeds before (record { plan = before.plan; fed = count; closed = closed }) fed more (opened ++ current) (Some block)
+Feeds-some before count closed fed more opened current block planned had has size h level index byte at =
+    let p = before.plan in
+    let s = p.settings in
+    let levels = level_count_of p in
+    let next : closed ≡ suc block.level = omega (arith, level) in
+    let last : closed - 1 ≡ block.level = omega (arith, level) in
+    let place : block.index ≡ blocks_before s (length (fed ++ more)) / fan s ^ (block.level + 1) =
+    index ∙ ap (λ (n : ℕ). blocks_before s n / fan s ^ (block.level + 1)) (sym has) in
+    let handing : IsHandingOut p levels block.level (fed ++ more) opened =
+    subst (λ (n : ℕ). Stands p levels (fed ++ more) n opened current) next h.stands in
+    let out : IsHandedOut p (fed ++ more) (opened ++ current) block =
+    IsHandedOut-joined p levels (fed ++ more) opened current block planned (omega arith) (omega (arith, size)) handing place
+    byte at in
+    record {
+      is_fed = record {
+        count = has;
+        stands = joined (λ (xs ys : List ℕ). Stands p levels (fed ++ more) closed xs ys)
+            (levels * s.hash_block) opened current size h.stands;
+      };
+      order = ap (λ (n : ℕ). handed_out p n closed) (sym has)
+          ∙ h.order
+          ∙ ap (λ (n : ℕ). handed_out p n before.closed ++ handed_at p (length (fed ++ more)) (closed - 1) ∷ []) had
+          ∙ ap (λ (n : ℕ). handed_out p before.fed before.closed ++ handed_at p (length (fed ++ more)) n ∷ []) last
+          ∙ ap (λ (k : ℕ). handed_out p before.fed before.closed ++ block_index block.level k ∷ []) (sym place);
+      stands = λ other is.
+          let same : block ≡ other = cc in
+          subst (λ (b : HashBlock). IsHandedOut p (fed ++ more) (opened ++ current) b) same out;
+    }
+
+-- the plan that a file of so many bytes asks for
+abbrev file_plan : Settings → ℕ → Planned
+file_plan s size = record { settings = s; blocks = block_count s size; wanted = size; base = 0 }
+
+-- a file's plan has the builder's settings, and its open blocks are among the builder's
+pub FilePlan-is : (plan : Planned) (s : Settings) (size : ℕ) → Ok plan ≡ plan_for_bytes s size 0
+    → plan ≡ file_plan s size
+FilePlan-is plan s size is = planned_is (file_plan s size) plan is
+
+pub file_levels : (plan : Planned) (s : Settings) (size : ℕ) → IsPlanned plan → Ok plan ≡ plan_for_bytes s size 0
+    → level_count_of plan ≤ most_level_count s
+file_levels plan s size planned is =
+    subst (λ (t : Settings). level_count_of plan ≤ most_level_count t)
+    (ap (λ (p : Planned). p.settings) (FilePlan-is plan s size is)) (levels_most plan planned)
+
+pub file_room : (plan : Planned) (s : Settings) (size levels n : ℕ) → Ok plan ≡ plan_for_bytes s size 0
+    → n ≡ levels * s.hash_block → levels * plan.settings.hash_block ≤ n
+file_room plan s size levels n is room =
+    let same : plan.settings.hash_block ≡ s.hash_block =
+    ap (λ (p : Planned). p.settings.hash_block) (FilePlan-is plan s size is) in
+    omega (arith, room, ap (λ (w : ℕ). levels * w) same)
+
+-- a file of more bytes than areas have is too large
+pub FilePlan-large : (s : Settings) (size : ℕ) → IsValid s → most_bytes < size → plan_for_bytes s size 0 ≡ Err NoRoom
+FilePlan-large s size valid past =
+    let some : 0 < s.data_block = some_data s valid in
+    let more : 0 < size = omega (arith, past) in
+    let wide : size ≤ block_count s size * s.data_block =
+    le-div_ceil size s.data_block (block_count s size) some (omega arith) in
+    checked_plan-large (file_plan s size) (div_ceil-pos size s.data_block some more)
+    (has_room-data (file_plan s size) (omega (arith, wide, past)))
+
+-- a plan that isn't made for want of data has no data blocks
+no_blocks : (asked : Planned) → Err NoData ≡ checked_plan asked → asked.blocks ≡ 0
+no_blocks asked is =
+    elim (cases_lt 0 asked.blocks) [
+      | inl some ↦ by_tests (asked.blocks == 0) (has_room asked) (let e : nat_eq asked.blocks 0 ≡ false = grind (arith, nat_tests, some) in e) is
+      | inr none ↦ omega (arith, none)
+    ]
+  where
+    by_tests : (none room : Bool) → none ≡ false
+        → Err NoData ≡ cond none (Err NoData) (cond room (Ok asked) (Err NoRoom)) → asked.blocks ≡ 0
+    by_tests true room e is = absurd cc
+    by_tests false true e is = absurd cc
+    by_tests false false e is = absurd cc
+
+-- a file without data blocks has no bytes
+pub FilePlan-none : (s : Settings) (size : ℕ) → IsValid s → Err NoData ≡ plan_for_bytes s size 0 → size ≡ 0
+FilePlan-none s size valid is =
+    elim (cases_lt 0 size) [
+      | inl more ↦ absurd (omega (
+        arith,
+        no_blocks (file_plan s size) is,
+        div_ceil-pos size s.data_block (some_data s valid) more,
+      ))
+      | inr none ↦ omega (arith, none)
+    ]

@@ -1,0 +1,36 @@
+use Rattle.std.proofs.Common.{◌≡◌, ℕ, ◌<◌, length, take, Option, Some, arith, ap, subst, sym, ◌∙◌}
+use Rattle.std.specs.Prelude.{SomeIff}
+use Rattle.verity_hash.specs.declared.digest.Digest.{Digest}
+use Rattle.verity_plan.specs.Settings.{hash}
+use Rattle.verity_tree.proofs.OpenBlockLemmas.{length-hash}
+use Rattle.verity_tree.proofs.FirstBlockLemmas.{with_zeros-whole}
+use Rattle.verity_tree.proofs.PieceOfBytesLemmas.{with_zeros-filled, block-whole, block-partial}
+use Rattle.verity_tree.proofs.feeding.current.current_digest.Goals as goal
+
+-- what was found
+some-is : (P : Type 0) (found : Option Digest) (digest value : Digest) → SomeIff found P value → found ≡ Some digest
+    → digest ≡ value
+some-is P found digest value h is = (subst (λ (x : Option Digest). SomeIff x P value) is h).1
+
+pub returns-then-at-eq0-clause-digest : goal.returns-then-at-eq0-clause-digest
+returns-then-at-eq0-clause-digest c = λ bytes some most at holds.
+    let s = c.args.plan.now.settings in
+    let whole : length bytes ≡ s.data_block =
+    block-whole (length bytes) s.data_block some most (at ∙ c.if-at-eq0.true) in
+    some-is _ c.from_bytes.result c.unwrap.result _ c.from_bytes.ensures c.unwrap.ensures
+    ∙ ap (λ (n : ℕ). take n c.args.current.now) c.digest_len.ensures ∙ holds.whole whole
+    ∙ ap (hash s) (sym (with_zeros-whole s.data_block bytes whole))
+
+pub returns-clause-size : goal.returns-clause-size
+returns-clause-size c = ap length c.hash.ensures ∙ length-hash c.args.plan.now.settings _
+
+pub returns-clause-digest : goal.returns-clause-digest
+returns-clause-digest c = λ bytes some most at holds.
+    let s = c.args.plan.now.settings in
+    let more : 0 < c.args.at = omega arith in
+    let here : length bytes ≡ c.args.at =
+    block-partial (length bytes) s.data_block most (omega (arith, more, at)) ∙ at in
+    c.hash.ensures
+    ∙ ap (hash s)
+    (with_zeros-filled s.data_block c.args.at bytes c.args.current.now c.fill.new.self c.requires.room here most
+    (holds.partial (omega (arith, here, c.requires.at))) (c.fill.ensures.after (λ y e. e)))

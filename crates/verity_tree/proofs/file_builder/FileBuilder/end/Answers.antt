@@ -1,0 +1,51 @@
+use Rattle.std.proofs.Common.{List, ap, arith, false, length, refl, subst, sym, ℕ, ◌∙◌, ◌≡◌, ◌<◌}
+use Rattle.std.proofs.lemmas.Bool.Decides.{nat_tests}
+use Rattle.std.specs.Prelude.{Ok, nat_eq}
+use Rattle.verity_plan.proofs.CountLemmas.{mul_le}
+use Rattle.verity_plan.specs.Plans.{IsPlanned, Planned, most_level_count, plan_for_bytes}
+use Rattle.verity_plan.specs.Settings.{Settings}
+use Rattle.verity_tree.specs.Levels.{root_of_file}
+use Rattle.verity_tree.specs.Levels.{data_blocks, root}
+use Rattle.verity_tree.specs.Steps.Feeding.{HasFed}
+use Rattle.verity_tree.proofs.FeedingLemmas.{FilePlan-is, IsFedFile-parted, file_levels, file_room}
+use Rattle.verity_tree.proofs.file_builder.FileBuilder.end.Goals as goal
+
+pub close_all-requires-clause-opened : goal.close_all-requires-clause-opened
+close_all-requires-clause-opened c =
+    let plan = c.in-Ok.plan in
+    let s = c.args.self.now.settings in
+    let room = file_room plan s c.args.self.now.fed (most_level_count s) _ c.in-Ok.ensures
+    (c.split_at_mut-opened.ensures.front_len ∙ c.open_length.ensures.value) in
+    let most = file_levels plan s c.args.self.now.fed c.blocks-blocks.ensures.planned c.in-Ok.ensures in
+    omega (arith, mul_le _ _ plan.settings.hash_block most, room)
+
+-- the root hash of a file's bytes
+file_root-some : (s : Settings) (plan : Planned) (size : ℕ) (fed : List ℕ) → IsPlanned plan
+    → Ok plan ≡ plan_for_bytes s size 0 → length fed ≡ size
+    → root plan.settings (data_blocks plan fed) ≡ root_of_file s (length fed) fed
+file_root-some s plan size fed planned is had =
+    let asked : Ok plan ≡ plan_for_bytes s (length fed) 0 =
+    subst (λ (n : ℕ). Ok plan ≡ plan_for_bytes s n 0) (sym had) is in
+    let same = FilePlan-is plan s (length fed) asked in
+    let some : 0 < length fed = omega (arith, planned.some, ap (λ (p : Planned). p.wanted) same) in
+    let tested : nat_eq (length fed) 0 ≡ false = grind (arith, nat_tests, some) in
+    ap (λ (p : Planned). root p.settings (data_blocks p fed)) same ∙ rw tested refl
+
+pub returns-in-Ok-clause-root : goal.returns-in-Ok-clause-root
+returns-in-Ok-clause-root c = λ fed h.
+    let plan = c.in-Ok.plan in
+    let s = c.args.self.now.settings in
+    let count = c.args.self.now.fed in
+    let levels = most_level_count s in
+    let planned = c.blocks-blocks.ensures.planned in
+    let same : plan ≡ _ = FilePlan-is plan s count c.in-Ok.ensures in
+    let stood = IsFedFile-parted c.args.self.now _ c.args.memory.now c.split_at_mut-opened.result.0.now
+    c.split_at_mut-opened.result.1.now fed c.open_length.ensures.value c.split_at_mut-opened.ensures.front
+    c.split_at_mut-opened.ensures.back h in
+    c.close_all.ensures levels fed (file_levels plan s count planned c.in-Ok.ensures)
+    (file_room plan s count levels _ c.in-Ok.ensures
+    (c.split_at_mut-opened.ensures.front_len ∙ c.open_length.ensures.value))
+    (h.count ∙ sym (ap (λ (p : Planned). p.wanted) same))
+    (subst (λ (t : Settings). HasFed t levels fed c.split_at_mut-opened.result.0.now c.split_at_mut-opened.result.1.now)
+    (sym (ap (λ (p : Planned). p.settings) same)) stood)
+    ∙ file_root-some s plan count fed planned c.in-Ok.ensures h.count

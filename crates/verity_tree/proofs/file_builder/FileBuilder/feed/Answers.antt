@@ -1,0 +1,75 @@
+use Rattle.std.proofs.Common.{List, [], ap, arith, length, length-append, refl, subst, sym, ℕ, ◌*◌, ◌++◌, ◌+◌, ◌∷◌, ◌<◌, ◌∙◌, ◌≡◌}
+use Rattle.std.proofs.lemmas.List.{append-nil}
+use Rattle.std.specs.Prelude.{Err, None, Result, Some, if◌then◌else◌}
+use Rattle.verity_io.specs.Writing.{most_bytes}
+use Rattle.verity_plan.proofs.CountLemmas.{mul_le}
+use Rattle.verity_plan.specs.Plans.{Planned, most_level_count, plan_for_bytes}
+use Rattle.verity_plan.specs.Settings.{Settings}
+use Rattle.verity_plan.specs.declared.plan_fault.PlanFault.{PlanFault}
+use Rattle.verity_plan.specs.declared.plan_fault.PlanFault.TheVariants.{NoData}
+use Rattle.verity_tree.specs.Feeding.{IsFedFile, is_too_large}
+use Rattle.verity_tree.specs.Steps.Feeding.{HasFed}
+use Rattle.verity_tree.specs.declared.feed_fault.FeedFault.TheVariants.{TooLarge}
+use Rattle.verity_tree.specs.declared.file_builder.FileBuilder.{FileBuilder}
+use Rattle.verity_tree.proofs.FeedingLemmas.{FilePlan-is, FilePlan-large, FilePlan-none, IsFedFile-parted, file_levels, file_room, joined}
+use Rattle.verity_tree.proofs.file_builder.FileBuilder.feed.Goals as goal
+
+pub returns-in_default-clause-fault : goal.returns-in_default-clause-fault
+returns-in_default-clause-fault c =
+    let count = c.args.self.now.fed + length c.args.piece.now in
+    let past : most_bytes < count = omega (arith, c.in_default.ensures) in
+    sym (ap (λ (r : Result Planned PlanFault). if is_too_large r then Some TooLarge else None)
+    (FilePlan-large c.args.self.now.settings count c.data_block-block.ensures.valid past))
+
+pub feed_all-requires-clause-opened : goal.feed_all-requires-clause-opened
+feed_all-requires-clause-opened c =
+    let plan = c.in-Ok.plan in
+    let s = c.args.self.now.settings in
+    let room = file_room plan s c.in-Some.count (most_level_count s) _ c.in-Ok.ensures
+    (c.split_at_mut-opened.ensures.front_len ∙ c.open_length.ensures.value) in
+    let most = file_levels plan s c.in-Some.count c.blocks-blocks.ensures.planned c.in-Ok.ensures in
+    omega (arith, mul_le _ _ plan.settings.hash_block most, room)
+
+pub returns-in-Ok-clause-fed : goal.returns-in-Ok-clause-fed
+returns-in-Ok-clause-fed c = λ fed h.
+    let plan = c.in-Ok.plan in
+    let s = c.args.self.now.settings in
+    let levels = most_level_count s in
+    let size = c.split_at_mut-opened.ensures.front_len ∙ c.open_length.ensures.value in
+    let same : plan.settings ≡ s =
+    ap (λ (p : Planned). p.settings) (FilePlan-is plan s c.in-Some.count c.in-Ok.ensures) in
+    let stood = IsFedFile-parted c.args.self.now _ c.args.memory.now c.split_at_mut-opened.result.0.now
+    c.split_at_mut-opened.result.1.now fed c.open_length.ensures.value c.split_at_mut-opened.ensures.front
+    c.split_at_mut-opened.ensures.back h in
+    let stands = c.feed_all.ensures levels fed
+    (file_levels plan s c.in-Some.count c.blocks-blocks.ensures.planned c.in-Ok.ensures)
+    (file_room plan s c.in-Some.count levels _ c.in-Ok.ensures size) h.count
+    (subst (λ (t : Settings). HasFed t levels fed c.split_at_mut-opened.result.0.now c.split_at_mut-opened.result.1.now)
+    (sym same) stood) in
+    record {
+      count = omega (arith, length-append fed c.args.piece.now, h.count, c.in-Some.ensures);
+      stands = joined (λ (xs ys : List ℕ). HasFed s levels (fed ++ c.args.piece.now) xs ys) (levels * s.hash_block)
+          c.feed_all.new.opened c.feed_all.new.current (c.feed_all.auto.opened ∙ size)
+          (subst (λ (t : Settings). HasFed t levels (fed ++ c.args.piece.now) c.feed_all.new.opened c.feed_all.new.current)
+          same stands);
+    }
+
+-- a list of no elements
+no-bytes : (xs : List ℕ) → length xs ≡ 0 → xs ≡ []
+no-bytes [] none = refl
+no-bytes (x ∷ xs) none = absurd (omega arith)
+
+-- a piece of no bytes
+fed-none : (b : FileBuilder) (memory fed piece : List ℕ) → length piece ≡ 0 → IsFedFile b memory fed
+    → IsFedFile b memory (fed ++ piece)
+fed-none b memory fed piece none h =
+    let empty : piece ≡ [] = no-bytes piece none in
+    subst (λ (xs : List ℕ). IsFedFile b memory xs) (sym (ap (λ (xs : List ℕ). fed ++ xs) empty ∙ append-nil fed)) h
+
+pub returns-in-Err-NoData-clause-fed : goal.returns-in-Err-NoData-clause-fed
+returns-in-Err-NoData-clause-fed c = λ fed h.
+    let s = c.args.self.now.settings in
+    let is : Err NoData ≡ plan_for_bytes s c.in-Some.count 0 =
+    ap (λ (f : PlanFault). Err f) (sym c.in-Err-NoData.field-0-is) ∙ c.in-Err-NoData.ensures in
+    let none = FilePlan-none s c.in-Some.count c.data_block-block.ensures.valid is in
+    fed-none c.args.self.now c.args.memory.now fed c.args.piece.now (omega (arith, none, c.in-Some.ensures)) h

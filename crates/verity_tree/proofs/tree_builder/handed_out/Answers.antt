@@ -1,0 +1,34 @@
+use Rattle.std.proofs.Common.{ap, arith, ℕ, ◌-◌, ◌/◌, ◌<◌, ◌≡◌, ◌≤◌}
+use Rattle.std.proofs.Math.Nat.{mul-le-mul}
+use Rattle.verity_plan.specs.Plans.{Planned, IsPlanned}
+use Rattle.verity_plan.proofs.FanLemmas.{hash_most, some_data}
+use Rattle.verity_plan.proofs.IndexLemmas.{quotient-below}
+use Rattle.verity_plan.proofs.PlanLemmas.{levels_few}
+use Rattle.verity_tree.proofs.tree_builder.handed_out.Goals as goal
+
+pub nonzero_div-i : goal.nonzero_div-i
+nonzero_div-i c =
+    let p = c.args.plan.now in
+    omega (arith, c.data_block.ensures, some_data p.settings c.blocks-blocks.ensures.planned.valid)
+
+-- the last byte is in a data block of the plan
+last-below : (p : Planned) (count size : ℕ) → IsPlanned p → 0 < count → count ≤ p.wanted → size ≡ p.settings.data_block
+    → (count - 1) / size < p.blocks
+last-below p count size planned some most same =
+    let below : count - 1 < p.wanted = omega (arith, some, most) in
+    let here = quotient-below (count - 1) p.wanted p.settings.data_block (some_data p.settings planned.valid) below in
+    omega (arith, here, planned.blocks_are, ap (λ (n : ℕ). (count - 1) / n) same)
+
+pub byte_above-requires-clause-index : goal.byte_above-requires-clause-index
+byte_above-requires-clause-index c =
+    last-below c.args.plan.now c.args.progress.now.fed c.data_block.result c.blocks-blocks.ensures.planned
+    c.requires.some c.requires.most c.data_block.ensures
+
+pub overflow_mul-result : goal.overflow_mul-result
+overflow_mul-result c =
+    let p = c.args.plan.now in
+    let planned = c.blocks-blocks.ensures.planned in
+    let level : c.args.progress.now.closed - 1 ≤ 63 = omega (arith, c.requires.level, levels_few p planned) in
+    let size : c.hash_block.result ≤ 524288 =
+    omega (arith, c.hash_block.ensures, hash_most p.settings planned.valid) in
+    omega (arith, mul-le-mul level size)

@@ -1,0 +1,125 @@
+//! One step of a tree that is built as pieces of its data come.
+ghost use Rattle.std.specs.Prelude.{◌≡◌, ◌⊎◌, ℕ, ◌+◌, ◌*◌, ◌<◌, ◌≤◌, ◌==◌, List, length, take, true};
+ghost use Rattle.verity_plan.specs.Plans.{level_count_of};
+ghost use Rattle.verity_tree.specs.Levels.{data_blocks};
+ghost use Rattle.verity_plan.specs.Settings.{digest_len};
+ghost use Rattle.verity_tree.specs.Steps.Feeding.{Climbs, EndsDataBlock, FeedsOn, Stands};
+ghost use Rattle.verity_tree.specs.ClosingOrder.{blocks_before};
+ghost use Rattle.verity_tree.specs.Steps.OpenBlocks.{IsCarrying, cascade_state};
+
+use crate::feeding::current::current_digest;
+use crate::feeding::level::{add_digest, close_block};
+use crate::feeding::piece::take_bytes;
+use verity_hash::Digest;
+use verity_plan::Plan;
+
+/// How far feeding has come.
+#[derive(Clone, Copy)]
+pub(crate) struct Progress {
+    /// How many bytes were fed.
+    pub fed: u64,
+    /// Of how many levels the hash blocks above the last byte were handed out since it was fed.
+    pub closed: usize,
+}
+
+/// The digest that comes to a level above the last byte: of the data block that the byte is in, or of the hash block below
+/// the level, which was handed out.
+fn digest_below(
+    plan: &Plan,
+    count: u64,
+    level: usize,
+    opened: &mut [u8],
+    current: &mut [u8],
+) -> Digest
+    requires opened { level_count_of plan.now * plan.now.settings.hash_block ≤ length opened.old }
+    requires current { length current.old ≡ plan.now.settings.data_block }
+    requires level { level ≤ level_count_of plan.now }
+    ensures size { length result ≡ digest_len plan.now.settings }
+    ensures carries { (levels : ℕ) (fed : List ℕ) → level_count_of plan.now ≤ levels
+        → levels * plan.now.settings.hash_block ≤ length opened.old → length fed ≡ count
+        → EndsDataBlock plan.now (length fed) → Stands plan.now levels fed level opened.old current.old
+        → IsCarrying plan.now.settings (data_blocks plan.now fed)
+        (cascade_state (blocks_before plan.now.settings (length fed)) level levels) opened.new result }
+{
+    // Called for the proof: its contract says that the plan can be carried out.
+    let _blocks = plan.blocks();
+    if level == 0 {
+        let at = (count % plan.data_block() as u64) as usize;
+        return current_digest(plan, current, at);
+    }
+    close_block(plan, opened, level - 1)
+}
+
+/// Carries the digest of the last byte's data block, or of the hash block above it that was handed out last, one level
+/// up: whether the hash block there has closed.
+fn climb(plan: &Plan, progress: &mut Progress, opened: &mut [u8], current: &mut [u8]) -> bool
+    requires opened { level_count_of plan.now * plan.now.settings.hash_block ≤ length opened.old }
+    requires current { length current.old ≡ plan.now.settings.data_block }
+    requires some { 0 < progress.old.fed }
+    requires most { progress.old.fed ≤ plan.now.wanted }
+    requires closed { progress.old.closed ≤ level_count_of plan.now }
+    ensures fed { progress.new.fed ≡ progress.old.fed }
+    ensures closed { result ≡ true → (progress.new.closed ≡ progress.old.closed + 1)
+        × (progress.old.closed < level_count_of plan.now) }
+    ensures last { progress.old.fed ≡ plan.now.wanted → progress.old.closed < level_count_of plan.now
+        → result ≡ true }
+    ensures stands { (levels : ℕ) (fed : List ℕ) → level_count_of plan.now ≤ levels
+        → levels * plan.now.settings.hash_block ≤ length opened.old → length fed ≡ progress.old.fed
+        → EndsDataBlock plan.now (length fed)
+        → (progress.old.fed ≡ plan.now.wanted → progress.old.closed < level_count_of plan.now)
+        → Stands plan.now levels fed progress.old.closed opened.old current.old
+        → Climbs plan.now levels fed progress.old.closed result opened.new }
+{
+    // Called for the proof: its contract says that the plan can be carried out.
+    let _blocks = plan.blocks();
+    let i = (progress.fed - 1) / plan.data_block() as u64;
+    let level = progress.closed;
+    let digest = digest_below(plan, progress.fed, level, opened, current);
+    if level >= plan.levels() {
+        return false;
+    }
+    if !add_digest(plan, opened, i, level, &digest) {
+        return false;
+    }
+    progress.closed = level + 1;
+    true
+}
+
+/// Goes on until a hash block closes or bytes of the piece are taken: how many, none if a hash block has closed.
+pub(crate) fn advance(
+    plan: &Plan,
+    progress: &mut Progress,
+    opened: &mut [u8],
+    current: &mut [u8],
+    piece: &[u8],
+) -> usize
+    requires opened { level_count_of plan.now * plan.now.settings.hash_block ≤ length opened.old }
+    requires current { length current.old ≡ plan.now.settings.data_block }
+    requires most { progress.old.fed + length piece.now ≤ plan.now.wanted }
+    requires closed { progress.old.closed ≤ level_count_of plan.now }
+    requires some { (0 < length piece.now)
+        ⊎ ((progress.old.fed ≡ plan.now.wanted) × (progress.old.closed < level_count_of plan.now)) }
+    ensures most { result ≤ length piece.now }
+    ensures fed { progress.new.fed ≡ progress.old.fed + result }
+    ensures taken { 0 < result → progress.new.closed ≡ 0 }
+    ensures closed { result ≡ 0 → (progress.new.closed ≡ progress.old.closed + 1)
+        × (progress.old.closed < level_count_of plan.now) × (0 < progress.old.fed) }
+    ensures stands { (levels : ℕ) (fed : List ℕ) → level_count_of plan.now ≤ levels
+        → levels * plan.now.settings.hash_block ≤ length opened.old → length fed ≡ progress.old.fed
+        → Stands plan.now levels fed progress.old.closed opened.old current.old
+        → FeedsOn plan.now levels fed progress.old.closed (take result piece.now) (result == 0) progress.new.closed
+        opened.new current.new }
+{
+    // Called for the proof: by its contract the plan can be carried out.
+    let _blocks = plan.blocks();
+    let size = plan.data_block() as u64;
+    let count = progress.fed;
+    let ends = count > 0 && (progress.closed > 0 || count % size == 0 || count == plan.wanted());
+    if ends && climb(plan, progress, opened, current) {
+        return 0;
+    }
+    let taken = take_bytes(plan, opened, current, count, piece);
+    progress.fed = count + taken as u64;
+    progress.closed = 0;
+    taken
+}

@@ -1,0 +1,81 @@
+//! Digests that come to the open blocks of their levels, and hash blocks that have closed.
+ghost use Rattle.std.specs.Prelude.{◌≡◌, ℕ, ◌+◌, ◌*◌, ◌/◌, ◌%◌, ◌^◌, ◌<◌, ◌≤◌, List, [], length, slice_index_or};
+ghost use Rattle.std.specs.Prelude.{true, false};
+ghost use Rattle.verity_plan.specs.Plans.{level_count_of};
+ghost use Rattle.verity_plan.specs.Settings.{digest_len, fan};
+ghost use Rattle.verity_tree.specs.Steps.Feeding.{Adds, HasClosed};
+ghost use Rattle.verity_tree.specs.Steps.OpenBlocks.{HasOpenBlocks, IsCarrying, cascade_state, level_digest};
+ghost use Rattle.verity_tree.specs.Steps.ReadingAhead.{IsBatch};
+
+use crate::pass::cascade::put_slot;
+use verity_hash::Digest;
+use verity_plan::Plan;
+
+/// Adds a digest that has come to a level, above data block `i`, to the level's open block: whether the block has closed,
+/// full or with the last data block.
+pub(crate) fn add_digest(
+    plan: &Plan,
+    opened: &mut [u8],
+    i: u64,
+    level: usize,
+    digest: &Digest,
+) -> bool
+    requires room { level * plan.now.settings.hash_block + plan.now.settings.hash_block ≤ length opened.old }
+    requires size { length digest.now ≡ digest_len plan.now.settings }
+    requires below { i < plan.now.blocks }
+    ensures last { i + 1 ≡ plan.now.blocks → result ≡ true }
+    ensures room { result ≡ false
+        → i / fan plan.now.settings ^ level % fan plan.now.settings + 1 < fan plan.now.settings }
+    ensures adds { (blocks : List (List ℕ)) (levels : ℕ) → plan.now.blocks ≡ length blocks → level < levels
+        → levels * plan.now.settings.hash_block ≤ length opened.old
+        → IsCarrying plan.now.settings blocks (cascade_state i level levels) opened.old digest.now
+        → Adds result plan.now.settings blocks i level levels opened.new }
+{
+    let blocks = plan.blocks();
+    let size = plan.hash_block();
+    let fan = plan.fan();
+    let slot = (plan.index_above(i, level) % fan as u64) as usize;
+    let from = level * size;
+    put_slot(
+        &mut opened[from..from + size],
+        slot * plan.slot_width(),
+        digest,
+    );
+    slot + 1 >= fan || i + 1 == blocks
+}
+
+/// The digest of a level's hash block, which has closed. Zeros are left, for the digests that come next.
+pub(crate) fn close_block(plan: &Plan, opened: &mut [u8], level: usize) -> Digest
+    requires room { level * plan.now.settings.hash_block + plan.now.settings.hash_block ≤ length opened.old }
+    ensures size { length result ≡ digest_len plan.now.settings }
+    ensures closes { (blocks : List (List ℕ)) (i levels : ℕ) → level < levels
+        → levels * plan.now.settings.hash_block ≤ length opened.old
+        → HasClosed plan.now.settings blocks i level levels opened.old
+        → IsCarrying plan.now.settings blocks (cascade_state i (level + 1) levels) opened.new result }
+{
+    let size = plan.hash_block();
+    let from = level * size;
+    let digest = plan.hash(&opened[from..from + size]);
+    opened[from..from + size].fill(0);
+    digest
+}
+
+/// Adds the digests of the first `count` of some data blocks from `i` on, none of which is the last below a hash block.
+pub(crate) fn add_rows(plan: &Plan, opened: &mut [u8], i: u64, digests: &[Digest; 8], count: usize)
+    requires room { level_count_of plan.now * plan.now.settings.hash_block ≤ length opened.old }
+    requires most { count < 8 }
+    requires batch { IsBatch plan.now i (count + 1) }
+    requires sizes { (r : ℕ) → r < count → length (slice_index_or digests.now r []) ≡ digest_len plan.now.settings }
+    ensures { (blocks : List (List ℕ)) (levels : ℕ) → plan.now.blocks ≡ length blocks → level_count_of plan.now ≤ levels
+        → levels * plan.now.settings.hash_block ≤ length opened.old
+        → ((r : ℕ) → r < count
+        → slice_index_or digests.now r [] ≡ level_digest plan.now.settings blocks (i + r) 0)
+        → HasOpenBlocks plan.now.settings blocks 0 levels i opened.old
+        → HasOpenBlocks plan.now.settings blocks 0 levels (i + count) opened.new }
+{
+    // Called for the proof: by its contract there are fewer than 2^64 data blocks.
+    let _blocks = plan.blocks();
+    for r in 0..count {
+        add_digest(plan, opened, i + r as u64, 0, &digests[r]);
+    }
+}

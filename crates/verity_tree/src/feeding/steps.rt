@@ -1,0 +1,109 @@
+//! Steps until a hash block closes, all bytes of a piece are taken, or all open blocks are closed.
+ghost use Rattle.std.specs.Prelude.{◌≡◌, ◌⊎◌, ℕ, ◌+◌, ◌*◌, ◌<◌, ◌≤◌, ◌++◌, List, length, take, true, false};
+ghost use Rattle.verity_plan.specs.Plans.{level_count_of};
+ghost use Rattle.verity_tree.specs.Levels.{data_blocks, root};
+ghost use Rattle.verity_tree.specs.Steps.Feeding.{FeedsOn, HasFed, Stands};
+
+use crate::feeding::advance::{Progress, advance};
+use crate::feeding::current::current_digest;
+use verity_hash::Digest;
+use verity_plan::Plan;
+
+/// Takes a piece until a hash block closes: how many bytes were taken, and whether one has closed. When all data has come,
+/// hash blocks close without bytes.
+pub(crate) fn feed_until_closed(
+    plan: &Plan,
+    progress: &mut Progress,
+    opened: &mut [u8],
+    current: &mut [u8],
+    piece: &[u8],
+) -> (usize, bool)
+    requires opened { level_count_of plan.now * plan.now.settings.hash_block ≤ length opened.old }
+    requires current { length current.old ≡ plan.now.settings.data_block }
+    requires most { progress.old.fed + length piece.now ≤ plan.now.wanted }
+    requires closed { progress.old.closed ≤ level_count_of plan.now }
+    ensures most { result.0 ≤ length piece.now }
+    ensures fed { progress.new.fed ≡ progress.old.fed + result.0 }
+    ensures closed { progress.new.closed ≤ level_count_of plan.now }
+    ensures all { result.1 ≡ false → result.0 ≡ length piece.now }
+    ensures done { result.1 ≡ false → progress.new.fed ≡ plan.now.wanted
+        → progress.new.closed ≡ level_count_of plan.now }
+    ensures closes { result.1 ≡ true → (0 < progress.new.closed) × (0 < progress.new.fed) }
+    ensures rises { result.1 ≡ true → result.0 ≡ 0 → progress.new.closed ≡ progress.old.closed + 1 }
+    ensures waits { result.1 ≡ true → (result.0 < length piece.now) ⊎ (progress.new.fed ≡ plan.now.wanted) }
+    ensures stands { (levels : ℕ) (fed : List ℕ) → level_count_of plan.now ≤ levels
+        → levels * plan.now.settings.hash_block ≤ length opened.old → length fed ≡ progress.old.fed
+        → Stands plan.now levels fed progress.old.closed opened.old current.old
+        → FeedsOn plan.now levels fed progress.old.closed (take result.0 piece.now) result.1 progress.new.closed
+        opened.new current.new }
+{
+    let mut taken = 0;
+    while taken < piece.len()
+        || (progress.fed == plan.wanted() && progress.closed < plan.levels())
+    {
+        let count = advance(plan, progress, opened, current, &piece[taken..]);
+        if count == 0 {
+            return (taken, true);
+        }
+        taken += count;
+    }
+    (taken, false)
+}
+
+/// Takes all of a piece. The last data block so far stays open for more bytes.
+pub(crate) fn feed_all(plan: &Plan, count: u64, opened: &mut [u8], current: &mut [u8], piece: &[u8])
+    requires opened { level_count_of plan.now * plan.now.settings.hash_block ≤ length opened.old }
+    requires current { length current.old ≡ plan.now.settings.data_block }
+    requires most { count + length piece.now ≤ plan.now.wanted }
+    ensures { (levels : ℕ) (fed : List ℕ) → level_count_of plan.now ≤ levels
+        → levels * plan.now.settings.hash_block ≤ length opened.old → length fed ≡ count
+        → HasFed plan.now.settings levels fed opened.old current.old
+        → HasFed plan.now.settings levels (fed ++ piece.now) opened.new current.new }
+{
+    let mut progress = Progress {
+        fed: count,
+        closed: 0,
+    };
+    let mut taken = 0;
+    'pieces: while taken < piece.len() {
+        taken += advance(plan, &mut progress, opened, current, &piece[taken..]);
+    }
+}
+
+/// Closes all open blocks after the last byte of the data that the plan wants: the root hash.
+pub(crate) fn close_all(plan: &Plan, opened: &mut [u8], current: &mut [u8]) -> Digest
+    requires opened { level_count_of plan.now * plan.now.settings.hash_block ≤ length opened.old }
+    requires current { length current.old ≡ plan.now.settings.data_block }
+    ensures { (levels : ℕ) (fed : List ℕ) → level_count_of plan.now ≤ levels
+        → levels * plan.now.settings.hash_block ≤ length opened.old → length fed ≡ plan.now.wanted
+        → HasFed plan.now.settings levels fed opened.old current.old
+        → result ≡ root plan.now.settings (data_blocks plan.now fed) }
+{
+    let mut progress = Progress {
+        fed: plan.wanted(),
+        closed: 0,
+    };
+    'levels: while progress.closed < plan.levels() {
+        advance(plan, &mut progress, opened, current, &[]);
+    }
+    digest_at_the_top(plan, opened, current)
+}
+
+/// The root hash, when the hash blocks of all levels have closed: of the top level's, or, without one, of the data block.
+pub(crate) fn digest_at_the_top(plan: &Plan, opened: &[u8], current: &mut [u8]) -> Digest
+    requires opened { level_count_of plan.now * plan.now.settings.hash_block ≤ length opened.now }
+    requires current { length current.old ≡ plan.now.settings.data_block }
+    ensures { (levels : ℕ) (fed : List ℕ) → length fed ≡ plan.now.wanted
+        → Stands plan.now levels fed (level_count_of plan.now) opened.now current.old
+        → result ≡ root plan.now.settings (data_blocks plan.now fed) }
+{
+    // Called for the proof: by its contract the plan can be carried out.
+    let _blocks = plan.blocks();
+    let size = plan.hash_block();
+    let levels = plan.levels();
+    if levels == 0 {
+        let at = (plan.wanted() % plan.data_block() as u64) as usize;
+        return current_digest(plan, current, at);
+    }
+    plan.hash(&opened[(levels - 1) * size..levels * size])
+}

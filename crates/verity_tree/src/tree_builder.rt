@@ -1,0 +1,172 @@
+//! A tree that is built as pieces of its data come, with each hash block handed out as it closes.
+ghost use Rattle.std.specs.Prelude.{◌≡◌, ℕ, ◌+◌, ◌*◌, ◌/◌, ◌^◌, ◌<◌, ◌≤◌, List, [], length, take, IfErr, IfOk};
+ghost use Rattle.verity_plan.specs.Plans.{level_count_of, start_byte_of};
+ghost use Rattle.verity_plan.specs.Settings.{fan};
+ghost use Rattle.verity_tree.specs.ClosingOrder.{blocks_before};
+ghost use Rattle.verity_tree.specs.Feeding.{Feeds, IsFed, Takes, end_fault, fault_in, feed_fault, feeding_length};
+ghost use Rattle.verity_tree.specs.Levels.{data_blocks, root};
+
+use crate::feed_fault::FeedFault;
+use crate::feeding::advance::Progress;
+use crate::feeding::steps::{digest_at_the_top, feed_until_closed};
+use verity_hash::Digest;
+use verity_plan::Plan;
+
+/// A builder of the tree above data that comes in pieces, of as many bytes as the plan wants. It works in memory that is
+/// handed in at each call, takes none itself, and hands out each hash block as it closes: all of them in closing order,
+/// as `build` writes them.
+///
+/// It is plain numbers, which may be kept anywhere. Whatever stands in it, each call is safe and returns; its answers are
+/// right where builder and memory are as the call before left them.
+#[derive(Clone, Copy, Debug, PartialEq, Eq)]
+pub struct TreeBuilder {
+    /// The plan of the tree.
+    pub plan: Plan,
+    /// How many bytes were fed.
+    pub fed: u64,
+    /// Of how many levels the hash blocks above the last byte were handed out since it was fed.
+    pub closed: usize,
+}
+
+/// How much of a piece was taken, and the hash block that is handed out.
+#[derive(Clone, Copy, Debug, PartialEq, Eq)]
+pub struct Fed {
+    /// How many bytes of the piece were taken.
+    pub taken: usize,
+    /// The hash block that is handed out, if one is. Then the rest of the piece, perhaps of no bytes, is still to be fed.
+    pub hash_block: Option<HashBlock>,
+}
+
+/// A hash block that has closed.
+#[derive(Clone, Copy, Debug, PartialEq, Eq)]
+pub struct HashBlock {
+    /// Its level, counted from 0 next to the data.
+    pub level: usize,
+    /// Its number in the level, counted from 0.
+    pub index: u64,
+    /// The byte of the device at which it goes (Linux kernel, dm-verity page, "On-disk format").
+    pub byte: u64,
+    /// The byte of the builder's memory at which it stands until the next call, as long as a hash block.
+    pub at: usize,
+}
+
+impl TreeBuilder {
+    /// The length of the memory for a plan, in bytes: an open block for each level, and a data block.
+    pub fn memory_length(plan: &Plan) -> usize
+        ensures { result ≡ feeding_length plan.now.settings (level_count_of plan.now) }
+    {
+        // Called for the proof: by its contract the plan can be carried out.
+        let _blocks = plan.blocks();
+        plan.levels() * plan.hash_block() + plan.data_block()
+    }
+
+    /// A builder to which nothing was fed yet. What stood in the memory is gone.
+    pub fn begin(plan: &Plan, memory: &mut [u8]) -> TreeBuilder
+        requires { length memory.old ≡ feeding_length plan.now.settings (level_count_of plan.now) }
+        ensures new { result ≡ record { plan = plan.now; fed = 0; closed = 0 } }
+        ensures fed { IsFed result memory.new [] }
+    {
+        // Called for the proof: by its contract the plan can be carried out.
+        let _blocks = plan.blocks();
+        memory.fill(0);
+        TreeBuilder {
+            plan: *plan,
+            fed: 0,
+            closed: 0,
+        }
+    }
+
+    /// Feeds a piece of the data: all of it, or its bytes up to those with which a hash block closes, which is handed out.
+    /// Then the rest of the piece is to be fed, until no hash block is handed out any more. A hash block that closes with
+    /// the last byte of a piece is handed out once more bytes come, and with the last byte of all at once: the blocks that
+    /// close with it come one a call, for which a piece of no bytes will do. The last data block counts with the zeros that
+    /// fill it (Linux kernel, fs-verity page, "Merkle tree"). The memory has the length `memory_length`.
+    ///
+    /// `Level` if more levels are counted as handed out than the tree has; else `TooLong` if there are more bytes with this
+    /// piece than the plan wants. Then builder and memory stay as they were.
+    pub fn feed(&mut self, memory: &mut [u8], piece: &[u8]) -> Result<Fed, FeedFault>
+        requires { length memory.old ≡ feeding_length self.old.plan.settings (level_count_of self.old.plan) }
+        ensures plan { self.new.plan ≡ self.old.plan }
+        ensures fault { fault_in result ≡ feed_fault self.old (length piece.now) }
+        ensures refused { IfErr result (λ _. (self.new ≡ self.old) × (memory.new ≡ memory.old)) }
+        ensures takes { IfOk result (λ answer. Takes self.old self.new (length piece.now) answer) }
+        ensures fed { (fed : List ℕ) → IsFed self.old memory.old fed
+            → IfOk result (λ answer. Feeds self.old self.new fed (take answer.taken piece.now) memory.new answer.hash_block) }
+    {
+        let plan = self.plan;
+        if self.closed > plan.levels() {
+            return Err(FeedFault::Level);
+        }
+        match self.fed.checked_add(piece.len() as u64) {
+            Some(count) if count <= plan.wanted() => {}
+            _ => return Err(FeedFault::TooLong),
+        }
+        let (opened, current) = memory.split_at_mut(plan.levels() * plan.hash_block());
+        let mut progress = Progress {
+            fed: self.fed,
+            closed: self.closed,
+        };
+        let (taken, closes) = feed_until_closed(&plan, &mut progress, opened, current, piece);
+        self.fed = progress.fed;
+        self.closed = progress.closed;
+        let hash_block = if closes {
+            Some(handed_out(&plan, &progress))
+        } else {
+            None
+        };
+        Ok(Fed { taken, hash_block })
+    }
+
+    /// The root hash, when all bytes were fed and all hash blocks handed out. The memory has the length `memory_length`;
+    /// what stood in it is gone.
+    ///
+    /// `Level` if more levels are counted as handed out than the tree has; else `TooLong` or `TooShort` if more or fewer
+    /// bytes were fed than the plan wants; else `Waiting` if a hash block is still to be handed out. Then the memory stays
+    /// as it was.
+    pub fn end(&self, memory: &mut [u8]) -> Result<Digest, FeedFault>
+        requires { length memory.old ≡ feeding_length self.now.plan.settings (level_count_of self.now.plan) }
+        ensures fault { fault_in result ≡ end_fault self.now }
+        ensures refused { IfErr result (λ _. memory.new ≡ memory.old) }
+        ensures root { (fed : List ℕ) → IsFed self.now memory.old fed
+            → IfOk result (λ answer. answer ≡ root self.now.plan.settings (data_blocks self.now.plan fed)) }
+    {
+        let plan = self.plan;
+        if self.closed > plan.levels() {
+            return Err(FeedFault::Level);
+        }
+        if self.fed > plan.wanted() {
+            return Err(FeedFault::TooLong);
+        }
+        if self.fed < plan.wanted() {
+            return Err(FeedFault::TooShort(self.fed / plan.data_block() as u64));
+        }
+        if self.closed < plan.levels() {
+            return Err(FeedFault::Waiting);
+        }
+        let (opened, current) = memory.split_at_mut(plan.levels() * plan.hash_block());
+        Ok(digest_at_the_top(&plan, opened, current))
+    }
+}
+
+/// The hash block that was handed out last.
+fn handed_out(plan: &Plan, progress: &Progress) -> HashBlock
+    requires some { 0 < progress.now.fed }
+    requires most { progress.now.fed ≤ plan.now.wanted }
+    requires closed { 0 < progress.now.closed }
+    requires level { progress.now.closed ≤ level_count_of plan.now }
+    ensures level { progress.now.closed ≡ result.level + 1 }
+    ensures index { result.index ≡ blocks_before plan.now.settings progress.now.fed / fan plan.now.settings ^ (result.level + 1) }
+    ensures byte { result.byte ≡ start_byte_of plan.now result.level result.index }
+    ensures at { result.at ≡ result.level * plan.now.settings.hash_block }
+{
+    // Called for the proof: by its contract the plan can be carried out.
+    let _blocks = plan.blocks();
+    let level = progress.closed - 1;
+    let i = (progress.fed - 1) / plan.data_block() as u64;
+    HashBlock {
+        level,
+        index: plan.index_above(i, level + 1),
+        byte: plan.byte_above(i, level),
+        at: level * plan.hash_block(),
+    }
+}
