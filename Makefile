@@ -18,7 +18,7 @@ SECONDS = 1800
 SEED =
 
 .PHONY: run programs library libraries test check gate wrong-bodies check-programs check-library out-of-memory interop \
-    soak kernel bench reproducible install uninstall clean help
+    soak kernel bench bench-feeding reproducible install uninstall clean help
 
 # Proves and builds the one program that this needs, and prints the digest of a real file.
 run:
@@ -89,6 +89,10 @@ bench: programs
 	./build.sh bench_bare bench_bare $(CPU)
 	bench/bench.sh
 
+# Measures the library that is fed with pieces of a file beside bin/fsverity, Debian's fsverity and Debian's libfsverity.
+bench-feeding: programs library
+	bench/feeding.sh
+
 # Builds both programs once more in another folder, and compares their bytes.
 reproducible: programs
 	tests/reproducible.sh
@@ -117,12 +121,13 @@ help:
 	@echo 'make gate            35 minutes    every proof from nothing, wrong bodies that must be refused, tests of the crates'
 	@echo 'make wrong-bodies    30 minutes    tries each wrong body by itself'
 	@echo 'make check-programs  30 seconds +  runs the programs as a user would'
-	@echo 'make check-library   3 minutes +   calls the library from C, and runs its examples'
+	@echo 'make check-library   5 minutes +   calls the library from C, and runs its examples'
 	@echo 'make out-of-memory   7 minutes +   refuses each request for memory in turn'
 	@echo 'make interop         10 minutes +  compares the programs with those of Debian, over all settings'
 	@echo 'make soak            30 minutes +  random runs of both programs, compared with other programs [SECONDS, SEED]'
 	@echo 'make kernel          10 minutes +  has the Linux kernel open the images, in a virtual machine [KERNEL, MODULES]'
 	@echo 'make bench           5 minutes +   measures speed and memory, beside bare hashing and the programs of Debian'
+	@echo 'make bench-feeding   1 minute +    measures the library that is fed with pieces of a file'
 	@echo 'make reproducible    5 minutes +   builds once more in another folder, and compares the programs'
 	@echo 'make install         seconds       installs programs, manual pages and completion [PREFIX, DESTDIR, SUFFIX]'
 	@echo 'make uninstall       seconds       removes what make install has installed; give it the same settings'

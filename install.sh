@@ -44,7 +44,7 @@ libdir=\${prefix}/lib
 includedir=\${prefix}/include
 
 Name: libverity
-Description: reads superblocks, finds hash blocks and checks blocks of dm-verity and fs-verity
+Description: checks blocks of dm-verity and fs-verity, and builds their trees as data comes
 Version: $version
 Libs: -L"\${libdir}" -lverity
 Cflags: -I"\${includedir}"

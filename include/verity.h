@@ -1,5 +1,5 @@
 /*
- * verity.h - reads superblocks, finds hash blocks and checks blocks of dm-verity and fs-verity.
+ * verity.h - superblocks, places of hash blocks, checks of blocks and the building of trees of dm-verity and fs-verity.
  *
  * Each function is proved: whatever numbers, bytes and structs it is handed, it returns, and its answer is that of the
  * definitions. The library takes no memory, keeps nothing between calls, opens and prints nothing, and takes no lock:
@@ -19,12 +19,40 @@
  * Data blocks are counted from 0, and so are levels; level 0 is next to the data. Sizes, lengths, offsets and starts
  * are in bytes. The last data block of an fs-verity file is handed in whole, with the zeros that fill it. Every
  * function answers a status, VERITY_OK or another one of those below: the first fault, in the order that is said beside
- * the function. What a function fills stays as it was if the status isn't VERITY_OK; only the level of
+ * the function. What a function fills or changes stays as it was if the status isn't VERITY_OK; only the level of
  * verity_check_block and fsverity_check_block is set with VERITY_DIFFERS.
  *
  * Vector registers must be switched on: SSE2 to SSE4.2 on x86-64 (AVX2 if the library was built for x86-64-v3), NEON on
- * 64-bit ARM. A call takes up to 4 KiB of stack on either: measured are 2.7 for a file digest, 2.5 for a block with its
- * path, 2.4 for a top block, 2.2 for a link, and 2 for the others.
+ * 64-bit ARM. A call takes up to 4 KiB of stack on either, and one that feeds or ends up to 16 KiB: measured are 13.4
+ * for feeding, 4.7 for the end of a file, 3.2 for a file digest, 2.4 for a block with its path, and less for the others.
+ *
+ * Data that is written, copied or downloaded is fed to a tree as it comes, in pieces of any length, 0 too. The
+ * functions whose names have _build_ in them do that, in memory of the caller's, as long as verity_build_memory or
+ * fsverity_build_memory says: 36864 bytes for fs-verity with SHA-256 and blocks of 4096 bytes. Memory and struct, which
+ * for a file are the parameters, hold all that is kept between the calls. They are left alone then, but may be moved,
+ * stored and copied, both together: a copy goes on by itself. If anything else stands in them, a call answers a fault,
+ * or its hash blocks, root hash and digest mean nothing; it still returns, reads and writes nothing but what it is
+ * handed, and the start that it names is that of a hash block of the tree. A tree of dm-verity has a stated number of
+ * data blocks, and each of its hash blocks is handed out once, as it closes:
+ *
+ *     verity_build_begin(&params, &build, memory, memory_length);
+ *     and for each piece:
+ *     for (;;) {
+ *         status = verity_build_feed(&params, &build, memory, memory_length, piece, length, &fed);
+ *         if (status != VERITY_OK)
+ *             return status;
+ *         piece += fed.taken;
+ *         length -= fed.taken;
+ *         if (fed.block_length == 0)
+ *             break;
+ *         if (pwrite(device, memory + fed.block_at, fed.block_length, fed.block_start) != (ssize_t)fed.block_length)
+ *             return -1;
+ *     }
+ *     and after the last piece:
+ *     status = verity_build_end(&params, &build, memory, memory_length, root, root_length);
+ *
+ * A file's length need not be known before. fsverity_build_begin, fsverity_build_feed for each piece, and
+ * fsverity_build_end give root hash and file digest, and the parameters then have the file's size.
  *
  * Example: check DATA HASH INDEX ends with 0 if this data block is right, with 1 if it isn't, and with 2 if it can't be
  * checked. The root hash comes from standard input, as bytes. The superblock is trusted here.
@@ -81,7 +109,7 @@
 #include <stdint.h>
 
 #define VERITY_VERSION_MAJOR 1
-#define VERITY_VERSION_MINOR 1
+#define VERITY_VERSION_MINOR 2
 #define VERITY_VERSION_PATCH 0
 
 #ifdef __cplusplus
@@ -95,9 +123,9 @@ enum verity_status {
     VERITY_DIFFERS = 1,
     /* There is no data block of this number. */
     VERITY_NO_SUCH_BLOCK = 2,
-    /* The tree has no level of this number. */
+    /* The tree has no level of this number, or not as many as a disturbed struct says. */
     VERITY_NO_SUCH_LEVEL = 3,
-    /* A block, a path or a buffer has another length. */
+    /* A block, a path, the memory or a buffer has another length. */
     VERITY_BAD_LENGTH = 4,
     /* The root hash isn't as long as a digest of the hash function. Another root hash is VERITY_DIFFERS. */
     VERITY_BAD_ROOT_LENGTH = 5,
@@ -115,7 +143,12 @@ enum verity_status {
     /* The superblock alone: fewer than 512 bytes, another signature, another version. */
     VERITY_SHORT_SUPERBLOCK = 14,
     VERITY_BAD_SIGNATURE = 15,
-    VERITY_BAD_VERSION = 16
+    VERITY_BAD_VERSION = 16,
+    /* What is fed, or a struct that is disturbed: more bytes than the parameters say, or fewer. */
+    VERITY_TOO_LONG = 17,
+    VERITY_TOO_SHORT = 18,
+    /* A hash block is still to be handed out: verity_build_feed is to be called again. */
+    VERITY_WAITING = 19
 };
 
 /* Hash functions. fs-verity has the first two alone. */
@@ -145,7 +178,7 @@ struct verity_params {
     uint32_t no_superblock;   /* 0 if a superblock stands there, any other number if none does */
     uint32_t salt_size;       /* how many bytes of salt count, 0 to 256 */
     uint8_t salt[256];        /* and bytes that don't count; zeros are read of a superblock */
-    uint8_t uuid[16];         /* filled with the superblock's; no function looks at it */
+    uint8_t uuid[16];         /* the superblock's; verity_write_superblock alone looks at it */
 };
 
 /*
@@ -247,6 +280,118 @@ uint32_t fsverity_check_top(const struct fsverity_params *params, uint64_t index
  */
 uint32_t fsverity_file_digest(const struct fsverity_params *params, const uint8_t *root, size_t root_length,
                               uint8_t *digest, size_t digest_length);
+
+/* How far a tree of dm-verity is built. verity_build_begin fills it, and verity_build_feed goes on with it. */
+struct verity_build {
+    uint64_t fed;  /* how many bytes were fed */
+    size_t closed; /* of how many levels the hash blocks above the last byte were handed out since it was fed */
+};
+
+/* What verity_build_feed has done. */
+struct verity_fed {
+    size_t taken;         /* how many bytes of the piece were taken */
+    size_t block_length;  /* of the hash block that has closed; 0 if none has, and the numbers below are 0 then */
+    size_t block_at;      /* the byte of the memory at which it stands until the next call */
+    uint64_t block_start; /* the byte of the hash device at which it goes */
+    uint64_t block_index; /* its number in its level, from 0 */
+    size_t block_level;   /* its level, from 0 next to the data */
+};
+
+/*
+ * The length of the memory in which a tree is built: a hash block for each level, and a data block. The memory need not
+ * be aligned.
+ *
+ * A fault of the parameters.
+ */
+uint32_t verity_build_memory(const struct verity_params *params, size_t *length);
+
+/*
+ * Begins a tree: build and memory are those of no bytes. What stood in them doesn't count, but as everywhere is to be
+ * initialised.
+ *
+ * A fault of the parameters, VERITY_BAD_LENGTH.
+ */
+uint32_t verity_build_begin(const struct verity_params *params, struct verity_build *build, uint8_t *memory,
+                            size_t memory_length);
+
+/*
+ * Feeds a piece of the data: all of it, or its bytes up to the next hash block that closes, which is handed out. Then
+ * the rest of the piece is to be fed, perhaps of no bytes, until no hash block is handed out. So each hash block is
+ * handed out once, each after those below it. One that closes with the last byte of a piece is handed out by the next
+ * call with more bytes. With the last byte of the data, that call and the next ones hand out all that are left, one a
+ * call, and 0 bytes will do. The parameters are those of verity_build_begin.
+ *
+ * A fault of the parameters, VERITY_BAD_LENGTH (the memory's), VERITY_NO_SUCH_LEVEL (more levels are closed than there
+ * are), VERITY_TOO_LONG (with the whole piece there would be more bytes than data_blocks blocks have).
+ */
+uint32_t verity_build_feed(const struct verity_params *params, struct verity_build *build, uint8_t *memory,
+                           size_t memory_length, const uint8_t *piece, size_t piece_length, struct verity_fed *fed);
+
+/*
+ * The root hash, when all data was fed and all hash blocks were handed out. root_length is exactly that of the hash
+ * function's digests. With VERITY_OK the memory is used up: another tree has to be begun.
+ *
+ * A fault of the parameters, VERITY_BAD_LENGTH (the memory's, the root hash's), VERITY_NO_SUCH_LEVEL, VERITY_TOO_LONG,
+ * VERITY_TOO_SHORT, VERITY_WAITING.
+ */
+uint32_t verity_build_end(const struct verity_params *params, const struct verity_build *build, uint8_t *memory,
+                          size_t memory_length, uint8_t *root, size_t root_length);
+
+/*
+ * Writes the superblock of the parameters, with their uuid, into 512 bytes, which stand at the hash offset of the hash
+ * device. verity_read_superblock reads them again. no_superblock only has its part in the faults of the parameters.
+ *
+ * A fault of the parameters, VERITY_BAD_LENGTH (length isn't 512).
+ */
+uint32_t verity_write_superblock(const struct verity_params *params, uint8_t *bytes, size_t length);
+
+/*
+ * The length of the memory in which a file's tree is built: a block for each level of the largest file, and one more.
+ * With blocks of 4096 bytes it is 36864 for SHA-256 and 40960 for SHA-512; it is 2621440 at most. The size isn't looked
+ * at.
+ *
+ * VERITY_BAD_HASH_ALGORITHM, VERITY_BAD_DATA_BLOCK_SIZE, VERITY_BAD_SALT_SIZE.
+ */
+uint32_t fsverity_build_memory(const struct fsverity_params *params, size_t *length);
+
+/*
+ * Begins a file's tree: the memory is that of no bytes, and the size of the parameters becomes 0. What size and memory
+ * were before doesn't count, but as everywhere is to be initialised.
+ *
+ * VERITY_BAD_HASH_ALGORITHM, VERITY_BAD_DATA_BLOCK_SIZE, VERITY_BAD_SALT_SIZE, VERITY_BAD_LENGTH.
+ */
+uint32_t fsverity_build_begin(struct fsverity_params *params, uint8_t *memory, size_t memory_length);
+
+/*
+ * Feeds the next piece of the file, all of it. The size of the parameters counts the bytes that were fed, and the rest
+ * of them is as it was for fsverity_build_begin.
+ *
+ * VERITY_BAD_HASH_ALGORITHM, VERITY_BAD_DATA_BLOCK_SIZE, VERITY_BAD_SALT_SIZE, VERITY_BAD_LENGTH (the memory's),
+ * VERITY_TOO_LARGE (with the piece).
+ */
+uint32_t fsverity_build_feed(struct fsverity_params *params, uint8_t *memory, size_t memory_length,
+                             const uint8_t *piece, size_t piece_length);
+
+/*
+ * Root hash and file digest of the bytes that were fed, none too: its root hash is zeros. root_length and digest_length
+ * are exactly those of the hash function's digests. With the root hash the parameters are those of the functions above.
+ * With VERITY_OK the memory is used up: another tree has to be begun.
+ *
+ * VERITY_BAD_HASH_ALGORITHM, VERITY_BAD_DATA_BLOCK_SIZE, VERITY_BAD_SALT_SIZE, VERITY_BAD_LENGTH (the memory's, the
+ * root hash's, the digest's), VERITY_TOO_LARGE.
+ */
+uint32_t fsverity_build_end(const struct fsverity_params *params, uint8_t *memory, size_t memory_length, uint8_t *root,
+                            size_t root_length, uint8_t *digest, size_t digest_length);
+
+/*
+ * Writes the fs-verity descriptor of the file with these parameters and this root hash into 256 bytes: what the file
+ * digest is the hash of. A size that is too large for a tree has a descriptor too.
+ *
+ * VERITY_BAD_HASH_ALGORITHM, VERITY_BAD_DATA_BLOCK_SIZE, VERITY_BAD_SALT_SIZE, VERITY_BAD_ROOT_LENGTH,
+ * VERITY_BAD_LENGTH (length isn't 256).
+ */
+uint32_t fsverity_descriptor(const struct fsverity_params *params, const uint8_t *root, size_t root_length,
+                             uint8_t *descriptor, size_t length);
 
 #ifdef __cplusplus
 }

@@ -27,9 +27,16 @@ for script in tests/interop/*.sh tests/programs/*.sh tests/processor.sh tests/re
         if [ -x "$script" ]; then parts+=("env BIN=$build $script"); fi
     done
 done
-for library in "${libraries[@]}"; do parts+=("env LIB=$library tests/library/images.sh"); done
+# A million random feedings, over all libraries together.
+feedings=$((1000000 / ${#libraries[@]}))
+for library in "${libraries[@]}"; do
+    parts+=("env LIB=$library FEEDINGS=$feedings tests/library/feeding.sh" "env LIB=$library tests/library/images.sh")
+done
 for script in tests/library/*.sh; do
-    if [ -x "$script" ] && [ "$script" != tests/library/images.sh ]; then parts+=("$script"); fi
+    case $script in
+    */images.sh | */feeding.sh) continue ;;
+    esac
+    if [ -x "$script" ]; then parts+=("$script"); fi
 done
 parts+=(tests/definitions.sh tests/install.sh tests/completion.sh)
 BIN=bin exec tests/run.sh "${parts[@]}"

@@ -5,6 +5,8 @@ LIB=${LIB:-lib}
 SEED=${SEED:-1}
 # Longer than any run takes, on a slow machine too.
 LONGEST=300
+# The block sizes of images of dm-verity.
+verity_sizes=(512 512 1024 2048 4096 8192)
 warnings=(-std=c11 -Wall -Wextra -Wpedantic -Werror)
 
 # has_library FILE: stops if a file of the library was not built.
@@ -98,9 +100,9 @@ verity_image() {
     one_of sha1 sha224 sha256 sha256 sha384 sha512
     hash=$chosen
     type=$((RANDOM % 2))
-    one_of 512 512 1024 2048 4096 8192
+    one_of "${verity_sizes[@]}"
     data_size=$chosen
-    one_of 512 512 1024 2048 4096 8192
+    one_of "${verity_sizes[@]}"
     hash_size=$chosen
     random_salt 256
     fan_out "$hash" "$hash_size"

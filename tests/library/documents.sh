@@ -1,6 +1,6 @@
 #!/bin/bash
 # Builds and runs the examples of include/verity.h, of man/verity.3 and of README.md word for word, over an image of
-# Debian's veritysetup, and compares what header and page say of functions, statuses and the version.
+# Debian's veritysetup and a file of fsverity, and compares what header and page say of functions, statuses and the version.
 set -u
 cd "$(dirname "$0")/../.."
 . tests/checks.sh
@@ -75,6 +75,69 @@ same 'README.md: the right block' 0 "$?"
 flip input 600 1
 ./readme <input
 same 'README.md: a changed block' 1 "$?"
+
+# The header's loop, in a program that feeds standard input in pieces of 10000 bytes and writes the hash device.
+{
+    cat <<'EOC'
+#define _XOPEN_SOURCE 700
+#include <fcntl.h>
+#include <unistd.h>
+#include "verity.h"
+
+int main(int count, char **words)
+{
+    static uint8_t memory[3 * 4096], bytes[10000], superblock[512], root[32];
+    struct verity_params params = {.hash_algorithm = VERITY_SHA256, .hash_type = 1, .data_block_size = 4096,
+                                   .hash_block_size = 4096, .data_blocks = 300,
+                                   .uuid = {1, 1, 1, 1, 1, 1, 1, 1, 1, 1, 1, 1, 1, 1, 1, 1}};
+    struct verity_build build = {0};
+    struct verity_fed fed;
+    size_t memory_length = sizeof memory, root_length = sizeof root, length;
+    int device = open(words[count - 1], O_RDWR | O_CREAT, 0644), status;
+    const uint8_t *piece;
+    ssize_t found;
+
+    status = (int)verity_build_begin(&params, &build, memory, memory_length);
+    while (status == VERITY_OK && (found = read(0, bytes, sizeof bytes)) > 0) {
+        piece = bytes;
+        length = (size_t)found;
+EOC
+    sed -n '/^ \*     for (;;) {/,/^ \*     }/s/^ \*     //p' "$root/include/verity.h"
+    echo '    }'
+    sed -n 's/^ \*     \(status = verity_build_end\)/\1/p' "$root/include/verity.h"
+    cat <<'EOC'
+    if (status != VERITY_OK || verity_write_superblock(&params, superblock, 512) != VERITY_OK)
+        return 100 + status;
+    return pwrite(device, superblock, 512, 0) != 512 || write(1, root, 32) != 32;
+}
+EOC
+} >feed.c
+rm -f fed.hash image.hash
+uuid=01010101-0101-0101-0101-010101010101
+report=$(veritysetup format --salt=- --uuid=$uuid image.ext4 image.hash)
+runs "the header's loop: it is built" 0 '' '' cc -Wall -I"$root/include" feed.c "$LIB/libverity.a" -o feed
+./feed fed.hash <image.ext4 >root
+same "the header's loop: status" 0 "$?"
+same "the header's loop: root hash" "$(awk '/^Root hash:/ { print $3 }' <<<"$report")" "$(od -An -v -tx1 root | tr -d ' \n')"
+same_bytes "the header's loop: hash device" image.hash fed.hash
+head -c 4096 image.ext4 | ./feed fed.hash >root
+same "the header's loop: too few bytes" 118 "$?"
+
+# README's lines for a file, in a program that reads it from standard input.
+{
+    printf '%s\n' '#include <unistd.h>' '#include "verity.h"' 'int main(void)' '{' \
+        '    static uint8_t memory[36864], piece[10000], root[32], digest[32];' '    ssize_t length;' '    int file = 0;' \
+        '    struct fsverity_params params = {.hash_algorithm = VERITY_SHA256, .block_size = 4096};'
+    sed -n '/^    fsverity_build_begin(/,/^ *fsverity_build_end(/p' "$root/README.md"
+    printf '%s\n' '    return write(1, digest, 32) != 32;' '}'
+} >file.c
+runs 'README.md: the lines for a file are built' 0 '' '' cc -Wall -I"$root/include" file.c "$LIB/libverity.a" -o file
+if command -v fsverity >/dev/null; then
+    same 'README.md: the digest of a file' "$(fsverity digest --compact image.ext4)" \
+        "$(./file <image.ext4 | od -An -v -tx1 | tr -d ' \n')"
+else
+    echo 'left out: the digest of a file: fsverity is not installed'
+fi
 cd "$root" || exit 1
 
 # Header and page have the same functions, statuses and version.

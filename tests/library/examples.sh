@@ -302,6 +302,50 @@ python_checks() {
     runs 'check_blocks.py: a changed top block' 1 '' 'the file digest is another' "${words[@]}" "$digest"
 }
 
+# --------------------------------------------- copy_and_digest.py ---------------------------------------------
+
+# copies_files OPTION..: files of many sizes are copied, and each copy has the digest that Debian's fsverity gives it.
+copies_files() {
+    local length names=()
+    rm -rf "$scratch/from" "$scratch/to"
+    mkdir "$scratch/from" "$scratch/to"
+    for length in 0 1 1023 4096 4097 $((128 * 4096)) $((128 * 4096 + 1)) $((1 << 20)) 3000001; do
+        sample "$length" >"$scratch/from/$length"
+        names+=("$length")
+    done
+    python3 examples/copy_and_digest.py "$@" "${names[@]/#/$scratch/from/}" "$scratch/to" >"$scratch/copied" 2>&1
+    same "copy_and_digest.py $*: status" 0 $?
+    fsverity digest "$@" "${names[@]/#/$scratch/to/}" >"$scratch/expected"
+    same_bytes "copy_and_digest.py $*" "$scratch/expected" "$scratch/copied"
+    for length in "${names[@]}"; do
+        same_bytes "copy_and_digest.py $*: $length bytes" "$scratch/from/$length" "$scratch/to/$length"
+    done
+}
+
+copy_checks() {
+    local copy=(python3 examples/copy_and_digest.py) to=$scratch/to
+    has python3 python3 copy_and_digest.py && has fsverity fsverity copy_and_digest.py || return
+    export VERITY_LIBRARY=$LIB/libverity.so.1
+    copies_files
+    copies_files --hash-alg=sha512 --block-size=1024
+    copies_files --block-size=64 --salt="$SALT"
+    copies_files --block-size=65536 --salt=00
+    # What is there has other bytes than the file, so that a copy over it would be seen.
+    sample 5000 | rev >"$to/4097"
+    cp "$to/4097" "$scratch/there"
+    runs 'copy_and_digest.py: the copy is there' 1 '' any "${copy[@]}" "$scratch/from/4097" "$to"
+    same_bytes 'copy_and_digest.py: the copy that was there' "$scratch/there" "$to/4097"
+    runs 'copy_and_digest.py: no such file' 1 '' any "${copy[@]}" "$scratch/from/none" "$to"
+    absent 'copy_and_digest.py: no such file' "$to/none"
+    rm "$to/1023"
+    runs 'copy_and_digest.py: a block size of 63' 1 '' 'copy_and_digest.py: fsverity_build_memory: status 8' \
+        "${copy[@]}" --block-size=63 "$scratch/from/1023" "$to"
+    absent 'copy_and_digest.py: a block size of 63' "$to/1023"
+    runs 'copy_and_digest.py: a salt of 33 bytes' 1 '' 'copy_and_digest.py: fsverity_build_memory: status 10' \
+        "${copy[@]}" --salt="${SALT}00" "$scratch/from/1023" "$to"
+    unset VERITY_LIBRARY
+}
+
 # --------------------------------------------------- Stack ---------------------------------------------------
 
 # deep_paths: writes files for tests/library/stack.c: blocks of the deepest trees there are, and of usual ones.
@@ -354,7 +398,7 @@ END
 
 # stack_of NAME LIBRARY RUNNER COMPILER..: measures the stack and compares it with what the header states.
 stack_of() {
-    local name=$1 library=$2 runner=$3 function taken
+    local name=$1 library=$2 runner=$3 function taken most
     shift 3
     if ! "$@" -std=c11 -O2 -static -Wall -Wextra -Wpedantic -Werror -Iinclude -o "$scratch/stack" \
         tests/library/stack.c "$library" >"$scratch/built" 2>&1; then
@@ -374,10 +418,14 @@ stack_of() {
     echo "bytes of stack for $name:"
     while read -r function taken; do
         printf '    %-24s %5d\n' "$function" "$taken"
-        if [ "$taken" -gt 0 ] && [ "$taken" -le "$stated" ]; then
+        case $function in
+        *_build_feed | *_build_end) most=$stated_of_building ;;
+        *) most=$stated ;;
+        esac
+        if [ "$taken" -gt 0 ] && [ "$taken" -le "$most" ]; then
             pass
         else
-            fail "stack of $function for $name" "stated: up to $stated bytes" "found:  $taken"
+            fail "stack of $function for $name" "stated: up to $most bytes" "found:  $taken"
         fi
     done <"$scratch/taken"
 }
@@ -385,6 +433,7 @@ stack_of() {
 stack_checks() {
     has python3 python3 'the stack' || return
     stated=$(($(sed -n 's/.*takes up to \([0-9]*\) KiB of stack.*/\1/p' include/verity.h) * 1024))
+    stated_of_building=$(($(sed -n 's/.*feeds or ends up to \([0-9]*\) KiB.*/\1/p' include/verity.h) * 1024))
     deep_paths
     if [ "$(uname -m)" = x86_64 ]; then stack_of x86-64 "$LIB/libverity.a" '' gcc; fi
     if [ ! -e "$LIB/aarch64/libverity.a" ]; then
@@ -398,5 +447,6 @@ stack_checks() {
 boot_checks
 nbdkit_checks
 python_checks
+copy_checks
 stack_checks
 finish

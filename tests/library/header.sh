@@ -72,6 +72,16 @@ AT(fsverity_params, size, 8);
 AT(fsverity_params, salt_size, 16);
 AT(fsverity_params, salt, 20);
 _Static_assert(sizeof(struct fsverity_params) == 56, "fsverity_params");
+AT(verity_build, fed, 0);
+AT(verity_build, closed, 8);
+_Static_assert(sizeof(struct verity_build) == 16, "verity_build");
+AT(verity_fed, taken, 0);
+AT(verity_fed, block_length, 8);
+AT(verity_fed, block_at, 16);
+AT(verity_fed, block_start, 24);
+AT(verity_fed, block_index, 32);
+AT(verity_fed, block_level, 40);
+_Static_assert(sizeof(struct verity_fed) == 48, "verity_fed");
 
 static void show(const char *name, const unsigned char *bytes, size_t length)
 {
@@ -142,7 +152,7 @@ beside $paint
 digest $(sha512 "$scratch/descriptor")" "$(cat "$scratch/layout.txt")"
 fi
 
-same 'functions of the header' 14 "$(wc -l <<<"$functions")"
+same 'functions of the header' 24 "$(wc -l <<<"$functions")"
 same 'functions that the shared library shows' "$functions" \
     "$(nm -D --defined-only "$LIB/libverity.so.1" | awk '{ print $3 }' | sort)"
 same 'functions that the static library shows' "$functions" \

@@ -17,8 +17,9 @@ static=("$LIB/libverity.a")
 shared=("$LIB/libverity.so.1" -Wl,-rpath,"$(realpath "$LIB")")
 draws_data
 for program in refused images; do
-    compiles "$scratch/$program.static" gcc -O2 tests/library/"$program".c tests/library/support.c "${static[@]}"
-    compiles "$scratch/$program.shared" gcc -O2 tests/library/"$program".c tests/library/support.c "${shared[@]}"
+    sources=(tests/library/"$program".c tests/library/{support,words}.c)
+    compiles "$scratch/$program.static" gcc -O2 "${sources[@]}" "${static[@]}"
+    compiles "$scratch/$program.shared" gcc -O2 "${sources[@]}" "${shared[@]}"
 done
 for library in static shared; do
     adds "refused, $library" "$scratch/refused.$library"

@@ -19,7 +19,7 @@
 
 #include "verity.h"
 
-enum { STACK_SIZE = 24576, PATTERN = 0xa5, FILE_ROOM = 1 << 20 };
+enum { STACK_SIZE = 24576, PATTERN = 0xa5, FILE_ROOM = 1 << 20, MOST_BLOCKS = 20 };
 
 static _Alignas(64) uint8_t stack[STACK_SIZE];
 static ucontext_t main_context, call_context;
@@ -32,6 +32,13 @@ static uint8_t superblock[512], *block, *path, *root, digest[2 * VERITY_MAX_DIGE
 static size_t block_size, hash_block_size, levels, at_level, root_length, found_levels, found_level;
 static uint64_t index_of_block, found_start, found_blocks;
 static uint32_t status;
+
+/* What is fed: so many data blocks and a byte, up to the end of a tree, or across the middle of a large file's. */
+static struct verity_build build;
+static struct verity_fed fed;
+static uint8_t memory[1 << 16], piece[(MOST_BLOCKS + 1) * 4096], bytes_out[512];
+static size_t memory_length, found_length, piece_length, superblock_length = 512, descriptor_length = 256;
+static uint64_t all_bytes;
 
 /* The block that is checked at a level. */
 static const uint8_t *below(size_t level) {
@@ -52,6 +59,65 @@ static void read_superblock_call(void) {
 
 static void file_digest_call(void) {
     status = fsverity_file_digest(&file_params, root, root_length, digest, root_length);
+}
+
+static void verity_build_memory_call(void) {
+    status = verity_build_memory(&params, &found_length);
+}
+
+static void verity_build_begin_call(void) {
+    status = verity_build_begin(&params, &build, memory, memory_length);
+}
+
+static void verity_build_feed_call(void) {
+    size_t taken = 0;
+
+    build.fed = all_bytes - piece_length;
+    build.closed = 0;
+    do {
+        fed.block_length = 0;
+        status = verity_build_feed(&params, &build, memory, memory_length, piece + taken, piece_length - taken, &fed);
+        taken += fed.taken;
+    } while (status == VERITY_OK && fed.block_length > 0);
+}
+
+static void verity_build_end_call(void) {
+    build.fed = all_bytes;
+    build.closed = levels;
+    status = verity_build_end(&params, &build, memory, memory_length, digest, root_length);
+}
+
+static void verity_write_superblock_call(void) {
+    status = verity_write_superblock(&params, bytes_out, superblock_length);
+}
+
+static void fsverity_build_memory_call(void) {
+    status = fsverity_build_memory(&file_params, &found_length);
+}
+
+/* The size of the parameters is put back, for the other calls. */
+static void fsverity_build_begin_call(void) {
+    uint64_t size = file_params.size;
+
+    status = fsverity_build_begin(&file_params, memory, memory_length);
+    file_params.size = size;
+}
+
+static void fsverity_build_feed_call(void) {
+    uint64_t size = file_params.size;
+
+    file_params.size = (UINT64_C(1) << 59) - 9 * block_size;
+    status = fsverity_build_feed(&file_params, memory, memory_length, piece, piece_length);
+    file_params.size = size;
+}
+
+static void fsverity_build_end_call(void) {
+    status = fsverity_build_end(&file_params, memory, memory_length, digest, root_length,
+                                digest + VERITY_MAX_DIGEST_SIZE, root_length);
+}
+
+static void fsverity_descriptor_call(void) {
+    status = fsverity_descriptor(&file_params, root, root_length, bytes_out, descriptor_length);
 }
 
 #define CALLS(kind, the_params) \
@@ -102,6 +168,16 @@ static struct function {
     {"fsverity_check_link", fsverity_check_link_call, 1, EACH_LEVEL, 0},
     {"fsverity_check_top", fsverity_check_top_call, 1, ONCE, 0},
     {"fsverity_file_digest", file_digest_call, 1, ONCE, 0},
+    {"verity_build_memory", verity_build_memory_call, 0, ONCE, 0},
+    {"verity_build_begin", verity_build_begin_call, 0, ONCE, 0},
+    {"verity_build_feed", verity_build_feed_call, 0, ONCE, 0},
+    {"verity_build_end", verity_build_end_call, 0, ONCE, 0},
+    {"verity_write_superblock", verity_write_superblock_call, 0, ONCE, 0},
+    {"fsverity_build_memory", fsverity_build_memory_call, 1, ONCE, 0},
+    {"fsverity_build_begin", fsverity_build_begin_call, 1, ONCE, 0},
+    {"fsverity_build_feed", fsverity_build_feed_call, 1, ONCE, 0},
+    {"fsverity_build_end", fsverity_build_end_call, 1, ONCE, 0},
+    {"fsverity_descriptor", fsverity_descriptor_call, 1, ONCE, 0},
 };
 
 enum { FUNCTIONS = sizeof functions / sizeof functions[0] };
@@ -187,7 +263,24 @@ static void measure_file(uint8_t *bytes, size_t length) {
     root = path + levels * hash_block_size;
     root_length = (size_t)(bytes + length - root);
 
+    status = of_files ? fsverity_build_memory(&file_params, &memory_length)
+                      : verity_build_memory(&params, &memory_length);
+    if (status != VERITY_OK || memory_length > sizeof memory) {
+        fprintf(stderr, "memory of %zu bytes: status %u\n", memory_length, (unsigned)status);
+        exit(1);
+    }
+    all_bytes = params.data_blocks * params.data_block_size;
+    piece_length = MOST_BLOCKS * block_size + (of_files ? 1 : 0);
+
     measure_all(of_files, 0, levels - 1, 1);
+    /* Pieces of less than a block, and of none. */
+    for (piece_length = block_size; piece_length > 0; piece_length /= 8)
+        measure_all(of_files, 0, 0, 1);
+    measure_all(of_files, 0, 0, 1);
+    measure_with_changed((uint8_t *)&memory_length, of_files, 0);
+    measure_with_changed((uint8_t *)&all_bytes, of_files, 0);
+    measure_with_changed((uint8_t *)&superblock_length, of_files, 0);
+    measure_with_changed((uint8_t *)&descriptor_length, of_files, 0);
     measure_with_changed(block, of_files, 0);
     measure_with_changed(root, of_files, levels);
     for (size_t level = 0; level < levels; level++)

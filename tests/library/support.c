@@ -1,4 +1,4 @@
-/* What images.c and fuzz.c share; see support.h. */
+/* What the programs of this folder share; see support.h. */
 #define _DEFAULT_SOURCE
 #include "support.h"
 
@@ -14,7 +14,7 @@ __extension__ typedef unsigned __int128 wide;
 #define MOST_BYTES (((uint64_t)1 << 63) - 1)
 
 uint64_t calls_made;
-bool status_seen[VERITY_BAD_VERSION + 1];
+bool status_seen[VERITY_WAITING + 1];
 
 static uint64_t passed;
 static uint64_t failed;
@@ -314,12 +314,10 @@ void write_superblock(uint8_t superblock[512], const struct verity_params *param
 
 /* Buffers. Each one that a call takes has a region of its own, between memory that can't be read or written. */
 
-enum buffer { PARAMS, BLOCK, PATH, ROOT, FIRST_FILLED, SECOND_FILLED, BUFFERS };
-
 static uint8_t *regions[BUFFERS];
 static uint8_t *allocated[BUFFERS];
 
-static void *place(enum buffer buffer, const void *bytes, size_t length)
+void *place(enum buffer buffer, const void *bytes, size_t length)
 {
     size_t page = (size_t)sysconf(_SC_PAGESIZE);
     uint8_t *at = NULL;
@@ -352,7 +350,7 @@ static void *place(enum buffer buffer, const void *bytes, size_t length)
     return at;
 }
 
-static void check_same(const void *before, const void *after, size_t length, const char *call, const char *what)
+void check_same(const void *before, const void *after, size_t length, const char *call, const char *what)
 {
     check(length == 0 || memcmp(before, after, length) == 0, "%s changes %s", call, what);
 }
@@ -363,11 +361,11 @@ static void check_bytes(struct bytes before, const uint8_t *after, const char *c
 }
 
 /* Counts a call. The second answer to the same is the first. */
-static uint32_t answered(const char *call, int round, uint32_t first, uint32_t status)
+uint32_t answered(const char *call, int round, uint32_t first, uint32_t status)
 {
     calls_made++;
-    check(status <= VERITY_BAD_VERSION, "%s: status %u", call, status);
-    if (status <= VERITY_BAD_VERSION)
+    check(status <= VERITY_WAITING, "%s: status %u", call, status);
+    if (status <= VERITY_WAITING)
         status_seen[status] = true;
     check(round == 0 || status == first, "%s: status %u, and again %u", call, first, status);
     return status;

@@ -1,6 +1,6 @@
 /*
- * What images.c and fuzz.c share: counted checks, random numbers, what verity.h says of parameters by a computation of
- * its own, and calls of the library whose buffers end where memory ends.
+ * What the programs of this folder share: counted checks, random numbers, what verity.h says of parameters by a
+ * computation of its own, and calls of the library whose buffers end where memory ends.
  */
 #ifndef SUPPORT_H
 #define SUPPORT_H
@@ -99,6 +99,19 @@ uint32_t call_file_digest(const struct fsverity_params *params, struct bytes roo
 
 /* How many calls were made, and whether one of them had this status. */
 extern uint64_t calls_made;
-extern bool status_seen[VERITY_BAD_VERSION + 1];
+extern bool status_seen[VERITY_WAITING + 1];
+
+/*
+ * Where a buffer of this kind stands, filled with these bytes: right before or right behind memory that can't be read,
+ * or in malloc's. It stands there until the next one of its kind is placed.
+ */
+enum buffer { PARAMS, BLOCK, PATH, ROOT, FIRST_FILLED, SECOND_FILLED, MEMORY, PIECE, KEPT, BUFFERS };
+void *place(enum buffer buffer, const void *bytes, size_t length);
+
+/* Counts a call of this name. It is made in rounds, and each has the status of the first. Answers the status. */
+uint32_t answered(const char *call, int round, uint32_t first, uint32_t status);
+
+/* A call leaves what it was handed as it was. */
+void check_same(const void *before, const void *after, size_t length, const char *call, const char *what);
 
 #endif

@@ -1,2 +1,4 @@
+pub mod BuildingLemmas
 pub mod LevelLemmas
 pub mod ReadLemmas
+pub mod SuperblockLemmas

@@ -75,7 +75,7 @@ salt-short tree Original valid of_type = rw of_type at valid.salt_most
 salt-short tree Current valid of_type = rw of_type at valid.salt_most
 
 -- the settings that are read
-tree-read : (v : SuperblockFields) (offset : ℕ) → IsValidSuperblock v → tree_of (parameters_of v offset) ≡ Ok v.tree
+pub tree-read : (v : SuperblockFields) (offset : ℕ) → IsValidSuperblock v → tree_of (parameters_of v offset) ≡ Ok v.tree
 tree-read v offset valid =
     let t = v.tree in
     let short : length t.salt ≤ 256 = salt-short t v.hash_type valid.tree valid.of_type in

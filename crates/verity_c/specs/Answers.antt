@@ -1,11 +1,11 @@
 -- What each call of the library for C answers: its status, and what it leaves in what it was handed to fill. A fault leaves
 -- that as it was.
-use Rattle.std.specs.Prelude.{◌≡◌, ℕ, ◌+◌, ◌/◌, ◌^◌, ◌==◌, List, length, nat_le, not, Option, Some, None}
+use Rattle.std.specs.Prelude.{◌≡◌, ℕ, ◌+◌, ◌/◌, ◌^◌, ◌==◌, List, [], length, nat_le, not, Option, Some, None}
 use Rattle.std.specs.Prelude.{Result, Ok, Err, if◌then◌else◌}
-use Rattle.verity_format.specs.Descriptors.{digest_of_file}
-use Rattle.verity_format.specs.Superblocks.{IsSuperblock, SuperblockFields}
+use Rattle.verity_format.specs.Descriptors.{DescriptorFields, descriptor_bytes, digest_of_file}
+use Rattle.verity_format.specs.Superblocks.{IsSuperblock, SuperblockFields, superblock_bytes, superblock_of}
 use Rattle.verity_format.specs.declared.super_fault.SuperFault.{SuperFault}
-use Rattle.verity_plan.specs.Plans.{Planned, level_count_of, level_size_of, start_byte_of}
+use Rattle.verity_plan.specs.Plans.{Planned, level_count_of, level_size_of, start_byte_of, superblock_size}
 use Rattle.verity_plan.specs.Settings.{Settings, digest_len, fan}
 use Rattle.verity_tree.specs.Links.{checked_link, checked_top}
 use Rattle.verity_tree.specs.Paths.{ChecksBlock}
@@ -102,6 +102,28 @@ pub record AreRead (bytes : List ℕ) (offset : ℕ) (after : VerityParams) : Ty
 abbrev pub ReadsParameters : Option SuperFault → List ℕ → ℕ → VerityParams → VerityParams → Type 0
 ReadsParameters None bytes offset before after = AreRead bytes offset after
 ReadsParameters (Some _) bytes offset before after = after ≡ before
+
+-- the bytes of a superblock; parameters that make a plan always have one
+abbrev pub written : Option SuperblockFields → List ℕ
+written None = []
+written (Some superblock) = superblock_bytes superblock
+
+-- the bytes of the superblock of a plan's tree with this UUID, if there is room for just them
+abbrev pub superblock_in : Result Planned Fault → List ℕ → ℕ → Result (List ℕ) Fault
+superblock_in (Err fault) uuid room = Err fault
+superblock_in (Ok p) uuid room =
+    if room == superblock_size then Ok (written (superblock_of p.settings uuid p.blocks)) else Err Length
+
+-- the descriptor of a file with these settings, this size and this root hash, if that is as long as its digests
+abbrev pub descriptor_in : Result Settings Fault → ℕ → List ℕ → Result DescriptorFields Fault
+descriptor_in (Err fault) size root = Err fault
+descriptor_in (Ok tree) size root = if length root == digest_len tree
+    then Ok (record { tree = tree; size = size; root = root }) else Err Root
+
+-- its bytes, if there is room for just them
+abbrev pub descriptor_bytes_in : Result DescriptorFields Fault → ℕ → Result (List ℕ) Fault
+descriptor_bytes_in (Err fault) room = Err fault
+descriptor_bytes_in (Ok descriptor) room = if room == 256 then Ok (descriptor_bytes descriptor) else Err Length
 
 -- the digest of a file with these settings, this size and this root hash, if there is room for just it
 abbrev pub file_digest_in : Result Settings Fault → ℕ → List ℕ → ℕ → Result (List ℕ) Fault

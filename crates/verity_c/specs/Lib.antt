@@ -1,3 +1,4 @@
 pub mod Statuses
 pub mod Parameters
 pub mod Answers
+pub mod Building

@@ -6,6 +6,8 @@ use Rattle.verity_plan.specs.declared.plan_fault.PlanFault.{PlanFault}
 use Rattle.verity_plan.specs.declared.plan_fault.PlanFault.TheVariants as plan
 use Rattle.verity_plan.specs.declared.setting_fault.SettingFault.{SettingFault}
 use Rattle.verity_plan.specs.declared.setting_fault.SettingFault.TheVariants as setting
+use Rattle.verity_tree.specs.declared.feed_fault.FeedFault.{FeedFault}
+use Rattle.verity_tree.specs.declared.feed_fault.FeedFault.TheVariants as feed
 use Rattle.verity_tree.specs.declared.link.LinkFault.{LinkFault}
 use Rattle.verity_tree.specs.declared.link.LinkFault.TheVariants as link
 use Rattle.verity_tree.specs.declared.path.PathFault.{PathFault}
@@ -13,7 +15,7 @@ use Rattle.verity_tree.specs.declared.path.PathFault.TheVariants as path
 use Rattle.verity_c.specs.declared.fault.Fault.{Fault}
 use Rattle.verity_c.specs.declared.fault.Fault.TheVariants.{Differs, Index, Level, Length, Root, Algorithm, HashType}
 use Rattle.verity_c.specs.declared.fault.Fault.TheVariants.{DataBlockSize, HashBlockSize, SaltSize, HashOffset, NoData}
-use Rattle.verity_c.specs.declared.fault.Fault.TheVariants.{TooLarge, Short, Signature, Version}
+use Rattle.verity_c.specs.declared.fault.Fault.TheVariants.{TooLarge, Short, Signature, Version, TooLong, TooShort, Waiting}
 
 -- the status of a call that has done what it is for
 abbrev pub done : ℕ
@@ -37,13 +39,16 @@ code_of TooLarge = 13
 code_of Short = 14
 code_of Signature = 15
 code_of Version = 16
+code_of TooLong = 17
+code_of TooShort = 18
+code_of Waiting = 19
 
 -- the status of a value or a fault
 abbrev pub status_of : {A : Type 0} → Result A Fault → ℕ
 status_of (Ok _) = done
 status_of (Err fault) = code_of fault
 
--- the fault of settings, of a plan, and of bytes that are no superblock
+-- the fault of settings, of a plan, of bytes that are no superblock, and of a builder
 abbrev pub fault_of_setting : SettingFault → Fault
 fault_of_setting setting.Algorithm = Algorithm
 fault_of_setting setting.DataBlockSize = DataBlockSize
@@ -65,6 +70,13 @@ fault_of_superblock superblock.Algorithm = Algorithm
 fault_of_superblock (superblock.SaltSize _) = SaltSize
 fault_of_superblock superblock.NoData = NoData
 fault_of_superblock superblock.TooLarge = TooLarge
+
+abbrev pub fault_of_feed : FeedFault → Fault
+fault_of_feed feed.Level = Level
+fault_of_feed feed.TooLong = TooLong
+fault_of_feed (feed.TooShort _) = TooShort
+fault_of_feed feed.Waiting = Waiting
+fault_of_feed feed.TooLarge = TooLarge
 
 -- the status of a data block that is checked by its path, and of one that is checked by the block above it
 abbrev pub path_status : Result Unit PathFault → ℕ

@@ -1,11 +1,11 @@
 //! Why a call of the library has no answer but its status.
 ghost use Rattle.std.specs.Prelude.{◌≡◌, Ok};
-ghost use Rattle.verity_c.specs.Statuses.{code_of, fault_of_plan, fault_of_setting, fault_of_superblock, link_status};
-ghost use Rattle.verity_c.specs.Statuses.{path_status};
+ghost use Rattle.verity_c.specs.Statuses.{code_of, fault_of_feed, fault_of_plan, fault_of_setting, fault_of_superblock};
+ghost use Rattle.verity_c.specs.Statuses.{link_status, path_status};
 
 use verity_format::SuperFault;
 use verity_plan::{PlanFault, SettingFault};
-use verity_tree::{LinkFault, PathFault};
+use verity_tree::{FeedFault, LinkFault, PathFault};
 
 /// The status of a call that has done what it is for.
 pub(crate) const DONE: u32 = 0;
@@ -45,6 +45,12 @@ pub(crate) enum Fault {
     Signature,
     /// The superblock is of another version.
     Version,
+    /// There are more bytes than the parameters say.
+    TooLong,
+    /// There are fewer bytes than the parameters say.
+    TooShort,
+    /// A hash block is still to be handed out.
+    Waiting,
 }
 
 impl Fault {
@@ -69,6 +75,9 @@ impl Fault {
             Fault::Short => 14,
             Fault::Signature => 15,
             Fault::Version => 16,
+            Fault::TooLong => 17,
+            Fault::TooShort => 18,
+            Fault::Waiting => 19,
         }
     }
 
@@ -109,6 +118,19 @@ impl Fault {
             SuperFault::SaltSize(_) => Fault::SaltSize,
             SuperFault::NoData => Fault::NoData,
             SuperFault::TooLarge => Fault::TooLarge,
+        }
+    }
+
+    /// Of a builder.
+    pub(crate) fn of_feed(fault: FeedFault) -> Fault
+        ensures { result ≡ fault_of_feed fault }
+    {
+        match fault {
+            FeedFault::Level => Fault::Level,
+            FeedFault::TooLong => Fault::TooLong,
+            FeedFault::TooShort(_) => Fault::TooShort,
+            FeedFault::Waiting => Fault::Waiting,
+            FeedFault::TooLarge => Fault::TooLarge,
         }
     }
 }

@@ -1,6 +1,6 @@
-//! The file digest of fs-verity.
+//! The descriptor and the file digest of fs-verity.
 ghost use Rattle.std.specs.Prelude.{◌≡◌, length};
-ghost use Rattle.verity_c.specs.Answers.{file_digest_in, value_or};
+ghost use Rattle.verity_c.specs.Answers.{descriptor_bytes_in, descriptor_in, file_digest_in, value_or};
 ghost use Rattle.verity_c.specs.Parameters.{fsverity_tree_of};
 ghost use Rattle.verity_c.specs.Statuses.{status_of};
 
@@ -8,7 +8,8 @@ use crate::blocks::digest_of;
 use crate::fault::{DONE, Fault};
 use crate::parameters::FsverityParams;
 use crate::plans::fsverity_tree_of;
-use verity_format::{Descriptor, file_digest};
+use verity_format::{Descriptor, file_digest, write_descriptor};
+use verity_hash::Digest;
 
 /// The digest of the file with these parameters and this root hash: the hash of its descriptor (Linux kernel, fs-verity
 /// page, "File digest computation"). The buffer for it is as long as the hash function's digests. An empty file has a root
@@ -28,20 +29,71 @@ pub extern "C" fn fsverity_file_digest(
         ≡ value_or digest.old
         (file_digest_in (fsverity_tree_of params.now) params.now.size root.now (length digest.old)) }
 {
-    let tree = match fsverity_tree_of(params) {
-        Ok(tree) => tree,
+    let descriptor = match descriptor_of(params, root) {
+        Ok(descriptor) => descriptor,
         Err(fault) => return fault.code(),
     };
-    let Some(root) = digest_of(&tree, root) else {
-        return Fault::Root.code();
-    };
-    if digest.len() != tree.algorithm().digest_len() {
+    if digest.len() != descriptor.algorithm().digest_len() {
         return Fault::Length.code();
     }
-    // Settings of fs-verity and a root hash of their length have a descriptor, so this is never answered.
-    let Some(descriptor) = Descriptor::of(&tree, params.size, &root) else {
-        return Fault::Algorithm.code();
-    };
     digest.copy_from_slice(file_digest(&descriptor).as_bytes());
     DONE
+}
+
+/// The 256 bytes of the descriptor of the file with these parameters and this root hash (Linux kernel, fs-verity page,
+/// "fs-verity descriptor"), which the file digest is the hash of. An empty file has a root hash of zeros. Every size has
+/// a descriptor, also one that is too large for a tree.
+///
+/// The status is 0, or that of the first of `Algorithm`, `DataBlockSize`, `SaltSize`, `Root`, `Length`. Then the buffer
+/// stays as it was.
+#[unsafe(no_mangle)]
+pub extern "C" fn fsverity_descriptor(
+    params: &FsverityParams,
+    root: &[u8],
+    descriptor: &mut [u8],
+) -> u32
+    ensures status { result ≡ status_of (descriptor_bytes_in
+        (descriptor_in (fsverity_tree_of params.now) params.now.size root.now) (length descriptor.old)) }
+    ensures descriptor { descriptor.new ≡ value_or descriptor.old (descriptor_bytes_in
+        (descriptor_in (fsverity_tree_of params.now) params.now.size root.now) (length descriptor.old)) }
+{
+    let bytes = match descriptor_of(params, root) {
+        Ok(of_file) => write_descriptor(&of_file),
+        Err(fault) => return fault.code(),
+    };
+    if descriptor.len() == bytes.len() {
+        descriptor.copy_from_slice(&bytes);
+        DONE
+    } else {
+        Fault::Length.code()
+    }
+}
+
+/// The descriptor of the file with these parameters and this root hash, or the first fault: that of the settings,
+/// `Root`.
+fn descriptor_of(params: &FsverityParams, root: &[u8]) -> Result<Descriptor, Fault>
+    ensures { result ≡ descriptor_in (fsverity_tree_of params.now) params.now.size root.now }
+{
+    let tree = match fsverity_tree_of(params) {
+        Ok(tree) => tree,
+        Err(fault) => return Err(fault),
+    };
+    let Some(root) = digest_of(&tree, root) else {
+        return Err(Fault::Root);
+    };
+    match Descriptor::of(&tree, params.size, &root) {
+        Some(descriptor) => Ok(descriptor),
+        // Settings of fs-verity and a root hash of their length have a descriptor, so this is never answered.
+        None => Err(Fault::Algorithm),
+    }
+}
+
+/// Puts a digest into a buffer of its length.
+pub(crate) fn put_digest(digest: &Digest, buffer: &mut [u8])
+    ensures { length digest.now ≡ length buffer.old → buffer.new ≡ digest.now }
+{
+    let bytes = digest.as_bytes();
+    if bytes.len() == buffer.len() {
+        buffer.copy_from_slice(bytes);
+    }
 }

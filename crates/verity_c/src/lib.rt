@@ -1,11 +1,14 @@
-//! The library for C, `libverity`: superblocks, plans and checks of dm-verity and fs-verity, for programs that aren't
-//! written in Rattle. Each export says again what the libraries below prove of it. `include/verity.h` has the same
-//! functions in C, with what a caller owes: pointers and lengths that are right. Nothing is required of a value, so
-//! whatever numbers, bytes and structs are handed in, a call returns with its answer.
+//! The library for C, `libverity`: superblocks, descriptors, plans and checks of dm-verity and fs-verity, and trees
+//! that are built as their data comes, for programs that aren't written in Rattle. Each export says again what the
+//! libraries below prove of it. `include/verity.h` has the same functions in C, with what a caller owes: pointers and
+//! lengths that are right. Nothing is required of a value, so whatever numbers, bytes and structs are handed in, a call
+//! returns with its answer.
 #![tactic(auto)]
 
 mod blocks;
+mod build;
 mod fault;
+mod file_building;
 mod files;
 pub mod laws;
 mod levels;
@@ -13,13 +16,21 @@ mod links;
 mod parameters;
 mod plans;
 mod superblock;
+mod tree_building;
 
 pub use blocks::{fsverity_check_block, verity_check_block};
-pub use files::fsverity_file_digest;
+pub use build::{VerityBuild, VerityFed};
+pub use file_building::{
+    fsverity_build_begin, fsverity_build_end, fsverity_build_feed, fsverity_build_memory,
+};
+pub use files::{fsverity_descriptor, fsverity_file_digest};
 pub use levels::{
     fsverity_hash_block_start, fsverity_level_count, fsverity_level_start, verity_hash_block_start,
     verity_level_count, verity_level_start,
 };
 pub use links::{fsverity_check_link, fsverity_check_top, verity_check_link, verity_check_top};
 pub use parameters::{FsverityParams, VerityParams};
-pub use superblock::verity_read_superblock;
+pub use superblock::{verity_read_superblock, verity_write_superblock};
+pub use tree_building::{
+    verity_build_begin, verity_build_end, verity_build_feed, verity_build_memory,
+};

@@ -24,7 +24,7 @@ pub struct VerityParams {
     pub salt_size: u32,
     /// The salt, and bytes that don't count.
     pub salt: [u8; 256],
-    /// The UUID, its bytes in the order of its text. No call but the one that fills it looks at it.
+    /// The UUID, its bytes in the order of its text. Reading a superblock fills it, and writing one looks at it.
     pub uuid: [u8; 16],
 }
 
@@ -37,7 +37,7 @@ pub struct FsverityParams {
     pub hash_algorithm: u32,
     /// The size of a block, in bytes: data blocks and tree blocks have one size.
     pub block_size: u32,
-    /// The size of the file, in bytes.
+    /// The size of the file, in bytes; while its tree is built, how many bytes were fed.
     pub size: u64,
     /// How many bytes of `salt` count.
     pub salt_size: u32,

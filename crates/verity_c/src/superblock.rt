@@ -1,16 +1,18 @@
-//! Reading a superblock into parameters.
+//! Reading a superblock into parameters, and writing it from them.
 ghost use Rattle.std.specs.Prelude.{◌≡◌, ◌≤◌, length, None};
 ghost use Rattle.verity_hash.specs.Hashing.{with_zeros};
 ghost use Rattle.verity_plan.specs.Settings.{most_verity_salt};
 ghost use Rattle.verity_format.specs.Superblocks.{superblock_fault};
-ghost use Rattle.verity_c.specs.Answers.{ReadsParameters, superblock_status};
-ghost use Rattle.verity_c.specs.Parameters.{parameters_of};
+ghost use Rattle.verity_c.specs.Answers.{ReadsParameters, superblock_in, superblock_status, value_or};
+ghost use Rattle.verity_c.specs.Parameters.{parameters_of, plan_of};
+ghost use Rattle.verity_c.specs.Statuses.{status_of};
 
 use crate::fault::{DONE, Fault};
 use crate::parameters::VerityParams;
-use crate::plans::number_of;
+use crate::plans::{number_of, plan_of};
 use verity_format::laws::bytes_say_a_superblock_or_fail_a_test;
-use verity_format::{Superblock, read_superblock};
+use verity_format::{Superblock, read_superblock, write_superblock};
+use verity_plan::SUPERBLOCK_SIZE;
 
 /// Reads the superblock that the first 512 bytes say into parameters (cryptsetup's on-disk format page, "dm-verity
 /// header"). The hash offset, the byte of the hash device at which these bytes stand, goes into them as it is given.
@@ -34,6 +36,33 @@ pub extern "C" fn verity_read_superblock(
         }
         Err(fault) => Fault::of_superblock(fault).code(),
     }
+}
+
+/// Writes the 512 bytes of the superblock of the tree with these parameters and their UUID (cryptsetup's on-disk format
+/// page, "dm-verity header"). Parameters that `verity_read_superblock` has read write a superblock of the same fields, if
+/// they make a plan. Neither the hash offset nor whether a superblock stands there goes into it.
+///
+/// The status is 0, or that of the first fault of the parameters, or of `Length`. Then the bytes stay as they were.
+#[unsafe(no_mangle)]
+pub extern "C" fn verity_write_superblock(params: &VerityParams, bytes: &mut [u8]) -> u32
+    ensures status { result
+        ≡ status_of (superblock_in (plan_of params.now) params.now.uuid (length bytes.old)) }
+    ensures bytes { bytes.new
+        ≡ value_or bytes.old (superblock_in (plan_of params.now) params.now.uuid (length bytes.old)) }
+{
+    let plan = match plan_of(params) {
+        Ok(plan) => plan,
+        Err(fault) => return fault.code(),
+    };
+    if bytes.len() != SUPERBLOCK_SIZE {
+        return Fault::Length.code();
+    }
+    // Parameters that make a plan have a superblock, so this is never answered.
+    let Some(superblock) = Superblock::new(plan.settings(), params.uuid, plan.blocks()) else {
+        return Fault::Algorithm.code();
+    };
+    bytes.copy_from_slice(&write_superblock(&superblock));
+    DONE
 }
 
 /// The parameters that a superblock at this hash offset says.

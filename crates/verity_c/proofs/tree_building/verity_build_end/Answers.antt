@@ -1,0 +1,21 @@
+use Rattle.std.proofs.Common.{◌≡◌, ℕ, List, Result, length, ap, sym, ◌∙◌}
+use Rattle.verity_plan.specs.Plans.{Planned}
+use Rattle.verity_tree.specs.Levels.{data_blocks, root}
+use Rattle.verity_c.specs.Answers.{value_or}
+use Rattle.verity_c.specs.Building.{root_in}
+use Rattle.verity_c.specs.declared.fault.Fault.{Fault}
+use Rattle.verity_c.proofs.BuildingLemmas.{IsFedTo-at, length-root}
+use Rattle.verity_c.proofs.tree_building.verity_build_end.Goals as goal
+
+pub returns-in-Ok-end-clause-root : goal.returns-in-Ok-end-clause-root
+returns-in-Ok-end-clause-root c =
+    λ fed h _.
+    let p = c.in-Ok.plan in
+    let made = c.in-Ok.ensures.planned in
+    let hash : List ℕ = root p.settings (data_blocks p fed) in
+    let is : c.in-Ok-end.digest ≡ hash =
+    c.in-Ok-end.ensures.root fed (IsFedTo-at c.args.params.now p c.args.build.now c.args.memory.now fed made h) in
+    let room = c.if-root-digest_len.false ∙ c.digest_len.ensures in
+    c.put_digest.ensures (ap length is ∙ length-root p.settings (data_blocks p fed) ∙ sym room)
+    ∙ is
+    ∙ sym (ap (λ (r : Result Planned Fault). value_or c.args.root.now (root_in r fed)) made)

@@ -1,0 +1,30 @@
+//! How far a tree is built, and what a call has handed out.
+
+/// How far a dm-verity tree is built: `struct verity_build` of verity.h. Any numbers may stand in it; each call checks
+/// them.
+#[repr(C)]
+#[derive(Clone, Copy)]
+pub struct VerityBuild {
+    /// How many bytes were fed.
+    pub fed: u64,
+    /// Of how many levels the hash blocks above the last byte were handed out since it was fed.
+    pub closed: usize,
+}
+
+/// How much of a piece was taken, and the hash block that has closed: `struct verity_fed` of verity.h.
+#[repr(C)]
+#[derive(Clone, Copy)]
+pub struct VerityFed {
+    /// How many bytes of the piece were taken.
+    pub taken: usize,
+    /// The length of the hash block that has closed, in bytes: 0 if none has, and then the other four are 0 too.
+    pub block_length: usize,
+    /// The byte of the memory at which it stands until the next call.
+    pub block_at: usize,
+    /// The byte of the hash device at which it goes.
+    pub block_start: u64,
+    /// Its number in its level, counted from 0.
+    pub block_index: u64,
+    /// Its level, counted from 0 next to the data.
+    pub block_level: usize,
+}

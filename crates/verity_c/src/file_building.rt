@@ -1,0 +1,147 @@
+//! Building a file's fs-verity tree as pieces of the file come, whose length isn't known before.
+ghost use Rattle.std.specs.Prelude.{◌≡◌, ◌≢◌, ◌+◌, ℕ, List, [], ◌++◌, length, IfOk};
+ghost use Rattle.verity_c.specs.Answers.{value_or};
+ghost use Rattle.verity_c.specs.Building.{IsFedFileTo, digest_of_fed, file_memory_length_in, file_memory_length_of};
+ghost use Rattle.verity_c.specs.Building.{file_root_in, with_file_end, with_file_memory, with_file_piece};
+ghost use Rattle.verity_c.specs.Parameters.{fsverity_tree_of};
+ghost use Rattle.verity_c.specs.Statuses.{done, status_of};
+
+use crate::fault::{DONE, Fault};
+use crate::files::{fsverity_file_digest, put_digest};
+use crate::parameters::FsverityParams;
+use crate::plans::fsverity_tree_of;
+use verity_plan::TreeSettings;
+use verity_tree::FileBuilder;
+
+/// The length of the memory that a file's tree is built in, in bytes: a block for each level that the tree of the
+/// largest file has (Linux kernel, fs-verity page, "Merkle tree"), and one more. The size in the parameters isn't looked
+/// at.
+///
+/// The status is 0, or that of the first of `Algorithm`, `DataBlockSize`, `SaltSize`. Then the length stays as it was.
+#[unsafe(no_mangle)]
+pub extern "C" fn fsverity_build_memory(params: &FsverityParams, length: &mut usize) -> u32
+    ensures status { result ≡ status_of (file_memory_length_in (fsverity_tree_of params.now)) }
+    ensures length { length.new ≡ value_or length.old (file_memory_length_in (fsverity_tree_of params.now)) }
+{
+    match fsverity_tree_of(params) {
+        Ok(tree) => {
+            *length = FileBuilder::memory_length(&tree);
+            DONE
+        }
+        Err(fault) => fault.code(),
+    }
+}
+
+/// Begins to build: nothing was fed yet. The size in the parameters becomes 0: it counts the bytes that were fed, so
+/// that after the end the parameters are those of the file. What stood in the memory doesn't count. The memory is as long as
+/// `fsverity_build_memory` says, here and in each call below.
+///
+/// The status is 0, or that of the first of `Algorithm`, `DataBlockSize`, `SaltSize`, `Length`. Then parameters and
+/// memory stay as they were.
+#[unsafe(no_mangle)]
+pub extern "C" fn fsverity_build_begin(params: &mut FsverityParams, memory: &mut [u8]) -> u32
+    ensures status { result ≡ status_of (with_file_memory (fsverity_tree_of params.old) (length memory.old)) }
+    ensures refused { result ≢ done → (params.new ≡ params.old) × (memory.new ≡ memory.old) }
+    ensures size { result ≡ done → params.new ≡ record params.old { size = 0 } }
+    ensures fed { result ≡ done → IsFedFileTo params.new memory.new [] }
+{
+    let tree = match tree_with(params, memory.len()) {
+        Ok(tree) => tree,
+        Err(fault) => return fault.code(),
+    };
+    params.size = FileBuilder::begin(&tree, memory).fed;
+    DONE
+}
+
+/// Feeds the next piece of the file, of any length. The size in the parameters grows by its length.
+///
+/// The status is 0, or that of the first of `Algorithm`, `DataBlockSize`, `SaltSize`, `Length` (the memory's),
+/// `TooLarge` (so many bytes are too many for a tree). Then parameters and memory stay as they were. The answer is right
+/// where parameters and memory are as the call before left them; others have an answer too.
+#[unsafe(no_mangle)]
+pub extern "C" fn fsverity_build_feed(
+    params: &mut FsverityParams,
+    memory: &mut [u8],
+    piece: &[u8],
+) -> u32
+    ensures status { result ≡ status_of (with_file_piece (with_file_memory (fsverity_tree_of params.old)
+        (length memory.old)) params.old.size (length piece.now)) }
+    ensures refused { result ≢ done → (params.new ≡ params.old) × (memory.new ≡ memory.old) }
+    ensures size { result ≡ done → params.new ≡ record params.old { size = params.old.size + length piece.now } }
+    ensures fed { (fed : List ℕ) → IsFedFileTo params.old memory.old fed → result ≡ done
+        → IsFedFileTo params.new memory.new (fed ++ piece.now) }
+{
+    let tree = match tree_with(params, memory.len()) {
+        Ok(tree) => tree,
+        Err(fault) => return fault.code(),
+    };
+    let mut builder = FileBuilder {
+        settings: tree,
+        fed: params.size,
+    };
+    match builder.feed(memory, piece) {
+        Ok(()) => {
+            params.size = builder.fed;
+            DONE
+        }
+        Err(fault) => Fault::of_feed(fault).code(),
+    }
+}
+
+/// The root hash of all bytes that were fed, and the digest of the file that they are (Linux kernel, fs-verity page,
+/// "Merkle tree" and "File digest computation"). The root hash of no bytes is zeros. Each buffer is as long as the hash
+/// function's digests. The memory is used up.
+///
+/// The status is 0, or that of the first of `Algorithm`, `DataBlockSize`, `SaltSize`, `Length` (the memory's, then the
+/// buffers'), `TooLarge` (the bytes are too many for a tree, which no call before leaves). Then memory and buffers stay
+/// as they were. The answer is right where parameters and memory are as the call before left them.
+#[unsafe(no_mangle)]
+pub extern "C" fn fsverity_build_end(
+    params: &FsverityParams,
+    memory: &mut [u8],
+    root: &mut [u8],
+    digest: &mut [u8],
+) -> u32
+    ensures status { result ≡ status_of (with_file_end (with_file_memory (fsverity_tree_of params.now)
+        (length memory.old)) params.now.size (length root.old) (length digest.old)) }
+    ensures refused { result ≢ done
+        → (memory.new ≡ memory.old) × (root.new ≡ root.old) × (digest.new ≡ digest.old) }
+    ensures root { (fed : List ℕ) → IsFedFileTo params.now memory.old fed → result ≡ done
+        → root.new ≡ value_or root.old (file_root_in (fsverity_tree_of params.now) fed) }
+    ensures digest { (fed : List ℕ) → IsFedFileTo params.now memory.old fed → result ≡ done
+        → digest.new ≡ value_or digest.old (digest_of_fed (fsverity_tree_of params.now) fed) }
+{
+    let tree = match tree_with(params, memory.len()) {
+        Ok(tree) => tree,
+        Err(fault) => return fault.code(),
+    };
+    let digest_len = tree.algorithm().digest_len();
+    if root.len() != digest_len || digest.len() != digest_len {
+        return Fault::Length.code();
+    }
+    let builder = FileBuilder {
+        settings: tree,
+        fed: params.size,
+    };
+    match builder.end(memory) {
+        Ok(answer) => {
+            put_digest(&answer, root);
+            fsverity_file_digest(params, root, digest)
+        }
+        Err(fault) => Fault::of_feed(fault).code(),
+    }
+}
+
+/// The settings of the parameters, if the memory is as long as their builder wants; or the first fault: that of the
+/// settings, `Length`.
+fn tree_with(params: &FsverityParams, room: usize) -> Result<TreeSettings, Fault>
+    ensures value { result ≡ with_file_memory (fsverity_tree_of params.now) room }
+    ensures made { IfOk result (λ tree. fsverity_tree_of params.now ≡ Ok tree) }
+    ensures memory { IfOk result (λ tree. room ≡ file_memory_length_of tree) }
+{
+    match fsverity_tree_of(params) {
+        Ok(tree) if room == FileBuilder::memory_length(&tree) => Ok(tree),
+        Ok(_) => Err(Fault::Length),
+        Err(fault) => Err(fault),
+    }
+}

@@ -1,0 +1,69 @@
+#!/bin/bash
+# Trees that the library builds of data in pieces: over all settings beside a computation of their own, and over images
+# and files beside Debian's veritysetup and fsverity and this project's in BIN, if they are there. Pieces have 0, 1, 7,
+# 4095, 4096 and 4097 bytes, any length, and all at once: small trees are built in each of these ways, and of the larger
+# ones each in the next way. Every hash block is handed out once, at its place. Then what is refused, and a million
+# random feedings under AddressSanitizer and UndefinedBehaviorSanitizer, in some of which struct and memory are
+# disturbed. SEED=N draws other settings, FEEDINGS=N makes so many feedings, LIB=FOLDER takes the library of another
+# folder.
+set -u
+cd "$(dirname "$0")/../.."
+. tests/checks.sh
+. tests/library/common.sh
+. tests/library/feeding_common.sh
+needs gcc gcc
+needs python3 python3
+has_library "$LIB/libverity.a"
+has_library "$LIB/libverity.so.1"
+
+static=("${feeding_sources[@]}" "$LIB/libverity.a")
+shared=("${feeding_sources[@]}" "$LIB/libverity.so.1" -Wl,-rpath,"$(realpath "$LIB")")
+compares=(tests/library/feeding.c tests/library/reference.c tests/library/words.c)
+refusals=(tests/library/feeding_refused.c tests/library/reference.c)
+draws_data
+if compiles "$scratch/refused" gcc -O2 "${refusals[@]}" "${static[@]}"; then
+    adds 'what is refused' "$scratch/refused"
+fi
+if compiles "$scratch/static" gcc -O2 "${compares[@]}" "${static[@]}"; then
+    tries_hashes "$scratch/static"
+    adds 'all settings' "$scratch/static" "$SEED" settings $((1 << 19)) $((1 << 16))
+    adds 'large blocks' "$scratch/static" "$SEED" large
+    feeds_images "$scratch/static" 30 30 $((1 << 21))
+fi
+if compiles "$scratch/shared" gcc -O2 "${compares[@]}" "${shared[@]}"; then
+    adds 'all settings, shared' "$scratch/shared" "$SEED" settings $((1 << 15)) $((1 << 16))
+    adds 'large blocks, shared' "$scratch/shared" "$SEED" large
+    feeds_images "$scratch/shared" 5 5 $((1 << 20))
+fi
+
+# This project's programs in place of Debian's.
+if [ -x "$BIN/veritysetup" ] && [ -x "$BIN/fsverity" ] && [ -x "$scratch/static" ]; then
+    veritysetup() { "$BIN/veritysetup" "$@"; }
+    fsverity() { "$BIN/fsverity" "$@"; }
+    feeds_images "$scratch/static" 15 15 $((1 << 20))
+    unset -f veritysetup fsverity
+else
+    echo "left out: feeding beside this project's programs: they are not in $BIN"
+fi
+
+sanitizers=(-g -O1 -fsanitize=address,undefined -fno-sanitize-recover=all)
+if ! gcc "${sanitizers[@]}" -x c -o "$scratch/empty" - <<<'int main(void) { return 0; }' 2>/dev/null; then
+    echo 'left out: random feedings: the sanitizers of gcc are not installed (Debian: libasan8, libubsan1)'
+    finish
+    exit
+fi
+export ASAN_OPTIONS=detect_leaks=0 UBSAN_OPTIONS=print_stacktrace=1
+if compiles "$scratch/refused" gcc "${sanitizers[@]}" "${refusals[@]}" "${static[@]}"; then
+    adds 'what is refused, watched' "$scratch/refused"
+fi
+# The computation of its own is not watched, since it only takes time.
+if compiles "$scratch/reference.o" gcc -O2 -c tests/library/reference.c &&
+    compiles "$scratch/fuzz" gcc "${sanitizers[@]}" tests/library/feeding_fuzz.c "$scratch/reference.o" \
+        "${static[@]}"; then
+    # In four parts, each of which ends in time on a slow machine too.
+    for ((part = 0; part < 4; part++)); do
+        tries_feedings "$scratch/fuzz" $((${FEEDINGS:-1000000} / 4))
+        SEED=$((SEED + 1000000))
+    done
+fi
+finish

@@ -1,0 +1,42 @@
+/* Calls of the functions that build trees; see support.h for what is checked of each call. */
+#ifndef FEEDING_CALLS_H
+#define FEEDING_CALLS_H
+
+#include "support.h"
+
+/* The largest size of data. */
+#define LARGEST (((uint64_t)1 << 63) - 1)
+
+/* What is kept between calls: the parameters, of which a file's have the size, and struct and memory. */
+struct building {
+    struct tree tree;
+    struct verity_build build;
+    uint8_t *memory;
+    size_t memory_length;
+};
+
+/*
+ * The length of the memory that verity.h says of parameters without a fault: a hash block for each level and a data
+ * block. A file has the levels of the largest one, whose blocks are all full.
+ */
+size_t memory_length_of(const struct tree *tree);
+
+/*
+ * Each call is made twice, over copies that end where memory ends, and then the building has what they left. A fault
+ * leaves it as it was, and what would be filled. Of a file, fed says with VERITY_OK that the whole piece is taken.
+ */
+uint32_t call_build_memory(const struct tree *tree, size_t *length);
+uint32_t call_build_begin(struct building *building);
+uint32_t call_build_feed(struct building *building, struct bytes piece, struct verity_fed *fed);
+
+/* digest is a file's alone. */
+uint32_t call_build_end(const struct building *building, uint8_t *root, size_t root_length, uint8_t *digest,
+                        size_t digest_length);
+
+/* The same once, over the building itself: only the piece ends where memory ends. */
+uint32_t feed_once(struct building *building, struct bytes piece, struct verity_fed *fed);
+
+uint32_t call_write_superblock(const struct verity_params *params, uint8_t *bytes, size_t length);
+uint32_t call_descriptor(const struct fsverity_params *params, struct bytes root, uint8_t *descriptor, size_t length);
+
+#endif
