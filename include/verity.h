@@ -23,7 +23,7 @@
  * verity_check_block and fsverity_check_block is set with VERITY_DIFFERS.
  *
  * Vector registers must be switched on: SSE2 to SSE4.2 on x86-64 (AVX2 if the library was built for x86-64-v3), NEON on
- * 64-bit ARM. A call takes up to 4 KiB of stack on either, and one that feeds or ends up to 16 KiB: measured are 13.4
+ * 64-bit ARM. A call takes up to 4 KiB of stack on either, and one that feeds or ends up to 16 KiB: measured are 13.6
  * for feeding, 4.7 for the end of a file, 3.2 for a file digest, 2.4 for a block with its path, and less for the others.
  *
  * Data that is written, copied or downloaded is fed to a tree as it comes, in pieces of any length, 0 too. The
