@@ -26,12 +26,15 @@ const SHAPES: [Row; 11] = [
 ];
 
 /// The lengths of pieces: fewer bytes than a block, a block, more, all at once, and 0 for lengths that change.
-const PIECES: [usize; 8] = [1, 7, 511, 512, 4095, 4097, 50_000, 0];
+const PIECES: [usize; 8] = [1, 7, 512, 4095, 4096, 4097, 50_000, 0];
 
-/// The length of the next piece: this one, or for 0 one below 5000, 0 at first and another at each step.
+/// The length of the next piece: this one, or for 0 one below 5000, another at each step, and 0 at every fourth.
 fn next_length(piece: usize, step: usize) -> usize {
     if piece > 0 {
         return piece;
+    }
+    if step % 4 == 0 {
+        return 0;
     }
     step.wrapping_mul(2_654_435_761) % 5000
 }
