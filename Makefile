@@ -126,7 +126,7 @@ help:
 	@echo 'make interop         10 minutes +  compares the programs with those of Debian, over all settings'
 	@echo 'make soak            30 minutes +  random runs of both programs, compared with other programs [SECONDS, SEED]'
 	@echo 'make kernel          10 minutes +  has the Linux kernel open the images, in a virtual machine [KERNEL, MODULES]'
-	@echo 'make bench           5 minutes +   measures speed and memory, beside bare hashing and the programs of Debian'
+	@echo 'make bench           7 minutes +   measures speed and memory, beside bare hashing and the programs of Debian'
 	@echo 'make bench-feeding   1 minute +    measures the library that is fed with pieces of a file'
 	@echo 'make reproducible    5 minutes +   builds once more in another folder, and compares the programs'
 	@echo 'make install         seconds       installs programs, manual pages and completion [PREFIX, DESTDIR, SUFFIX]'

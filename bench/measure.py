@@ -12,9 +12,10 @@ import sys
 SCRATCH = sys.argv[1]
 SIZE = int(os.environ.get("SIZE", "32"))
 FILES = int(os.environ.get("FILES", "3000"))
-ROUNDS = int(os.environ.get("ROUNDS", "40"))
+ROUNDS = int(os.environ.get("ROUNDS", "15"))
 SALT = "07" * 32
-BLOCKS = [(name, size) for name in ("sha256", "sha512") for size in (512, 4096, 16384, 65536)] + [("sha1", 4096)]
+BLOCKS = [(name, size) for name in ("sha256", "sha512") for size in (512, 4096, 16384, 65536)]
+BLOCKS += [("sha1", size) for size in (512, 4096, 65536)]
 OURS = {name: os.path.abspath(f"bin/{name}") for name in ("fsverity", "veritysetup", "bench_bare")}
 DEBIANS = {name: name for name in ("fsverity", "veritysetup")}
 
@@ -62,8 +63,8 @@ def block_commands(function, block):
         words = ["digest", f"--hash-alg={function}", f"--block-size={block}", f"--salt={SALT}", at("data")]
         if function != "sha1":
             found["digest", who] = [programs["fsverity"], *words]
-    if function != "sha1":
-        found["bare", "here"] = [OURS["bench_bare"], function, str(block), at("data")]
+    for way in ("crates", "alone"):
+        found[way, "here"] = [OURS["bench_bare"], way, function, str(block), at("data")]
     return {(function, block, *name): words for name, words in found.items()}
 
 
@@ -82,26 +83,36 @@ def throughput():
     best = least(commands)
     rows = []
     for function, block in BLOCKS:
-        bare = best.get((function, block, "bare", "here"))
-        row = [function, str(block), f"{SIZE / bare:.0f}" if bare else ""]
+        bare, alone = (best[function, block, way, "here"] for way in ("crates", "alone"))
+        row = [function, str(block), f"{SIZE / bare:.0f}", f"{SIZE / alone:.0f} ({bare / alone:.2f})"]
         for command in ("format", "verify", "digest"):
             here, other = (best.get((function, block, command, who)) for who in ("here", "Debian's"))
             row.append(f"{SIZE / here:.0f} ({other / here:.2f})" if here else "")
         rows.append(row)
-    table(["Function", "Block:", "bare:", "format:", "verify:", "digest:"], rows)
+    table(["Function", "Block:", "bare:", "alone:", "format:", "verify:", "digest:"], rows)
+
+
+def files(folder, count, length):
+    """Makes a folder of files of one length, of which each holds its number, and returns their names."""
+    os.mkdir(at(folder))
+    names = [at(f"{folder}/{number}") for number in range(count)]
+    for number, name in enumerate(names):
+        with open(name, "w", encoding="ascii") as it:
+            it.write(f"{number:{length}}")
+    return names
 
 
 def small():
-    os.mkdir(at("small"))
-    names = [at(f"small/{number}") for number in range(FILES)]
-    for number, name in enumerate(names):
-        with open(name, "w", encoding="ascii") as it:
-            it.write(f"{number:1000}")
+    few, long, many = files("few", FILES, 1000), files("long", FILES, 20000), files("many", 20 * FILES // 3, 500)
     open(at("empty"), "w", encoding="ascii").close()
     commands = {}
     for who, programs in (("here", OURS), ("Debian's", DEBIANS)):
-        commands[f"`fsverity digest`, {FILES} files of 1000 bytes", who] = [programs["fsverity"], "digest", *names]
-        commands["`fsverity digest`, an empty file: its start-up", who] = [programs["fsverity"], "digest", at("empty")]
+        digest = [programs["fsverity"], "digest"]
+        commands[f"`fsverity digest`, {len(few)} files of 1000 bytes", who] = [*digest, *few]
+        commands[f"`fsverity digest`, {len(long)} files of 20000 bytes", who] = [*digest, *long]
+        large = [*digest, "--block-size=65536", *many]
+        commands[f"`fsverity digest --block-size=65536`, {len(many)} files of 500 bytes", who] = large
+        commands["`fsverity digest`, an empty file: its start-up", who] = [*digest, at("empty")]
         commands["`veritysetup dump`: its start-up", who] = [programs["veritysetup"], "dump", at("sha256.4096")]
     best = least(commands)
     rows = []
@@ -159,7 +170,8 @@ def surroundings():
     print(f"{avx2} and {sha}, beside veritysetup {version('veritysetup')} and fsverity {version('fsverity')}:")
     print(f"MiB a second of processor time, for {SIZE} MiB in the page cache with a salt of 32 bytes, the best of {ROUNDS}")
     print("rounds; in brackets, how many times Debian's speed that is. `bare` is the hashing of the same blocks, one after")
-    print("another, by the crate `sha2`.")
+    print("another, by the crates `sha1` and `sha2`; `alone` is that by the function that the programs use for one block, in")
+    print("brackets beside `bare`.")
 
 
 with open(at("data"), "wb") as data:

@@ -1,21 +1,22 @@
 #!/bin/bash
-# Both programs do their work within the stack that README.md names: all commands, with blocks that are hashed side by
-# side at their largest and with blocks that are hashed one by one.
+# Both programs do their work within the stack that README.md names: all commands, with blocks that are read into each
+# window, also at their largest, and with blocks that are hashed one by one.
 set -u
 cd "$(dirname "$0")/../.."
 . tests/checks.sh
 has_program fsverity
 has_program veritysetup
 
-stack=$(sed -nE 's/.*The programs need ([0-9]+) KiB of stack.*/\1/p' README.md)
-case $stack in
-'' | *[!0-9]*)
+stated=$(sed -nE 's/.*The programs need ([0-9]+) KiB of stack, and ([0-9]+) with blocks above ([0-9]+) bytes.*/\1 \2 \3/p' \
+    README.md)
+read -r usual large most <<<"$stated"
+if [ -z "$most" ]; then
     fail 'README.md' 'it does not say how much stack the programs need'
     finish
-    ;;
-esac
+fi
+stack=$usual
 
-# within COMMAND..: runs a command with that stack, and no more.
+# within COMMAND..: runs a command with the stack for its blocks, and no more.
 within() {
     (ulimit -S -s "$stack" && "$@")
 }
@@ -24,7 +25,8 @@ data=$scratch/data.img
 hash=$scratch/hash.img
 sample 1200000 >"$data"
 for function in sha256 sha512 sha1; do
-    for block in 512 4096 16384 32768 65536; do
+    for block in 512 4096 16384 32768 65536 131072 262144; do
+        if [ "$block" -gt "$most" ]; then stack=$large; else stack=$usual; fi
         rm -f "$hash"
         within "$BIN/veritysetup" format --hash "$function" --data-block-size "$block" --hash-block-size "$block" \
             --salt=abcd "$data" "$hash" >"$scratch/report" 2>&1
@@ -37,6 +39,7 @@ for function in sha256 sha512 sha1; do
             --block-size "$block" --out-merkle-tree "$scratch/tree" --out-descriptor "$scratch/descriptor" "$data"
     done
 done
+stack=$usual
 runs 'many words' 0 any '' within "$BIN/fsverity" digest --compact $(yes "$data" | head -n 40)
 runs 'a refused line' 2 '' any within "$BIN/fsverity" digest --no-such-option
 finish

@@ -49,8 +49,9 @@ const WIDE: [Row; 1] = [(
     (512 * 134, 2),
 )];
 
-/// Larger data blocks: in rows of eight, in rows of four, and the largest too large for rows.
-const LARGE: [Row; 5] = [
+/// Larger data blocks, in rows of eight in the windows that they are read into, of 32 KiB for blocks of up to 4096 bytes,
+/// and of 128 KiB up to 16384.
+const LARGE: [Row; 3] = [
     (
         CURRENT,
         SHA256,
@@ -61,11 +62,11 @@ const LARGE: [Row; 5] = [
     ),
     (
         CURRENT,
-        SHA256,
+        SHA512,
         b"salt",
         (8192, 512),
-        (16, 32),
-        (8192 * 13, 1),
+        (8, 64),
+        (8192 * 13, 2),
     ),
     (
         CURRENT,
@@ -75,13 +76,17 @@ const LARGE: [Row; 5] = [
         (16, 32),
         (16384 * 11, 1),
     ),
+];
+
+/// Larger ones, in rows of eight in the largest window, of 512 KiB.
+const LARGER: [Row; 2] = [
     (
         CURRENT,
-        SHA256,
+        SHA512,
         b"salt",
         (32768, 512),
-        (16, 32),
-        (32768 * 7, 1),
+        (8, 64),
+        (32768 * 11, 2),
     ),
     (
         CURRENT,
@@ -89,7 +94,27 @@ const LARGE: [Row; 5] = [
         b"salt",
         (65536, 512),
         (16, 32),
-        (65536 * 3, 1),
+        (65536 * 11, 1),
+    ),
+];
+
+/// The largest: in rows of four in the largest window, and too large for rows.
+const LARGEST: [Row; 2] = [
+    (
+        CURRENT,
+        SHA256,
+        b"salt",
+        (131_072, 512),
+        (16, 32),
+        (131_072 * 5, 1),
+    ),
+    (
+        CURRENT,
+        SHA256,
+        b"salt",
+        (262_144, 512),
+        (16, 32),
+        (262_144 * 2, 1),
     ),
 ];
 
@@ -128,6 +153,8 @@ const ONE_IN_SOME: [Tried; 4] = [(usize::MAX, 1), (4095, 3), (7, 13), (1, 13)];
 const ONE_IN_MANY: [Tried; 4] = [(usize::MAX, 13), (4095, 53), (7, 53), (1, 131)];
 
 const LONG_PIECES: [Tried; 2] = [(usize::MAX, 1), (4095, 3)];
+
+const FEW_LONG_PIECES: [Tried; 2] = [(usize::MAX, 2), (4095, 13)];
 
 /// A hash block as it closes: its level, its number in the level, and how many data blocks were read by then.
 type Closed = (usize, u64, usize);
@@ -368,6 +395,18 @@ fn faults_are_answered_at_each_fan_out(rt: HostRuntime) -> Result<(), Fail> {
 #[test]
 fn faults_are_answered_at_each_block_size(rt: HostRuntime) -> Result<(), Fail> {
     assert_eq!(rt; first_wrong(rt.alloc(), &LARGE, &LONG_PIECES)?, None);
+    Ok(())
+}
+
+#[test]
+fn faults_are_answered_in_the_largest_window(rt: HostRuntime) -> Result<(), Fail> {
+    assert_eq!(rt; first_wrong(rt.alloc(), &LARGER, &FEW_LONG_PIECES)?, None);
+    Ok(())
+}
+
+#[test]
+fn faults_are_answered_at_the_largest_block_sizes(rt: HostRuntime) -> Result<(), Fail> {
+    assert_eq!(rt; first_wrong(rt.alloc(), &LARGEST, &LONG_PIECES)?, None);
     Ok(())
 }
 

@@ -7,11 +7,15 @@ mod cases;
 #[cfg(test)]
 mod comparing;
 #[cfg(test)]
+mod examples;
+#[cfg(test)]
 mod failed_reads;
 #[cfg(test)]
 mod faults_in_turn;
 #[cfg(test)]
 mod feeding;
+#[cfg(test)]
+mod one_message;
 #[cfg(test)]
 mod paths;
 #[cfg(test)]

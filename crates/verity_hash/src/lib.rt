@@ -3,7 +3,6 @@
 
 mod algorithm;
 mod digest;
-mod hasher;
 mod rows;
 mod salting;
 mod short_bytes;

@@ -1,10 +1,10 @@
 //! The salted hashes of one to eight blocks, which stand in rows of one size.
-ghost use Rattle.std.specs.Prelude.{◌≡◌, ℕ, ◌+◌, ◌*◌, ◌<◌, ◌≤◌, ◌++◌, [], length, slice_index_or, IfSome};
+ghost use Rattle.std.specs.Prelude.{◌≡◌, ℕ, ◌+◌, ◌*◌, ◌<◌, ◌≤◌, ◌++◌, [], length, slice_index_or};
 ghost use Rattle.std.specs.Fork.{slice_chunk};
 ghost use Rattle.verity_hash.specs.Hashing.{hash_of, salted_hash};
 ghost use Rattle.verity_hash.specs.declared.salting.SaltRule.TheVariants.{PaddedBefore};
 
-use crate::hasher::digest_of;
+use crate::digest::digest_of;
 use crate::salting::ZEROS;
 use crate::{Algorithm, Digest, SaltRule, salted};
 
@@ -56,8 +56,7 @@ fn digests_of<const N: usize>(bytes: &[[u8; N]; 8]) -> [Digest; 8]
     ]
 }
 
-/// The hashes of `count` rows side by side, with the same bytes before each and after each. `None` for a function that
-/// is computed for one message at a time.
+/// The hashes of `count` rows side by side, with the same bytes before each and after each.
 fn side_by_side(
     algorithm: Algorithm,
     before: &[u8],
@@ -65,51 +64,43 @@ fn side_by_side(
     size: usize,
     count: usize,
     after: &[u8],
-) -> Option<[Digest; 8]>
+) -> [Digest; 8]
     requires whole { length rows.now ≡ count * size }
     requires some { 0 < count }
     requires most { count ≤ 8 }
-    ensures { IfSome result (λ digests. (r : ℕ) → r < count → slice_index_or digests r []
-        ≡ hash_of algorithm (before.now ++ slice_chunk rows.now size r ++ after.now)) }
+    ensures { (r : ℕ) → r < count → slice_index_or result r []
+        ≡ hash_of algorithm (before.now ++ slice_chunk rows.now size r ++ after.now) }
 {
     match algorithm {
-        Algorithm::Sha256 => Some(digests_of(&sha2_lanes::sha256(
-            before, rows, size, count, after,
-        ))),
-        Algorithm::Sha224 => Some(digests_of(&sha2_lanes::sha224(
-            before, rows, size, count, after,
-        ))),
-        Algorithm::Sha512 => Some(digests_of(&sha2_lanes::sha512(
-            before, rows, size, count, after,
-        ))),
-        Algorithm::Sha384 => Some(digests_of(&sha2_lanes::sha384(
-            before, rows, size, count, after,
-        ))),
-        Algorithm::Sha1 => None,
+        Algorithm::Sha256 => digests_of(&sha_lanes::sha256(before, rows, size, count, after)),
+        Algorithm::Sha512 => digests_of(&sha_lanes::sha512(before, rows, size, count, after)),
+        Algorithm::Sha1 => digests_of(&sha_lanes::sha1(before, rows, size, count, after)),
+        Algorithm::Sha224 => digests_of(&sha_lanes::sha224(before, rows, size, count, after)),
+        Algorithm::Sha384 => digests_of(&sha_lanes::sha384(before, rows, size, count, after)),
     }
 }
 
-/// The same after a salt that is padded with zeros to a whole input block. `None` also for a salt longer than an input
-/// block.
+/// The same after a salt that is padded with zeros to a whole input block. After a salt longer than an input block they
+/// are hashed one by one.
 fn after_padded_salt(
     algorithm: Algorithm,
     salt: &[u8],
     rows: &[u8],
     size: usize,
     count: usize,
-) -> Option<[Digest; 8]>
+) -> [Digest; 8]
     requires whole { length rows.now ≡ count * size }
     requires some { 0 < count }
     requires most { count ≤ 8 }
-    ensures { IfSome result (λ digests. (r : ℕ) → r < count → slice_index_or digests r []
-        ≡ salted_hash algorithm PaddedBefore salt.now (slice_chunk rows.now size r)) }
+    ensures { (r : ℕ) → r < count → slice_index_or result r []
+        ≡ salted_hash algorithm PaddedBefore salt.now (slice_chunk rows.now size r) }
 {
     if salt.is_empty() {
         return side_by_side(algorithm, &[], rows, size, count, &[]);
     }
     let input_block = algorithm.input_block();
     if salt.len() > input_block {
-        return None;
+        return one_by_one(algorithm, SaltRule::PaddedBefore, salt, rows, size, count);
     }
     let mut padded = ZEROS;
     padded[..salt.len()].copy_from_slice(salt);
@@ -117,9 +108,10 @@ fn after_padded_salt(
 }
 
 /// The salted hashes of `count` blocks of `size` bytes each, one to eight, which stand one after another in `rows`:
-/// each is what `salted` gives for its block. The digests after theirs count for nothing. Those of SHA-2 are computed
-/// side by side, in much less time: any number of them by SHA-224 and SHA-256 takes as long as eight, and by SHA-384
-/// and SHA-512 one to four take half as long as five to eight.
+/// each is what `salted` gives for its block. The digests after theirs count for nothing. They are computed side by
+/// side, in much less time: any number of them by SHA-1, SHA-224 and SHA-256 takes as long as eight, and by SHA-384 and
+/// SHA-512 one to four take half as long as five to eight. Only after a salt that is padded and longer than an input
+/// block they go one by one.
 pub fn salted_rows(
     algorithm: Algorithm,
     rule: SaltRule,
@@ -134,13 +126,9 @@ pub fn salted_rows(
     ensures { (r : ℕ) → r < count
         → slice_index_or result r [] ≡ salted_hash algorithm rule salt.now (slice_chunk rows.now size r) }
 {
-    let digests = match rule {
+    match rule {
         SaltRule::Before => side_by_side(algorithm, salt, rows, size, count, &[]),
         SaltRule::After => side_by_side(algorithm, &[], rows, size, count, salt),
         SaltRule::PaddedBefore => after_padded_salt(algorithm, salt, rows, size, count),
-    };
-    match digests {
-        Some(digests) => digests,
-        None => one_by_one(algorithm, rule, salt, rows, size, count),
     }
 }

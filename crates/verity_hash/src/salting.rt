@@ -1,11 +1,9 @@
 //! The salted hash of a block.
-ghost use Rattle.std.specs.Prelude.{◌≡◌};
-ghost use Rattle.verity_hash.specs.Hashing.{salted_input, salted_hash};
+ghost use Rattle.std.specs.Prelude.{◌≡◌, ◌++◌};
+ghost use Rattle.verity_hash.specs.Hashing.{hash_of, salted_hash};
 
-use crate::hasher::Hasher;
+use crate::digest::digest_of;
 use crate::{Algorithm, Digest};
-use sha1::Sha1;
-use sha2::{Sha224, Sha256, Sha384, Sha512};
 
 /// Where the salt of a tree goes.
 #[derive(Clone, Copy, Debug, PartialEq, Eq)]
@@ -22,38 +20,17 @@ pub enum SaltRule {
 /// Zeros to pad a salt with, one for each byte of the longest input block.
 pub(crate) const ZEROS: [u8; 128] = [0; 128];
 
-/// A hasher that has taken all that is hashed for a block.
-fn hasher_of_block<H: Hasher>(algorithm: Algorithm, rule: SaltRule, salt: &[u8], block: &[u8]) -> H
-    ensures { H.holds result (salted_input algorithm rule salt.now block.now) }
+/// The hash of a message in three pieces.
+fn hash_pieces(algorithm: Algorithm, first: &[u8], second: &[u8], third: &[u8]) -> Digest
+    ensures { result ≡ hash_of algorithm (first.now ++ second.now ++ third.now) }
 {
-    let mut hasher = H::begin();
-    match rule {
-        SaltRule::Before => {
-            hasher.add(salt);
-            hasher.add(block);
-        }
-        SaltRule::After => {
-            hasher.add(block);
-            hasher.add(salt);
-        }
-        SaltRule::PaddedBefore => {
-            let input_block = algorithm.input_block();
-            let padding = (input_block - salt.len() % input_block) % input_block;
-            hasher.add(salt);
-            hasher.add(&ZEROS[..padding]);
-            hasher.add(block);
-        }
+    match algorithm {
+        Algorithm::Sha256 => digest_of(&sha_lanes::sha256_alone(first, second, third)),
+        Algorithm::Sha512 => digest_of(&sha_lanes::sha512_alone(first, second, third)),
+        Algorithm::Sha1 => digest_of(&sha_lanes::sha1_alone(first, second, third)),
+        Algorithm::Sha224 => digest_of(&sha_lanes::sha224_alone(first, second, third)),
+        Algorithm::Sha384 => digest_of(&sha_lanes::sha384_alone(first, second, third)),
     }
-    hasher
-}
-
-/// The salted hash of a block by the hash function of `H`. The rule may pad the salt to whole input blocks of
-/// `algorithm`.
-fn salted_by<H: Hasher>(algorithm: Algorithm, rule: SaltRule, salt: &[u8], block: &[u8]) -> Digest
-    ensures { result ≡ H.hash (salted_input algorithm rule salt.now block.now) }
-{
-    let hasher: H = hasher_of_block(algorithm, rule, salt, block);
-    hasher.end()
 }
 
 /// The salted hash of a block of any length, with a salt of any length. The same rule serves data blocks and hash
@@ -61,11 +38,13 @@ fn salted_by<H: Hasher>(algorithm: Algorithm, rule: SaltRule, salt: &[u8], block
 pub fn salted(algorithm: Algorithm, rule: SaltRule, salt: &[u8], block: &[u8]) -> Digest
     ensures { result ≡ salted_hash algorithm rule salt.now block.now }
 {
-    match algorithm {
-        Algorithm::Sha256 => salted_by::<Sha256>(algorithm, rule, salt, block),
-        Algorithm::Sha512 => salted_by::<Sha512>(algorithm, rule, salt, block),
-        Algorithm::Sha1 => salted_by::<Sha1>(algorithm, rule, salt, block),
-        Algorithm::Sha224 => salted_by::<Sha224>(algorithm, rule, salt, block),
-        Algorithm::Sha384 => salted_by::<Sha384>(algorithm, rule, salt, block),
+    match rule {
+        SaltRule::Before => hash_pieces(algorithm, salt, block, &[]),
+        SaltRule::After => hash_pieces(algorithm, &[], block, salt),
+        SaltRule::PaddedBefore => {
+            let input_block = algorithm.input_block();
+            let padding = (input_block - salt.len() % input_block) % input_block;
+            hash_pieces(algorithm, salt, &ZEROS[..padding], block)
+        }
     }
 }

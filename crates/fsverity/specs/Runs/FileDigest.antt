@@ -1,17 +1,16 @@
 -- The file digest of fs-verity (Linux kernel, fs-verity page, "fs-verity descriptor" and "Merkle tree"), and the answer
 -- of making one of a source's bytes.
-use Rattle.std.specs.Prelude.{◌≡◌, ℕ, ◌+◌, ◌*◌, ◌/◌, ◌<◌, ◌≤◌, ◌==◌, ◌&&◌, min, Bool, true, false, not, List, [], length, replicate, Option, Some, None, IsNone, MatchOption, Result, Ok, Err, MatchResult, is_ok, nat_lt, if◌then◌else◌}
-use Rattle.std.specs.Int.{div_ceil}
+use Rattle.std.specs.Prelude.{◌≡◌, ℕ, ◌+◌, ◌*◌, ◌/◌, ◌<◌, ◌≤◌, ◌==◌, ◌&&◌, min, Bool, true, false, not, List, [], length, Option, Some, None, IsNone, MatchOption, Result, Ok, Err, MatchResult, is_ok, nat_lt, if◌then◌else◌}
 use Rattle.verity_format.specs.Descriptors.{DescriptorFields, descriptor_bytes, digest_of_file}
 use Rattle.verity_io.specs.Reading.{HasRead}
-use Rattle.verity_tree.specs.Levels.{cut, data_blocks, root, root_of_file}
+use Rattle.verity_tree.specs.Levels.{data_blocks, root, root_of_file}
 use Rattle.verity_tree.specs.Building.{BuildsOnDevice}
 use Rattle.verity_tree.specs.TreeOnDevice.{tree_on_device}
 use Rattle.verity_tree.specs.Reading.{ReadsUpTo}
 use Rattle.verity_tree.specs.declared.building.BuildFault.{BuildFault}
 use Rattle.verity_tree.specs.declared.building.BuildFault.TheVariants as build
 use Rattle.verity_plan.specs.Plans.{Planned, block_count, plan_for_bytes}
-use Rattle.verity_plan.specs.Settings.{Settings, digest_len}
+use Rattle.verity_plan.specs.Settings.{Settings}
 use Rattle.fsverity.specs.declared.runs.digest_fault.DigestFault.{DigestFault}
 use Rattle.fsverity.specs.declared.runs.digest_fault.DigestFault.TheVariants.{TooLarge, SourceShort, SourceFailed, DeviceFailed, Memory}
 use Rattle.fsverity.specs.declared.runs.file_digest.FileDigest.{FileDigest}

@@ -1,6 +1,7 @@
 -- Data blocks that are read and hashed before their turn.
 -- For the private steps; not needed to read a public contract.
-use Rattle.std.specs.Prelude.{◌≡◌, ◌≢◌, ◌⊎◌, ℕ, ◌+◌, ◌-◌, ◌<◌, ◌≤◌, Bool, true, false, List, [], length}
+use Rattle.std.specs.Prelude.{◌≡◌, ◌≢◌, ◌⊎◌, ℕ, ◌+◌, ◌-◌, ◌*◌, ◌/◌, ◌%◌, ◌<◌, ◌≤◌, Bool, true, false, List, [], length}
+use Rattle.std.specs.Prelude.{nat_lt, nat_eq, if◌then◌else◌, min}
 use Rattle.std.specs.Prelude.{slice_index_or, Option, Some, None, Result, Ok, Err}
 use Rattle.std.specs.Fork.{slice_chunk}
 use Rattle.verity_hash.specs.declared.digest.Digest.{Digest}
@@ -15,6 +16,8 @@ use Rattle.verity_tree.specs.Steps.OpenBlocks.{level_digest}
 use Rattle.verity_tree.specs.declared.pass.data_block.BlockFault.{BlockFault}
 use Rattle.verity_tree.specs.declared.pass.data_block.BlockFault.TheVariants.{Failed}
 use Rattle.verity_tree.specs.declared.pass.reading_ahead.Ahead.{Ahead}
+use Rattle.verity_tree.specs.declared.pass.reading_ahead.Window.{Window}
+use Rattle.verity_tree.specs.declared.pass.reading_ahead.Window.TheVariants.{Empty, Small, Middle, Large}
 
 -- data block i stands in a row, or the source ended or failed within it
 abbrev pub ReadsRow : Planned → ℕ → List ℕ → Result Unit BlockFault → List ℕ → List ℕ → Type 0
@@ -37,6 +40,28 @@ SourceStandsAt p i bytes (Some fault) after = StopsInBlock p i bytes fault after
 pub record IsBatch (p : Planned) (i count : ℕ) : Type 0 where
   pub below : i + count ≤ p.blocks
   pub none_closes : (k : ℕ) → i ≤ k → k + 1 < i + count → ¬ EndsBlock (fan p.settings) p.blocks k
+
+-- how many data blocks from i on are hashed together, in a window of this length: as many as there are before a hash
+-- block closes and as fit, eight at most; fewer than three are hashed one by one
+abbrev pub rows_from : Planned → ℕ → ℕ → ℕ
+rows_from p window i =
+    let left = min (p.blocks - i) (fan p.settings - i % fan p.settings) in
+    let rows = min left (min 8 (window / p.settings.data_block)) in
+    if nat_lt rows 3 then 1 else rows
+
+-- the length of a window
+abbrev pub length_of : Window → ℕ
+length_of Empty = 0
+length_of Small = 32768
+length_of Middle = 131072
+length_of Large = 524288
+
+-- the smallest window with room for eight data blocks, or the large one; none if they are hashed one by one all the same
+abbrev pub window_for : Planned → Window
+window_for p = if nat_eq (rows_from p (length_of Large) 0) 1 then Empty
+    else if nat_lt (length_of Small) (8 * p.settings.data_block) then
+    (if nat_lt (length_of Middle) (8 * p.settings.data_block) then Large else Middle)
+    else Small
 
 -- all of them, or fewer if the source ended or failed
 abbrev pub ReadsCount : ℕ → ℕ → Option BlockFault → Type 0

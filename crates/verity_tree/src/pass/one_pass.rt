@@ -5,13 +5,16 @@ ghost use Rattle.verity_tree.specs.Steps.OnePass.{Passes, PassesCompared, Passes
 ghost use Rattle.verity_tree.specs.Steps.OnePass.{source_failed};
 ghost use Rattle.verity_plan.specs.Plans.{IsPlanned, Planned, level_count_of, store_length_of};
 ghost use Rattle.verity_tree.specs.Levels.{data_blocks};
+ghost use Rattle.verity_tree.specs.Steps.ReadingAhead.{length_of, window_for};
 ghost use Rattle.verity_plan.specs.Settings.{digest_len};
 ghost use Rattle.verity_tree.specs.declared.pass.closed_block.Task.TheVariants.{Compare};
 
 use crate::pass::cascade::{Stop, carry};
 use crate::pass::closed_block::{Job, Task};
 use crate::pass::data_block::BlockFault;
-use crate::pass::reading_ahead::{Ahead, WINDOW, needs_window, take_next};
+use crate::pass::reading_ahead::{
+    Ahead, LARGE_WINDOW, MIDDLE_WINDOW, SMALL_WINDOW, Window, take_next, window_for,
+};
 use verity_hash::Digest;
 use verity_io::{Device, Source};
 use verity_plan::Plan;
@@ -52,23 +55,26 @@ pub(crate) fn pass<S: Source, D: Device>(
 {
     let (work, stored) = store.split_at_mut(store.len() - plan.hash_block());
     let job = Job { plan: *plan, task };
-    if needs_window(plan) {
-        return pass_with_window(&job, work, stored, &mut [0; WINDOW], source, device);
+    match window_for(plan) {
+        Window::Empty => pass_in_window::<0, S, D>(&job, work, stored, source, device),
+        Window::Small => pass_in_window::<SMALL_WINDOW, S, D>(&job, work, stored, source, device),
+        Window::Middle => pass_in_window::<MIDDLE_WINDOW, S, D>(&job, work, stored, source, device),
+        Window::Large => pass_in_window::<LARGE_WINDOW, S, D>(&job, work, stored, source, device),
     }
-    pass_with_window(&job, work, stored, &mut [], source, device)
 }
 
-/// The pass. Data blocks that are hashed side by side are read into the window, as many as it has room for; with an
-/// empty window each is read and hashed alone. The open blocks and the data block are in `work`, and a hash block to
-/// compare with in `stored`.
-fn pass_with_window<S: Source, D: Device>(
+/// The pass, with a window of `N` bytes. Data blocks that are hashed side by side are read into it, as many as it has
+/// room for; with none each is read and hashed alone. The open blocks and the data block are in `work`, and a hash block
+/// to compare with in `stored`. It isn't inlined, so that the stack holds only the window that is used.
+#[inline(never)]
+fn pass_in_window<const N: usize, S: Source, D: Device>(
     job: &Job,
     work: &mut [u8],
     stored: &mut [u8],
-    window: &mut [u8],
     source: &mut S,
     device: &mut D,
 ) -> Result<Digest, PassFault>
+    requires window { N ≡ length_of (window_for job.now.plan) }
     requires room { level_count_of job.now.plan * job.now.plan.settings.hash_block + job.now.plan.settings.data_block
         ≤ length work.old }
     requires stored { length stored.old ≡ job.now.plan.settings.hash_block }
@@ -87,11 +93,12 @@ fn pass_with_window<S: Source, D: Device>(
         → PassesCompared job.now.plan (S.remaining source.old) result (D.content device.old) (D.content device.new) }
 {
     let plan = &job.plan;
+    let mut window = [0; N];
     work.fill(0);
     let mut root = Digest::zeros(plan.settings().algorithm());
     let mut ahead = Ahead::none(plan);
     for i in 0..plan.blocks() {
-        let digest = match take_next(plan, work, window, i, source, &mut ahead) {
+        let digest = match take_next(plan, work, &mut window, i, source, &mut ahead) {
             Ok(digest) => digest,
             Err(BlockFault::Short) => return Err(PassFault::SourceShort(i)),
             Err(BlockFault::Failed) => return Err(PassFault::SourceFailed(i)),

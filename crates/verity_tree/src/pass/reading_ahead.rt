@@ -10,21 +10,40 @@ ghost use Rattle.verity_tree.specs.Steps.DataBlocks.{read_failed};
 ghost use Rattle.verity_tree.specs.Steps.OpenBlocks.{HasOpenBlocks};
 ghost use Rattle.verity_tree.specs.Steps.ReadingAhead.{HoldsDataBlocks, IsAhead, HasNext, IsWithinHashBlock, ReadsCount, IsBatch};
 ghost use Rattle.verity_tree.specs.Steps.ReadingAhead.{ReadsRow, SourceStandsAt, TakesDigest, ahead_failed, next_failed};
-ghost use Rattle.verity_tree.specs.Steps.ReadingAhead.{stop_failed};
+ghost use Rattle.verity_tree.specs.Steps.ReadingAhead.{stop_failed, rows_from, window_for};
 
 use crate::pass::data_block::{BlockFault, read_data_block, take_data_block};
-use verity_hash::{Algorithm, Digest};
+use verity_hash::Digest;
 use verity_io::Source;
 use verity_plan::Plan;
 
 /// How many data blocks are hashed side by side at most, each in a row of its own.
 const ROWS: usize = 8;
 
-/// How many at least: fewer are hashed faster one after another.
+/// How many at least: one or two go one by one, which is faster but for two by SHA-1.
 const LEAST_ROWS: usize = 3;
 
-/// The length of the window that they are read into, in bytes: eight data blocks of 16384, or four of 32768.
-pub(crate) const WINDOW: usize = 131_072;
+/// The windows that they are read into. They are of fixed size, and made anew for each pass.
+#[derive(Clone, Copy)]
+pub(crate) enum Window {
+    /// None: data blocks are read and hashed one by one.
+    Empty,
+    /// Room for eight data blocks of up to 4096 bytes.
+    Small,
+    /// Room for eight of up to 16384 bytes.
+    Middle,
+    /// Room for eight of up to 65536 bytes, and for four of 131072.
+    Large,
+}
+
+/// The length of the small window, in bytes.
+pub(crate) const SMALL_WINDOW: usize = 32_768;
+
+/// The length of the middle one.
+pub(crate) const MIDDLE_WINDOW: usize = 131_072;
+
+/// The length of the large one.
+pub(crate) const LARGE_WINDOW: usize = 524_288;
 
 /// Data blocks that were read and hashed before their turn.
 #[derive(Clone, Copy)]
@@ -92,10 +111,11 @@ pub(crate) fn take_next<S: Source>(
     }
 }
 
-/// How many data blocks from `i` on are read together into a window of this length: as many as it has room for, and
-/// none past the last data block below a hash block. It is 1 if they are hashed one by one.
+/// How many data blocks from `i` on are read together into a window of this length: as many as it has room for, eight at
+/// most, and none past the last data block below a hash block. It is 1 if they are hashed one by one.
 pub(crate) fn rows_from(plan: &Plan, window: usize, i: u64) -> usize
     requires { i < plan.now.blocks }
+    ensures value { result ≡ rows_from plan.now window i }
     ensures some { 0 < result }
     ensures most { result ≤ 8 }
     ensures batch { IsBatch plan.now i result }
@@ -105,18 +125,30 @@ pub(crate) fn rows_from(plan: &Plan, window: usize, i: u64) -> usize
     let left = plan.blocks() - i;
     let room = ROWS.min(window / plan.data_block());
     let rows = left.min(fan - i % fan).min(room as u64) as usize;
-    let alone = plan.settings().algorithm() == Algorithm::Sha1;
-    if alone || rows < LEAST_ROWS {
+    if rows < LEAST_ROWS {
         return 1;
     }
     rows
 }
 
-/// Whether data blocks are read together, in a window.
-pub(crate) fn needs_window(plan: &Plan) -> bool {
+/// The window for a plan: the smallest with room for eight data blocks, or the large one if none has; and none if data
+/// blocks are hashed one by one all the same.
+pub(crate) fn window_for(plan: &Plan) -> Window
+    ensures { result ≡ window_for plan.now }
+{
     // Called for the proof: its contract says that a plan has a data block.
     let _blocks = plan.blocks();
-    rows_from(plan, WINDOW, 0) > 1
+    if rows_from(plan, LARGE_WINDOW, 0) == 1 {
+        return Window::Empty;
+    }
+    let wanted = ROWS * plan.data_block();
+    if wanted <= SMALL_WINDOW {
+        Window::Small
+    } else if wanted <= MIDDLE_WINDOW {
+        Window::Middle
+    } else {
+        Window::Large
+    }
 }
 
 /// Reads and hashes data blocks from `i` on, as many as are read together.

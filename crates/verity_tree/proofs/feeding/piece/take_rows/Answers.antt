@@ -1,4 +1,5 @@
 use Rattle.std.proofs.Common.{◌≡◌, ℕ, ◌+◌, ◌-◌, ◌*◌, ◌<◌, ◌≤◌, [], length, take, arith, ap, ◌∙◌, inl, inr}
+use Rattle.std.proofs.Math.Nat.{mul-le-mul_right}
 use Rattle.std.proofs.lemmas.Bool.{cases_lt}
 use Rattle.std.proofs.lemmas.List.{get_or_default, length-take-le}
 use Rattle.std.specs.Fork.{slice_chunk}
@@ -24,6 +25,14 @@ keep_digest-requires-clause-size c =
     (omega (arith, long, some, c.rows_from-count.ensures.most))
     ∙ c.hash_rows-digests.ensures (count - 1) (omega (arith, some)))
     ∙ length-hash c.args.plan.now.settings _
+
+pub returns-clause-some : goal.returns-clause-some
+returns-clause-some c =
+    let size = c.data_block-size.result in
+    let count = c.rows_from-count.result in
+    let some : 1 ≤ count = omega (arith, c.rows_from-count.ensures.some) in
+    let least : 1 * size ≤ count * size = mul-le-mul_right size some in
+    omega (arith, least, c.data_block-size.ensures, some_data c.args.plan.now.settings c.blocks-blocks.ensures.planned.valid)
 
 -- as many data blocks as are hashed together are there
 rows-fit : (count size window : ℕ) → 0 < count → size ≤ window → (1 < count → count * size ≤ window)

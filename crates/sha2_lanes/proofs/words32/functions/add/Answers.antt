@@ -1,5 +1,0 @@
-use Rattle.sha2_lanes.proofs.LaneWise.{own_lanes, zip_lanes}
-use Rattle.sha2_lanes.proofs.words32.functions.add.Goals as goal
-
-pub returns : goal.returns
-returns c = zip_lanes _ (own_lanes c.fits-x.0) (own_lanes c.fits-y.0)

@@ -1,5 +1,0 @@
-use Rattle.sha2_lanes.proofs.LaneWise.{zip_lanes}
-use Rattle.sha2_lanes.proofs.words32.functions.big_sigma1.Goals as goal
-
-pub returns : goal.returns
-returns c = zip_lanes _ (zip_lanes _ c.rotr.ensures c.rotr-2.ensures) c.rotr-3.ensures

@@ -1,7 +1,0 @@
-use Rattle.std.proofs.Common.{◌≡◌, ℕ, ◌<◌, ◌*◌}
-use Rattle.sha2.specs.Sha512 as S512
-use Rattle.sha2_lanes.specs.Lanes.{lane}
-use Rattle.sha2_lanes.proofs.words64.rounds.compress.Given as goal
-
-abbrev pub invariant-loop-turn : goal.invariant-loop-turn
-invariant-loop-turn l = (j : ℕ) → j < 4 → lane l.v j ≡ S512.rounds (lane l.state j) (lane l.w j) (8 * l.turn)

@@ -1,3 +1,0 @@
-pub mod Lanes
-pub mod Words32
-pub mod Words64

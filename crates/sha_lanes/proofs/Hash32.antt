@@ -1,0 +1,192 @@
+-- The schedule, the rounds and the hash value of one lane, by the definitions of `sha2`.
+use Rattle.std.proofs.Common.{◌≡◌, ℕ, suc, ◌+◌, ◌-◌, ◌*◌, ◌/◌, ◌%◌, ◌^◌, ◌<◌, ◌≤◌, List, [], ◌∷◌, ◌++◌, length, slice_index, get_or, take, drop, set, refl, ap, sym, ◌∙◌, arith}
+use Rattle.std.specs.Prelude.{bit_or}
+use Rattle.std.specs.Int.{w32, rotate_right, from_be_bytes, to_be_bytes}
+use Rattle.std.proofs.Math.Nat.{mod-eq_of_lt}
+use Rattle.std.proofs.Math.Seq.{take-length}
+use Rattle.std.proofs.Math.ListN.{length-map}
+use Rattle.std.proofs.lemmas.List.{get_or-take, get_or-drop, take_more_set, map-set}
+use Rattle.sha2.specs.Sha256 as S256
+use Rattle.sha_lanes.specs.Lanes.{lane}
+use Rattle.sha_lanes.specs.Words32.{AddsConstants}
+use Rattle.sha_lanes.proofs.LaneWise.{word_of_lane, cons_eq}
+
+-- a rotation by less than a word
+pub rotate_right_below : (x n : ℕ) → 0 < n → n < 32
+    → bit_or (x / 2 ^ n) ((x * 2 ^ (32 - n)) % 2 ^ 32) ≡ rotate_right w32 x n
+rotate_right_below x n pos lt =
+    let e : n % 32 ≡ n = mod-eq_of_lt lt in
+    let f : (32 - n % 32) % 32 ≡ 32 - n = ap (λ k. (32 - k) % 32) e ∙ mod-eq_of_lt (omega arith) in
+    sym (ap (λ k. bit_or (x / 2 ^ k) ((x * 2 ^ ((32 - n % 32) % 32)) % 2 ^ 32)) e ∙ ap (λ k. bit_or (x / 2 ^ n) ((x * 2 ^ k) % 2 ^ 32)) f)
+
+-- ---- the words of a block
+
+pub first_words_start : (b : List ℕ) → [] ≡ S256.first_words b 0
+unfolding S256.first_words
+first_words_start b = refl
+
+pub first_words_more : (b : List ℕ) (t x : ℕ) {s : List ℕ} → s ≡ S256.first_words b t → x ≡ S256.word_at b (4 * t)
+    → s ++ x ∷ [] ≡ S256.first_words b (t + 1)
+unfolding S256.first_words
+first_words_more b t x {s} e f =
+    let su : suc t ≡ t + 1 = omega arith in
+    ap (λ z. z ++ x ∷ []) e ∙ (ap (λ z. S256.first_words b t ++ z ∷ []) f ∙ ap (S256.first_words b) su)
+
+-- a word, by its bytes
+word_eq : {a b c d a' b' c' d' : ℕ} → a ≡ a' → b ≡ b' → c ≡ c' → d ≡ d'
+    → from_be_bytes w32 (a ∷ b ∷ c ∷ d ∷ []) ≡ from_be_bytes w32 (a' ∷ b' ∷ c' ∷ d' ∷ [])
+word_eq p q r s = ap (from_be_bytes w32) (cons_eq p (cons_eq q (cons_eq r (cons_eq {s = []} s refl))))
+
+-- a word of a part of the bytes
+pub word_of_part : (p : List ℕ) (s o i : ℕ) → i + 4 ≤ 64 → S256.word_at p (s + (o + i)) ≡ S256.word_at (take 64 (drop (s + o) p)) i
+word_of_part p s o i room =
+    let byte = λ (k : ℕ) (below : k < 4).
+    let lt : i + k < 64 = omega arith in
+    let at : s + (o + i) + k ≡ s + o + (i + k) = omega arith in
+    ap (slice_index p) at ∙ (sym (get_or-drop (s + o) p (i + k) 0) ∙ sym (get_or-take 64 (drop (s + o) p) (i + k) 0 lt)) in
+    let first : slice_index p (s + (o + i)) ≡ slice_index (take 64 (drop (s + o) p)) i =
+    ap (slice_index p) (omega arith) ∙ (byte 0 (omega arith) ∙ ap (slice_index (take 64 (drop (s + o) p))) (omega arith)) in
+    word_eq first (byte 1 (omega arith)) (byte 2 (omega arith)) (byte 3 (omega arith))
+
+-- ---- the schedule
+
+-- the sum of the four words
+next_eq : {a b c d a' b' c' d' : ℕ} → a ≡ a' → b ≡ b' → c ≡ c' → d ≡ d'
+    → S256.add32 (S256.add32 (S256.add32 (S256.small_sigma1 a) b) (S256.small_sigma0 c)) d
+    ≡ S256.add32 (S256.add32 (S256.add32 (S256.small_sigma1 a') b') (S256.small_sigma0 c')) d'
+next_eq {a} {b} {c} {d} {a'} {b'} {c'} {d'} p q r s =
+    ap (λ z. S256.add32 (S256.add32 (S256.add32 (S256.small_sigma1 z) b) (S256.small_sigma0 c)) d) p
+    ∙ (ap (λ z. S256.add32 (S256.add32 (S256.add32 (S256.small_sigma1 a') z) (S256.small_sigma0 c)) d) q
+    ∙ (ap (λ z. S256.add32 (S256.add32 (S256.add32 (S256.small_sigma1 a') b') (S256.small_sigma0 z)) d) r
+    ∙ ap (λ z. S256.add32 (S256.add32 (S256.add32 (S256.small_sigma1 a') b') (S256.small_sigma0 c')) z) s))
+
+-- W t, written at t, is the next word of the schedule
+schedule_next : (l b : List ℕ) (n t x : ℕ) → t ≡ n + 16 → t < length l
+    → take t l ≡ S256.schedule b n
+    → x ≡ S256.add32 (S256.add32 (S256.add32 (S256.small_sigma1 (slice_index l (t - 2))) (slice_index l (t - 7)))
+    (S256.small_sigma0 (slice_index l (t - 15)))) (slice_index l (t - 16))
+    → take (t + 1) (set l t x) ≡ S256.schedule b (t + 1 - 16)
+unfolding S256.schedule
+schedule_next l b n t x at lt begins is =
+    let before = λ (k : ℕ) (pos : 0 < k) (le : k ≤ 16).
+    let below : t - k < t = omega arith in
+    (sym (get_or-take t l (t - k) 0 below) ∙ ap (λ (z : List ℕ). slice_index z (t - k)) begins)
+    ∙ ap (λ (z : ℕ). slice_index (S256.schedule b n) (z - k)) at in
+    let next : x ≡ S256.next_word (S256.schedule b n) (n + 16) =
+    is ∙ next_eq (before 2 (omega arith) (omega arith)) (before 7 (omega arith) (omega arith))
+    (before 15 (omega arith) (omega arith)) (before 16 (omega arith) (omega arith)) in
+    let su : suc n ≡ t + 1 - 16 = omega arith in
+    take_more_set l t x lt
+    ∙ (ap (λ z. z ++ x ∷ []) begins
+    ∙ (ap (λ z. S256.schedule b n ++ z ∷ []) next
+    ∙ ap (S256.schedule b) su))
+
+-- the first words
+pub schedule_start : (b l : List ℕ) → take 16 l ≡ S256.first_words b 16 → take 16 l ≡ S256.schedule b 0
+unfolding S256.schedule
+schedule_start b l e = e
+
+pub schedule_more : (w : List (List ℕ)) (x : List ℕ) (j : ℕ) (b : List ℕ) (n t : ℕ) → t ≡ n + 16 → t < length w
+    → take t (lane w j) ≡ S256.schedule b n
+    → slice_index x j ≡ S256.add32 (S256.add32 (S256.add32 (S256.small_sigma1 (slice_index (get_or w (t - 2) []) j)) (slice_index (get_or w (t - 7) []) j))
+    (S256.small_sigma0 (slice_index (get_or w (t - 15) []) j))) (slice_index (get_or w (t - 16) []) j)
+    → take (t + 1) (lane (set w t x) j) ≡ S256.schedule b (t + 1 - 16)
+schedule_more w x j b n t at lt begins is =
+    let lt' : t < length (lane w j) = omega (arith, length-map w (λ y. slice_index y j)) in
+    ap (take (t + 1)) (map-set (λ y. slice_index y j) w t x)
+    ∙ schedule_next (lane w j) b n t (slice_index x j) at lt' begins
+    (is ∙ next_eq (word_of_lane w j (t - 2)) (word_of_lane w j (t - 7)) (word_of_lane w j (t - 15)) (word_of_lane w j (t - 16)))
+
+pub schedule_whole : (w : List (List ℕ)) (j : ℕ) (b : List ℕ) (t : ℕ) → t ≡ 64 → length w ≡ 64
+    → take t (lane w j) ≡ S256.schedule b (t - 16) → lane w j ≡ S256.schedule b 48
+schedule_whole w j b t end long is =
+    sym (take-length (lane w j))
+    ∙ (ap (λ z. take z (lane w j)) (length-map w (λ y. slice_index y j) ∙ (long ∙ sym end))
+    ∙ (is ∙ ap (λ z. S256.schedule b (z - 16)) end))
+
+-- ---- the rounds
+
+-- a round, from the two words that it computes
+pub round_of : (a b c d e f g h k w : ℕ) {a' e' : ℕ}
+    → a' ≡ S256.add32 (S256.temp1 (a ∷ b ∷ c ∷ d ∷ e ∷ f ∷ g ∷ h ∷ []) k w) (S256.temp2 (a ∷ b ∷ c ∷ d ∷ e ∷ f ∷ g ∷ h ∷ []))
+    → e' ≡ S256.add32 d (S256.temp1 (a ∷ b ∷ c ∷ d ∷ e ∷ f ∷ g ∷ h ∷ []) k w)
+    → S256.round (a ∷ b ∷ c ∷ d ∷ e ∷ f ∷ g ∷ h ∷ []) k w ≡ a' ∷ a ∷ b ∷ c ∷ e' ∷ e ∷ f ∷ g ∷ []
+round_of a b c d e f g h k w {a'} p q =
+    ap (λ u. u ∷ a ∷ b ∷ c ∷ S256.add32 d (S256.temp1 (a ∷ b ∷ c ∷ d ∷ e ∷ f ∷ g ∷ h ∷ []) k w) ∷ e ∷ f ∷ g ∷ []) (sym p)
+    ∙ ap (λ u. a' ∷ a ∷ b ∷ c ∷ u ∷ e ∷ f ∷ g ∷ []) (sym q)
+
+-- the working variables before the first round
+pub rounds_start : (h w : List ℕ) → h ≡ S256.rounds h w 0
+unfolding S256.rounds
+rounds_start h w = refl
+
+-- a round is the next of the rounds
+pub round_next : (s w : List ℕ) (t u : ℕ) {v v' : List ℕ} {k x : ℕ} → u ≡ t + 1
+    → v ≡ S256.rounds s w t
+    → k ≡ slice_index S256.round_constants t
+    → x ≡ slice_index w t
+    → S256.round v k x ≡ v'
+    → v' ≡ S256.rounds s w u
+unfolding S256.rounds
+round_next s w t u {v} {v'} {k} {x} next at k_is x_is step =
+    let su : u ≡ suc t = omega arith in
+    sym step
+    ∙ (ap (λ z. S256.round z k x) at
+    ∙ (ap (λ z. S256.round (S256.rounds s w t) z x) k_is
+    ∙ (ap (λ z. S256.round (S256.rounds s w t) (slice_index S256.round_constants t) z) x_is
+    ∙ sym (ap (S256.rounds s w) su))))
+
+-- the same, where the constant was added to the word before
+pub plain_round_next : (kw : List (List ℕ)) (j : ℕ) (s w : List ℕ) → AddsConstants kw j w → (t u : ℕ) {v v' : List ℕ} → t < 64 → u ≡ t + 1
+    → v ≡ S256.rounds s w t
+    → ((k x : ℕ) → slice_index (get_or kw t []) j ≡ S256.add32 x k → S256.round v k x ≡ v')
+    → v' ≡ S256.rounds s w u
+plain_round_next kw j s w adds t u lt next at step =
+    round_next s w t u next at refl refl (step (slice_index S256.round_constants t) (slice_index w t) (word_of_lane kw j t ∙ adds t lt))
+
+-- one word of the sum
+pub added : (h v : List (List ℕ)) (j i x : ℕ)
+    → x ≡ S256.add32 (slice_index (get_or h i []) j) (slice_index (get_or v i []) j)
+    → x ≡ S256.add32 (slice_index (lane h j) i) (slice_index (lane v j) i)
+added h v j i x e =
+    e ∙ (ap (λ z. S256.add32 z (slice_index (get_or v i []) j)) (word_of_lane h j i)
+    ∙ ap (λ z. S256.add32 (slice_index (lane h j) i) z) (word_of_lane v j i))
+
+-- the hash value after a block
+pub compress_is : (h w b : List ℕ) {v : List ℕ} → w ≡ S256.schedule b 48 → v ≡ S256.rounds h w 64
+    → S256.add_state h v ≡ S256.compress h b
+unfolding S256.compress
+compress_is h w b {v} e f = ap (S256.add_state h) (f ∙ ap (λ z. S256.rounds h z 64) e)
+
+-- ---- the hash value of a message, and its bytes
+
+pub hash_start : (h p : List ℕ) → h ≡ S256.hash_after h p 0
+unfolding S256.hash_after
+hash_start h p = refl
+
+pub hash_more : (h p : List ℕ) (k : ℕ) {s s' b : List ℕ} → s ≡ S256.hash_after h p k → b ≡ take 64 (drop (k * 64) p)
+    → s' ≡ S256.compress s b → s' ≡ S256.hash_after h p (k + 1)
+unfolding S256.hash_after
+hash_more h p k {s} {s'} {b} e f step =
+    let su : suc k ≡ k + 1 = omega arith in
+    step ∙ (ap (λ z. S256.compress z b) e ∙ (ap (S256.compress (S256.hash_after h p k)) f ∙ ap (S256.hash_after h p) su))
+
+pub digest_start : (h : List ℕ) → [] ≡ S256.digest_bytes h 0
+unfolding S256.digest_bytes
+digest_start h = refl
+
+pub digest_more : (h : List ℕ) (i : ℕ) {s x : List ℕ} → s ≡ S256.digest_bytes h i → x ≡ to_be_bytes w32 (slice_index h i)
+    → s ++ x ≡ S256.digest_bytes h (i + 1)
+unfolding S256.digest_bytes
+digest_more h i {s} {x} e f =
+    let su : suc i ≡ i + 1 = omega arith in
+    ap (λ z. z ++ x) e ∙ (ap (λ z. S256.digest_bytes h i ++ z) f ∙ ap (S256.digest_bytes h) su)
+
+pub sha256_is : (m : List ℕ) {s d : List ℕ} → d ≡ S256.digest_bytes s 8 → s ≡ S256.final_hash S256.initial_hash_256 m → d ≡ S256.sha256 m
+unfolding S256.sha256
+sha256_is m e f = e ∙ ap (λ z. S256.digest_bytes z 8) f
+
+pub sha224_is : (m : List ℕ) {s c d : List ℕ} → c ≡ take 28 d → d ≡ S256.digest_bytes s 8 → s ≡ S256.final_hash S256.initial_hash_224 m
+    → c ≡ S256.sha224 m
+unfolding S256.sha224
+sha224_is m e f g = e ∙ ap (take 28) (f ∙ ap (λ z. S256.digest_bytes z 8) g)

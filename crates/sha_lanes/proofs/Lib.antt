@@ -1,0 +1,9 @@
+pub mod LaneWise
+pub mod Pieces
+pub mod Groups
+pub mod Hash32
+pub mod Padding32
+pub mod HashSha1
+pub mod Hash64
+pub mod Padding64
+pub mod OneMessage

@@ -1,0 +1,8 @@
+use Rattle.std.proofs.Common.{◌≡◌, ℕ, ◌+◌, ◌*◌, ◌<◌, ◌≤◌, length}
+use Rattle.sha1.specs.Sha1 as S1
+use Rattle.sha_lanes.specs.Lanes.{lane, message_of}
+use Rattle.sha_lanes.proofs.sha_1.digests.hash.Given as goal
+
+abbrev pub invariant-loop-k : goal.invariant-loop-k
+invariant-loop-k l = (j : ℕ) → j < 8 → j * l.len + l.len ≤ length l.parts
+    → lane l.state j ≡ S1.hash_after (S1.padded_message (message_of l.before l.parts l.len l.after j)) l.k

@@ -1,0 +1,46 @@
+use Rattle.std.proofs.Common.{◌≡◌, ◌+◌, ◌*◌, ◌<◌, ◌++◌, length, take, drop, refl, ap, subst, ◌∙◌, arith, rules}
+use Rattle.sha1.specs.Sha1 as S1
+use Rattle.sha_lanes.specs.Lanes.{lane}
+use Rattle.sha_lanes.specs.Sha1.{AddsConstants}
+use Rattle.sha_lanes.specs.Words32.{block_count}
+use Rattle.sha_lanes.proofs.Groups.{group_padded}
+use Rattle.sha_lanes.proofs.HashSha1.{hash_more}
+use Rattle.sha_lanes.proofs.OneMessage.{schedule_at_sha1}
+use Rattle.sha_lanes.proofs.sha_1.one_message.take_blocks.Goals.{in-Some, in-None}
+use Rattle.sha_lanes.proofs.sha_1.one_message.take_blocks.Goals as goal
+
+pub loop-j-init : goal.loop-j-init
+loop-j-init c is = is ∙ ap (S1.hash_after (S1.padded_message (c.args.first.now ++ c.args.second.now ++ c.args.third.now))) (omega arith)
+
+pub loop-j-preserved : goal.loop-j-preserved
+loop-j-preserved c is =
+    let first = c.args.first.now in
+    let second = c.args.second.now in
+    let third = c.args.third.now in
+    let m = first ++ second ++ third in
+    let p = S1.padded_message m in
+    let k = c.args.k in
+    let j = c.loop-j.j in
+    let kw = c.add_constants.new.kw in
+    let block = take 64 (drop ((k + j) * 64) p) in
+    let below : j < 8 = omega arith in
+    let inside : k + j < block_count (length first + length second + length third) = omega arith in
+    let words : lane c.match-group_in.w j ≡ S1.schedule block 64 = elim c.match-group_in.branch [
+      | in-Some s ↦
+          let found = s.in-Some.ensures.bytes in
+          ap (λ z. lane z j) s.w-is
+          ∙ schedule_at_sha1 first second third k j _ below inside (group_padded _ m _ (k * 64) found.2 found.0 found.1)
+          found.0 (s.schedules_of.ensures j below)
+      | in-None s ↦
+          ap (λ z. lane z j) s.w-is
+          ∙ schedule_at_sha1 first second third k j s.padded_row.result below inside s.padded_row.ensures (search rules)
+          (s.schedules_of-in-None.ensures j below)
+    ] in
+    hash_more p (k + j) (c.loop-j.invariant is) refl
+    (c.compress.ensures block (subst (AddsConstants kw j) words (c.add_constants.ensures j below)))
+    ∙ ap (S1.hash_after p) (omega arith)
+
+pub returns : goal.returns
+returns c is =
+    let end : c.loop-j.j ≡ c.args.count = omega arith in
+    c.loop-j.invariant is ∙ ap (λ z. S1.hash_after (S1.padded_message (c.args.first.now ++ c.args.second.now ++ c.args.third.now)) (c.args.k + z)) end

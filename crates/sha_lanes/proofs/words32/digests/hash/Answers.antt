@@ -1,0 +1,24 @@
+use Rattle.std.proofs.Common.{◌+◌, length, refl, ap, ◌∙◌, arith}
+use Rattle.sha2.specs.Sha256 as S256
+use Rattle.sha_lanes.specs.Lanes.{lane, message_of}
+use Rattle.sha_lanes.proofs.Pieces.{length-message_of}
+use Rattle.sha_lanes.proofs.Hash32.{hash_start, hash_more}
+use Rattle.sha_lanes.proofs.Padding32.{blocks_of}
+use Rattle.sha_lanes.proofs.words32.digests.hash.Goals as goal
+
+pub loop-k-init : goal.loop-k-init
+loop-k-init c j lt within = hash_start _ _
+
+pub loop-k-preserved : goal.loop-k-preserved
+loop-k-preserved c j lt within =
+    hash_more _ _ c.loop-k.k (c.loop-k.invariant j lt within) refl
+    (c.compress.ensures j lt _ (c.load_block.ensures j lt within))
+
+pub returns : goal.returns
+returns c j lt within =
+    let m = message_of c.args.before.now c.args.parts.now c.args.len c.args.after.now j in
+    c.loop-k.invariant j lt within
+    ∙ ap (S256.hash_after (lane c.args.state.now j) (S256.padded_message m))
+    (blocks_of m c.loop-k.k (length c.args.before.now + c.args.len + length c.args.after.now)
+    (length-message_of c.args.before.now c.args.parts.now c.args.len c.args.after.now j within)
+    (omega (arith, c.block_count-k-end.ensures)))

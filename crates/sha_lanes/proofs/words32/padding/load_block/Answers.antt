@@ -1,0 +1,38 @@
+use Rattle.std.proofs.Common.{◌≡◌, ◌+◌, ◌*◌, ◌≤◌, ◌++◌, length, take, drop, ap, ◌∙◌, arith, rules, inl, inr}
+use Rattle.std.proofs.lemmas.List.{length-take-le}
+use Rattle.sha2.specs.Sha256 as S256
+use Rattle.sha_lanes.specs.Words32.{block_count, padded_row}
+use Rattle.sha_lanes.proofs.Pieces.{length-pieces}
+use Rattle.sha_lanes.proofs.Padding32.{row_filled, padded_part, padded_outside}
+use Rattle.sha_lanes.proofs.words32.padding.load_block.Goals as goal
+
+pub returns-then-at-end : goal.returns-then-at-end
+returns-then-at-end g c j lt within =
+    c.load.ensures j lt within
+    ∙ ap (λ z. S256.first_words z 16)
+    (padded_part c.args.before.now c.args.parts.now c.args.len c.args.after.now j (c.args.k * 64) within
+    c.if-start-at.true c.if-at-end.true)
+
+pub returns-then-end-at : goal.returns-then-end-at
+returns-then-end-at g c j lt within =
+    let before = c.args.before.now in
+    let part = take c.args.len c.args.parts.now in
+    let after = c.args.after.now in
+    let at = c.args.k * 64 in
+    let n = length before + c.args.len + length after in
+    let room : at + 64 ≤ 64 * block_count n = omega (arith, c.requires.inside) in
+    let pieces : length (before ++ part ++ after) ≡ n = length-pieces before part after c.args.len (length-take-le c.args.len c.args.parts.now c.requires.some) in
+    let filled : c.padded_row.result ≡ padded_row (before ++ part ++ after) at =
+    row_filled c.padded_row.result (before ++ part ++ after) at n pieces (search rules) room c.padded_row.ensures in
+    c.load_same.ensures j lt
+    ∙ ap (λ z. S256.first_words z 16)
+    (filled
+    ∙ padded_outside before c.args.parts.now c.args.len after j at within room
+    (elim c.if-end-at.either [ inl early ↦ inl early | inr late ↦ inr late.1 ]))
+
+pub returns-else-end-at : goal.returns-else-end-at
+returns-else-end-at g c j lt within =
+    let first : j * 64 + 0 ≡ j * 64 = omega arith in
+    c.load-else-end-at.ensures j lt (omega arith)
+    ∙ ap (λ z. S256.first_words z 16)
+    (ap (λ z. take 64 (drop z c.padded_rows.result)) first ∙ c.padded_rows.ensures j lt within)

@@ -1,0 +1,27 @@
+use Rattle.std.proofs.Common.{◌≡◌, ◌+◌, ◌*◌, take, drop, ap, sym, ◌∙◌, arith}
+use Rattle.std.proofs.Math.ListN.{length-set}
+use Rattle.sha_lanes.proofs.LaneWise.{lane_store}
+use Rattle.sha_lanes.proofs.Hash32.{first_words_start, first_words_more, word_of_part}
+use Rattle.sha2.specs.Sha256 as S256
+use Rattle.sha_lanes.specs.Lanes.{lane}
+use Rattle.sha_lanes.proofs.words32.schedule.load.Goals as goal
+
+pub loop-t-init : goal.loop-t-init
+loop-t-init g c = record { long = c.told-w; words = λ j lt within. first_words_start _ }
+
+pub loop-t-preserved : goal.loop-t-preserved
+loop-t-preserved g c = record {
+  long = length-set c.loop-t.w c.loop-t.t c.words_at.result ∙ c.loop-t.invariant.long;
+  words = λ j lt within.
+      lane_store c.loop-t.w c.words_at.result j c.loop-t.t (omega arith)
+      ∙ first_words_more (take 64 (drop (j * c.args.len + c.args.from) c.args.parts.now)) c.loop-t.t _ (c.loop-t.invariant.words j lt within)
+      (c.words_at.ensures.value j lt
+      ∙ ap (λ z. S256.word_at c.args.parts.now (z + (c.args.from + 4 * c.loop-t.t))) (c.places_of-places.ensures.own j lt within)
+      ∙ word_of_part c.args.parts.now (j * c.args.len) c.args.from (4 * c.loop-t.t) (omega arith));
+}
+
+pub returns : goal.returns
+returns g c j lt within =
+    let end : c.loop-t.t ≡ 16 = omega arith in
+    ap (λ z. take z (lane c.loop-t.w j)) (sym end)
+    ∙ (c.loop-t.invariant.words j lt within ∙ ap (S256.first_words (take 64 (drop (j * c.args.len + c.args.from) c.args.parts.now))) end)

@@ -1,0 +1,11 @@
+use Rattle.std.proofs.Common.{◌≡◌, ℕ, ◌<◌, ◌≤◌, ◌+◌, ◌*◌, length, take, drop}
+use Rattle.sha2.specs.Sha256 as S256
+use Rattle.sha_lanes.specs.Lanes.{lane}
+use Rattle.sha_lanes.proofs.words32.schedule.load.Given as goal
+
+abbrev pub invariant-loop-t : goal.invariant-loop-t
+invariant-loop-t g l = record {
+  long : length l.w ≡ g.row.N;
+  words : (j : ℕ) → j < 8 → j * l.len + l.len ≤ length l.parts
+      → take l.t (lane l.w j) ≡ S256.first_words (take 64 (drop (j * l.len + l.from) l.parts)) l.t;
+}

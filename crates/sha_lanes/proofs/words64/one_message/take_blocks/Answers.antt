@@ -1,0 +1,45 @@
+use Rattle.std.proofs.Common.{◌≡◌, ◌+◌, ◌*◌, ◌<◌, ◌++◌, length, take, drop, refl, ap, subst, ◌∙◌, arith, rules}
+use Rattle.sha2.specs.Sha512 as S512
+use Rattle.sha_lanes.specs.Lanes.{lane}
+use Rattle.sha_lanes.specs.Words64.{AddsConstants, block_count}
+use Rattle.sha_lanes.proofs.Groups.{group_padded}
+use Rattle.sha_lanes.proofs.Hash64.{hash_more}
+use Rattle.sha_lanes.proofs.OneMessage.{schedule_at64}
+use Rattle.sha_lanes.proofs.words64.one_message.take_blocks.Goals.{in-Some, in-None}
+use Rattle.sha_lanes.proofs.words64.one_message.take_blocks.Goals as goal
+
+pub loop-j-init : goal.loop-j-init
+loop-j-init c h is = is ∙ ap (S512.hash_after h (S512.padded_message (c.args.first.now ++ c.args.second.now ++ c.args.third.now))) (omega arith)
+
+pub loop-j-preserved : goal.loop-j-preserved
+loop-j-preserved c h is =
+    let first = c.args.first.now in
+    let second = c.args.second.now in
+    let third = c.args.third.now in
+    let m = first ++ second ++ third in
+    let p = S512.padded_message m in
+    let k = c.args.k in
+    let j = c.loop-j.j in
+    let kw = c.add_constants.new.kw in
+    let block = take 128 (drop ((k + j) * 128) p) in
+    let below : j < 4 = omega arith in
+    let inside : k + j < block_count (length first + length second + length third) = omega arith in
+    let words : lane c.match-group_in.w j ≡ S512.schedule block 64 = elim c.match-group_in.branch [
+      | in-Some s ↦
+          let found = s.in-Some.ensures.bytes in
+          ap (λ z. lane z j) s.w-is
+          ∙ schedule_at64 first second third k j _ below inside (group_padded _ m _ (k * 128) found.2 found.0 found.1)
+          found.0 (s.schedules_of.ensures j below)
+      | in-None s ↦
+          ap (λ z. lane z j) s.w-is
+          ∙ schedule_at64 first second third k j s.padded_row.result below inside s.padded_row.ensures (search rules)
+          (s.schedules_of-in-None.ensures j below)
+    ] in
+    hash_more h p (k + j) (c.loop-j.invariant h is) refl
+    (c.compress.ensures block (subst (AddsConstants kw j) words (c.add_constants.ensures j below)))
+    ∙ ap (S512.hash_after h p) (omega arith)
+
+pub returns : goal.returns
+returns c h is =
+    let end : c.loop-j.j ≡ c.args.count = omega arith in
+    c.loop-j.invariant h is ∙ ap (λ z. S512.hash_after h (S512.padded_message (c.args.first.now ++ c.args.second.now ++ c.args.third.now)) (c.args.k + z)) end

@@ -1,0 +1,11 @@
+use Rattle.std.proofs.Common.{◌≡◌, ℕ, ◌+◌, ◌*◌, ◌<◌, ◌≤◌, length, take, drop}
+use Rattle.sha_lanes.specs.Lanes.{message_of}
+use Rattle.sha_lanes.specs.Words64.{padded_row}
+use Rattle.sha_lanes.proofs.words64.padding.padded_rows.Given as goal
+
+abbrev pub invariant-loop-j : goal.invariant-loop-j
+invariant-loop-j l = record {
+  long : length l.rows ≡ 512;
+  written : (i : ℕ) → i < l.j → i * l.len + l.len ≤ length l.parts
+      → take 128 (drop (i * 128) l.rows) ≡ padded_row (message_of l.before l.parts l.len l.after i) l.at;
+}

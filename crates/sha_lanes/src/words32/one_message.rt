@@ -1,0 +1,85 @@
+//! The digest of one message alone. Schedules don't depend on the hash value: those of eight consecutive blocks are made
+//! side by side, one in each lane, and then the rounds of one block after another.
+ghost use Rattle.std.specs.Prelude.{◌≡◌, ℕ, ◌+◌, ◌<◌, ◌≤◌, ◌++◌, List, length};
+ghost use Rattle.sha2.specs.Sha256 as S256;
+ghost use Rattle.sha_lanes.specs.Words32.{block_count};
+
+use crate::rows::{GROUP, group_in};
+use crate::words32::hash_values::{INITIAL_HASH_224, INITIAL_HASH_256, hash_bytes, leftmost_224};
+use crate::words32::padding::{block_count, padded_row};
+use crate::words32::plain_rounds::{add_constants, compress};
+use crate::words32::schedule::schedules_of;
+use std::simd::prelude::*;
+
+/// Takes `count` blocks of a padded message, from block `k` on, into the hash value. What stood in `w` and `kw` doesn't
+/// count.
+fn take_blocks(
+    state: &mut [u32; 8],
+    w: &mut [u32x8; 64],
+    kw: &mut [[u32; 8]; 64],
+    first: &[u8],
+    second: &[u8],
+    third: &[u8],
+    k: usize,
+    count: usize,
+)
+    requires some { 0 < count }
+    requires most { count ≤ 8 }
+    requires inside { k + count ≤ block_count (length first.now + length second.now + length third.now) }
+    ensures { (h : List ℕ) → state.old ≡ S256.hash_after h (S256.padded_message (first.now ++ second.now ++ third.now)) k
+        → state.new ≡ S256.hash_after h (S256.padded_message (first.now ++ second.now ++ third.now)) (k + count) }
+{
+    let at = k as u128 * 64;
+    match group_in(first, second, third, at) {
+        Some(blocks) => schedules_of(w, blocks),
+        None => schedules_of(w, &padded_row::<GROUP>(first, second, third, at)),
+    }
+    add_constants(kw, w);
+    for j in 0..count {
+        compress(state, kw, j);
+    }
+}
+
+/// Takes `state` from the initial hash value to that of a message.
+fn hash(state: &mut [u32; 8], first: &[u8], second: &[u8], third: &[u8])
+    ensures { state.new ≡ S256.final_hash state.old (first.now ++ second.now ++ third.now) }
+{
+    let mut w = [u32x8::splat(0); 64];
+    let mut kw = [[0; 8]; 64];
+    let n = first.len() as u128 + second.len() as u128 + third.len() as u128;
+    let blocks = block_count(n);
+    let groups = blocks / 8;
+    for group in 0..groups {
+        take_blocks(state, &mut w, &mut kw, first, second, third, 8 * group, 8);
+    }
+    if blocks % 8 > 0 {
+        take_blocks(
+            state,
+            &mut w,
+            &mut kw,
+            first,
+            second,
+            third,
+            8 * groups,
+            blocks % 8,
+        );
+    }
+}
+
+/// The SHA-256 digest (6.2) of one message, which is in three pieces.
+pub fn sha256_alone(first: &[u8], second: &[u8], third: &[u8]) -> [u8; 32]
+    ensures { result ≡ S256.sha256 (first.now ++ second.now ++ third.now) }
+{
+    let mut state = INITIAL_HASH_256;
+    hash(&mut state, first, second, third);
+    hash_bytes(&state)
+}
+
+/// The SHA-224 digest (6.3) of one message, which is in three pieces.
+pub fn sha224_alone(first: &[u8], second: &[u8], third: &[u8]) -> [u8; 28]
+    ensures { result ≡ S256.sha224 (first.now ++ second.now ++ third.now) }
+{
+    let mut state = INITIAL_HASH_224;
+    hash(&mut state, first, second, third);
+    leftmost_224(&hash_bytes(&state))
+}

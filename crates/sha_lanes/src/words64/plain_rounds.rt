@@ -1,0 +1,75 @@
+//! The rounds in plain words (FIPS 180-4, 6.4.2, steps 2 to 4), over one hash value. The words of the schedule, with the
+//! constants added, stand in a lane.
+ghost use Rattle.std.specs.Prelude.{◌≡◌, ℕ, ◌+◌, ◌<◌, ◌≤◌, List, [], ◌∷◌};
+ghost use Rattle.sha2.specs.Sha512 as S512;
+ghost use Rattle.sha_lanes.specs.Lanes.{lane};
+ghost use Rattle.sha_lanes.specs.Words64.{AddsConstants};
+
+use crate::words64::functions::add;
+use crate::words64::rounds::K;
+use std::simd::prelude::*;
+
+/// Sets `kw` to W t + K t of each lane, for all rounds.
+#[inline(always)]
+pub(crate) fn add_constants(kw: &mut [[u64; 4]; 80], w: &[u64x4; 80])
+    ensures { (j : ℕ) → j < 4 → AddsConstants kw.new j (lane w.now j) }
+{
+    for t in 0..80 {
+        kw[t] = add(w[t], u64x4::splat(K[t])).to_array();
+    }
+}
+
+/// One round (step 3): d + T₁, and T₁ + T₂. The other variables only take new names.
+#[inline(always)]
+fn round(a: u64, b: u64, c: u64, d: u64, e: u64, f: u64, g: u64, h: u64, kw: u64) -> (u64, u64)
+    ensures { (k w : ℕ) → kw ≡ S512.add64 w k → S512.round (a ∷ b ∷ c ∷ d ∷ e ∷ f ∷ g ∷ h ∷ []) k w
+        ≡ result.1 ∷ a ∷ b ∷ c ∷ result.0 ∷ e ∷ f ∷ g ∷ [] }
+{
+    let sigma1 = e.rotate_right(14) ^ e.rotate_right(18) ^ e.rotate_right(41);
+    let ch = (e & f) ^ (!e & g);
+    let t1 = h.wrapping_add(sigma1).wrapping_add(ch).wrapping_add(kw);
+    let sigma0 = a.rotate_right(28) ^ a.rotate_right(34) ^ a.rotate_right(39);
+    let maj = (a & b) ^ (a & c) ^ (b & c);
+    let t2 = sigma0.wrapping_add(maj);
+    (d.wrapping_add(t1), t1.wrapping_add(t2))
+}
+
+/// Eight rounds with the words in lane `j`, after which each variable has its first name again.
+#[inline(always)]
+fn eight_rounds(kw: &[[u64; 4]; 80], j: usize, t: usize, v: &mut [u64; 8])
+    requires lane { j < 4 }
+    requires inside { t + 8 ≤ 80 }
+    ensures { (w s : List ℕ) → AddsConstants kw.now j w → v.old ≡ S512.rounds s w t → v.new ≡ S512.rounds s w (t + 8) }
+{
+    let [a, b, c, d, e, f, g, h] = *v;
+    let (d, h) = round(a, b, c, d, e, f, g, h, kw[t][j]);
+    let (c, g) = round(h, a, b, c, d, e, f, g, kw[t + 1][j]);
+    let (b, f) = round(g, h, a, b, c, d, e, f, kw[t + 2][j]);
+    let (a, e) = round(f, g, h, a, b, c, d, e, kw[t + 3][j]);
+    let (h, d) = round(e, f, g, h, a, b, c, d, kw[t + 4][j]);
+    let (g, c) = round(d, e, f, g, h, a, b, c, kw[t + 5][j]);
+    let (f, b) = round(c, d, e, f, g, h, a, b, kw[t + 6][j]);
+    let (e, a) = round(b, c, d, e, f, g, h, a, kw[t + 7][j]);
+    *v = [a, b, c, d, e, f, g, h];
+}
+
+/// The hash value after one more block, whose schedule stands in lane `j`.
+pub(crate) fn compress(state: &mut [u64; 8], kw: &[[u64; 4]; 80], j: usize)
+    requires { j < 4 }
+    ensures { (b : List ℕ) → AddsConstants kw.now j (S512.schedule b 64) → state.new ≡ S512.compress state.old b }
+{
+    let mut v = *state;
+    for turn in 0..10 {
+        eight_rounds(kw, j, 8 * turn, &mut v);
+    }
+    *state = [
+        state[0].wrapping_add(v[0]),
+        state[1].wrapping_add(v[1]),
+        state[2].wrapping_add(v[2]),
+        state[3].wrapping_add(v[3]),
+        state[4].wrapping_add(v[4]),
+        state[5].wrapping_add(v[5]),
+        state[6].wrapping_add(v[6]),
+        state[7].wrapping_add(v[7]),
+    ];
+}

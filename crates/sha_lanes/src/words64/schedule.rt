@@ -1,0 +1,100 @@
+//! A block's words (FIPS 180-4, 5.2.2) and the message schedule (6.4.2, step 1).
+ghost use Rattle.std.specs.Prelude.{◌≡◌, ℕ, ◌+◌, ◌*◌, ◌<◌, ◌≤◌, List, length, take, drop, slice_index};
+ghost use Rattle.sha2.specs.Sha512 as S512;
+ghost use Rattle.sha_lanes.specs.Lanes.{HasLanes, lane};
+ghost use Rattle.sha_lanes.specs.Words64.{BeginsSchedule};
+
+use crate::rows::{are_zeros, places_of};
+use crate::words64::functions::{small_sigma0, small_sigma1};
+use std::simd::prelude::*;
+
+/// The word at byte `i`.
+#[inline(always)]
+fn word_at(bytes: &[u8], i: usize) -> u64
+    requires { i + 8 ≤ length bytes.now }
+    ensures { result ≡ S512.word_at bytes.now i }
+{
+    u64::from_be_bytes([
+        bytes[i],
+        bytes[i + 1],
+        bytes[i + 2],
+        bytes[i + 3],
+        bytes[i + 4],
+        bytes[i + 5],
+        bytes[i + 6],
+        bytes[i + 7],
+    ])
+}
+
+/// The word at byte `i` of each lane's part.
+#[inline(always)]
+fn words_at(parts: &[u8], places: &[usize; 8], i: usize) -> u64x4
+    requires { (j : ℕ) → j < 4 → slice_index places.now j + i + 8 ≤ length parts.now }
+    ensures { HasLanes 4 result (λ j. S512.word_at parts.now (slice_index places.now j + i)) }
+{
+    u64x4::from_array([
+        word_at(parts, places[0] + i),
+        word_at(parts, places[1] + i),
+        word_at(parts, places[2] + i),
+        word_at(parts, places[3] + i),
+    ])
+}
+
+/// Sets the first 16 words of the schedule to those of the block at byte `from` of each part. In lanes without a
+/// message they are meaningless.
+#[inline(always)]
+pub(crate) fn load(w: &mut [u64x4; 80], parts: &[u8], len: usize, from: usize)
+    requires some { len ≤ length parts.now }
+    requires inside { from + 128 ≤ len }
+    ensures { (j : ℕ) → j < 4 → j * len + len ≤ length parts.now
+        → BeginsSchedule w.new j (take 128 (drop (j * len + from) parts.now)) }
+{
+    let places = places_of(parts.len(), len);
+    for t in 0..16 {
+        w[t] = words_at(parts, &places, from + 8 * t);
+    }
+}
+
+/// Sets the first 16 words of the schedule to those of a block that is the same in each lane.
+#[inline(always)]
+pub(crate) fn load_same(w: &mut [u64x4; 80], block: &[u8; 128])
+    ensures { (j : ℕ) → j < 4 → BeginsSchedule w.new j block.now }
+{
+    for t in 0..16 {
+        w[t] = u64x4::splat(word_at(block, 8 * t));
+    }
+}
+
+/// W t from the words before it: of t - 2, t - 7, t - 15 and t - 16.
+#[inline(always)]
+fn next_word(w2: u64x4, w7: u64x4, w15: u64x4, w16: u64x4) -> u64x4
+    ensures { HasLanes 4 result (λ j. S512.add64 (S512.add64 (S512.add64
+        (S512.small_sigma1 (slice_index w2 j)) (slice_index w7 j)) (S512.small_sigma0 (slice_index w15 j))) (slice_index w16 j)) }
+{
+    small_sigma1(w2) + w7 + small_sigma0(w15) + w16
+}
+
+/// Makes the whole schedule from its first 16 words.
+#[inline(always)]
+pub(crate) fn schedule(w: &mut [u64x4; 80])
+    ensures { (j : ℕ) → j < 4 → (b : List ℕ) → BeginsSchedule w.old j b → lane w.new j ≡ S512.schedule b 64 }
+{
+    for t in 16..80 {
+        w[t] = next_word(w[t - 2], w[t - 7], w[t - 15], w[t - 16]);
+    }
+}
+
+/// The schedules of four consecutive blocks, one in each lane. If all are zeros, as after the end of a file that is
+/// shorter than its block, so are their schedules, and none is computed.
+#[inline(always)]
+pub(crate) fn schedules_of(w: &mut [u64x4; 80], blocks: &[u8])
+    requires { length blocks.now ≡ 512 }
+    ensures { (j : ℕ) → j < 4 → lane w.new j ≡ S512.schedule (take 128 (drop (j * 128) blocks.now)) 64 }
+{
+    if are_zeros(blocks) {
+        w.fill(u64x4::splat(0));
+    } else {
+        load(w, blocks, 128, 0);
+        schedule(w);
+    }
+}
