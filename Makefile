@@ -47,14 +47,14 @@ test:
 check: programs libraries
 	tests/all.sh --without-gate
 
-# The gate: every proof from nothing, the wrong bodies that the prover must refuse, the tests of the crates, and
-# the programs' stored runs.
+# The gate: every proof from nothing, the wrong bodies of crates/*/must-fail, which the prover must refuse, the tests of
+# the crates, and the programs' stored runs.
 gate:
 	tests/gate.sh
 
-# Tries each wrong body of crates/*/must-fail by itself; the gate tries those of a file together.
+# Each wrong body, of all crates or of one, must be refused in its own function for a contract that it doesn't meet.
 wrong-bodies:
-	tests/wrong_bodies.sh
+	tests/wrong_bodies.sh $(CRATE)
 
 # Runs the programs as a user would. Needs no other tool.
 check-programs: programs
@@ -119,7 +119,7 @@ help:
 	@echo 'make test            40 minutes    all tests: gate, the programs as a user runs them, documents, comparisons'
 	@echo 'make check           5 minutes +   all tests but the gate'
 	@echo 'make gate            35 minutes    every proof from nothing, wrong bodies that must be refused, tests of the crates'
-	@echo 'make wrong-bodies    30 minutes    tries each wrong body by itself'
+	@echo 'make wrong-bodies    an hour       sees each wrong body refused in its own function [CRATE]'
 	@echo 'make check-programs  30 seconds +  runs the programs as a user would'
 	@echo 'make check-library   5 minutes +   calls the library from C, and runs its examples'
 	@echo 'make out-of-memory   7 minutes +   refuses each request for memory in turn'

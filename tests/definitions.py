@@ -16,7 +16,7 @@ TOP = os.path.join(os.path.dirname(os.path.abspath(__file__)), "..", "crates")
 CLAUSES = [
     ("veritysetup/src/runs/format.rt", "formatted"),
     ("veritysetup/src/runs/verify.rt", "verified"),
-    ("fsverity/src/runs/digest.rt", "lines"),
+    ("fsverity/src/runs/digest.rt", "printed"),
 ]
 IMPORT = re.compile(r"^(?:pub )?(?:ghost )?use (Rattle\.[A-Za-z0-9_.]+?)(?:\.\{([^}]*)\})?(?: as ([A-Za-z_0-9]+))?;?$")
 HEAD = re.compile(r"^(?:unfoldable |abbrev )?(?:pub )?(?:record |data )?([A-Za-z_][A-Za-z0-9_]*)\b")

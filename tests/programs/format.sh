@@ -149,6 +149,17 @@ one_file() {
     same_bytes 'one file: made again with all blocks: it stays' "$scratch/expected" "$both"
 }
 
+# A new hash file may be read and written by everybody but for what the umask takes.
+permissions() {
+    local mask
+    for mask in 000 022 077; do
+        rm -f "$hash"
+        runs "a new hash file with a umask of $mask" 0 "$(report "$hash" 512 512 17 - "$root")" '' bash -c \
+            'umask "$1"; shift; exec "$@"' - "$mask" "$veritysetup" format "${image_17_options[@]}" "$data" "$hash"
+        same "a new hash file with a umask of $mask: permissions" "$(printf %o $((0666 & ~0$mask)))" "$(stat -c %a "$hash")"
+    done
+}
+
 # If the report can't be written the image is whole all the same.
 outputs() {
     local unwritten='Cannot write output.'
@@ -186,6 +197,7 @@ areas
 one_file
 short_data
 files
+permissions
 outputs
 memory
 finish

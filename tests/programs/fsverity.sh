@@ -55,6 +55,26 @@ sha256:$none $scratch/first" '' "$fsverity" digest "$scratch/first" "$scratch/se
         "$fsverity" digest "$scratch/first" "$scratch/missing" "$scratch/second"
 }
 
+# Many names of an empty file, but no more than a command line may have: each has its line, in order.
+many_names() {
+    local none count names status=0
+    none=$(digest "$(printf '%064d' 0)" 0)
+    : >"$scratch/z"
+    # A name takes four bytes at most, with the byte at its end, and eight more.
+    count=$((($(getconf ARG_MAX) - $(env | wc -c) - 65536) / 12))
+    if [ "$count" -gt 20000 ]; then count=20000; fi
+    awk -v count="$count" 'BEGIN { for (i = 1; i <= count; i++) print i % 7 == 0 ? "./z" : "z" }' >"$scratch/names"
+    sed "s/^/sha256:$none /" "$scratch/names" >"$scratch/expected"
+    mapfile -t names <"$scratch/names"
+    fsverity=$(realpath "$fsverity")
+    (cd "$scratch" && exec "$fsverity" digest "${names[@]}") >"$scratch/out" 2>"$scratch/err" || status=$?
+    same "$count names: status" 0 "$status"
+    same "$count names: lines" "$count" "$(wc -l <"$scratch/out")"
+    same "$count names: the last line" "$(tail -n 1 "$scratch/expected")" "$(tail -n 1 "$scratch/out")"
+    same_bytes "$count names" "$scratch/expected" "$scratch/out"
+    is_text "$count names: messages" '' "$scratch/err"
+}
+
 files_that_fail() {
     local folder=$scratch/folder
     mkdir "$folder"
@@ -114,6 +134,21 @@ output_files() {
     same_bytes 'the descriptor of an empty file' "$scratch/descriptor" "$scratch/made"
     runs 'the null device for both output files' 0 "$line" '' \
         "$fsverity" digest --out-merkle-tree /dev/null --out-descriptor /dev/null "$file"
+}
+
+# New output files may be read and written by everybody but for what the umask takes.
+permissions() {
+    local file=$scratch/two mask name
+    sample 4097 >"$file"
+    for mask in 000 022 077; do
+        rm -f "$scratch/new_tree" "$scratch/new_descriptor"
+        runs "output files with a umask of $mask" 0 "sha256:$(digest "$(root "$file")" 4097) $file" '' bash -c \
+            'umask "$1"; shift; exec "$@"' - "$mask" \
+            "$fsverity" digest --out-merkle-tree "$scratch/new_tree" --out-descriptor "$scratch/new_descriptor" "$file"
+        for name in new_tree new_descriptor; do
+            same "$name with a umask of $mask" "$(printf %o $((0666 & ~0$mask)))" "$(stat -c %a "$scratch/$name")"
+        done
+    done
 }
 
 # An output file that fails ends the run: nothing that comes later is written.
@@ -204,10 +239,12 @@ named_twice() {
 files
 stated_digests
 several_files
+many_names
 files_that_fail
 outputs
 memory
 output_files
+permissions
 output_files_that_fail
 named_twice
 empty_files

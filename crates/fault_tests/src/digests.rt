@@ -189,6 +189,7 @@ impl Scene {
         write!(self.words, " {name}")?;
         self.files.push((name, data(self.alloc, file.length)?))?;
         self.measures(name)?;
+        self.asks_for_folders(outputs)?;
         if outputs.0 {
             self.empties("tree", " --out-merkle-tree tree")?;
         }
@@ -200,6 +201,17 @@ impl Scene {
         } else {
             Pass::Digest(name)
         })
+    }
+
+    /// The system is asked of each output file that is wanted whether it is a folder.
+    fn asks_for_folders(&mut self, outputs: Outputs) -> Result<(), AllocError> {
+        if outputs.0 {
+            self.asks(Call::Metadata)?;
+        }
+        if outputs.1 {
+            self.asks(Call::Metadata)?;
+        }
+        Ok(())
     }
 
     /// The output file of an option is opened and emptied.

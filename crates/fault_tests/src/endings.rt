@@ -27,7 +27,14 @@ pub const STEADY: Trial = Trial {
 };
 
 /// The kinds of calls, in the order of `Call`.
-pub const CALLS: [Call; 5] = [Call::Open, Call::Read, Call::Write, Call::Seek, Call::Sync];
+pub const CALLS: [Call; 6] = [
+    Call::Open,
+    Call::Read,
+    Call::Write,
+    Call::Seek,
+    Call::Sync,
+    Call::Metadata,
+];
 
 /// How a run ends.
 #[derive(Drop)]
@@ -36,7 +43,7 @@ pub struct Ending {
     /// The files after the run.
     pub files: Files,
     /// How often each of `CALLS` was made.
-    pub calls: [u64; 5],
+    pub calls: [u64; 6],
 }
 
 /// The first bytes, up to what there is room for.
@@ -74,6 +81,10 @@ impl Ending {
                 self.print(text.as_bytes(), trial.room)?,
                 program.unwritten(),
             ),
+            Step::Asks(call) => {
+                let _number = self.count(*call);
+                (true, b"".as_slice())
+            }
             Step::Calls(call, message, effect) => {
                 let goes_on = trial.failing != (*call, self.count(*call));
                 if goes_on {
@@ -91,25 +102,24 @@ impl Ending {
         Ok(goes_on)
     }
 
-    /// The first difference from how a run ended. Each call must be made just as often, or each but openings and seeks.
-    pub fn differs(&self, found: &Ending, with_all_calls: bool) -> Option<&'static str> {
+    /// The first difference from how a run ended. Each call must be made just as often, or each but these.
+    pub fn differs(&self, found: &Ending, but: &[Call]) -> Option<&'static str> {
         let Said { status, out, msgs } = &self.said;
         if let Some(what) = found.said.differs(*status, out.as_slice(), msgs.as_slice()) {
             Some(what)
         } else if self.files != found.files {
             Some("the files")
-        } else if !self.has_calls_of(found, with_all_calls) {
+        } else if !self.has_calls_of(found, but) {
             Some("the number of calls")
         } else {
             None
         }
     }
 
-    /// Whether each call is made just as often, or each but openings and seeks.
-    fn has_calls_of(&self, found: &Ending, with_all_calls: bool) -> bool {
+    /// Whether each call is made just as often, or each but these.
+    fn has_calls_of(&self, found: &Ending, but: &[Call]) -> bool {
         for ((kind, one), other) in CALLS.iter().zip(self.calls.iter()).zip(found.calls.iter()) {
-            let may_differ = !with_all_calls && matches!(kind, Call::Open | Call::Seek);
-            if one != other && !may_differ {
+            if one != other && !but.contains(kind) {
                 return false;
             }
         }
@@ -132,7 +142,7 @@ impl Scene {
         Ok(Ending {
             said,
             files,
-            calls: [0; 5],
+            calls: [0; 6],
         })
     }
 

@@ -93,7 +93,7 @@ impl Setup {
         }
     }
 
-    /// Format: the data is read once, each hash block is written as it closes, then the superblock, then the report is
+    /// Format: the system is asked whether HASH is there, the data is read once, each hash block is written as it closes, then the superblock, then the report is
     /// printed, and the system is asked to sync all of it, and the folder of a new file if that can be opened.
     pub fn format(&self, alloc: Global) -> Result<Scene, AllocError> {
         let mut scene = Scene::new(alloc, Program::Veritysetup, self.words_of_format(alloc)?)?;
@@ -115,6 +115,7 @@ impl Setup {
     /// The steps of format.
     fn formats(&self, scene: &mut Scene) -> Result<(), AllocError> {
         scene.measures("data")?;
+        scene.asks(Call::Metadata)?;
         scene.opens(HASH, Effect::Made(HASH))?;
         self.writes(scene)?;
         scene.calls(Call::Sync, "Cannot write hash.img.\n", Effect::Nothing)?;
@@ -191,7 +192,7 @@ impl Setup {
     /// The steps of verify.
     fn verifies(&self, scene: &mut Scene, tree: &Tree) -> Result<(), AllocError> {
         scene.measures("data")?;
-        scene.opens(HASH, Effect::Nothing)?;
+        scene.opens_to_read(HASH)?;
         if self.superblock.is_some() {
             scene.reads_superblock()?;
         }
@@ -203,7 +204,7 @@ impl Setup {
         let offset = self.superblock.unwrap_or(0);
         let words = format!(in alloc; "veritysetup dump --hash-offset {offset} hash.img")?;
         let mut scene = self.over_made(alloc, words)?;
-        scene.opens(HASH, Effect::Nothing)?;
+        scene.opens_to_read(HASH)?;
         scene.reads_superblock()?;
         scene.prints(self.report(alloc, None)?)?;
         Ok(scene)

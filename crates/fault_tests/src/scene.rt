@@ -72,6 +72,12 @@ impl Scene {
         Ok(())
     }
 
+    /// One more call, after which the run goes on in any case.
+    pub fn asks(&mut self, call: Call) -> Result<(), AllocError> {
+        self.steps.push(Step::Asks(call))?;
+        Ok(())
+    }
+
     /// More calls, which have one message and leave nothing.
     pub fn calls_all(&mut self, calls: &[Call], message: &str) -> Result<(), AllocError> {
         for call in calls {
@@ -93,9 +99,17 @@ impl Scene {
         Ok(())
     }
 
-    /// A file is opened, and its length is found by a seek to its end, from which the run goes back to its start.
-    pub fn measures(&mut self, name: &str) -> Result<(), AllocError> {
+    /// A file is opened to be read, if the system says that it is no folder.
+    pub fn opens_to_read(&mut self, name: &str) -> Result<(), AllocError> {
         let message = self.program.unopened(self.alloc, name)?;
-        self.calls_all(&[Call::Open, Call::Seek, Call::Seek], message.as_str())
+        self.calls_all(&[Call::Open, Call::Metadata], message.as_str())
+    }
+
+    /// A file is opened to be read, and its length is found by a seek to its end, from which the run goes back to its
+    /// start.
+    pub fn measures(&mut self, name: &str) -> Result<(), AllocError> {
+        self.opens_to_read(name)?;
+        let message = self.program.unopened(self.alloc, name)?;
+        self.calls_all(&[Call::Seek, Call::Seek], message.as_str())
     }
 }

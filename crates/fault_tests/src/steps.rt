@@ -22,6 +22,8 @@ pub enum Step {
     /// A call of a file, the message if it fails, and what it leaves. Without a message the run still ends there if the
     /// call fails, but with status 0.
     Calls(Call, String, Effect),
+    /// A call after which the run goes on, whether it fails or not.
+    Asks(Call),
     /// A text is printed.
     Prints(String),
 }

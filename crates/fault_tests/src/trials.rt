@@ -25,12 +25,23 @@ fn files_on(alloc: Global, disk: &Disk, names: &Files) -> io::Result<Files> {
 }
 
 /// How often each of `CALLS` was made over a disk.
-fn calls_on(disk: &Disk) -> io::Result<[u64; 5]> {
-    let mut calls = [0; 5];
+fn calls_on(disk: &Disk) -> io::Result<[u64; 6]> {
+    let mut calls = [0; 6];
     for (kind, made) in CALLS.iter().zip(calls.iter_mut()) {
         *made = disk.calls(*kind)?;
     }
     Ok(calls)
+}
+
+/// The calls that may be made more or less often if a call of this kind fails: if the null device can't be opened, the
+/// root folder is tried; a seek that fails may be the end of a file; and if the system doesn't say that HASH is there,
+/// its folder is synced.
+fn calls_after(call: Call) -> &'static [Call] {
+    match call {
+        Call::Open | Call::Seek => &[Call::Open, Call::Seek],
+        Call::Metadata => &[Call::Open, Call::Sync],
+        Call::Read | Call::Write | Call::Sync => &[],
+    }
 }
 
 /// Adds the trials in which a call of this kind fails, from the first up to this one.
@@ -108,10 +119,9 @@ impl Scene {
             calls: calls_on(&disk)?,
         };
         let expected = self.ending(trial)?;
-        // If the null device can't be opened, the root folder is tried, and a seek that fails may be the end.
         let made = whole.calls.get(call as usize).copied().unwrap_or(0);
-        let may_go_on = matches!(call, Call::Open | Call::Seek) && (1..=made).contains(&number);
-        Ok(expected.differs(&found, !may_go_on))
+        let fails = (1..=made).contains(&number);
+        Ok(expected.differs(&found, if fails { calls_after(call) } else { &[] }))
     }
 
     /// All trials: each call of a kind fails in turn, and then one more than there are, so that nothing fails; the

@@ -1,16 +1,16 @@
 -- A run over files, file after file.
-use Rattle.std.proofs.Common.{◌≡◌, ℕ, zero, suc, ◌+◌, ◌<◌, ◌≤◌, List, [], ◌∷◌, length, take, Bool, true, false, inl, inr, Option, Some, None, Result, Ok, Err, refl, ap, sym, subst, not, arith}
-use Rattle.std.specs.Prelude.{◌↔◌, IsErr, slice_get}
+use Rattle.std.proofs.Common.{◌≡◌, ◌≢◌, ℕ, zero, suc, ◌+◌, ◌<◌, ◌≤◌, List, [], ◌∷◌, ◌++◌, length, take, Bool, true, false, inl, inr, Option, Some, None, Result, Ok, Err, refl, ap, sym, subst, ◌∙◌, not, add-one, append-nil, arith}
+use Rattle.std.specs.Prelude.{◌↔◌, IsErr, IsErrAnd, slice_get}
 use Rattle.std.proofs.lemmas.Option.{get_or_from_slice_get}
-use Rattle.std.specs.List.{zip, prefix_len}
-use Rattle.std.specs.Io.KnownBytes.{Appends}
-use Rattle.command_line.proofs.Prefixes.{appends_nothing, pieces_more}
+use Rattle.std.specs.List.{prefix_len}
+use Rattle.std.specs.Io.KnownBytes.{Appends, Keeps}
 use Rattle.verity_format.proofs.KnownLemmas.{appends_twice}
 use Rattle.verity_plan.specs.Settings.{Settings}
+use Rattle.fsverity.proofs.FormLemmas.{Keeps-same}
 use Rattle.fsverity.specs.Texts.Lines.{line}
 use Rattle.fsverity.specs.Openers.Opening.{OpenerChange}
-use Rattle.fsverity.specs.Runs.Digest.{HasReason, IsLargeAt, DigestInput, IsWrittenPrefix, WritesUpTo, file_line, has_digest, lines, first_without_digest}
-use Rattle.fsverity.specs.Runs.DigestSteps.{HasDigestAt, Step, StopsStep, WritesLine, WritesPrefix, WritesStep}
+use Rattle.fsverity.specs.Runs.Digest.{AreLines, DigestInput, HasReason, IsDigestAt, IsLargeAt, IsPartOfLine, first_without_digest, has_digest, line_at}
+use Rattle.fsverity.specs.Runs.DigestSteps.{HasDigestAt, StopsStep, WritesStep}
 use Rattle.fsverity.specs.declared.runs.digest_fault.DigestFault.TheVariants.{TooLarge, SourceShort, SourceFailed, DeviceFailed, Memory}
 use Rattle.fsverity.specs.declared.runs.run_fault.RunFault.{RunFault}
 use Rattle.fsverity.specs.declared.runs.run_fault.RunFault.TheVariants.{NotOpened, Digest, NotWritten}
@@ -45,74 +45,81 @@ passes_to p (y ∷ ys) (suc i) x is fails le = go (passes_to p ys i x is fails) 
         rw e (omega (arith, same))
     go next false e = let none : suc i ≤ 0 = rw e at le in absurd (omega (arith, none))
 
--- the pair of an index
-zip_at : {A B : Type 0} (xs : List A) (ys : List B) (i : ℕ) (x : A) (y : B) → slice_get xs i ≡ Some x
-    → slice_get ys i ≡ Some y →
-    slice_get (zip xs ys) i ≡ Some (x, y)
-zip_at [] ys i x y is is' = absurd cc
-zip_at (a ∷ xs) [] i x y is is' = absurd cc
-zip_at (a ∷ xs) (b ∷ ys) zero x y is is' =
-    let one : a ≡ x = cc in
-    let two : b ≡ y = cc in
-    rw (one, two) refl
-zip_at (a ∷ xs) (b ∷ ys) (suc i) x y is is' = zip_at xs ys i x y is is'
-
--- there is an element of each index
-element_at : {A : Type 0} (xs : List A) (i : ℕ) → i < length xs → (x : A) × (slice_get xs i ≡ Some x)
-element_at [] i below = absurd (omega arith)
-element_at (x ∷ xs) zero below = (x, refl)
-element_at (x ∷ xs) (suc i) below = element_at xs i (omega arith)
-
--- nothing of a line may be written, whatever ended the run
-stands_nothing : (whole : List ℕ) (fault : RunFault) → IsWrittenPrefix whole [] fault
-stands_nothing whole NotOpened = refl
-stands_nothing whole (Digest fault) = refl
-stands_nothing whole NotWritten = (0, refl)
+-- nothing was added
+appends_kept : (before after : Option (List ℕ)) → Keeps before after → Appends before after []
+appends_kept None after kept = tt
+appends_kept (Some xs) None kept = absurd kept
+appends_kept (Some xs) (Some ys) kept = kept ∙ sym (append-nil xs)
 
 -- a step that stopped before its line was made
-pub wrote_nothing : (step : Step) (result : Result (Unit {0}) RunFault) (held : Option (List ℕ))
-    → step.index < length step.files →
-    IsErr result → WritesStep step result held held
-wrote_nothing step (Ok done) held below err = cc
-wrote_nothing step (Err fault) held below err =
-    let file = element_at step.files step.index below in
-    record {
-      file = file.0;
-      is = file.1;
-      prefix = [];
-      stands = stands_nothing (file_line step.settings step.form step.name file.0) fault;
-      written = appends_nothing held;
-    }
+pub wrote_nothing : (s : Settings) (line_of : List ℕ → List ℕ) (told : Type 0) (files : List (Option (List ℕ))) (i : ℕ)
+    (fault : RunFault) (result : Result (Unit {0}) RunFault) (held : Option (List ℕ)) → fault ≢ NotWritten →
+    IsErr result → IsErrAnd result (λ f. f ≡ fault) → WritesStep s line_of told files i result held held
+wrote_nothing s line_of told files i fault (Ok done) held other err same = cc
+wrote_nothing s line_of told files i fault (Err NotOpened) held other err same = Keeps-same held
+wrote_nothing s line_of told files i fault (Err (Digest cause)) held other err same = Keeps-same held
+wrote_nothing s line_of told files i fault (Err NotWritten) held other err same = absurd (other (sym same))
+
+-- a digest at an index of the same files, which are still told if they were at first
+same_digest : (s : Settings) (told told' : Type 0) (files files' : List (Option (List ℕ))) (i i' : ℕ) (digest : List ℕ)
+    → (told → told') → files' ≡ files → i' ≡ i → IsDigestAt s told' files' i' digest → IsDigestAt s told files i digest
+same_digest s told told' files files' i i' digest still same index is = record {
+  size = is.size;
+  fits = is.fits;
+  root = is.root;
+  root_length = is.root_length;
+  digest_is = is.digest_is;
+  of_file = λ t. rw (same, index) at (is.of_file (still t));
+}
+
+-- the line of a name
+line_named : (run : DigestInput) (i : ℕ) (name digest : List ℕ) → slice_get run.names i ≡ Some name →
+    line_at run i digest ≡ line run.form run.settings.algorithm digest name
+line_named run i name digest named =
+    ap (λ n. line run.form run.settings.algorithm digest n) (get_or_from_slice_get run.names i name [] named)
 
 -- one more line
-pub line_more : (run : DigestInput) (files : List (Option (List ℕ))) (i : ℕ) (name : List ℕ)
-    (old mid new : Option (List ℕ)) → slice_get run.names i ≡ Some name →
-    Appends old mid (lines run.settings run.form (take i (zip run.names files))) →
-    WritesLine (record { settings = run.settings; form = run.form; name = name; files = files; index = i }) mid new →
-    Appends old new (lines run.settings run.form (take (i + 1) (zip run.names files)))
-line_more run files i name old mid new named so_far line =
-    let pairs = zip run.names files in
-    let pair = zip_at run.names files i name line.file named line.is in
-    let whole = pieces_more (λ p. file_line run.settings run.form p.0 p.1) pairs i (name, line.file) pair in
-    subst (λ (t : List ℕ). Appends old new t) (sym whole)
-    (appends_twice old mid new (lines run.settings run.form (take i pairs)) (file_line run.settings run.form name line.file)
-    so_far line.written)
+pub line_more : (run : DigestInput) (told told' : Type 0) (files files' : List (Option (List ℕ))) (i i' : ℕ)
+    (name : List ℕ) (old mid new : Option (List ℕ)) → slice_get run.names i ≡ Some name →
+    (told → told') → files' ≡ files → i' ≡ i →
+    ((lines : List ℕ) × AreLines run told files i lines × Appends old mid lines) →
+    ((digest : List ℕ) × IsDigestAt run.settings told' files' i' digest
+    × Appends mid new (line run.form run.settings.algorithm digest name)) →
+    (lines : List ℕ) × AreLines run told files (i + 1) lines × Appends old new lines
+line_more run told told' files files' i i' name old mid new named still same index so_far step =
+    let whole : line_at run i step.0 ≡ line run.form run.settings.algorithm step.0 name
+    = line_named run i name step.0 named in
+    let digest : IsDigestAt run.settings told files i step.0
+    = same_digest run.settings told told' files files' i i' step.0 still same index step.1 in
+    let more : AreLines run told files (suc i) (so_far.0 ++ line_at run i step.0)
+    = (so_far.0, step.0, so_far.1, digest, refl) in
+    let added : Appends mid new (line_at run i step.0)
+    = subst (λ (text : List ℕ). Appends mid new text) (sym whole) step.2 in (
+      so_far.0 ++ line_at run i step.0,
+      rw add-one more,
+      appends_twice old mid new so_far.0 (line_at run i step.0) so_far.2 added,
+    )
 
--- the lines before a file that ends the run, and what is written of its own
-pub prefix_more : (run : DigestInput) (files : List (Option (List ℕ))) (i : ℕ) (fault : RunFault) (name : List ℕ)
-    (old mid new : Option (List ℕ)) → slice_get run.names i ≡ Some name →
-    Appends old mid (lines run.settings run.form (take i (zip run.names files))) →
-    WritesPrefix (record { settings = run.settings; form = run.form; name = name; files = files; index = i }) mid new
-    fault →
-    WritesUpTo run files i fault old new
-prefix_more run files i fault name old mid new named so_far prefix = record {
-  file = prefix.file;
-  is = prefix.is;
-  prefix = prefix.prefix;
-  stands = rw (get_or_from_slice_get run.names i name [] named) prefix.stands;
-  written = appends_twice old mid new (lines run.settings run.form (take i (zip run.names files))) prefix.prefix
-      so_far prefix.written;
-}
+-- what is written of the line of the file that ends the run
+pub part_of_line : (run : DigestInput) (told told' : Type 0) (files files' : List (Option (List ℕ))) (i i' : ℕ)
+    (name : List ℕ) (fault : RunFault) (mid new : Option (List ℕ)) → slice_get run.names i ≡ Some name →
+    (told → told') → files' ≡ files → i' ≡ i →
+    WritesStep run.settings (λ digest. line run.form run.settings.algorithm digest name) told' files' i' (Err fault)
+    mid new → (part : List ℕ) × IsPartOfLine run told files i fault part × Appends mid new part
+part_of_line run told told' files files' i i' name NotOpened mid new named still same index step =
+    ([], refl, appends_kept mid new step)
+part_of_line run told told' files files' i i' name (Digest cause) mid new named still same index step =
+    ([], refl, appends_kept mid new step)
+part_of_line run told told' files files' i i' name NotWritten mid new named still same index step =
+    let whole : line run.form run.settings.algorithm step.0 name ≡ line_at run i step.0
+    = sym (line_named run i name step.0 named) in
+    let digest : IsDigestAt run.settings told files i step.0
+    = same_digest run.settings told told' files files' i i' step.0 still same index step.1 in
+    let fewer : step.2 < length (line_at run i step.0)
+    = subst (λ (text : List ℕ). step.2 < length text) whole step.3 in
+    let added : Appends mid new (take step.2 (line_at run i step.0))
+    = subst (λ (text : List ℕ). Appends mid new (take step.2 text)) whole step.4 in
+    (take step.2 (line_at run i step.0), (step.0, digest, step.2, fewer, refl), added)
 
 -- a file that has a digest is before the first that has none, if no file before it is absent or too large
 before_first_without_digest : (s : Settings) (files : List (Option (List ℕ))) (f : ℕ) → HasDigestAt s files f → f ≤ first_without_digest s files →

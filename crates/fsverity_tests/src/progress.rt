@@ -37,7 +37,7 @@ fn written(alloc: Global, run: Run, step: Option<u64>) -> io::Result<(Vec<u8>, u
 }
 
 /// Runs, how many progress lines they show of how many MiB, and how their other output begins.
-const RUNS: [(Run, (u64, u64), &str); 8] = [
+const RUNS: [(Run, (u64, u64), &str); 9] = [
     (("fsverity digest small", 0, false), (0, 0), "sha256:"),
     (("fsverity digest long", 0, false), (16, 1), "sha256:"),
     (
@@ -61,6 +61,7 @@ const RUNS: [(Run, (u64, u64), &str); 8] = [
     ),
     (("fsverity digest two empty", 0, false), (0, 0), "sha256:"),
     (("fsverity digest large", 0, true), (4, 0), ""),
+    (("fsverity digest empty large", 0, true), (4, 0), ""),
     (
         ("fsverity digest large --out-descriptor made", 0, true),
         (4, 0),

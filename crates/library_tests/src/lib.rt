@@ -4,6 +4,8 @@
 #![tactic(auto)]
 
 #[cfg(test)]
+mod file_devices;
+#[cfg(test)]
 mod file_identity;
 #[cfg(test)]
 mod files;

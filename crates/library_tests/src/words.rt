@@ -1,6 +1,7 @@
 //! Words of the system, many and long, with ample memory.
-use command_line::{given_words, texts_of};
+use command_line::{WordsFault, given_words, texts_of};
 use memory_runtime::{Disk, MemoryRuntime};
+use std::alloc::{AllocError, Global};
 use std::test::Fail;
 
 #[test]
@@ -28,5 +29,74 @@ fn a_word_of_100000_bytes_is_given_whole(rt: HostRuntime) -> Result<(), Fail> {
     let texts = texts_of(alloc, given.as_slice())?;
     let expected = ["program", long.as_str(), "", "after"];
     assert_eq!(rt; texts.as_slice(), expected.as_slice());
+    Ok(())
+}
+
+/// Some numbered words.
+fn numbered(alloc: Global, count: usize) -> Result<Vec<String>, AllocError> {
+    let mut words = Vec::new(alloc);
+    for number in 0..count {
+        words.push(format!(in alloc; "word {number}")?)?;
+    }
+    Ok(words)
+}
+
+/// Words of each length from 0 on.
+fn of_each_length(alloc: Global, count: usize) -> Result<Vec<String>, AllocError> {
+    let mut words = Vec::new(alloc);
+    let mut word = String::new(alloc);
+    for length in 0..count {
+        words.push(String::from_str(alloc, word.as_str())?)?;
+        let digit = (length % 10) as u8;
+        word.push(char::from(b'0'.saturating_add(digit)))?;
+    }
+    Ok(words)
+}
+
+/// The words that are given of a command line of the program's name and these words.
+fn given<'a>(
+    alloc: Global,
+    disk: &'a Disk,
+    words: &'a [String],
+) -> Result<Vec<String>, WordsFault> {
+    let mut runtime = MemoryRuntime::new(alloc, disk, "program");
+    runtime.more_words = words;
+    given_words(&runtime)
+}
+
+/// The number of the first of these words that isn't given as it is after the program's name, or how many are given if
+/// more words are, or fewer.
+fn first_lost(alloc: Global, words: &[String]) -> Result<Option<usize>, Fail> {
+    let disk = Disk::new(alloc);
+    let given = given(alloc, &disk, words)?;
+    for (number, (word, other)) in words.iter().zip(given.iter().skip(1)).enumerate() {
+        if word != other {
+            return Ok(Some(number));
+        }
+    }
+    if given.len() == words.len().saturating_add(1) {
+        Ok(None)
+    } else {
+        Ok(Some(given.len()))
+    }
+}
+
+#[test]
+fn each_of_100000_words_is_given(rt: HostRuntime) -> Result<(), Fail> {
+    let alloc = rt.alloc();
+    let words = numbered(alloc, 100_000)?;
+    let found = (words.len(), first_lost(alloc, words.as_slice())?);
+    assert_eq!(rt; found, (100_000, None));
+    Ok(())
+}
+
+/// Among them words that fill 256, 512, 1024, 2048 and 4096 bytes.
+#[test]
+fn words_of_each_length_are_given_whole(rt: HostRuntime) -> Result<(), Fail> {
+    let alloc = rt.alloc();
+    let words = of_each_length(alloc, 4_100)?;
+    let longest = words.last().map(String::len);
+    let found = (longest, first_lost(alloc, words.as_slice())?);
+    assert_eq!(rt; found, (Some(4_099), None));
     Ok(())
 }

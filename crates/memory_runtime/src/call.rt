@@ -8,13 +8,15 @@ pub enum Call {
     Write,
     Seek,
     Sync,
+    /// What the system says of a path or of an opened file.
+    Metadata,
 }
 
 /// The calls of a disk and all its files.
 #[derive(Clone, Copy)]
 pub struct Calls {
     /// How often each was made, in the order of `Call`.
-    made: [u64; 5],
+    made: [u64; 6],
     /// The call that fails, and its number, counted from 1; 0 for none.
     pub failing: (Call, u64),
 }
@@ -22,7 +24,7 @@ pub struct Calls {
 impl Calls {
     /// None was made, and none fails.
     pub const NONE: Calls = Calls {
-        made: [0; 5],
+        made: [0; 6],
         failing: (Call::Open, 0),
     };
 

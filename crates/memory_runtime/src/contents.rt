@@ -6,6 +6,10 @@ use std::fs::OpenOptions;
 use std::io;
 use std::io::ErrorKind;
 
+/// How options end that ask for the usual permissions of a new file: reading and writing for everybody, 0666 in octal,
+/// from which the system takes what the umask forbids (open(2), umask(2)).
+const USUAL_MODE: &str = "mode: 438 }";
+
 /// A file without its names.
 #[derive(Drop)]
 pub struct Stored {
@@ -24,6 +28,14 @@ impl Stored {
         }
     }
 
+    /// The length that the system says without opening it: 0 of whatever is no file of a file system.
+    pub fn stated_length(&self) -> usize {
+        match self.kind {
+            Kind::Plain => self.bytes.len(),
+            Kind::Block | Kind::Character | Kind::Folder => 0,
+        }
+    }
+
     pub fn is_folder(&self) -> bool {
         matches!(self.kind, Kind::Folder)
     }
@@ -36,11 +48,23 @@ impl Stored {
     }
 }
 
+/// The number beside the last of some names that is this one.
+fn number_in(names: &Vec<(String, usize)>, name: &str) -> Option<usize> {
+    for (other, number) in names.iter().rev() {
+        if other.as_str() == name {
+            return Some(*number);
+        }
+    }
+    None
+}
+
 /// Files with their names, and the calls that were made.
 #[derive(Drop)]
 pub struct Contents {
-    /// A name, and the number of its file.
+    /// A name, and the number of its file. A name that stands here twice leads to the last.
     names: Vec<(String, usize)>,
+    /// A name, and two more: as soon as the first is opened, the second leads to the file of the third.
+    leads: Vec<(String, String, String)>,
     pub files: Vec<Stored>,
     /// What was opened, a line each.
     pub opened: String,
@@ -52,6 +76,8 @@ pub struct Contents {
     pub clock_reads: u64,
     /// How often the runtime was asked for the step of the progress line.
     pub looks: u64,
+    /// How many random bytes the runtime was asked for.
+    pub random_bytes: u64,
     pub calls: Calls,
 }
 
@@ -59,29 +85,54 @@ impl Contents {
     pub fn new(alloc: Global) -> Contents {
         Contents {
             names: Vec::new(alloc),
+            leads: Vec::new(alloc),
             files: Vec::new(alloc),
             opened: String::new(alloc),
             held: String::new(alloc),
             standard_error: Vec::new(alloc),
             clock_reads: 0,
             looks: 0,
+            random_bytes: 0,
             calls: Calls::NONE,
         }
     }
 
     /// The number of the file with this name.
     pub fn number_of(&self, name: &str) -> Option<usize> {
-        for (other, number) in &self.names {
-            if other.as_str() == name {
-                return Some(*number);
-            }
-        }
-        None
+        number_in(&self.names, name)
     }
 
     /// Gives a file one more name.
     pub fn link(&mut self, alloc: Global, name: &str, number: usize) -> Result<(), AllocError> {
         self.names.push((String::from_str(alloc, name)?, number))?;
+        Ok(())
+    }
+
+    /// Lets a name lead to the file of another as soon as a name is opened.
+    pub fn lead(
+        &mut self,
+        alloc: Global,
+        opened: &str,
+        name: &str,
+        other: &str,
+    ) -> Result<(), AllocError> {
+        let opened = String::from_str(alloc, opened)?;
+        let name = String::from_str(alloc, name)?;
+        self.leads
+            .push((opened, name, String::from_str(alloc, other)?))?;
+        Ok(())
+    }
+
+    /// Lets names lead elsewhere, as they do once this name is opened.
+    pub fn follow(&mut self, alloc: Global, opened: &str) -> Result<(), AllocError> {
+        for (first, name, other) in &self.leads {
+            if first.as_str() == opened
+                && let Some(number) = number_in(&self.names, other.as_str())
+            {
+                self.names
+                    .push((String::from_str(alloc, name.as_str())?, number))?;
+            }
+        }
         Ok(())
     }
 
@@ -107,7 +158,12 @@ impl Contents {
     }
 
     /// Records how a name was opened.
-    fn write_down(&mut self, how: &OpenOptions, name: &str) -> Result<(), AllocError> {
+    fn write_down(
+        &mut self,
+        alloc: Global,
+        how: &OpenOptions,
+        name: &str,
+    ) -> Result<(), AllocError> {
         self.opened.push_str(name)?;
         self.opened.push(':')?;
         for &(asked, word) in &[
@@ -122,13 +178,17 @@ impl Contents {
                 self.opened.push_str(word)?;
             }
         }
+        // The options show the permissions of a new file, but lend them to nobody.
+        if !format!(in alloc; "{how:?}")?.as_str().ends_with(USUAL_MODE) {
+            self.opened.push_str(" other_mode")?;
+        }
         self.opened.push('\n')
     }
 
     /// Opens a name: finds its file, or makes it if that is asked for, and empties it if that is. The answer is its
     /// number.
     pub fn open(&mut self, alloc: Global, how: &OpenOptions, name: &str) -> io::Result<usize> {
-        self.write_down(how, name)?;
+        self.write_down(alloc, how, name)?;
         if self.calls.fails(Call::Open) {
             return Err(io::Error::from(ErrorKind::PermissionDenied));
         }

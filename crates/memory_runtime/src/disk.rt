@@ -65,6 +65,11 @@ impl Disk {
         Ok(())
     }
 
+    /// From when a path is opened on, lets another path, or the same one, lead to the file that a third leads to then.
+    pub fn lead(&self, opened: &str, name: &str, other: &str) -> io::Result<()> {
+        Ok(self.contents()?.lead(self.alloc, opened, name, other)?)
+    }
+
     /// Makes the file of this name grow by these bytes as soon as it is read.
     pub fn grow(&self, name: &str, bytes: &[u8]) -> io::Result<()> {
         let mut contents = self.contents()?;
@@ -116,7 +121,8 @@ impl Disk {
         }
     }
 
-    /// What was opened, in order, each in a line such as `hash: read write create`. An opening that failed counts.
+    /// What was opened, in order, each in a line such as `hash: read write create`. An opening that failed counts. A line
+    /// ends with `other_mode` if it asks for other permissions of a new file than reading and writing for everybody.
     pub fn opened(&self) -> io::Result<String> {
         Ok(String::from_str(self.alloc, self.contents()?.opened.as_str())?)
     }
@@ -132,7 +138,7 @@ impl Disk {
         let contents = self.contents()?;
         match contents.files.get(number) {
             Some(stored) if stored.is_folder() => Ok(Metadata::of_dir()),
-            Some(stored) => Ok(Metadata::of_file(stored.bytes.len() as u64)),
+            Some(stored) => Ok(Metadata::of_file(stored.stated_length() as u64)),
             None => refused(ErrorKind::NotFound),
         }
     }
@@ -152,6 +158,16 @@ impl Disk {
         Ok(self.contents()?.looks)
     }
 
+    /// How often the runtimes over this disk read the clock.
+    pub fn clock_reads(&self) -> io::Result<u64> {
+        Ok(self.contents()?.clock_reads)
+    }
+
+    /// How many random bytes the runtimes over this disk were asked for.
+    pub fn random_bytes(&self) -> io::Result<u64> {
+        Ok(self.contents()?.random_bytes)
+    }
+
     /// Counts a call, and refuses the one that fails.
     pub(crate) fn count(&self, call: Call) -> io::Result<()> {
         if self.contents()?.calls.fails(call) {
@@ -164,6 +180,7 @@ impl Disk {
     pub(crate) fn open(&self, how: &OpenOptions, name: &str) -> io::Result<usize> {
         let mut contents = self.contents()?;
         let number = contents.open(self.alloc, how, name)?;
+        contents.follow(self.alloc, name)?;
         contents.hold("open", number)?;
         Ok(number)
     }

@@ -118,6 +118,7 @@ impl Seek for MemoryFile<'_> {
 
 impl OpenFile for MemoryFile<'_> {
     fn metadata(&self) -> io::Result<Metadata> {
+        self.disk.count(Call::Metadata)?;
         self.disk.metadata(self.number)
     }
 

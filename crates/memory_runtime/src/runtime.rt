@@ -1,6 +1,7 @@
 //! The runtime.
 ghost use Rattle.std.specs.Io.{WritesAtMost};
 
+use crate::call::Call;
 use crate::disk::{Disk, refused};
 use crate::file::MemoryFile;
 use crate::standard_error::StandardError;
@@ -23,6 +24,8 @@ pub struct MemoryRuntime<'a> {
     /// The words of the command line, the program's name first, with a space between two. A word written as '' is
     /// empty.
     words: &'a str,
+    /// More words after these.
+    pub more_words: &'a [String],
     /// One more word at the end, which needn't be text.
     pub last_word: Option<&'a [u8]>,
     /// The random bytes, which are repeated over and over. If there are none, requests for them are refused.
@@ -39,6 +42,7 @@ impl<'a> MemoryRuntime<'a> {
             alloc,
             disk,
             words,
+            more_words: &[],
             last_word: None,
             random: &[7],
             step: None,
@@ -59,6 +63,8 @@ impl RandomSource for MemoryRuntime<'_> {
         if self.random.is_empty() {
             return refused(ErrorKind::Unsupported);
         }
+        let mut contents = self.disk.contents()?;
+        contents.random_bytes = contents.random_bytes.saturating_add(buf.len() as u64);
         for (i, byte) in buf.iter_mut().enumerate() {
             let place = i.checked_rem(self.random.len()).unwrap_or(0);
             *byte = self.random.get(place).copied().unwrap_or(0);
@@ -80,10 +86,15 @@ fn copied(word: &[u8], buf: &mut [u8]) -> Result<usize, FillError>
 
 impl Env for MemoryRuntime<'_> {
     fn arg(&self, i: usize, buf: &mut [u8]) -> Result<usize, FillError> {
-        match (self.words.split(' ').nth(i), self.last_word) {
-            (Some("''"), _) => Ok(0),
+        match self.words.split(' ').nth(i) {
+            Some("''") => return Ok(0),
+            Some(word) => return copied(word.as_bytes(), buf),
+            None => {}
+        }
+        let number = i.saturating_sub(self.words.split(' ').count());
+        match (self.more_words.get(number), self.last_word) {
             (Some(word), _) => copied(word.as_bytes(), buf),
-            (None, Some(word)) if i == self.words.split(' ').count() => copied(word, buf),
+            (None, Some(word)) if number == self.more_words.len() => copied(word, buf),
             (None, _) => Err(FillError::NotPresent),
         }
     }
@@ -114,6 +125,7 @@ impl<'a> Files for MemoryRuntime<'a> {
     }
 
     fn metadata(&self, path: &str) -> io::Result<Metadata> {
+        self.disk.count(Call::Metadata)?;
         match self.disk.number_of(path) {
             Some(number) => self.disk.metadata(number),
             None => refused(ErrorKind::NotFound),

@@ -1,5 +1,6 @@
-//! Tests of trees: how they are built and compared, how single blocks are checked by their paths, and how blocks are
-//! hashed with their salts, alone and side by side. Expected digests come from `sha1` and `sha2` over stated bytes.
+//! Tests of trees: how they are built and compared, how their data is read, how single blocks are checked by their
+//! paths, and how blocks are hashed with their salts, alone and side by side. Expected digests come from `sha1` and
+//! `sha2` over stated bytes.
 #![tactic(auto)]
 
 #[cfg(test)]
@@ -15,6 +16,8 @@ mod faults_in_turn;
 #[cfg(test)]
 mod feeding;
 #[cfg(test)]
+mod largest_plans;
+#[cfg(test)]
 mod one_message;
 #[cfg(test)]
 mod paths;
@@ -26,3 +29,5 @@ mod salting;
 mod side_by_side;
 #[cfg(test)]
 mod trees;
+#[cfg(test)]
+mod windows;

@@ -122,7 +122,7 @@ fn has_root(alloc: Global, case: &Case) -> Result<bool, Fail> {
 }
 
 /// Whether a row's plan has the levels of its tree, and the tree and its root hash are made as from plain lists.
-fn is_made(alloc: Global, row: &Row) -> Result<bool, Fail> {
+pub fn is_made(alloc: Global, row: &Row) -> Result<bool, Fail> {
     let case = Case::new(alloc, row)?;
     if case.plan.levels() != case.tree.levels.len() {
         return Ok(false);

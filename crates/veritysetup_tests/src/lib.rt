@@ -1,8 +1,9 @@
-//! Tests of veritysetup. Most are of what a run of the program doesn't show: which files are opened, in which order, and
-//! how long they stay open, two names of one file, data that grows, random values, the largest offset, the progress
-//! line, the texts of faults. Besides these there are a whole run of each command and a refusal for each place that
-//! refuses. What a run of the program shows is tested in tests/programs. Expected bytes come from the formats' public
-//! pages, expected digests from `sha2` or sha256sum over stated bytes.
+//! Tests of veritysetup. Most are of what a run of the program doesn't show: which files are opened, in which order,
+//! and how long they stay open, two names of one file, data that grows, random values, the largest offset, long words,
+//! each set of options, the progress line, the texts of faults. Besides these there are a whole run of each command,
+//! the report of each hash function, and a refusal for each place that refuses and for each option. What a run of the
+//! program shows is tested in tests/programs. Expected bytes come from the formats' public pages, expected digests from
+//! `sha2` or sha256sum over stated bytes.
 #![tactic(auto)]
 
 #[cfg(test)]
@@ -10,7 +11,11 @@ mod growing_data;
 #[cfg(test)]
 mod images;
 #[cfg(test)]
+mod long_words;
+#[cfg(test)]
 mod offsets;
+#[cfg(test)]
+mod option_sets;
 #[cfg(test)]
 mod options;
 #[cfg(test)]
@@ -19,6 +24,14 @@ mod program_files;
 mod program_runs;
 #[cfg(test)]
 mod progress;
+#[cfg(test)]
+mod progress_texts;
+#[cfg(test)]
+mod random_values;
+#[cfg(test)]
+mod refused_options;
+#[cfg(test)]
+mod reports;
 #[cfg(test)]
 mod texts;
 #[cfg(test)]

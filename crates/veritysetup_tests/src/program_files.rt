@@ -1,4 +1,4 @@
-//! The program over files in memory: which files are opened when, and two names of one file.
+//! The program over files in memory: which files are opened when, which folder is synced, and two names of one file.
 use crate::program_runs::{disk_of, run};
 use memory_runtime::{Call, Disk, Kind};
 use std::test::Fail;
@@ -15,9 +15,16 @@ const NOT_OPENED: &str = "Cannot open images.\n";
 
 /// Words, what is opened after the null files, what is opened, synced and closed while these are open, and the status
 /// and the message.
-const RUNS: [(&str, &str, &str, u8, &str); 23] = [
+const RUNS: [(&str, &str, &str, u8, &str); 24] = [
     (
         "veritysetup format data hash",
+        "data: read\nhash: read write create\n.: read\n",
+        "open data\nopen hash\nsync hash\nopen .\nsync .\nclose .\nclose hash\nclose data\n",
+        0,
+        "",
+    ),
+    (
+        "veritysetup format --no-superblock --salt=- data hash",
         "data: read\nhash: read write create\n.: read\n",
         "open data\nopen hash\nsync hash\nopen .\nsync .\nclose .\nclose hash\nclose data\n",
         0,
@@ -217,6 +224,93 @@ fn files_are_opened_and_held_in_order(rt: HostRuntime) -> Result<(), Fail> {
     Ok(())
 }
 
+/// Paths of a new HASH, and the folder that is synced.
+const FOLDERS: [(&str, &str); 11] = [
+    ("./hash", "."),
+    ("../hash", ".."),
+    ("..hash", "."),
+    ("images/hash", "images"),
+    ("images/../hash", "images/.."),
+    ("images/..hash", "images"),
+    ("images/2/hash", "images/2"),
+    ("../../images/hash", "../../images"),
+    ("/hash", "/"),
+    ("/images/hash", "/images"),
+    ("/../images/../hash", "/../images/.."),
+];
+
+#[test]
+fn the_folder_of_a_new_file_is_synced(rt: HostRuntime) -> Result<(), Fail> {
+    let alloc = rt.alloc();
+    for &(path, folder) in &FOLDERS {
+        let disk = disk_of(alloc, &[5; 8192])?;
+        disk.make_kind(folder, Kind::Folder, Vec::new(alloc))?;
+        let words = format!(in alloc; "veritysetup format data {path}")?;
+        let status = run(alloc, &disk, words.as_str(), None).status;
+        let opened = format!(in alloc;
+            "{NULL_FILES}data: read\n{path}: read write create\n{folder}: read\n"
+        )?;
+        let held = format!(in alloc; "\nopen {folder}\nsync {folder}\nclose {folder}\n")?;
+        let is_synced = disk.held()?.as_str().contains(held.as_str());
+        let found = (status, disk.opened()?, is_synced);
+        assert_eq!(rt; found, (0, opened, true), "at {path}");
+    }
+    Ok(())
+}
+
+/// HASH is there, and the system doesn't say so when it is asked. DATA is asked first, when it is opened.
+#[test]
+fn a_file_of_which_the_system_says_nothing_counts_as_new(rt: HostRuntime) -> Result<(), Fail> {
+    let alloc = rt.alloc();
+    let disk = disk_of(alloc, &[5; 8192])?;
+    disk.make("hash.img", [0; 8192].to_vec(alloc)?)?;
+    disk.fail(Call::Metadata, 2)?;
+    let said = run(alloc, &disk, "veritysetup format data hash.img", None);
+    let expected = format!(in alloc;
+        "{NULL_FILES}data: read\nhash.img: read write create\n.: read\n"
+    )?;
+    let found = (said.status, disk.opened()?, disk.calls(Call::Sync)?);
+    assert_eq!(rt; found, (0, expected, 2));
+    Ok(())
+}
+
+/// Words, the number of the question that the system doesn't answer, and the message.
+const UNANSWERED: [(&str, u64, &str); 5] = [
+    ("veritysetup format data hash", 1, "Cannot open data.\n"),
+    ("veritysetup dump hash.img", 1, "Cannot open hash.img.\n"),
+    (
+        "veritysetup verify data hash.img 00",
+        1,
+        "Cannot open data.\n",
+    ),
+    (
+        "veritysetup verify data hash.img 00",
+        2,
+        "Cannot open hash.img.\n",
+    ),
+    (
+        "veritysetup verify --no-superblock --salt=- data hash.img 00",
+        1,
+        "Cannot open data.\n",
+    ),
+];
+
+/// It may be a folder.
+#[test]
+fn an_opened_file_of_which_the_system_says_nothing_is_refused(rt: HostRuntime) -> Result<(), Fail> {
+    let alloc = rt.alloc();
+    for &(words, number, message) in &UNANSWERED {
+        let disk = disk_of(alloc, &[5; 8192])?;
+        disk.make("hash.img", [0; 8192].to_vec(alloc)?)?;
+        disk.fail(Call::Metadata, number)?;
+        let said = run(alloc, &disk, words, None);
+        let differs = said.differs(4, b"", message.as_bytes());
+        let found = (differs, disk.calls(Call::Read)?, disk.has("hash")?);
+        assert_eq!(rt; found, (None, 0, false), "at {words}");
+    }
+    Ok(())
+}
+
 #[test]
 fn the_root_folder_stands_for_the_null_device(rt: HostRuntime) -> Result<(), Fail> {
     let alloc = rt.alloc();
@@ -230,11 +324,23 @@ fn the_root_folder_stands_for_the_null_device(rt: HostRuntime) -> Result<(), Fai
 }
 
 /// The kind of a file with the names `data` and `other`, and words.
-const OVERLAPS: [(Kind, &str); 4] = [
+const OVERLAPS: [(Kind, &str); 7] = [
     (Kind::Plain, "veritysetup format data data"),
     (Kind::Character, "veritysetup format data data"),
     (Kind::Plain, "veritysetup format data other"),
     (Kind::Block, "veritysetup format data other"),
+    (
+        Kind::Plain,
+        "veritysetup format --hash-offset 7680 data other",
+    ),
+    (
+        Kind::Plain,
+        "veritysetup format --hash-offset 4096 --data-blocks 2 data data",
+    ),
+    (
+        Kind::Plain,
+        "veritysetup format --no-superblock --salt=- data other",
+    ),
 ];
 
 #[test]
@@ -250,6 +356,39 @@ fn data_is_never_overwritten(rt: HostRuntime) -> Result<(), Fail> {
         let opened = disk.opened()?;
         let found = (differs, opened.as_str().strip_prefix(NULL_FILES));
         assert_eq!(rt; found, (None, Some("data: read\n")), "at {words}");
+    }
+    Ok(())
+}
+
+/// HASH; the status and the message; and what is opened after DATA. Once DATA is opened, its name leads to the file
+/// else, and the opened file has the name other alone.
+const LED: [(&str, u8, &str, &str); 2] = [
+    ("other", 1, "Data area and hash area overlap.\n", ""),
+    ("else", 0, "", "else: read write create\n"),
+];
+
+#[test]
+fn opened_data_is_known_whatever_its_name_leads_to(rt: HostRuntime) -> Result<(), Fail> {
+    let alloc = rt.alloc();
+    for &(hash, status, message, opened) in &LED {
+        let disk = disk_of(alloc, &[5; 8192])?;
+        disk.link("data", "other")?;
+        disk.make("else", [6; 100].to_vec(alloc)?)?;
+        disk.lead("data", "data", "else")?;
+        let words = format!(in alloc; "veritysetup format data {hash}")?;
+        let said = run(alloc, &disk, words.as_str(), None);
+        let all = disk.opened()?;
+        let found = (
+            said.status,
+            said.msgs.as_slice(),
+            all.as_str()
+                .strip_prefix(NULL_FILES)
+                .unwrap_or("")
+                .strip_prefix("data: read\n"),
+            disk.bytes_of("other")? == [5; 8192].to_vec(alloc)?,
+        );
+        let expected = (status, message.as_bytes(), Some(opened), true);
+        assert_eq!(rt; found, expected, "at {hash}");
     }
     Ok(())
 }

@@ -16,7 +16,7 @@ pub fn disk_of(alloc: Global, data: &[u8]) -> io::Result<Disk> {
 }
 
 /// Runs the program.
-fn said_by(alloc: Global, runtime: &MemoryRuntime<'_>) -> Said {
+pub fn said_by(alloc: Global, runtime: &MemoryRuntime<'_>) -> Said {
     let mut out = Vec::new(alloc);
     let mut msgs = Vec::new(alloc);
     let progress = ProgressLine::new(runtime);
@@ -29,6 +29,11 @@ pub fn run<'a>(alloc: Global, disk: &'a Disk, words: &'a str, last_word: Option<
     let mut runtime = MemoryRuntime::new(alloc, disk, words);
     runtime.last_word = last_word;
     said_by(alloc, &runtime)
+}
+
+/// Runs the program on these words alone.
+pub fn run_words<'a>(alloc: Global, disk: &'a Disk, words: &'a str) -> Said {
+    said_by(alloc, &MemoryRuntime::new(alloc, disk, words))
 }
 
 /// Runs the program without random bytes.

@@ -1,22 +1,26 @@
-//! Whole runs of each command over files in memory: of a small image, and of one with the largest blocks, the longest
-//! salt and the longest path.
+//! Whole runs of each command over files in memory: of a small image, in a file and on a block device, and of one with
+//! the largest blocks, the longest salt and the longest path.
 use crate::images::{Image, image_17, image_of};
-use crate::program_runs::{disk_of, run};
-use fixtures::{REPORT_17, Report};
+use crate::program_runs::{disk_of, run, run_words};
+use fixtures::{REPORT_17, Report, with_zeros};
+use memory_runtime::Kind;
 use std::alloc::{AllocError, Global};
 use std::process::Abort;
 use std::test::Fail;
 
-/// An image is made, dumped and verified. Dump prints this text, and format the root hash after it.
+/// An image is made, dumped and verified, of data in a file or on a block device. Dump prints this text, and format the
+/// root hash after it.
 fn check_image<R: Abort + AllocGlobal>(
     rt: &R,
+    kind: Kind,
     image: &Image,
     options: &str,
     path: &str,
     text: &str,
 ) -> Result<(), Fail> {
     let alloc = rt.alloc();
-    let disk = disk_of(alloc, image.data.as_slice())?;
+    let disk = disk_of(alloc, &[])?;
+    disk.make_kind("data", kind, image.data.to_vec(alloc)?)?;
     disk.make(path, Vec::new(alloc))?;
     let root = hex::encode(alloc, image.root.as_slice())?;
     let words = format!(in alloc; "veritysetup format {options} data {path}")?;
@@ -41,7 +45,46 @@ fn a_small_image_is_made_dumped_and_verified(rt: HostRuntime) -> Result<(), Fail
     let alloc = rt.alloc();
     let image = image_17(alloc)?;
     let text = REPORT_17.text(alloc)?;
-    check_image(&rt, &image, SMALL, "hash.img", text.as_str())
+    check_image(&rt, Kind::Plain, &image, SMALL, "hash.img", text.as_str())
+}
+
+/// The system says of it that its length is 0; it is found by seeking to its end.
+#[test]
+fn an_image_of_a_block_device_is_made_dumped_and_verified(rt: HostRuntime) -> Result<(), Fail> {
+    let alloc = rt.alloc();
+    let image = image_17(alloc)?;
+    let text = REPORT_17.text(alloc)?;
+    check_image(&rt, Kind::Block, &image, SMALL, "hash.img", text.as_str())
+}
+
+/// The hash area begins after the data that is covered, over other bytes.
+#[test]
+fn data_and_hash_area_may_be_in_one_file(rt: HostRuntime) -> Result<(), Fail> {
+    let alloc = rt.alloc();
+    let image = image_17(alloc)?;
+    let disk = disk_of(
+        alloc,
+        with_zeros(alloc, &[image.data.as_slice(), &[77; 1000]], 0)?.as_slice(),
+    )?;
+    let report = Report {
+        path: "data",
+        ..REPORT_17
+    };
+    let made = report.with_root(alloc, image.root.as_slice())?;
+    let words = format!(in alloc;
+        "veritysetup format {SMALL} --data-blocks 17 --hash-offset 8704 data data"
+    )?;
+    let format = run_words(alloc, &disk, words.as_str()).differs(0, made.as_bytes(), b"");
+    let whole = with_zeros(alloc, &[image.data.as_slice(), image.device.as_slice()], 0)?;
+    assert_eq!(rt; (format, disk.bytes_of("data")?), (None, whole));
+    let text = report.text(alloc)?;
+    let dump = run_words(alloc, &disk, "veritysetup dump --hash-offset 8704 data");
+    assert_eq!(rt; dump.differs(0, text.as_bytes(), b""), None);
+    let root = hex::encode(alloc, image.root.as_slice())?;
+    let words = format!(in alloc; "veritysetup verify --hash-offset 8704 data data {root}")?;
+    let verify = run_words(alloc, &disk, words.as_str());
+    assert_eq!(rt; verify.differs(0, b"", b""), None);
+    Ok(())
 }
 
 /// The report of the largest image.
@@ -66,5 +109,6 @@ fn the_largest_image_is_made_dumped_and_verified(rt: HostRuntime) -> Result<(), 
         "--data-block-size 524288 --hash-block-size 524288 --salt {salt} --uuid 00112233-4455-4677-8899-aabbccddeeff"
     )?;
     let image = image_of(alloc, 524_288, &[0xab; 256], 2, 1)?;
-    check_image(&rt, &image, options.as_str(), path.as_str(), text.as_str())
+    let (options, path) = (options.as_str(), path.as_str());
+    check_image(&rt, Kind::Plain, &image, options, path, text.as_str())
 }

@@ -5,7 +5,7 @@ use std::test::Fail;
 use veritysetup::{LineFault, read_words};
 
 /// Words, one more word if there is one, and the message.
-const REFUSED: [(&str, Option<&[u8]>, &str); 5] = [
+const REFUSED: [(&str, Option<&[u8]>, &str); 8] = [
     (
         "veritysetup open data hash",
         None,
@@ -45,6 +45,32 @@ Usage: veritysetup dump [--hash-offset BYTES] HASH
 Usage: veritysetup verify [--hash NAME] [--format TYPE] [--data-block-size BYTES]
            [--hash-block-size BYTES] [--data-blocks NUMBER] [--salt HEX]
            [--hash-offset BYTES] [--no-superblock] DATA HASH ROOT
+",
+    ),
+    (
+        "veritysetup format data hash --salt",
+        None,
+        "error: a value is required for '--salt <salt>' but none was supplied
+
+Usage: veritysetup format [--hash NAME] [--format TYPE] [--data-block-size BYTES]
+           [--hash-block-size BYTES] [--data-blocks NUMBER] [--salt HEX] [--uuid UUID]
+           [--hash-offset BYTES] [--no-superblock] DATA HASH
+",
+    ),
+    (
+        "veritysetup dump hash --hash-offset",
+        None,
+        "error: a value is required for '--hash-offset <hash-offset>' but none was supplied
+
+Usage: veritysetup dump [--hash-offset BYTES] HASH
+",
+    ),
+    (
+        "veritysetup dump --hash-offset 512 --hash-offset 512 hash",
+        None,
+        "error: the argument '--hash-offset <hash-offset>' cannot be used multiple times
+
+Usage: veritysetup dump [--hash-offset BYTES] HASH
 ",
     ),
     (

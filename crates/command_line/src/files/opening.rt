@@ -1,6 +1,6 @@
 //! Opening files.
-ghost use Rattle.std.specs.Prelude.{◌≡◌, ◌↔◌, IsTrue, OnErr, OnOk};
-ghost use Rattle.std.specs.Fs.{IsDir, file_type};
+ghost use Rattle.std.specs.Prelude.{◌≡◌, ◌↔◌, IsTrue, OnErr, OnOk, true};
+ghost use Rattle.std.specs.Fs.{IsDir, file_type, new_options, with_create, with_read, with_write};
 
 use std::fs::{File, Metadata, OpenFile, OpenOptions};
 use std::io;
@@ -25,11 +25,17 @@ pub fn open_measured<R: Files>(rt: &R, path: &str) -> io::Result<(R::File, u64)>
 
 /// A file opened for reading and writing. It is created if it is missing, and never truncated.
 pub fn open_writable<R: Files>(rt: &R, path: &str) -> io::Result<R::File> {
-    OpenOptions::new()
-        .read(true)
-        .write(true)
-        .create(true)
-        .open(rt, path)
+    writable_options().open(rt, path)
+}
+
+/// The options for reading and writing a file that is created if it is missing. A new one has the permissions that the
+/// system gives by itself (open(2), umask(2)).
+fn writable_options() -> OpenOptions
+    ensures { result ≡ with_create (with_write (with_read new_options true) true) true }
+{
+    let mut options = OpenOptions::new();
+    options.read(true).write(true).create(true);
+    options
 }
 
 /// Whether the system says that a path leads to a folder.

@@ -1,12 +1,14 @@
 -- A run of `fsverity digest` over files, one after another (fsverity(1), "fsverity digest"): a line for each, up to the
 -- first that fails.
-use Rattle.std.specs.Prelude.{◌≡◌, ◌⊎◌, ℕ, ◌+◌, ◌<◌, ◌≤◌, Bool, true, false, not, List, [], ◌++◌, length, take, Option, Some, None, slice_get, slice_index_or, if◌then◌else◌}
-use Rattle.std.specs.List.{zip, flat_map, prefix_len}
+use Rattle.std.specs.Prelude.{◌≡◌, ◌⊎◌, ℕ, zero, suc, ◌+◌, ◌<◌, ◌≤◌, Bool, true, false, not, List, [], ◌++◌, length, take, Option, Some, None, slice_get, slice_index_or}
+use Rattle.std.specs.List.{prefix_len}
 use Rattle.std.specs.Io.KnownBytes.{Appends}
 use Rattle.command_line.specs.Printing.{AppendsPrefix}
 use Rattle.verity_io.specs.Counting.{Counts, Rose}
-use Rattle.verity_plan.specs.Settings.{Settings}
-use Rattle.fsverity.specs.Runs.FileDigest.{fault_of_source, file_digest_of, is_too_large}
+use Rattle.verity_format.specs.Descriptors.{digest_of_file}
+use Rattle.verity_plan.specs.Settings.{Settings, digest_len}
+use Rattle.verity_tree.specs.Levels.{root_of_file}
+use Rattle.fsverity.specs.Runs.FileDigest.{descriptor_of, fault_of_source, is_too_large}
 use Rattle.fsverity.specs.Texts.Lines.{line}
 use Rattle.fsverity.specs.Texts.Messages.{run_fault_message}
 use Rattle.fsverity.specs.Openers.Opening.{OpenerChange}
@@ -23,16 +25,6 @@ has_digest s (Some bytes) = not (is_too_large s (length bytes))
 -- the index of the first file that is absent or too large, or the number of files if there is none
 abbrev pub first_without_digest : Settings → List (Option (List ℕ)) → ℕ
 first_without_digest s files = prefix_len (has_digest s) files
-
--- a file's line, and nothing for one that is absent or too large
-abbrev pub file_line : Settings → Form → List ℕ → Option (List ℕ) → List ℕ
-file_line s form name None = []
-file_line s form name (Some bytes) = if is_too_large s (length bytes) then []
-    else line form s.algorithm (file_digest_of s (length bytes) bytes) name
-
--- the lines of the files, each with its name, in order
-abbrev pub lines : Settings → Form → List (List ℕ × Option (List ℕ)) → List ℕ
-lines s form named_files = flat_map (λ p. file_line s form p.0 p.1) named_files
 
 -- the file of this index is there, and too large
 abbrev pub IsLargeAt : Settings → List (Option (List ℕ)) → ℕ → Type 0
@@ -55,25 +47,40 @@ HasReason s opener f (Digest (DeviceFailed level block)) = ⊥
 HasReason s opener f (Digest Memory) = opener.told → f < first_without_digest s opener.files
 HasReason s opener f NotWritten = opener.told → f < first_without_digest s opener.files
 
--- what is written of the file's line: its first bytes if it could not be written whole, and otherwise nothing
-abbrev pub IsWrittenPrefix : List ℕ → List ℕ → RunFault → Type 0
-IsWrittenPrefix whole prefix NotWritten = (k : ℕ) × (prefix ≡ take k whole)
-IsWrittenPrefix whole prefix fault = prefix ≡ []
-
 -- what a run gets beside its files: the settings, the form of the lines, and the files' names
 pub record DigestInput : Type 0 where
   pub settings : Settings
   pub form : Form
   pub names : List (List ℕ)
 
--- the lines of all files before f, and what is written of f's own
-pub record WritesUpTo (run : DigestInput) (files : List (Option (List ℕ))) (f : ℕ) (fault : RunFault)
-    (old new : Option (List ℕ)) : Type 0 where
-  pub file : Option (List ℕ)
-  pub is : slice_get files f ≡ Some file
-  pub prefix : List ℕ
-  pub stands : IsWrittenPrefix (file_line run.settings run.form (slice_index_or run.names f []) file) prefix fault
-  pub written : Appends old new (lines run.settings run.form (take f (zip run.names files)) ++ prefix)
+-- the digest of a file that is not too large, made of a root hash of the settings' length; if the files are told, the
+-- file of this index is there, and size and root hash are its own
+pub record IsDigestAt (s : Settings) (told : Type 0) (files : List (Option (List ℕ))) (i : ℕ) (digest : List ℕ)
+    : Type 0 where
+  pub size : ℕ
+  pub fits : is_too_large s size ≡ false
+  pub root : List ℕ
+  pub root_length : length root ≡ digest_len s
+  pub digest_is : digest ≡ digest_of_file (descriptor_of s size root)
+  pub of_file : told → (bytes : List ℕ) × ((slice_get files i ≡ Some (Some bytes)) × (size ≡ length bytes))
+      × (root ≡ root_of_file s size bytes)
+
+-- the line of a digest, with the name of this index
+abbrev pub line_at : DigestInput → ℕ → List ℕ → List ℕ
+line_at run i digest = line run.form run.settings.algorithm digest (slice_index_or run.names i [])
+
+-- the text is the lines of the files before this index, in order
+abbrev pub AreLines : DigestInput → Type 0 → List (Option (List ℕ)) → ℕ → List ℕ → Type 0
+AreLines run told files zero text = text ≡ []
+AreLines run told files (suc f) text = (before digest : List ℕ) × AreLines run told files f before
+    × IsDigestAt run.settings told files f digest × (text ≡ before ++ line_at run f digest)
+
+-- what is written of the line of file f, at which a run ended: if a write failed its first bytes, fewer than all, and
+-- otherwise nothing
+abbrev pub IsPartOfLine : DigestInput → Type 0 → List (Option (List ℕ)) → ℕ → RunFault → List ℕ → Type 0
+IsPartOfLine run told files f NotWritten part = (digest : List ℕ) × IsDigestAt run.settings told files f digest
+    × (count : ℕ) × (count < length (line_at run f digest)) × (part ≡ take count (line_at run f digest))
+IsPartOfLine run told files f fault part = part ≡ []
 
 -- how the opener's count changes with a fault: a failed read raises it by one, and otherwise only a file that is not
 -- opened may raise it
@@ -82,7 +89,8 @@ CountsFault NotOpened before after = before ≤ after
 CountsFault (Digest fault) before after = Counts (fault_of_source fault) before after
 CountsFault NotWritten before after = Counts false before after
 
--- a run ended at file f, the next one is after it, and no file before it is absent or too large
+-- a run ended at file f, the next one is after it, and no file before it is absent or too large; the lines of the files
+-- before it are written, and of its own perhaps a part
 pub record EndsAt (run : DigestInput) (opener : OpenerChange) (out out' msgs msgs' : Option (List ℕ)) : Type 0 where
   pub f : ℕ
   pub fault : RunFault
@@ -92,4 +100,8 @@ pub record EndsAt (run : DigestInput) (opener : OpenerChange) (out out' msgs msg
   pub reason : HasReason run.settings opener f fault
   pub counted : CountsFault fault opener.failures_before opener.failures_after
   pub message : AppendsPrefix (run_fault_message fault (slice_index_or run.names f [])) msgs msgs'
-  pub written : opener.told → WritesUpTo run opener.files f fault out out'
+  pub lines : List ℕ
+  pub lines_are : AreLines run opener.told opener.files f lines
+  pub part : List ℕ
+  pub part_is : IsPartOfLine run opener.told opener.files f fault part
+  pub written : Appends out out' (lines ++ part)

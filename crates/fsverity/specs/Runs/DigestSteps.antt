@@ -1,17 +1,15 @@
 -- The steps of a run: the digest of one file, and its line.
 -- For the private steps; not needed to read a public contract.
-use Rattle.std.specs.Prelude.{◌≡◌, ◌⊎◌, ℕ, true, List, length, Option, Some, None, slice_get, Result, MatchResult}
-use Rattle.std.specs.Io.KnownBytes.{Appends}
+use Rattle.std.specs.Prelude.{◌≡◌, ◌⊎◌, ℕ, ◌<◌, true, List, length, take, Option, Some, None, slice_get, Result, Ok, Err, MatchResult}
+use Rattle.std.specs.Io.KnownBytes.{Appends, Keeps}
 use Rattle.verity_hash.specs.declared.digest.Digest.{Digest}
 use Rattle.verity_io.specs.Counting.{Rose}
 use Rattle.verity_io.specs.Reading.{HasRead}
 use Rattle.verity_plan.specs.Settings.{Settings}
-use Rattle.fsverity.specs.Runs.FileDigest.{FaultsIn, IsFileDigest}
+use Rattle.fsverity.specs.Runs.FileDigest.{FaultsIn}
 use Rattle.verity_tree.specs.Levels.{root_of_file}
 use Rattle.fsverity.specs.Openers.Opening.{OpenerChange}
-use Rattle.fsverity.specs.Runs.Digest.{IsLargeAt, IsWrittenPrefix, file_line, has_digest}
-use Rattle.fsverity.specs.declared.runs.file_digest.FileDigest.{FileDigest}
-use Rattle.fsverity.specs.declared.texts.digest_lines.Form.{Form}
+use Rattle.fsverity.specs.Runs.Digest.{IsDigestAt, IsLargeAt, has_digest}
 use Rattle.fsverity.specs.declared.runs.digest_fault.DigestFault.{DigestFault}
 use Rattle.fsverity.specs.declared.runs.digest_fault.DigestFault.TheVariants.{TooLarge, SourceShort, SourceFailed, DeviceFailed, Memory}
 use Rattle.fsverity.specs.declared.runs.run_fault.RunFault.{RunFault}
@@ -39,36 +37,11 @@ StopsStep s opener (fault.Digest (DeviceFailed level block)) = ⊥
 StopsStep s opener (fault.Digest Memory) = opener.told → HasDigestAt s opener.files opener.next_before
 StopsStep s opener fault.NotWritten = opener.told → HasDigestAt s opener.files opener.next_before
 
--- the digest of the file of this index, which has one
-pub record IsDigestAt (s : Settings) (files : List (Option (List ℕ))) (i : ℕ) (made : FileDigest) : Type 0 where
-  pub bytes : List ℕ
-  pub is : slice_get files i ≡ Some (Some bytes)
-  pub fits : has_digest s (Some bytes) ≡ true
-  pub made_of : IsFileDigest s (length bytes) bytes made
-
--- a step of a run: the settings, the form of the line, the file's name, the files, and the index of this one
-pub record Step : Type 0 where
-  pub settings : Settings
-  pub form : Form
-  pub name : List ℕ
-  pub files : List (Option (List ℕ))
-  pub index : ℕ
-
--- the line of the step's file, which has a digest, was written
-pub record WritesLine (step : Step) (old new : Option (List ℕ)) : Type 0 where
-  pub file : Option (List ℕ)
-  pub is : slice_get step.files step.index ≡ Some file
-  pub fits : has_digest step.settings file ≡ true
-  pub written : Appends old new (file_line step.settings step.form step.name file)
-
--- the line of the step's file was not written, or only its first bytes
-pub record WritesPrefix (step : Step) (old new : Option (List ℕ)) (fault : RunFault) : Type 0 where
-  pub file : Option (List ℕ)
-  pub is : slice_get step.files step.index ≡ Some file
-  pub prefix : List ℕ
-  pub stands : IsWrittenPrefix (file_line step.settings step.form step.name file) prefix fault
-  pub written : Appends old new prefix
-
--- what a step writes
-abbrev pub WritesStep : Step → Result (Unit {0}) RunFault → Option (List ℕ) → Option (List ℕ) → Type 0
-WritesStep step result old new = MatchResult result (λ _. WritesLine step old new) (WritesPrefix step old new)
+-- what a step writes of the line of file i: all of it, or its first bytes if a write failed; otherwise nothing
+abbrev pub WritesStep : Settings → (List ℕ → List ℕ) → Type 0 → List (Option (List ℕ)) → ℕ → Result (Unit {0}) RunFault
+    → Option (List ℕ) → Option (List ℕ) → Type 0
+WritesStep s line_of told files i (Ok done) old new = (digest : List ℕ) × IsDigestAt s told files i digest
+    × Appends old new (line_of digest)
+WritesStep s line_of told files i (Err fault.NotWritten) old new = (digest : List ℕ) × IsDigestAt s told files i digest
+    × (count : ℕ) × (count < length (line_of digest)) × Appends old new (take count (line_of digest))
+WritesStep s line_of told files i (Err fault) old new = Keeps old new

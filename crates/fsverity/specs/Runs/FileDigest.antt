@@ -10,7 +10,7 @@ use Rattle.verity_tree.specs.Reading.{ReadsUpTo}
 use Rattle.verity_tree.specs.declared.building.BuildFault.{BuildFault}
 use Rattle.verity_tree.specs.declared.building.BuildFault.TheVariants as build
 use Rattle.verity_plan.specs.Plans.{Planned, block_count, plan_for_bytes}
-use Rattle.verity_plan.specs.Settings.{Settings}
+use Rattle.verity_plan.specs.Settings.{Settings, digest_len}
 use Rattle.fsverity.specs.declared.runs.digest_fault.DigestFault.{DigestFault}
 use Rattle.fsverity.specs.declared.runs.digest_fault.DigestFault.TheVariants.{TooLarge, SourceShort, SourceFailed, DeviceFailed, Memory}
 use Rattle.fsverity.specs.declared.runs.file_digest.FileDigest.{FileDigest}
@@ -18,10 +18,6 @@ use Rattle.fsverity.specs.declared.runs.file_digest.FileDigest.{FileDigest}
 -- the descriptor of so many bytes with this root hash
 abbrev pub descriptor_of : Settings → ℕ → List ℕ → DescriptorFields
 descriptor_of s size root = record { tree = s; size = size; root = root }
-
--- the file digest of the first size bytes
-abbrev pub file_digest_of : Settings → ℕ → List ℕ → List ℕ
-file_digest_of s size bytes = digest_of_file (descriptor_of s size (root_of_file s size bytes))
 
 -- the plan of a file's tree, which has its device to itself
 abbrev pub plan_of_file : Settings → ℕ → Planned
@@ -37,10 +33,12 @@ pub record IsDigestOfRoot (s : Settings) (size : ℕ) (root : List ℕ) (made : 
   pub digest : made.digest ≡ digest_of_file (descriptor_of s size root)
   pub descriptor : made.descriptor ≡ descriptor_bytes (descriptor_of s size root)
 
--- the descriptor with a root hash, and its digest; it is the file's root hash if the source tells these bytes
+-- the descriptor with a root hash of the settings' length, and its digest; it is the file's root hash if the source
+-- tells these bytes
 pub record IsDigestOfSource (s : Settings) (size : ℕ) (told : Type 0) (bytes : List ℕ) (made : FileDigest)
     : Type 0 where
   pub root : List ℕ
+  pub root_length : length root ≡ digest_len s
   pub root_is : told → root ≡ root_of_file s size bytes
   pub by_root : IsDigestOfRoot s size root made
 

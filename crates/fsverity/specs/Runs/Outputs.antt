@@ -6,7 +6,7 @@ use Rattle.command_line.specs.Printing.{AppendsPrefix, Prints}
 use Rattle.verity_format.specs.Descriptors.{descriptor_bytes, digest_of_file}
 use Rattle.verity_io.specs.Counting.{Change, Counts}
 use Rattle.verity_io.specs.Reading.{HasRead}
-use Rattle.verity_plan.specs.Settings.{Settings}
+use Rattle.verity_plan.specs.Settings.{Settings, digest_len}
 use Rattle.fsverity.specs.Runs.FileDigest.{FaultsIn, Stands, descriptor_of, device_failed, is_too_large, source_failed, with_tree}
 use Rattle.verity_tree.specs.Levels.{root_of_file}
 use Rattle.fsverity.specs.Texts.Lines.{line}
@@ -118,10 +118,12 @@ PrintsLine task root (Ok done) before after = Prints (Ok tt) (line_of_root task 
 PrintsLine task root (Err (Line fault)) before after = Prints (Err fault) (line_of_root task root) before after
 PrintsLine task root outcome before after = Keeps before after
 
--- the descriptor and the line have one root hash, which is the file's if the source tells its bytes
+-- the descriptor and the line have one root hash, of the settings' length; it is the file's if the source tells its
+-- bytes
 pub record WritesOutputs (task : OutputTask) (outcome : Outcome) (told : Type 0) (bytes : List ℕ)
     (outputs : OutputChange) : Type 0 where
   pub root : List ℕ
+  pub root_length : length root ≡ digest_len task.settings
   pub root_is : told → root ≡ root_of_file task.settings task.size bytes
   pub descriptor : WritesDescriptor task root outcome outputs.descriptor_before outputs.descriptor_after
   pub printed : PrintsLine task root outcome outputs.out_before outputs.out_after

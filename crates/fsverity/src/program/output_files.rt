@@ -1,10 +1,11 @@
 //! The output files of a run.
 ghost use Rattle.std.specs.Prelude.{◌≡◌, ◌⊎◌, ◌||◌, None, Some, IfErr, IfOk, IfSome, IsSome, IsTrue, false, is_some};
-ghost use Rattle.std.specs.Prelude.{option_map, option_copied, string_bytes};
+ghost use Rattle.std.specs.Prelude.{option_map, option_copied, string_bytes, true};
+ghost use Rattle.std.specs.Fs.{new_options, with_create, with_truncate, with_write};
 
 use crate::Line;
 use command_line::{FileIdentity, Identities, are_same_file, is_folder, text_of};
-use std::fs::File;
+use std::fs::OpenOptions;
 use std::rt::Files;
 
 /// The names of the output files; `None` if one is not given.
@@ -127,9 +128,19 @@ fn open_output<'a, R: Files>(rt: &R, name: Option<&'a str>) -> Result<Option<R::
 {
     match name {
         None => Ok(None),
-        Some(name) => match File::create(rt, name) {
+        Some(name) => match output_options().open(rt, name) {
             Ok(file) => Ok(Some(file)),
             Err(_) => Err(name),
         },
     }
+}
+
+/// The options for writing a file that is created if it is missing, or else truncated. A new one has the permissions
+/// that the system gives by itself (open(2), umask(2)).
+fn output_options() -> OpenOptions
+    ensures { result ≡ with_truncate (with_create (with_write new_options true) true) true }
+{
+    let mut options = OpenOptions::new();
+    options.write(true).create(true).truncate(true);
+    options
 }

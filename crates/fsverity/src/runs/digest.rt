@@ -1,12 +1,13 @@
 //! A run over files, one after another.
-ghost use Rattle.std.specs.Prelude.{◌≡◌, ◌⊎◌, ◌+◌, ◌<◌, ◌≤◌, length, map, IfOk, IfErr, MatchResult};
+ghost use Rattle.std.specs.Prelude.{◌≡◌, ◌≢◌, ◌⊎◌, ℕ, ◌+◌, ◌<◌, ◌≤◌, List, length, map, IfOk, IfErr, MatchResult};
 ghost use Rattle.std.specs.Io.KnownBytes.{Appends};
-ghost use Rattle.std.specs.List.{zip};
 ghost use Rattle.verity_hash.specs.declared.salting.SaltRule.TheVariants.{PaddedBefore};
 ghost use Rattle.verity_plan.specs.Settings.{digest_len};
 ghost use Rattle.fsverity.specs.Openers.Opening.{SameFiles, opener_change};
-ghost use Rattle.fsverity.specs.Runs.Digest.{CountsFault, EndsAt, lines, first_without_digest};
-ghost use Rattle.fsverity.specs.Runs.DigestSteps.{IsDigestAt, StopsStep, WritesStep};
+ghost use Rattle.fsverity.specs.Runs.Digest.{AreLines, CountsFault, EndsAt, IsDigestAt, first_without_digest};
+ghost use Rattle.fsverity.specs.Runs.DigestSteps.{StopsStep, WritesStep};
+ghost use Rattle.fsverity.specs.Texts.Lines.{line};
+ghost use Rattle.fsverity.specs.declared.runs.run_fault.RunFault.TheVariants.{NotWritten};
 
 use crate::texts::line_printing::print_line;
 use crate::{DigestFault, FileDigest, Form, Opener, PrintFault, RunFault, digest_file};
@@ -30,8 +31,9 @@ fn next_digest<O: Opener>(
     ensures counted { MatchResult result (λ _. O.failures opener.new ≡ O.failures opener.old)
         (λ fault. CountsFault fault (O.failures opener.old) (O.failures opener.new)) }
     ensures length { IfOk result (λ made. length made.digest ≡ digest_len settings.now) }
-    ensures digest { O.tells opener.old
-        → IfOk result (IsDigestAt settings.now (O.files opener.old) (O.next opener.old)) }
+    ensures digest { IfOk result (λ made. IsDigestAt settings.now (O.tells opener.old) (O.files opener.old)
+        (O.next opener.old) made.digest) }
+    ensures unwritten { IfErr result (λ fault. fault ≢ NotWritten) }
 {
     match opener.start() {
         Err(_) => Err(RunFault::NotOpened),
@@ -64,13 +66,8 @@ fn write_next_line<O: Opener, W: Write>(
         (opener_change O.tells O.files O.next O.failures opener.old opener.new)) }
     ensures counted { MatchResult result (λ _. O.failures opener.new ≡ O.failures opener.old)
         (λ fault. CountsFault fault (O.failures opener.old) (O.failures opener.new)) }
-    ensures written { O.tells opener.old → WritesStep (record {
-      settings = settings.now;
-      form = form;
-      name = name.now;
-      files = O.files opener.old;
-      index = O.next opener.old;
-    }) result (W.contents out.old) (W.contents out.new) }
+    ensures written { WritesStep settings.now (λ digest. line form settings.now.algorithm digest name.now)
+        (O.tells opener.old) (O.files opener.old) (O.next opener.old) result (W.contents out.old) (W.contents out.new) }
 {
     let made = next_digest(alloc, settings, opener)?;
     match print_line(alloc, settings, form, name, &made, out) {
@@ -106,9 +103,10 @@ pub fn run_digest<O: Opener, W: Write, M: Write>(
     ensures quiet { result ≡ 0 → msgs.new ≡ msgs.old }
     ensures no_failure { result ≡ 0 → O.failures opener.new ≡ O.failures opener.old }
     ensures all { O.tells opener.old → result ≡ 0 → first_without_digest settings.now (O.files opener.old) ≡ length names.now }
-    ensures lines { O.tells opener.old → result ≡ 0
-        → Appends (W.contents out.old) (W.contents out.new)
-        (lines settings.now form (zip (map (λ n. n.now) names.now) (O.files opener.old))) }
+    ensures printed { result ≡ 0 → (lines : List ℕ) × AreLines
+        (record { settings = settings.now; form = form; names = map (λ n. n.now) names.now })
+        (O.tells opener.old) (O.files opener.old) (length names.now) lines
+        × Appends (W.contents out.old) (W.contents out.new) lines }
 
     // Status 1: the run ended at one file, with its message.
     ensures ended { result ≡ 1 → EndsAt

@@ -1,5 +1,5 @@
 //! `veritysetup format` over the files of a runtime.
-ghost use Rattle.std.specs.Prelude.{◌≡◌, ◌<◌, ◌≤◌, ℕ, List, length, IfErr, IfNone, IfSome};
+ghost use Rattle.std.specs.Prelude.{◌≡◌, ◌<◌, ◌≤◌, ℕ, List, length, IfErr, IfNone, IfOk, IfSome};
 ghost use Rattle.command_line.specs.Printing.{AppendsPrefix};
 ghost use Rattle.verity_tree.specs.Levels.{whole_blocks};
 ghost use Rattle.veritysetup.specs.Options.Choices.{settings_of};
@@ -7,6 +7,7 @@ ghost use Rattle.veritysetup.specs.Texts.Messages.{short_message};
 ghost use Rattle.veritysetup.specs.Options.OptionTexts.{option_texts};
 ghost use Rattle.veritysetup.specs.Texts.Reports.{text_change};
 ghost use Rattle.veritysetup.specs.Program.CommandRuns.{CommandRun};
+ghost use Rattle.veritysetup.specs.Program.RandomBytes.{random_bytes};
 ghost use Rattle.veritysetup.specs.Program.Refusals.{EndsRefused};
 
 use crate::Line;
@@ -14,7 +15,7 @@ use crate::options::raw_options::RawOptions;
 use crate::options::settings::{Settings, settings_of};
 use crate::program::data_file::{DataFile, open_data};
 use crate::program::file_paths::FilePaths;
-use crate::program::random_bytes::draw;
+use crate::program::random_bytes::draw_seeded;
 use crate::program::syncing::{is_missing, sync_hash_device};
 use crate::runs::format::run_format;
 use crate::texts::program_messages::{
@@ -23,6 +24,7 @@ use crate::texts::program_messages::{
 };
 use command_line::{Identities, ProgressLine, ProgressRuntime, open_writable, paths_are_same_file};
 use rand::rngs::StdRng;
+use rand::{Rng, SeedableRng};
 use std::alloc::AllocGlobal;
 use std::io;
 use std::io::Write;
@@ -75,12 +77,14 @@ where
 }
 
 /// Random bytes of a generator that the runtime seeds, if salt or UUID is missing.
-fn draw_if_missing<R: RandomSource>(rt: &R, raw: &RawOptions) -> io::Result<Option<[u8; 48]>> {
+fn draw_if_missing<R: RandomSource>(rt: &R, raw: &RawOptions) -> io::Result<Option<[u8; 48]>>
+    ensures { IfOk result (λ random. IfSome random (λ bytes. (seed : List ℕ) × (length seed ≡ 32)
+        × (bytes ≡ (random_bytes (⟦<StdRng as Rng>⟧.stream (⟦<StdRng as SeedableRng>⟧.of_seed seed))).0))) }
+{
     if raw.salt.is_some() && raw.uuid.is_some() {
         return Ok(None);
     }
-    let mut rng: StdRng = rand::make_rng(rt)?;
-    Ok(Some(draw(&mut rng)))
+    Ok(Some(draw_seeded(rt)?))
 }
 
 /// Makes the hash device of an opened data file, by options. A refused option opens no HASH.

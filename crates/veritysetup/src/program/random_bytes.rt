@@ -1,8 +1,20 @@
 //! Random bytes for what is not given.
-ghost use Rattle.std.specs.Prelude.{◌≡◌};
+ghost use Rattle.std.specs.Prelude.{◌≡◌, ℕ, List, length, IfOk};
 ghost use Rattle.veritysetup.specs.Program.RandomBytes.{random_bytes};
 
-use rand::Rng;
+use rand::rngs::StdRng;
+use rand::{Rng, SeedableRng};
+use std::io;
+use std::random::RandomSource;
+
+/// Random bytes of a generator that the runtime seeds with 32 bytes.
+pub(crate) fn draw_seeded<R: RandomSource>(rt: &R) -> io::Result<[u8; 48]>
+    ensures { IfOk result (λ bytes. (seed : List ℕ) × (length seed ≡ 32)
+        × (bytes ≡ (random_bytes (⟦<StdRng as Rng>⟧.stream (⟦<StdRng as SeedableRng>⟧.of_seed seed))).0)) }
+{
+    let mut rng: StdRng = rand::make_rng(rt)?;
+    Ok(draw(&mut rng))
+}
 
 /// The first six `u64` numbers of the generator's stream, each little-endian: 32 bytes for a salt that is not given,
 /// and 16 for a UUID.

@@ -1,13 +1,14 @@
-use Rattle.std.proofs.Common.{◌≡◌, ◌+◌, ◌<◌, ℕ, List, Some, length, get_or, ap, refl, ◌∙◌, arith, rules, map, take, option_map}
-use Rattle.std.proofs.lemmas.List.{length-map, take_all}
+use Rattle.std.proofs.Common.{◌≡◌, ◌+◌, ◌<◌, ℕ, List, [], Some, false, not, length, get_or, ap, refl, ◌∙◌, arith, map, option_map}
+use Rattle.std.proofs.lemmas.List.{length-map}
 use Rattle.std.proofs.lemmas.List.Sums.{prefix_len-le-length}
 use Rattle.std.proofs.lemmas.Option.{get_or_from_slice_get, slice_get-get_or, slice_get-map}
-use Rattle.std.proofs.lemmas.Slice.Zip.{length-zip}
-use Rattle.std.specs.List.{slice_get, zip}
+use Rattle.std.specs.List.{slice_get}
 use Rattle.fsverity.specs.Openers.Opening.{opener_change}
 use Rattle.fsverity.specs.Runs.Digest.{has_digest}
+use Rattle.fsverity.specs.Runs.FileDigest.{is_too_large}
 use Rattle.command_line.proofs.Prefixes.{appends_nothing}
-use Rattle.fsverity.proofs.RunLemmas.{line_more, prefix_more, passes_more, stops_run}
+use Rattle.verity_format.proofs.KnownLemmas.{appends_twice}
+use Rattle.fsverity.proofs.RunLemmas.{line_more, part_of_line, passes_more, stops_run}
 use Rattle.fsverity.proofs.runs.digest.run_digest.Goals as goal
 
 -- the mapped element of an index
@@ -16,12 +17,21 @@ mapped_at : {A B : Type 0} (f : A → B) (xs : List A) (i : ℕ) (d : A) → i <
 mapped_at f xs i d below = slice_get-map f xs i ∙ ap (option_map f) (slice_get-get_or xs i d below)
 
 pub loop-name-init : goal.loop-name-init
-loop-name-init g c = search (rules, c.requires.first, appends_nothing)
+loop-name-init g c = record {
+  next = c.requires.first;
+  same = record { told = (λ t. t, λ t. t); files = refl; count = refl };
+  failures = refl;
+  quiet = refl;
+  within = λ t. omega arith;
+  printed = ([], refl, appends_nothing _);
+}
 
 pub returns-in-Err-clause-ended : goal.returns-in-Err-clause-ended
 returns-in-Err-clause-ended g c = λ _.
     let named = mapped_at (λ n. n.now) c.args.names.now c.loop-name.name-index _ c.loop-name-test.true in
     let change = opener_change g.O.Opener.tells g.O.Opener.files g.O.Opener.next g.O.Opener.failures in
+    let part = part_of_line _ _ _ _ _ _ _ _ c.in-Err.fault _ _ named c.loop-name.invariant.same.told.0
+    c.loop-name.invariant.same.files c.loop-name.invariant.next c.in-Err.ensures.written in
     record {
       f = c.loop-name.name-index;
       fault = c.in-Err.fault;
@@ -35,15 +45,17 @@ returns-in-Err-clause-ended g c = λ _.
       counted = rw c.loop-name.invariant.failures at c.in-Err.ensures.counted;
       message = rw (get_or_from_slice_get _ _ _ _ named)
           (rw c.loop-name.invariant.quiet at c.write_message.ensures.prefix);
-      written = λ t.
-          let prefix = c.in-Err.ensures.written (c.loop-name.invariant.same.told.0 t) in
-          prefix_more _ _ _ _ _ _ _ _ named (c.loop-name.invariant.out t)
-          (rw (c.loop-name.invariant.same.files, c.loop-name.invariant.next) at prefix);
+      lines = c.loop-name.invariant.printed.0;
+      lines_are = c.loop-name.invariant.printed.1;
+      part = part.0;
+      part_is = part.1;
+      written = appends_twice _ _ _ _ _ c.loop-name.invariant.printed.2 part.2;
     }
 
 pub loop-name-preserved : goal.loop-name-preserved
 loop-name-preserved g c =
     let named = mapped_at (λ n. n.now) c.args.names.now c.loop-name.name-index _ c.loop-name-test.true in
+    let written = c.in-Ok.ensures.written in
     record {
       next = c.write_next_line.ensures.next ∙ ap (λ n. n + 1) c.loop-name.invariant.next;
       same = record {
@@ -57,13 +69,13 @@ loop-name-preserved g c =
       failures = c.in-Ok.ensures.counted ∙ c.loop-name.invariant.failures;
       quiet = c.loop-name.invariant.quiet;
       within = λ t.
-          let written = c.in-Ok.ensures.written (c.loop-name.invariant.same.told.0 t) in
-          let line = rw (c.loop-name.invariant.same.files, c.loop-name.invariant.next) at written in
-          passes_more (has_digest c.args.settings.now) _ _ line.file line.is line.fits (c.loop-name.invariant.within t);
-      out = λ t.
-          let written = c.in-Ok.ensures.written (c.loop-name.invariant.same.told.0 t) in
-          line_more _ _ _ _ _ _ _ named (c.loop-name.invariant.out t)
-          (rw (c.loop-name.invariant.same.files, c.loop-name.invariant.next) at written);
+          let file = rw (c.loop-name.invariant.same.files, c.loop-name.invariant.next)
+          at (written.1.of_file (c.loop-name.invariant.same.told.0 t)) in
+          let fits : is_too_large c.args.settings.now (length file.0) ≡ false = rw file.1.1 at written.1.fits in
+          passes_more (has_digest c.args.settings.now) _ _ (Some file.0) file.1.0 (ap not fits)
+          (c.loop-name.invariant.within t);
+      printed = line_more _ _ _ _ _ _ _ _ _ _ _ named c.loop-name.invariant.same.told.0
+          c.loop-name.invariant.same.files c.loop-name.invariant.next c.loop-name.invariant.printed written;
     }
 
 pub returns-clause-all : goal.returns-clause-all
@@ -73,12 +85,7 @@ returns-clause-all g c = λ t _.
     let least = c.loop-name.invariant.within t in
     omega (arith, all, most, least, c.requires.names, c.loop-name-test.false)
 
-pub returns-clause-lines : goal.returns-clause-lines
-returns-clause-lines g c = λ t _.
-    let names = map (λ n. n.now) c.args.names.now in
-    let pairs = zip names (g.O.Opener.files c.args.opener.now) in
-    let few = length-zip names (g.O.Opener.files c.args.opener.now) in
-    let len = length-map c.args.names.now (λ n. n.now) in
-    let whole : take c.loop-name.name-index pairs ≡ pairs
-    = take_all c.loop-name.name-index pairs (omega (arith, few, len, c.loop-name-test.false)) in
-    rw whole at (c.loop-name.invariant.out t)
+pub returns-clause-printed : goal.returns-clause-printed
+returns-clause-printed g c = λ _.
+    let all : c.loop-name.name-index ≡ length c.args.names.now = omega (arith, c.loop-name-test.false) in
+    rw all at c.loop-name.invariant.printed

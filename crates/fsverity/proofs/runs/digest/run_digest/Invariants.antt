@@ -1,8 +1,7 @@
-use Rattle.std.proofs.Common.{◌≡◌, ◌≤◌, take, map}
+use Rattle.std.proofs.Common.{◌≡◌, ◌≤◌, List, ℕ, map}
 use Rattle.std.specs.Io.KnownBytes.{Appends}
-use Rattle.std.specs.List.{zip}
 use Rattle.fsverity.specs.Openers.Opening.{SameFiles}
-use Rattle.fsverity.specs.Runs.Digest.{first_without_digest, lines}
+use Rattle.fsverity.specs.Runs.Digest.{AreLines, first_without_digest}
 use Rattle.fsverity.proofs.runs.digest.run_digest.Given as goal
 
 abbrev pub invariant-loop-name : goal.invariant-loop-name
@@ -12,6 +11,8 @@ invariant-loop-name g l = record {
   failures : g.O.Opener.failures l.opener ≡ g.O.Opener.failures l.fn.opener;
   quiet : l.msgs ≡ l.fn.msgs;
   within : g.O.Opener.tells l.fn.opener → l.name-index ≤ first_without_digest l.settings (g.O.Opener.files l.fn.opener);
-  out : g.O.Opener.tells l.fn.opener → Appends (g.W.Write.contents l.fn.out) (g.W.Write.contents l.out)
-      (lines l.settings l.form (take l.name-index (zip (map (λ n. n.now) l.names) (g.O.Opener.files l.fn.opener))));
+  printed : (lines : List ℕ) × AreLines
+      (record { settings = l.settings; form = l.form; names = map (λ n. n.now) l.names })
+      (g.O.Opener.tells l.fn.opener) (g.O.Opener.files l.fn.opener) l.name-index lines
+      × Appends (g.W.Write.contents l.fn.out) (g.W.Write.contents l.out) lines;
 }

@@ -1,0 +1,125 @@
+//! Devices over files: blocks of many lengths at many offsets, up to the largest, and files that refuse an offset.
+use crate::files::Sparse;
+use fixtures::data;
+use std::alloc::Global;
+use std::io;
+use std::io::{ErrorKind, Read, Seek, SeekFrom, Write};
+use std::test::Fail;
+use verity_io::MOST_BYTES;
+use verity_tree::{Device, Failed, FileDevice};
+
+/// Offsets near powers of two, up to some that only a file with a hole can have.
+const OFFSETS: [u64; 8] = [
+    0,
+    1,
+    4_095,
+    (1 << 32) - 1,
+    (1 << 40) - 1,
+    1 << 41,
+    (1 << 53) + 1,
+    1 << 62,
+];
+
+/// Lengths of blocks.
+const LENGTHS: [usize; 6] = [1, 4096, 4097, 65_537, 131_072, 524_288];
+
+/// Whether a block that is written at an offset of a file with a hole before it is read from there.
+fn is_kept(alloc: Global, at: u64, block: &[u8]) -> Result<bool, Fail> {
+    if at > MOST_BYTES || block.len() as u64 > MOST_BYTES - at {
+        return Err("a block within the largest offset".into());
+    }
+    let mut device = FileDevice::new(Sparse::new(at, Vec::new(alloc), usize::MAX, 0));
+    let written = device.write_at(at, block);
+    let mut buf = vec![in alloc; 7u8; block.len()]?;
+    let read = device.read_at(at, buf.as_mut_slice());
+    Ok(written == Ok(()) && read == Ok(block.len()) && buf.as_slice() == block)
+}
+
+/// The first offset from which a block isn't read as it was written there. The last one tried is that at which it ends
+/// at the largest offset.
+fn first_wrong(alloc: Global, block: &[u8]) -> Result<Option<u64>, Fail> {
+    let last = MOST_BYTES.saturating_sub(block.len() as u64);
+    for &at in OFFSETS.iter().chain(&[last]) {
+        if !is_kept(alloc, at, block)? {
+            return Ok(Some(at));
+        }
+    }
+    Ok(None)
+}
+
+#[test]
+fn blocks_of_each_length_stand_at_each_offset(rt: HostRuntime) -> Result<(), Fail> {
+    let alloc = rt.alloc();
+    for &length in &LENGTHS {
+        let wrong = first_wrong(alloc, data(alloc, length)?.as_slice())?;
+        assert_eq!(rt; wrong, None, "at {length}");
+    }
+    Ok(())
+}
+
+/// A file that refuses each offset, and says only where it ends.
+#[derive(Drop)]
+struct Refusing {
+    end: u64,
+}
+
+impl Seek for Refusing {
+    fn seek(&mut self, to: SeekFrom) -> io::Result<u64> {
+        match to {
+            SeekFrom::End(0) => Ok(self.end),
+            _ => Err(io::Error::from(ErrorKind::InvalidInput)),
+        }
+    }
+}
+
+impl Read for Refusing {
+    fn read(&mut self, _buf: &mut [u8]) -> io::Result<usize> {
+        Err(io::Error::from(ErrorKind::Other))
+    }
+}
+
+impl Write for Refusing {
+    fn write(&mut self, _buf: &[u8]) -> io::Result<usize> {
+        Err(io::Error::from(ErrorKind::Other))
+    }
+
+    fn flush(&mut self) -> io::Result<()> {
+        Ok(())
+    }
+}
+
+/// The end of a file, a refused offset, and the answer to a read from there: nothing if the file ends before it or at
+/// it, and otherwise a failure.
+const REFUSED: [(u64, u64, Result<usize, Failed>); 12] = [
+    (0, 0, Ok(0)),
+    (0, 1, Ok(0)),
+    (0, 1 << 41, Ok(0)),
+    (0, MOST_BYTES, Ok(0)),
+    (0, u64::MAX, Ok(0)),
+    (1, 0, Err(Failed)),
+    (1, 1, Ok(0)),
+    (1, 2, Ok(0)),
+    (4096, 4095, Err(Failed)),
+    (4096, 4096, Ok(0)),
+    (MOST_BYTES, MOST_BYTES - 1, Err(Failed)),
+    (MOST_BYTES, MOST_BYTES, Ok(0)),
+];
+
+#[test]
+fn a_refused_offset_is_past_the_end_or_a_failure(rt: HostRuntime) {
+    for &(end, at, answer) in &REFUSED {
+        let mut device = FileDevice::new(Refusing { end });
+        let found = device.read_at(at, &mut [7; 1]);
+        assert_eq!(rt; found, answer, "at {end}, {at}");
+    }
+}
+
+/// A read that would end past the largest offset isn't tried.
+#[test]
+fn an_empty_file_gives_nothing_from_any_offset(rt: HostRuntime) {
+    for &at in &[0, 1, 1 << 41, MOST_BYTES - 1, MOST_BYTES, u64::MAX] {
+        let mut device = FileDevice::new(Sparse::new(0, Vec::new(rt.alloc()), usize::MAX, 0));
+        let answer = device.read_at(at, &mut [7; 4096]);
+        assert_eq!(rt; answer, Ok(0), "at {at}");
+    }
+}

@@ -1,0 +1,210 @@
+//! How a pass reads its data blocks: several together, each into a row of a window, or one by one. A source can't see
+//! the window, but it sees what stands in the buffer that it is to fill: zeros at first, and later the data block that
+//! was read into the same row before.
+use crate::cases::{CURRENT, FILE, SHA256, SHA512};
+use std::alloc::Global;
+use std::test::Fail;
+use verity_hash::{Algorithm, Digest, SaltRule};
+use verity_tree::{
+    Failed, HashType, MemoryDevice, Plan, SettingFault, Source, Store, TreeSettings, build,
+    compare, root_only,
+};
+
+/// How many reads a source records at most.
+const MOST_READS: usize = 32;
+
+/// What stood in the buffer at each read: the number of a data block, counted from 1, or 0 for zeros.
+type Held = [u8; MOST_READS];
+
+/// A source whose data block `i` has bytes that are all `i + 1`. It records what stands in each buffer, and ends if
+/// that isn't a whole data block.
+#[derive(Drop)]
+struct Watcher {
+    size: usize,
+    held: Held,
+    reads: usize,
+}
+
+impl Watcher {
+    /// A source of data blocks of a size.
+    fn new(size: usize) -> Watcher {
+        Watcher {
+            size,
+            held: [0; MOST_READS],
+            reads: 0,
+        }
+    }
+}
+
+/// The first byte, if the last is the same, or 255.
+fn byte_at_both_ends(bytes: &[u8]) -> u8 {
+    match (bytes.first(), bytes.last()) {
+        (Some(first), Some(last)) if first == last => *first,
+        _ => 255,
+    }
+}
+
+impl Source for Watcher {
+    ghost use Rattle.std.specs.Prelude.{[]};
+
+    // What it gives is tested, not proved.
+    ghost tells = { λ _. ⊥ };
+
+    ghost remaining = { λ _. [] };
+
+    ghost failures = { λ _. 0 };
+
+    fn read(&mut self, buf: &mut [u8]) -> Result<usize, Failed> {
+        let Some(held) = self.held.get_mut(self.reads) else {
+            return Ok(0);
+        };
+        if buf.len() != self.size {
+            return Ok(0);
+        }
+        *held = byte_at_both_ends(buf);
+        self.reads = self.reads.saturating_add(1);
+        buf.fill((self.reads % 256) as u8);
+        Ok(buf.len())
+    }
+}
+
+/// What stands in the buffers if data blocks are read in these batches: in the rows of a window, or, in a batch of one,
+/// where each that is read alone stands.
+fn held_in(batches: &[usize]) -> Held {
+    let mut held = [0; MOST_READS];
+    let mut rows = [0_u8; 8];
+    let mut alone = 0_u8;
+    let mut read = 0_usize;
+    for &count in batches {
+        for row in 0..count {
+            let last = match rows.get_mut(row) {
+                Some(last) if count > 1 => last,
+                _ => &mut alone,
+            };
+            if let Some(place) = held.get_mut(read) {
+                *place = *last;
+            }
+            read = read.saturating_add(1);
+            *last = (read % 256) as u8;
+        }
+    }
+    held
+}
+
+/// The format, by its rule for salts, and the function; the sizes of a data block and a hash block; and how many data
+/// blocks are read together, one batch after another.
+type Batches = (SaltRule, Algorithm, (u32, u32), &'static [usize]);
+
+/// In windows of 32 and of 128 KiB eight data blocks are read together, and fewer where a hash block closes after fewer;
+/// one or two go one by one.
+const SMALLER: [Batches; 14] = [
+    (CURRENT, SHA256, (512, 512), &[8, 8, 3]),
+    (CURRENT, SHA256, (512, 512), &[8, 8, 1, 1]),
+    (CURRENT, SHA256, (512, 512), &[8, 5]),
+    (CURRENT, SHA256, (512, 4096), &[8, 8, 8, 4]),
+    (CURRENT, SHA512, (1024, 512), &[8, 8, 1]),
+    (CURRENT, SHA256, (2048, 512), &[8, 8, 8, 7]),
+    (CURRENT, SHA256, (4096, 512), &[8, 8, 8, 4]),
+    (CURRENT, SHA256, (4096, 4096), &[8, 8, 3]),
+    (CURRENT, SHA256, (4096, 4096), &[3]),
+    (FILE, SHA256, (128, 128), &[4, 4, 3]),
+    (FILE, SHA256, (256, 256), &[8, 8, 4]),
+    (FILE, SHA512, (512, 512), &[8, 8, 1, 1]),
+    (CURRENT, SHA256, (8192, 512), &[8, 8, 3]),
+    (CURRENT, SHA512, (16_384, 512), &[8, 3]),
+];
+
+/// In a window of 512 KiB it is eight too, or four of the largest data blocks for which it is made.
+const LARGEST: [Batches; 3] = [
+    (CURRENT, SHA256, (32_768, 512), &[8, 3]),
+    (CURRENT, SHA256, (65_536, 65_536), &[8]),
+    (CURRENT, SHA256, (131_072, 512), &[4, 1]),
+];
+
+/// There is no window if it would have room for two data blocks at most, if a hash block has no more, and for one or two
+/// data blocks in all.
+const NONE: [Batches; 5] = [
+    (CURRENT, SHA256, (262_144, 512), &[1, 1, 1]),
+    (FILE, SHA256, (64, 64), &[1, 1, 1, 1, 1, 1, 1]),
+    (FILE, SHA512, (128, 128), &[1, 1, 1, 1, 1]),
+    (CURRENT, SHA256, (4096, 4096), &[1, 1]),
+    (CURRENT, SHA256, (512, 512), &[1]),
+];
+
+/// The settings of a row, without a salt.
+fn settings_of(row: &Batches) -> Result<TreeSettings, SettingFault> {
+    let (rule, algorithm, (data_block, hash_block), _) = *row;
+    match rule {
+        SaltRule::PaddedBefore => TreeSettings::fsverity(algorithm, &[], hash_block),
+        _ => TreeSettings::verity(algorithm, HashType::Current, &[], data_block, hash_block),
+    }
+}
+
+/// A pass that writes a tree, one that makes the root hash alone, and one that compares the tree: whether they agree,
+/// and what stood in the buffers of each.
+type Passes = (bool, [(Held, usize); 3]);
+
+fn passes(alloc: Global, plan: &Plan) -> Result<Passes, Fail> {
+    let mut store = Store::new(alloc, plan)?;
+    if !store.fits(plan) {
+        return Err("a store".into());
+    }
+    let mut device = MemoryDevice::new(Vec::new(alloc));
+    let mut sources = [
+        Watcher::new(plan.data_block()),
+        Watcher::new(plan.data_block()),
+        Watcher::new(plan.data_block()),
+    ];
+    let root: Digest = match build(plan, &mut store, &mut sources[0], &mut device) {
+        Ok(root) => root,
+        Err(_) => return Err("a root hash".into()),
+    };
+    let alone = root_only(plan, &mut store, &mut sources[1]);
+    let verdict = compare(plan, &mut store, &mut sources[2], &mut device, &root);
+    let [built, rooted, compared] = &sources;
+    let read = [
+        (built.held, built.reads),
+        (rooted.held, rooted.reads),
+        (compared.held, compared.reads),
+    ];
+    Ok((alone == Ok(root) && verdict == Ok(()), read))
+}
+
+/// Whether each pass over the data blocks of a row reads them in its batches, and they agree.
+fn is_read(alloc: Global, row: &Batches) -> Result<bool, Fail> {
+    let batches = row.3;
+    let mut blocks = 0_usize;
+    for &count in batches {
+        blocks = blocks.saturating_add(count);
+    }
+    let plan = Plan::for_blocks(&settings_of(row)?, blocks as u64, 0)?;
+    let expected = (held_in(batches), blocks);
+    Ok(passes(alloc, &plan)? == (true, [expected; 3]))
+}
+
+#[test]
+fn data_blocks_are_read_together_in_windows(rt: HostRuntime) -> Result<(), Fail> {
+    for row in &SMALLER {
+        let read = is_read(rt.alloc(), row)?;
+        assert!(rt; read, "at {row:?}");
+    }
+    Ok(())
+}
+
+#[test]
+fn large_data_blocks_are_read_together_in_windows(rt: HostRuntime) -> Result<(), Fail> {
+    for row in &LARGEST {
+        let read = is_read(rt.alloc(), row)?;
+        assert!(rt; read, "at {row:?}");
+    }
+    Ok(())
+}
+
+#[test]
+fn data_blocks_without_a_window_are_read_one_by_one(rt: HostRuntime) -> Result<(), Fail> {
+    for row in &NONE {
+        let read = is_read(rt.alloc(), row)?;
+        assert!(rt; read, "at {row:?}");
+    }
+    Ok(())
+}

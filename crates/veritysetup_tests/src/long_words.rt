@@ -1,0 +1,157 @@
+//! Words of more than 1024 bytes, with ample memory: paths, the values of options, and words that are refused.
+use crate::images::{Image, image_17};
+use crate::program_runs::{disk_of, run, run_words};
+use fixtures::{REPORT_17, Report};
+use memory_runtime::Disk;
+use std::alloc::{AllocError, Global};
+use std::io;
+use std::test::Fail;
+
+/// How often what is long is repeated.
+const MANY: usize = 1100;
+
+/// A disk with the data of an image under a name.
+fn disk_with(alloc: Global, image: &Image, name: &str) -> io::Result<Disk> {
+    let disk = disk_of(alloc, &[])?;
+    disk.make(name, image.data.to_vec(alloc)?)?;
+    Ok(disk)
+}
+
+/// The options of the image of 17 blocks, each number with many zeros before it. Only the salt and the UUID can't be
+/// longer.
+fn long_options(alloc: Global) -> Result<String, AllocError> {
+    let zeros = "0".repeat(alloc, MANY)?;
+    format!(in alloc;
+        "--format {zeros}1 --data-block-size {zeros}512 --hash-block-size {zeros}512 --data-blocks {zeros}17 --hash-offset {zeros} --salt=- --uuid 00112233-4455-4677-8899-aabbccddeeff"
+    )
+}
+
+/// What goes wrong when an image is made, dumped and verified, under long names and with these options.
+fn first_wrong(
+    alloc: Global,
+    image: &Image,
+    options: &str,
+    names: (&str, &str),
+) -> Result<Option<(&'static str, &'static str)>, Fail> {
+    let (data, hash) = names;
+    let disk = disk_with(alloc, image, data)?;
+    let root = hex::encode(alloc, image.root.as_slice())?;
+    let report = Report {
+        path: hash,
+        ..REPORT_17
+    };
+    let text = report.with_root(alloc, image.root.as_slice())?;
+    let words = format!(in alloc; "veritysetup format {options} {data} {hash}")?;
+    let said = run_words(alloc, &disk, words.as_str());
+    if let Some(what) = said.differs(0, text.as_bytes(), b"") {
+        return Ok(Some(("format", what)));
+    }
+    let words = format!(in alloc; "veritysetup dump {hash}")?;
+    let said = run_words(alloc, &disk, words.as_str());
+    if let Some(what) = said.differs(0, report.text(alloc)?.as_bytes(), b"") {
+        return Ok(Some(("dump", what)));
+    }
+    let words = format!(in alloc; "veritysetup verify {data} {hash} {root}")?;
+    let said = run_words(alloc, &disk, words.as_str());
+    if let Some(what) = said.differs(0, b"", b"") {
+        return Ok(Some(("verify", what)));
+    }
+    Ok(if disk.bytes_of(hash)? == image.device {
+        None
+    } else {
+        Some(("format", "the hash device"))
+    })
+}
+
+#[test]
+fn long_names_and_values_are_taken(rt: HostRuntime) -> Result<(), Fail> {
+    let alloc = rt.alloc();
+    let image = image_17(alloc)?;
+    let options = long_options(alloc)?;
+    let data = "d/ä".repeat(alloc, MANY)?;
+    let hash = "h/ü".repeat(alloc, MANY)?;
+    let names = (data.as_str(), hash.as_str());
+    let wrong = first_wrong(alloc, &image, options.as_str(), names)?;
+    assert_eq!(rt; wrong, None);
+    Ok(())
+}
+
+/// Commands that end before the long word and after it, and the message for it.
+const REFUSED: [(&str, &str, &str); 9] = [
+    ("format --hash ", " data hash", "Unknown hash algorithm.\n"),
+    (
+        "format --format ",
+        " data hash",
+        "Option --format is not a number.\n",
+    ),
+    (
+        "format --data-block-size ",
+        " data hash",
+        "Option --data-block-size is not a number.\n",
+    ),
+    (
+        "format --hash-block-size ",
+        " data hash",
+        "Option --hash-block-size is not a number.\n",
+    ),
+    (
+        "format --data-blocks ",
+        " data hash",
+        "Option --data-blocks is not a number.\n",
+    ),
+    (
+        "format --hash-offset ",
+        " data hash",
+        "Option --hash-offset is not a number.\n",
+    ),
+    ("format --salt ", " data hash", "Salt is not valid.\n"),
+    ("format --uuid ", " data hash", "UUID is not valid.\n"),
+    (
+        "verify --no-superblock --salt=- data hash ",
+        "",
+        "Root hash is not valid.\n",
+    ),
+];
+
+#[test]
+fn long_values_are_refused_with_their_messages(rt: HostRuntime) -> Result<(), Fail> {
+    let alloc = rt.alloc();
+    let disk = disk_of(alloc, &[5; 8192])?;
+    let long = "ab".repeat(alloc, MANY)?;
+    for &(before, after, message) in &REFUSED {
+        let words = format!(in alloc; "veritysetup {before}{long}{after}")?;
+        let said = run(alloc, &disk, words.as_str(), None);
+        let differs = said.differs(1, b"", message.as_bytes());
+        assert_eq!(rt; differs, None, "at {before}");
+    }
+    Ok(())
+}
+
+#[test]
+fn a_long_name_stands_in_the_message(rt: HostRuntime) -> Result<(), Fail> {
+    let alloc = rt.alloc();
+    let disk = disk_of(alloc, &[5; 8192])?;
+    let name = "long/".repeat(alloc, MANY)?;
+    let words = format!(in alloc; "veritysetup format {name} hash")?;
+    let message = format!(in alloc; "Cannot open {name}.\n")?;
+    let said = run(alloc, &disk, words.as_str(), None);
+    assert_eq!(rt; said.differs(4, b"", message.as_bytes()), None);
+    Ok(())
+}
+
+#[test]
+fn a_long_word_that_is_not_utf8_is_refused(rt: HostRuntime) -> Result<(), Fail> {
+    let alloc = rt.alloc();
+    let disk = disk_of(alloc, &[5; 8192])?;
+    let word = vec![in alloc; 0xff_u8; MANY]?;
+    let escaped = "\\xff".repeat(alloc, MANY)?;
+    let message = format!(in alloc; "error: argument 3 is not UTF-8: {escaped}\n")?;
+    let said = run(
+        alloc,
+        &disk,
+        "veritysetup format data",
+        Some(word.as_slice()),
+    );
+    assert_eq!(rt; said.differs(1, b"", message.as_bytes()), None);
+    Ok(())
+}

@@ -1,0 +1,159 @@
+//! The reports of format and dump by each hash function and hash type, with a superblock and without.
+use crate::program_runs::{disk_of, run, run_words};
+use fixtures::{REPORT_17, Report, Shape, Tree, data, superblock, with_zeros};
+use memory_runtime::Disk;
+use std::alloc::{AllocError, Global};
+use std::test::Fail;
+use verity_hash::Algorithm;
+
+/// A hash function and its name, a hash type, and the number and the width of the slots of a hash block of 512 bytes.
+type Row = (Algorithm, &'static str, u8, (usize, usize));
+
+const ROWS: [Row; 10] = [
+    (Algorithm::Sha1, "sha1", 1, (16, 32)),
+    (Algorithm::Sha224, "sha224", 1, (16, 32)),
+    (Algorithm::Sha256, "sha256", 1, (16, 32)),
+    (Algorithm::Sha384, "sha384", 1, (8, 64)),
+    (Algorithm::Sha512, "sha512", 1, (8, 64)),
+    (Algorithm::Sha1, "sha1", 0, (16, 20)),
+    (Algorithm::Sha224, "sha224", 0, (16, 28)),
+    (Algorithm::Sha256, "sha256", 0, (16, 32)),
+    (Algorithm::Sha384, "sha384", 0, (8, 48)),
+    (Algorithm::Sha512, "sha512", 0, (8, 64)),
+];
+
+/// The salt of all of them.
+const SALT: [u8; 2] = [0xab, 0xcd];
+
+/// The tree above 17 blocks of 512 bytes.
+fn tree_of(alloc: Global, row: Row) -> Result<Tree, AllocError> {
+    let (algorithm, _, hash_type, slots) = row;
+    let mut shape = Shape::new(alloc, algorithm, (512, 512), slots);
+    let salt = Vec::from_slice(alloc, &SALT)?;
+    if hash_type == 0 {
+        shape.after = salt;
+    } else {
+        shape.before = salt;
+    }
+    shape.tree(alloc, data(alloc, 8704)?.as_slice(), 2)
+}
+
+/// The superblock, if there is one, and the tree.
+fn device_of(
+    alloc: Global,
+    row: Row,
+    tree: &Tree,
+    has_superblock: bool,
+) -> Result<Vec<u8>, AllocError> {
+    let (_, name, hash_type, _) = row;
+    let superblock = superblock(hash_type, name.as_bytes(), (512, 512), 17, &SALT);
+    let front: &[u8] = if has_superblock { &superblock } else { &[] };
+    with_zeros(alloc, &[front, tree.on_device(alloc, 0)?.as_slice()], 0)
+}
+
+/// The report.
+fn report_of(row: Row, has_superblock: bool) -> Report<'static> {
+    let (_, name, hash_type, _) = row;
+    Report {
+        path: "hash",
+        uuid: if has_superblock { REPORT_17.uuid } else { "-" },
+        hash_type,
+        algorithm: name,
+        salt: "abcd",
+        ..REPORT_17
+    }
+}
+
+/// The words of format.
+fn words_of_format(
+    alloc: Global,
+    (_, name, hash_type, _): Row,
+    has_superblock: bool,
+) -> Result<String, AllocError> {
+    let last = if has_superblock {
+        "--uuid 00112233-4455-4677-8899-aabbccddeeff"
+    } else {
+        "--no-superblock"
+    };
+    format!(in alloc;
+        "veritysetup format --hash {name} --format {hash_type} --data-block-size 512 --hash-block-size 512 --salt abcd {last} data hash"
+    )
+}
+
+/// What format leaves and prints that isn't as it should be.
+fn wrong_format(
+    alloc: Global,
+    disk: &Disk,
+    row: Row,
+    tree: &Tree,
+    has_superblock: bool,
+) -> Result<Option<&'static str>, Fail> {
+    let words = words_of_format(alloc, row, has_superblock)?;
+    let text = report_of(row, has_superblock).with_root(alloc, tree.root.as_slice())?;
+    let said = run(alloc, disk, words.as_str(), None);
+    if let Some(what) = said.differs(0, text.as_bytes(), b"") {
+        return Ok(Some(what));
+    }
+    let device = device_of(alloc, row, tree, has_superblock)?;
+    Ok(if disk.bytes_of("hash")? == device {
+        None
+    } else {
+        Some("the hash device")
+    })
+}
+
+/// The words of verify. Without a superblock they have the options of format.
+fn words_of_verify(
+    alloc: Global,
+    (_, name, hash_type, _): Row,
+    root: &[u8],
+    has_superblock: bool,
+) -> Result<String, AllocError> {
+    let root = hex::encode(alloc, root)?;
+    if has_superblock {
+        return format!(in alloc; "veritysetup verify data hash {root}");
+    }
+    format!(in alloc;
+        "veritysetup verify --no-superblock --hash {name} --format {hash_type} --data-block-size 512 --hash-block-size 512 --salt abcd data hash {root}"
+    )
+}
+
+/// What goes wrong in format, with a superblock or without, or then in verify or dump.
+fn first_wrong(
+    alloc: Global,
+    row: Row,
+    has_superblock: bool,
+) -> Result<Option<(&'static str, &'static str)>, Fail> {
+    let tree = tree_of(alloc, row)?;
+    let disk = disk_of(alloc, data(alloc, 8704)?.as_slice())?;
+    if let Some(what) = wrong_format(alloc, &disk, row, &tree, has_superblock)? {
+        return Ok(Some(("format", what)));
+    }
+    let words = words_of_verify(alloc, row, tree.root.as_slice(), has_superblock)?;
+    let verify = run_words(alloc, &disk, words.as_str());
+    if let Some(what) = verify.differs(0, b"", b"") {
+        return Ok(Some(("verify", what)));
+    }
+    let dump = run_words(alloc, &disk, "veritysetup dump hash");
+    let differs = if has_superblock {
+        let text = report_of(row, true).text(alloc)?;
+        dump.differs(0, text.as_bytes(), b"")
+    } else {
+        dump.differs(1, b"", b"No verity superblock.\n")
+    };
+    Ok(match differs {
+        Some(what) => Some(("dump", what)),
+        None => None,
+    })
+}
+
+#[test]
+fn each_hash_function_and_type_is_reported_and_verified(rt: HostRuntime) -> Result<(), Fail> {
+    for &row in &ROWS {
+        for &has_superblock in &[true, false] {
+            let wrong = first_wrong(rt.alloc(), row, has_superblock)?;
+            assert_eq!(rt; wrong, None, "at {row:?}, {has_superblock}");
+        }
+    }
+    Ok(())
+}
