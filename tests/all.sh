@@ -1,8 +1,9 @@
 #!/bin/bash
-# All tests: the gate, then the programs that it built, run as a user runs them, the examples of the documents, and the
-# comparisons with Debian's programs, if these are installed. These go over the programs for each processor that
-# runs here; a minute of random runs goes over those of bin/. The library for C is called from C, and its examples run.
-# All that comes after the gate and the programs runs side by side. The last line is 'N passed, M failed', over all parts.
+# All tests: the gate, each wrong body, then the programs that the gate built, run as a user runs them, the examples of
+# the documents, and the comparisons with Debian's programs, if these are installed. These go over the programs for each
+# processor that runs here; a minute of random runs goes over those of bin/. The library for C is called from C, and its
+# examples run. All that comes after the wrong bodies runs side by side. The last line is 'N passed, M failed', over all
+# parts.
 # With --without-gate the programs that are in bin/ are tested, and the output says that the gate was left out.
 set -u
 cd "$(dirname "$0")/.."
@@ -11,7 +12,7 @@ if [ "${1:-}" = --without-gate ]; then
     builds=(bin)
     libraries=(lib)
 else
-    parts=(tests/gate.sh tests/built.sh --)
+    parts=(tests/gate.sh tests/built.sh tests/wrong_bodies.sh --)
     builds=(bin/x86-64-v2)
     libraries=(lib)
     if [ "$(./processor.sh)" = x86-64-v3 ]; then

@@ -16,26 +16,32 @@ in the file exactly once, after the pairs before it. These lines may follow:
     # in: FUNCTION       the function whose contract has to refuse the body, in place of the one that it changes
     # test: CRATE        no contract can refuse the body: it is proved, and a test of this crate fails
 
-Usage: tests/wrong_bodies.py [--after-gate] [--only WORD] [CRATE..]
+Usage: tests/wrong_bodies.py [--anew] [--only WORD] [CRATE..]
 
---after-gate takes the libraries that `rt ci` has just built, and else they are built first. --only takes the bodies
-whose name has the word. Each body is tried in each run. What was proved of the code as it stands is kept for the next
-run, in the user's folder for such things ($XDG_CACHE_HOME). The last line is 'N passed, M failed'.
+--only takes the bodies whose name has the word. The crates are proved and built first, of which `rt ci` repeats nothing
+that a gate has just done. As that keeps what it has proved, so what passed here is kept, in the user's folder for such
+things ($XDG_CACHE_HOME), under a checksum of all that it rests on: the body, its crate and those below it, the toolchain
+and this script. Only that isn't tried again, and with --anew all is. The last line is 'N passed, M failed'.
 """
 
 import concurrent.futures
 import difflib
 import glob
+import hashlib
+import json
 import os
 import re
 import shutil
 import subprocess
 import sys
 import tempfile
+import time
 
 TOP = os.path.dirname(os.path.dirname(os.path.abspath(__file__)))
-# What was proved of the code as it stands, for the next run. A check takes of it what is still up to date.
+
+# What passed is kept here, each in a file, until it hasn't been looked for in so many seconds.
 KEPT = os.path.join(os.environ.get("XDG_CACHE_HOME") or os.path.expanduser("~/.cache"), "verity-wrong-bodies")
+KEPT_FOR = 14 * 24 * 3600
 
 
 # ---- The bodies ----
@@ -187,7 +193,7 @@ def module_of(path):
     return [it for it in path[len("src/"):-len(".rt")].split("/") if it not in ("mod", "lib", "main")]
 
 
-def functions_of(path, text, modules):
+def functions_in(path, text, modules):
     """The functions of a source file: where each begins and ends, and its name. `modules` has the paths of the crate's
     types."""
     module = module_of(path)
@@ -261,7 +267,7 @@ class Crate:
             for path, text in self.texts.items()
             for name in re.findall(r"^ *(?:pub(?:\([a-z ]+\))? )?(?:struct|enum) (\w+)", text, re.M)
         }
-        self.functions = {path: functions_of(path, text, types) for path, text in self.texts.items()}
+        self.functions = {path: functions_in(path, text, types) for path, text in self.texts.items()}
 
     def is_within(self, function, found):
         """Whether a file and a line, as a pattern found them, lie in a function."""
@@ -270,22 +276,31 @@ class Crate:
             for begin, end, name in self.functions.get(found[1], ())
         )
 
-    def check(self, kit, copy, functions, kept):
-        """Checks some functions of a copy of the crate. The answer is the check's status and what it printed."""
+    def check(self, kit, libraries, copy, functions):
+        """Checks some functions of a copy of the crate and those that they call, or its definitions and contracts alone.
+        The answer is the check's status and what it printed. What is proved is kept in the copy."""
         words = [f"{kit}/bin/rattle", "check", "--crate-name", self.name, self.root, "--extern", f"std={kit}/rlibs/std.rlib"]
-        folders = [f"{kit}/rlibs", *sorted(glob.glob(f"{TOP}/crates/*/out/rlib"))]
+        folders = [f"{kit}/rlibs", *libraries]
         for name in self.below:
             rlib = next((f"{it}/{name}.rlib" for it in folders if os.path.isdir(f"{it}/{name}.rlib")), "")
             words += ["--extern", f"{name}={rlib}"]
         for folder in folders:
             words += ["-L", f"dependency={folder}"]
         words += ["--antt-project", f"{kit}/rattle/logic/antt-project.json", "--logic-built", f"{kit}/logic_built"]
-        words += ["--links", f"{self.name}=", "--jobs", "1", "--allow-holes", "--incremental", kept]
+        words += ["--links", f"{self.name}=", "--jobs", "1", "--allow-holes", "--incremental", "kept"]
         words += ["--crate-type", "staticlib"] if self.is_static else []
-        for name in functions:
-            words += ["--only", name if name.startswith(f"{self.name}::") else f"{self.name}::{name}"]
+        for name in functions or [""]:
+            words += ["--only", f"{self.name}::{name}" if name and not name.startswith(f"{self.name}::") else name]
         ran = subprocess.run(words, cwd=copy, stdin=subprocess.DEVNULL, stdout=subprocess.PIPE, stderr=subprocess.STDOUT, errors="replace")
         return ran.returncode, ran.stdout
+
+
+def with_those_below(names, listed):
+    """These crates, and those of the repository that they rest on."""
+    found = list(names)
+    for name in found:
+        found += [it for it in listed[name][0] if it in listed and it not in found]
+    return found
 
 
 def crates_of_repository():
@@ -340,11 +355,12 @@ def verdict(said, crate, function):
     for how in HOW:
         if how in found:
             return "refused", f"{function}: {found[how]} ({HOW[how]})"
-    if found:
-        return "nothing", f"only a proof names what went away: {found['name'][:160]}"
-    if all(re.match(r"no holes|depends on a hole", it) or "it calls" in it or "it stands on" in it for it in lines.values()):
-        return "proved", ""
-    return "nothing", next(iter(lines.values()))[:160]
+    gone = [found["name"]] if "name" in found else [it for it in errors if NAMES.search(it)]
+    if gone:
+        return "nothing", f"only a proof names what went away: {gone[0][:160]}"
+    if errors or not all(re.match(r"no holes|depends on a hole", it) or "it calls" in it or "it stands on" in it for it in lines.values()):
+        return "nothing", next(iter(lines.values()))[:160]
+    return "proved", ""
 
 
 def quoted(pattern, text):
@@ -363,6 +379,10 @@ def groups_of(changes):
         else:
             groups.append([change])
     return groups
+
+
+def functions_of(changes):
+    return sorted({name for it in changes for name in it.functions})
 
 
 def overlap(one, other):
@@ -395,75 +415,66 @@ def link(folder, to):
 class Run:
     """All checks of a run, on as many processors as there are."""
 
-    def __init__(self, kit, room):
-        self.kit, self.room = kit, room
+    def __init__(self, kit, libraries, room):
+        self.kit, self.libraries, self.room = kit, libraries, room
         self.pool = concurrent.futures.ThreadPoolExecutor(len(os.sched_getaffinity(0)))
-        self.results = {}
 
-    def copy(self, crate, texts, kept):
+    def copy(self, crate, texts, seed):
+        """A copy of a crate with these texts, and with what the check of another copy kept."""
         copy = tempfile.mkdtemp(prefix=f"{crate.name}-", dir=self.room)
         for part in ("src", "specs", "proofs"):
             if os.path.isdir(f"{crate.folder}/{part}"):
                 shutil.copytree(f"{crate.folder}/{part}", f"{copy}/{part}")
         for path, text in texts.items():
             open(f"{copy}/{path}", "w", encoding="utf-8").write(text)
-        if os.path.isdir(kept):
-            link(kept, f"{copy}/kept")
+        if seed:
+            link(f"{seed}/kept", f"{copy}/kept")
         os.makedirs(f"{copy}/kept", exist_ok=True)
         return copy
 
-    def seed(self, crate, changes):
-        """What a check of the functions as they stand keeps, for the checks of the groups; or what it said."""
-        kept = f"{KEPT}/{crate.name}"
-        copy = self.copy(crate, {}, kept if os.path.isdir(kept) else f"{crate.folder}/out/incremental")
-        functions = sorted({name for it in changes for name in it.functions})
-        status, said = crate.check(self.kit, copy, functions, f"{copy}/kept")
-        if status != 0:
-            return None, said
-        os.makedirs(KEPT, exist_ok=True)
-        link(f"{copy}/kept", f"{copy}/again")
-        shutil.rmtree(kept, ignore_errors=True)
-        shutil.move(f"{copy}/again", kept)
-        return copy, ""
+    def seed(self, crate, functions, seed):
+        """A copy of a crate as it stands, with what a check of these functions kept; or what the check said."""
+        copy = self.copy(crate, {}, seed)
+        status, said = crate.check(self.kit, self.libraries, copy, functions)
+        return (copy, "") if status == 0 else (None, said)
 
     def group(self, crate, seed, group):
-        """Checks a group. What doesn't compile is left out, and the others are checked again."""
-        copy = self.copy(crate, together(group, crate.texts), f"{seed}/kept")
-        functions = sorted({name for it in group for name in it.functions})
-        status, said = crate.check(self.kit, copy, functions, f"{copy}/kept")
+        """What the changes of a group come to. What doesn't compile is left out, and the others are checked again."""
+        copy = self.copy(crate, together(group, crate.texts), seed)
+        _, said = crate.check(self.kit, self.libraries, copy, functions_of(group))
         shutil.rmtree(copy)
         if LINE.search(said):
-            for change in group:
-                found = [verdict(said, crate, it) for it in change.functions]
-                order = ("refused", "nothing", "proved") if change.is_twin else ("refused", "proved", "nothing")
-                self.results[change] = next(it for kind in order for it in found if it[0] == kind)
-            return
+            return {change: self.best(change, [verdict(said, crate, it) for it in change.functions]) for change in group}
         errors = re.findall(r"^((src/\S+?):(\d+):.*error.*)$", said, re.M)
-        for change in group:
-            for error, file, line in errors:
-                if any(it[0] == file and it[1] < int(line) <= it[2] for it in change.hunks):
-                    self.results[change] = ("nothing", f"it doesn't compile: {error[:200]}")
-        left = [it for it in group if it not in self.results]
-        if len(left) < len(group):
-            if left:
-                self.group(crate, seed, left)
-        else:
-            for change in group:
-                self.results[change] = ("nothing", f"its check ended early: {' '.join(said.split())[-200:]}")
+        found = {
+            change: ("nothing", f"it doesn't compile: {error[:200]}")
+            for change in group
+            for error, file, line in errors
+            if any(it[0] == file and it[1] < int(line) <= it[2] for it in change.hunks)
+        }
+        left = [it for it in group if it not in found]
+        if not found:
+            found = {change: ("nothing", f"its check ended early: {' '.join(said.split())[-200:]}") for change in left}
+        elif left:
+            found.update(self.group(crate, seed, left))
+        return found
+
+    @staticmethod
+    def best(change, verdicts):
+        """Of what a check says of the functions that a change concerns, what counts."""
+        order = ("refused", "nothing", "proved") if change.is_twin else ("refused", "proved", "nothing")
+        return next(it for kind in order for it in verdicts if it[0] == kind)
 
     def tests(self, change):
-        """Runs a crate's tests over a body, with no proof."""
+        """What a change comes to, by a crate's tests, with no proof."""
         copy = tempfile.mkdtemp(prefix="tests-", dir=self.room)
-        os.mkdir(f"{copy}/crates")
-        for name in sorted(os.listdir(f"{TOP}/crates")):
-            shutil.copytree(f"{TOP}/crates/{name}", f"{copy}/crates/{name}", ignore=shutil.ignore_patterns("out"))
-        for name in ("crates.txt", "HANDLES"):
-            shutil.copy(f"{TOP}/{name}", copy)
+        copy_crates(sorted(os.listdir(f"{TOP}/crates")), copy)
+        shutil.copy(f"{TOP}/crates.txt", copy)
         for path, text in change.texts.items():
             open(f"{copy}/crates/{change.body.crate}/{path}", "w", encoding="utf-8").write(text)
         crate = f"{copy}/crates/{change.body.test}"
         if not os.path.isdir(crate):
-            return "nothing", f"there is no crate {change.body.test}"
+            return {change: ("nothing", f"there is no crate {change.body.test}")}
         words = ["rt", "try", "--test", "--seconds", "900"]
         ran = subprocess.run(words, cwd=crate, stdin=subprocess.DEVNULL, stdout=subprocess.PIPE, stderr=subprocess.STDOUT, errors="replace")
         shutil.rmtree(copy)
@@ -471,38 +482,120 @@ class Run:
         ends = re.findall(r"^test (\S+) \.\.\. FAILED\n((?:(?!test ).*\n?)*)", ran.stdout, re.M)
         caught = [name for name, why in ends if "no-answer" not in why]
         if caught:
-            return "refused", caught
+            return {change: ("refused", caught)}
         if re.search(r"^test result: ok", ran.stdout, re.M):
-            return "proved", f"all tests of {change.body.test} pass"
-        return "nothing", f"the tests of {change.body.test} didn't run: {' '.join(ran.stdout.split())[-200:]}"
+            return {change: ("proved", f"all tests of {change.body.test} pass")}
+        return {change: ("nothing", f"the tests of {change.body.test} didn't run: {' '.join(ran.stdout.split())[-200:]}")}
 
 
 class Report:
     """The lines of a run, and its counts."""
 
     def __init__(self):
-        self.passed, self.failed = 0, 0
+        self.passed, self.failed, self.kept = 0, 0, 0
 
     def fail(self, change, why):
         self.failed += 1
         print(f"FAILED {change.label()}: {why}", flush=True)
 
-    def tell(self, change, kind, more):
-        """Says what a change came to: a body has to be refused, and a right twin to be proved."""
-        if change.is_twin and kind == "proved":
-            self.passed += 1
-        elif change.is_twin:
-            self.fail(change, f"it isn't proved: {more}")
-        elif kind == "nothing":
-            self.fail(change, more)
-        elif kind == "proved":
-            self.fail(change, more or f"{', '.join(change.functions)} is still proved")
-        elif change.body.test:
-            self.passed += 1
-            print(f"caught {change.label()}: by {', '.join(more[:3])} of {change.body.test}")
-        else:
-            self.passed += 1
-            print(f"refused {change.label()}: {more}")
+    def tell(self, change, kind, more, is_kept=False):
+        """Says what a change came to, and whether that is right: a body has to be refused, and a right twin proved."""
+        if kind != ("proved" if change.is_twin else "refused"):
+            if change.is_twin:
+                why = f"it isn't proved: {more}"
+            elif kind == "proved":
+                why = more or f"{', '.join(change.functions)} is still proved"
+            else:
+                why = more
+            self.fail(change, why)
+            return False
+        self.passed += 1
+        self.kept += is_kept
+        before = ", before" if is_kept else ""
+        if change.body.test:
+            print(f"caught {change.label()}: by {', '.join(more[:3])} of {change.body.test}{before}")
+        elif not change.is_twin:
+            print(f"refused {change.label()}: {more}{before}")
+        return True
+
+
+# ---- What passed before ----
+
+def checksum(*parts):
+    return hashlib.sha256(json.dumps(parts).encode()).hexdigest()
+
+
+def checksum_of_crate(name):
+    """The checksum of a crate's files, without what was built of them and its wrong bodies."""
+    files = []
+    for at, folders, names in os.walk(f"{TOP}/crates/{name}"):
+        folders[:] = sorted(set(folders) - {"out", "must-fail", "wrong-bodies"})
+        for path in sorted(f"{at}/{it}" for it in names):
+            with open(path, "rb") as file:
+                files.append([os.path.relpath(path, TOP), hashlib.sha256(file.read()).hexdigest()])
+    return checksum(files)
+
+
+class Kept:
+    """What passed in earlier runs."""
+
+    def __init__(self, kit, listed):
+        self.listed = listed
+        self.crates = {name: checksum_of_crate(name) for name in listed}
+        with open(f"{kit}/KIT-ID", encoding="utf-8") as kit_id, open(__file__, encoding="utf-8") as script:
+            self.tools = [kit_id.read(), script.read()]
+        for path in glob.glob(f"{KEPT}/*"):
+            if os.path.getmtime(path) < time.time() - KEPT_FOR:
+                os.remove(path)
+
+    def path(self, change):
+        """The file of a change. Tests rest on their crate, and a check on the body's; and both on those below."""
+        names = with_those_below([it for it in (change.body.crate, change.body.test) if it in self.listed], self.listed)
+        crates = [[name, self.listed[name], self.crates[name]] for name in sorted(names)]
+        return f"{KEPT}/{checksum(self.tools, crates, change.label(), change.functions, sorted(change.texts.items()))}"
+
+    def find(self, change):
+        """What a change came to when it passed, or nothing."""
+        path = self.path(change)
+        if not os.path.exists(path):
+            return None
+        os.utime(path)
+        with open(path, encoding="utf-8") as file:
+            return json.load(file)
+
+    def keep(self, change, kind, more):
+        """Keeps what a change came to, if there is a folder for it."""
+        try:
+            os.makedirs(KEPT, exist_ok=True)
+            with tempfile.NamedTemporaryFile("w", dir=KEPT, delete=False, encoding="utf-8") as file:
+                json.dump([kind, more], file)
+            os.replace(file.name, self.path(change))
+        except OSError as error:
+            print(f"nothing is kept: {error}")
+
+
+# ---- A run ----
+
+def copy_crates(names, to):
+    """Copies crates as they stand, without what was built of them and what must fail in them."""
+    os.makedirs(f"{to}/crates")
+    for name in names:
+        shutil.copytree(f"{TOP}/crates/{name}", f"{to}/crates/{name}", ignore=shutil.ignore_patterns("out", "must-fail"))
+    shutil.copy(f"{TOP}/HANDLES", to)
+
+
+def built(listed, wanted, room):
+    """Proves these crates and those below them, as they stand, and builds them: the folders of their libraries."""
+    names = with_those_below(wanted, listed)
+    copy_crates(names, room)
+    with open(f"{room}/crates.txt", "w", encoding="utf-8") as lines:
+        for name in names:
+            below, is_static = listed[name]
+            lines.write(f"{name}{' staticlib' if is_static else ''}: {' '.join(below)}\n")
+    ran = subprocess.run(["rt", "ci"], cwd=room, stdin=subprocess.DEVNULL, stdout=subprocess.PIPE, stderr=subprocess.STDOUT, errors="replace")
+    if ran.returncode != 0:
+        sys.exit(f"the crates as they stand don't pass: {ran.stdout[-2000:]}")
+    return sorted(glob.glob(f"{room}/crates/*/out/rlib"))
 
 
 def changes_of(crate, wanted, report):
@@ -535,7 +628,6 @@ def changes_of(crate, wanted, report):
 
 
 def main(words):
-    after_gate = "--after-gate" in words
     wanted = words[words.index("--only") + 1] if "--only" in words else ""
     names = [it for it in words if not it.startswith("--") and it != wanted]
     kit = os.path.dirname(subprocess.run(["rt", "doc"], stdout=subprocess.PIPE, check=True, text=True).stdout.strip())
@@ -543,52 +635,56 @@ def main(words):
     unknown = [it for it in names if it not in listed]
     if unknown:
         sys.exit(f"{unknown[0]} is no crate of crates.txt")
-    report, work, tests = Report(), [], []
+    report, kept, work, tests = Report(), Kept(kit, listed), [], []
     for name, (below, is_static) in listed.items():
         if names and name not in names:
             continue
-        crate = Crate(name, below, is_static)
-        changes = changes_of(crate, wanted, report)
-        tests += [it for it in changes if it.body.test]
-        changes = [it for it in changes if not it.body.test]
+        crate, changes = Crate(name, below, is_static), []
+        for change in changes_of(crate, wanted, report):
+            before = None if "--anew" in words else kept.find(change)
+            if before:
+                report.tell(change, *before, is_kept=True)
+            elif change.body.test:
+                tests.append(change)
+            else:
+                changes.append(change)
         if changes:
             work.append((crate, changes))
-    if not after_gate:
-        for crate, _ in work:
-            subprocess.run(["rt", "check", "--only", "", "--jobs", "1"], cwd=crate.folder, stdout=subprocess.DEVNULL, stderr=subprocess.DEVNULL)
     # The longest first, so that no processor waits for one at the end.
     work.sort(key=lambda it: -sum(len(text) for text in it[0].texts.values()))
     with tempfile.TemporaryDirectory(prefix="wrong-bodies-") as room:
-        run = Run(kit, room)
-        running = {run.pool.submit(run.seed, crate, changes): (crate, changes, None) for crate, changes in work}
-        left = {crate.name: 0 for crate, _ in work}
+        libraries = built(listed, [crate.name for crate, _ in work], f"{room}/built") if work else []
+        run = Run(kit, libraries, room)
+        # What runs, with its crate, and the groups that wait for it as a seed. The first seed of a crate has no proofs.
+        running = {run.pool.submit(run.seed, crate, [], None): (crate, groups_of(changes), False) for crate, changes in work}
         while running or tests:
             # Tests take longest, so they are begun once nothing else has to be.
-            if all(group for _, _, group in running.values()):
-                running.update({run.pool.submit(run.tests, it): (None, [it], [it]) for it in tests})
+            if not any(waiting for _, waiting, _ in running.values()):
+                running.update({run.pool.submit(run.tests, it): (None, [], False) for it in tests})
                 tests = []
             done, _ = concurrent.futures.wait(running, return_when=concurrent.futures.FIRST_COMPLETED)
             for it in done:
-                crate, changes, group = running.pop(it)
-                if not crate:
-                    report.tell(changes[0], *it.result())
+                crate, waiting, has_proofs = running.pop(it)
+                if not waiting:
+                    for change, came_to in it.result().items():
+                        if report.tell(change, *came_to):
+                            kept.keep(change, *came_to)
                     continue
-                if group:
-                    left[crate.name] -= 1
-                else:
-                    seed, said = it.result()
-                    if seed:
-                        groups = groups_of(changes)
-                        left[crate.name] = len(groups)
-                        running.update({run.pool.submit(run.group, crate, seed, group): (crate, changes, group) for group in groups})
-                    else:
-                        error = next((it for it in said.split("\n") if "error" in it), said[-200:])
-                        for change in changes:
-                            run.results[change] = ("nothing", f"its crate isn't proved as it stands: {error[:200]}")
-                if not left[crate.name]:
-                    for change in changes:
-                        report.tell(change, *run.results[change])
-                    sys.stdout.flush()
+                seed, said = it.result()
+                if not seed:
+                    error = next((it for it in said.split("\n") if "error" in it), said[-200:])
+                    for change in sum(waiting, []):
+                        report.fail(change, f"its crate isn't proved as it stands: {error[:200]}")
+                    continue
+                if len(waiting) > 2 and not has_proofs:
+                    # The first group changes each function, so no proof serves it. The others change fewer.
+                    functions = functions_of(sum(waiting[1:], []))
+                    running[run.pool.submit(run.seed, crate, functions, seed)] = (crate, waiting[1:], True)
+                    waiting = waiting[:1]
+                running.update({run.pool.submit(run.group, crate, seed, group): (crate, [], False) for group in waiting})
+            sys.stdout.flush()
+    if report.kept:
+        print(f"{report.kept} of these are kept from earlier runs")
     print(f"{report.passed} passed, {report.failed} failed")
     return 1 if report.failed or not report.passed else 0
 

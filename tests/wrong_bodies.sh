@@ -6,7 +6,7 @@ cd "$(dirname "$0")/.."
 . tests/checks.sh
 needs rt 'none: the Rattle toolchain'
 needs python3 python3
-if [ $# -gt 0 ] && [ "$1" != --after-gate ]; then exec tests/wrong_bodies.py "$@"; fi
+if [ $# -gt 0 ]; then exec tests/wrong_bodies.py "$@"; fi
 
 # A repository of one crate with its tests. Most of its wrong bodies show nothing, each in another way.
 mkdir -p "$scratch"/small/{tests,crates/small/{src,proofs/two_more,must-fail,wrong-bodies},crates/small_tests/src}
@@ -137,15 +137,24 @@ refused small its_twin_goes_where_no_proof_follows: two_more
 caught small zero_of_the_tests: by the_lesser_is_at_most_each of small_tests
 7 passed, 8 failed
 END
-XDG_CACHE_HOME=$scratch tests/wrong_bodies.py >said 2>&1
+try() { XDG_CACHE_HOME=$scratch/kept tests/wrong_bodies.py "$@" 2>&1; }
+try >said
 same 'bodies that show nothing count as failed: status' 1 $?
 while IFS= read -r line; do
     if grep -qF -- "$line" said; then pass; else fail "bodies that show nothing: $line" "$(cat said)"; fi
 done <expected
 same 'bodies that show nothing: lines' "$(wc -l <expected)" "$(wc -l <said)"
+# What passed is kept, until what it rests on is another.
+try >again
+same 'what passed is kept' "$(sort said)" "$(sed '/ of these are kept /d; s/, before$//' again | sort)"
+same 'all that passed is kept' '7 of these are kept from earlier runs' "$(grep ' of these are kept ' again)"
+sed -i 's/One more/One more than a number/' crates/small/src/lib.rt
+try --only adds_ >again
+same 'what rests on another text is tried' '3 passed, 0 failed' "$(tail -n 1 again)"
+same 'and nothing of it is kept' 0 "$(grep -c ', before$' again)"
 cd "$OLDPWD" || exit 1
 
-tests/wrong_bodies.py "$@" | tee "$scratch/said"
+tests/wrong_bodies.py | tee "$scratch/said"
 status=${PIPESTATUS[0]}
 if [[ $(tail -n 1 "$scratch/said") =~ ^([0-9]+)\ passed,\ ([0-9]+)\ failed$ ]]; then
     checked=$((checked + BASH_REMATCH[1] + BASH_REMATCH[2]))

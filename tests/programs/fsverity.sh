@@ -55,14 +55,13 @@ sha256:$none $scratch/first" '' "$fsverity" digest "$scratch/first" "$scratch/se
         "$fsverity" digest "$scratch/first" "$scratch/missing" "$scratch/second"
 }
 
-# Many names of an empty file, but no more than a command line may have: each has its line, in order.
+# As many names of an empty file as a command line may have: each has its line, in order.
 many_names() {
     local none count names status=0
     none=$(digest "$(printf '%064d' 0)" 0)
     : >"$scratch/z"
     # A name takes four bytes at most, with the byte at its end, and eight more.
     count=$((($(getconf ARG_MAX) - $(env | wc -c) - 65536) / 12))
-    if [ "$count" -gt 20000 ]; then count=20000; fi
     awk -v count="$count" 'BEGIN { for (i = 1; i <= count; i++) print i % 7 == 0 ? "./z" : "z" }' >"$scratch/names"
     sed "s/^/sha256:$none /" "$scratch/names" >"$scratch/expected"
     mapfile -t names <"$scratch/names"

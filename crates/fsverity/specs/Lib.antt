@@ -3,3 +3,4 @@ pub mod Options
 pub mod Openers
 pub mod Runs
 pub mod Texts
+pub mod Program

@@ -78,6 +78,40 @@ fn run_with_more<'a>(
     said_by(alloc, &runtime)
 }
 
+/// Command lines of one file, and whether output files are named.
+const ENDS_FAR: [&str; 2] = [
+    "fsverity digest three",
+    "fsverity digest --out-merkle-tree t --out-descriptor d three",
+];
+
+/// The lengths that a file of 384 bytes is said to have, and the message.
+const ENDS: [(u64, &str); 3] = [
+    (
+        385,
+        "fsverity: file ends before the end of block 0: three.\n",
+    ),
+    (
+        (1 << 32) + 384,
+        "fsverity: file ends before the end of block 0: three.\n",
+    ),
+    (1 << 63, "fsverity: file is too large: three.\n"),
+];
+
+#[test]
+fn a_length_is_taken_as_it_is_said(rt: HostRuntime) -> Result<(), Fail> {
+    let alloc = rt.alloc();
+    for &words in &ENDS_FAR {
+        for &(end, message) in &ENDS {
+            let disk = disk(alloc, NULL_DEVICE)?;
+            disk.end_at("three", end)?;
+            let said = run(alloc, &disk, words);
+            let differs = said.differs(1, b"", message.as_bytes());
+            assert_eq!(rt; differs, None, "at {words}, {end}");
+        }
+    }
+    Ok(())
+}
+
 /// The text of a command line without a command. It ends with the usage.
 const NO_COMMAND: &str = "error: 'fsverity' requires a subcommand but one was not provided
   [subcommands: digest]

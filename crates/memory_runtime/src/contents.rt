@@ -17,6 +17,8 @@ pub struct Stored {
     pub bytes: Vec<u8>,
     /// What is added to it as soon as it is read.
     pub growth: Vec<u8>,
+    /// The end that it is said to have, if it isn't that of its bytes.
+    pub stated_end: Option<u64>,
 }
 
 impl Stored {
@@ -25,6 +27,7 @@ impl Stored {
             kind,
             bytes,
             growth: Vec::new(alloc),
+            stated_end: None,
         }
     }
 

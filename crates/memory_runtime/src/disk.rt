@@ -82,6 +82,22 @@ impl Disk {
         }
     }
 
+    /// Lets the file of this name end there when its end is sought, whatever bytes it gives: it is as if it became longer
+    /// or shorter after that.
+    pub fn end_at(&self, name: &str, end: u64) -> io::Result<()> {
+        let mut contents = self.contents()?;
+        let Some(number) = contents.number_of(name) else {
+            return refused(ErrorKind::NotFound);
+        };
+        match contents.files.get_mut(number) {
+            Some(stored) => {
+                stored.stated_end = Some(end);
+                Ok(())
+            }
+            None => refused(ErrorKind::NotFound),
+        }
+    }
+
     /// Makes the call of this number fail, counted from 1 over all files, and no other.
     pub fn fail(&self, call: Call, number: u64) -> io::Result<()> {
         self.contents()?.calls.failing = (call, number);

@@ -109,6 +109,12 @@ impl Seek for MemoryFile<'_> {
         if stored.is_folder() && to == SeekFrom::End(0) {
             return Ok(LAST_OFFSET);
         }
+        if let Some(end) = stored.stated_end
+            && to == SeekFrom::End(0)
+        {
+            self.at = end;
+            return Ok(end);
+        }
         let mut cursor = Cursor::new(stored.bytes.as_slice());
         cursor.set_position(self.at);
         self.at = cursor.seek(to)?;

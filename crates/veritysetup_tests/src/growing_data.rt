@@ -1,6 +1,6 @@
-//! Data that grows while it is read.
+//! Data that grows while it is read, and data that is long.
 use crate::images::{Image, image_17};
-use crate::program_runs::{disk_of, run};
+use crate::program_runs::{disk_of, run, run_words};
 use memory_runtime::Disk;
 use std::alloc::Global;
 use std::io;
@@ -45,6 +45,36 @@ fn bytes_that_come_later_are_no_data(rt: HostRuntime) -> Result<(), Fail> {
                 "at {words}, {length} bytes"
             );
         }
+    }
+    Ok(())
+}
+
+/// The lengths that data of 8704 bytes is said to have, and the block of 512 bytes before whose end it ends. More blocks
+/// are wanted in each case.
+const ENDS: [(u64, &str); 3] = [
+    (8704, "Data ends before the end of block 17.\n"),
+    (
+        (1 << 32) + 1024,
+        "Data ends before the end of block 8388610.\n",
+    ),
+    (
+        (1 << 53) + 511,
+        "Data ends before the end of block 17592186044416.\n",
+    ),
+];
+
+#[test]
+fn a_length_is_taken_as_it_is_said(rt: HostRuntime) -> Result<(), Fail> {
+    let alloc = rt.alloc();
+    let image = image_17(alloc)?;
+    for &(end, message) in &ENDS {
+        let disk = disk_of(alloc, image.data.as_slice())?;
+        disk.end_at("data", end)?;
+        let words =
+            "veritysetup format --salt=- --data-block-size 512 --data-blocks 17592186044417 data new";
+        let said = run_words(alloc, &disk, words);
+        let differs = said.differs(4, b"", message.as_bytes());
+        assert_eq!(rt; (differs, disk.has("new")?), (None, false), "at {end}");
     }
     Ok(())
 }

@@ -1,5 +1,5 @@
 -- The command line of `fsverity` (fsverity(1)), in the words of clap, and what a line holds.
-use Rattle.std.specs.Prelude.{◌≡◌, ◌||◌, Option, Some, Result, List, [], length, is_some, codes, map, option_map, unwrap_or, string_bytes}
+use Rattle.std.specs.Prelude.{◌≡◌, ◌||◌, Bool, Option, Some, Result, List, [], length, is_some, codes, map, option_map, unwrap_or, string_bytes}
 use Rattle.clap.specs.Words.{App, Row, Text, all_of, first_of, new_app, with_rule, with_subcommand}
 use Rattle.command_line.specs.Arguments.{flag_of, flag_rule, option_rule, program_app, positionals_rule}
 use Rattle.verity_plan.specs.Settings.{Settings}
@@ -35,8 +35,11 @@ pub record HoldsRows (rows : List Row) (line : Line) : Type 0 where
 abbrev pub HoldsCommand : Option (Text × List Row) → Line → Type 0
 HoldsCommand met line = (p : Text × List Row) × (met ≡ Some p) × HoldsRows p.1 line
 
+-- whether the line names an output file
+abbrev pub names_output : Line → Bool
+names_output line = is_some line.out_merkle_tree || is_some line.out_descriptor
+
 -- the settings that a line's options give, or the first option that is refused
 abbrev pub line_settings : Line → Result Settings FsOptionFault
 line_settings line = digest_settings (option_map string_bytes line.hash_alg) (option_map string_bytes line.block_size)
-    (option_map string_bytes line.salt) (length line.files.items)
-    (is_some line.out_merkle_tree || is_some line.out_descriptor)
+    (option_map string_bytes line.salt) (length line.files.items) (names_output line)

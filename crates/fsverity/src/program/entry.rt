@@ -1,8 +1,10 @@
 //! The program, over any runtime.
-ghost use Rattle.std.specs.Prelude.{◌≡◌, ◌⊎◌, ◌≤◌, IfErr, IfOk, codes};
+ghost use Rattle.std.specs.Prelude.{◌≡◌, ◌⊎◌, ◌≤◌, IfErr, IfOk, codes, false, map, string_bytes};
 ghost use Rattle.command_line.specs.LineFaults.{IsMemory};
 ghost use Rattle.command_line.specs.Printing.{AppendsPrefix};
-ghost use Rattle.fsverity.specs.Words.CommandLines.{line_settings};
+ghost use Rattle.verity_hash.specs.declared.salting.SaltRule.TheVariants.{PaddedBefore};
+ghost use Rattle.fsverity.specs.Program.{PrintsLine, PrintsLines};
+ghost use Rattle.fsverity.specs.Words.CommandLines.{line_settings, names_output};
 ghost use Rattle.fsverity.specs.Texts.Messages.{option_message, run_fault_message, words_status, words_message};
 ghost use Rattle.fsverity.specs.declared.runs.run_fault.RunFault.TheVariants.{NotOpened};
 
@@ -10,8 +12,8 @@ use crate::program::output_files::OutputNames;
 use crate::program::outputs::{OutputRequest, digest_with_outputs};
 use crate::words::reading::USAGE;
 use crate::{
-    FileOpener, Line, LineFault, OUT_OF_MEMORY, RunFault, digest_settings, option_message,
-    read_words, run_digest,
+    FileOpener, Form, FsOptionFault, Line, LineFault, OUT_OF_MEMORY, RunFault, digest_settings,
+    option_message, read_words, run_digest,
 };
 use command_line::{
     Identities, NULL_DEVICE, NullFiles, ProgressLine, ProgressRuntime, WordsFault, given_words,
@@ -20,6 +22,7 @@ use command_line::{
 use std::alloc::Global;
 use std::env::Env;
 use std::io::Write;
+use verity_tree::TreeSettings;
 
 /// The status of a file that fails, and of out of memory.
 const FAILED: u8 = 1;
@@ -111,11 +114,40 @@ fn run_line<R: Identities + ProgressRuntime + AllocGlobal, O: Write, M: Write>(
     ensures refused { IfErr (line_settings line.now) (λ fault. (result ≡ 2) × (out.new ≡ out.old)
         × AppendsPrefix (option_message fault) (M.contents msgs.old) (M.contents msgs.new)) }
     ensures accepted { IfOk (line_settings line.now) (λ _. result ≤ 1) }
+
+    // Status 0 without output files: each file has its line.
+    ensures printed { IfOk (line_settings line.now) (λ settings. result ≡ 0 → names_output line.now ≡ false
+        → PrintsLine settings line.now (O.contents out.old) (O.contents out.new)) }
 {
-    let settings = match digest_settings(&line.options()) {
-        Ok(settings) => settings,
-        Err(fault) => return stop_with(REFUSED, option_message(&fault), msgs),
-    };
+    match settings_of_line(line) {
+        Ok(settings) => digest_line(rt, progress, &settings, line, out, msgs),
+        Err(fault) => stop_with(REFUSED, option_message(&fault), msgs),
+    }
+}
+
+/// The settings that a command line's options give, or the first option that is refused.
+fn settings_of_line(line: &Line) -> Result<TreeSettings, FsOptionFault>
+    ensures value { result ≡ line_settings line.now }
+    ensures rule { IfOk result (λ settings. settings.rule ≡ PaddedBefore) }
+{
+    digest_settings(&line.options())
+}
+
+/// `fsverity digest` of the files of a command line. The answer is the status.
+fn digest_line<R: Identities + ProgressRuntime + AllocGlobal, O: Write, M: Write>(
+    rt: &R,
+    progress: &ProgressLine<'_, R>,
+    settings: &TreeSettings,
+    line: &Line,
+    out: &mut O,
+    msgs: &mut M,
+) -> u8
+    requires { settings.now.rule ≡ PaddedBefore }
+    ensures status { result ≤ 1 }
+    ensures quiet { result ≡ 0 → msgs.new ≡ msgs.old }
+    ensures printed { result ≡ 0 → names_output line.now ≡ false
+        → PrintsLine settings.now line.now (O.contents out.old) (O.contents out.new) }
+{
     let Ok(names) = texts_of(rt.alloc(), line.files.as_slice()) else {
         return stop_with(FAILED, OUT_OF_MEMORY, msgs);
     };
@@ -123,30 +155,60 @@ fn run_line<R: Identities + ProgressRuntime + AllocGlobal, O: Write, M: Write>(
     if !null_files.are_open() {
         return stop_for_unopened_file(rt.alloc(), NULL_DEVICE, msgs);
     }
+    digest_names(rt, progress, settings, line, names.as_slice(), out, msgs)
+}
+
+/// `fsverity digest` of the files of a command line, whose names are given once more as texts, with the output files that
+/// it names for one of them. The answer is the status.
+fn digest_names<R: Identities + ProgressRuntime + AllocGlobal, O: Write, M: Write>(
+    rt: &R,
+    progress: &ProgressLine<'_, R>,
+    settings: &TreeSettings,
+    line: &Line,
+    names: &[&str],
+    out: &mut O,
+    msgs: &mut M,
+) -> u8
+    requires settings { settings.now.rule ≡ PaddedBefore }
+    requires names { map (λ n. n.now) names.now ≡ map string_bytes line.now.files.items }
+    ensures status { result ≤ 1 }
+    ensures quiet { result ≡ 0 → msgs.new ≡ msgs.old }
+    ensures printed { result ≡ 0 → names_output line.now ≡ false
+        → PrintsLine settings.now line.now (O.contents out.old) (O.contents out.new) }
+{
     let outputs = OutputNames::of_line(line);
-    match names.as_slice() {
+    match names {
         [name] if outputs.are_given() => {
             let request = OutputRequest {
-                settings: &settings,
+                settings,
                 form: line.form(),
                 name,
                 outputs,
             };
             digest_with_outputs(rt, progress, request, out, msgs)
         }
-        names => {
-            let mut opener = FileOpener::new(rt, progress, names);
-            run_digest(
-                rt.alloc(),
-                &settings,
-                line.form(),
-                names,
-                &mut opener,
-                out,
-                msgs,
-            )
-        }
+        names => digest_files(rt, progress, settings, line.form(), names, out, msgs),
     }
+}
+
+/// `fsverity digest` of the files of these names, without output files. The answer is the status.
+fn digest_files<R: Identities + ProgressRuntime + AllocGlobal, O: Write, M: Write>(
+    rt: &R,
+    progress: &ProgressLine<'_, R>,
+    settings: &TreeSettings,
+    form: Form,
+    names: &[&str],
+    out: &mut O,
+    msgs: &mut M,
+) -> u8
+    requires { settings.now.rule ≡ PaddedBefore }
+    ensures status { result ≤ 1 }
+    ensures quiet { result ≡ 0 → msgs.new ≡ msgs.old }
+    ensures printed { result ≡ 0 → PrintsLines settings.now form (map (λ n. n.now) names.now)
+        (O.contents out.old) (O.contents out.new) }
+{
+    let mut opener = FileOpener::new(rt, progress, names);
+    run_digest(rt.alloc(), settings, form, names, &mut opener, out, msgs)
 }
 
 /// Says that a file can't be opened. The answer is the status.
