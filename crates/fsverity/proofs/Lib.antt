@@ -1,4 +1,3 @@
 pub mod RunLemmas
 pub mod DigestLemmas
-pub mod FileLemmas
 pub mod FormLemmas

@@ -2,7 +2,6 @@
 //! the runs over files, and the program.
 #![tactic(auto)]
 
-pub mod laws;
 mod openers;
 mod options;
 mod program;

@@ -3,5 +3,3 @@ pub mod KnownLemmas
 pub mod ReadLemmas
 pub mod TextLemmas
 pub mod LawLemmas
-pub mod PadLemmas
-pub mod DescriptorLemmas

@@ -1,4 +1,3 @@
 pub mod Superblocks
-pub mod Pads
 pub mod Descriptors
 pub mod Putting

@@ -1,3 +1,2 @@
 pub mod PrintingLemmas
-pub mod FormattedLemmas
 pub mod ProgramLemmas

@@ -2,7 +2,6 @@
 pub mod Dump
 pub mod Format
 pub mod Verify
-pub mod GivenBack
 pub mod VerifySteps
 pub mod HashDevice
 pub mod Outcomes

@@ -2,7 +2,6 @@
 //! the program itself over any runtime.
 #![tactic(auto)]
 
-pub mod laws;
 mod options;
 mod program;
 mod runs;
