@@ -1,3 +1,4 @@
 pub mod RunLemmas
 pub mod DigestLemmas
+pub mod FileLemmas
 pub mod FormLemmas

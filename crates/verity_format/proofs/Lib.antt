@@ -3,3 +3,5 @@ pub mod KnownLemmas
 pub mod ReadLemmas
 pub mod TextLemmas
 pub mod LawLemmas
+pub mod PadLemmas
+pub mod DescriptorLemmas

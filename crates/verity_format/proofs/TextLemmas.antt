@@ -131,3 +131,39 @@ pub text_says : (v : SuperblockFields) → IsValidSuperblock v → IsSuperblock 
 text_says v valid =
     let all = text_is v in
     rw (all.1) (fields_say v all.0 valid (rw (all.1) at all.2))
+
+-- the length of many bytes joined
+joined : (a b c d e f g h i j k : List ℕ) → length (a ++ b ++ c ++ d ++ e ++ f ++ g ++ h ++ i ++ j ++ k)
+    ≡ length a + length b + length c + length d + length e + length f + length g + length h + length i + length j
+    + length k
+joined a b c d e f g h i j k = simp length-append
+
+-- a superblock's bytes are 512
+pub length-superblock_bytes : (v : SuperblockFields) → IsValidSuperblock v → length (superblock_bytes v) ≡ 512
+unfolding superblock_bytes
+length-superblock_bytes v valid =
+    let name = with_zeros 32 (name_of v.tree.algorithm) in
+    let all = signature ++ little_bytes 4 1 ++ little_bytes 4 (type_number v.hash_type) ++ v.uuid ++ name
+    ++ little_bytes 4 v.tree.data_block ++ little_bytes 4 v.tree.hash_block ++ little_bytes 8 v.blocks
+    ++ little_bytes 2 (length v.tree.salt) ++ replicate 6 0 ++ v.tree.salt in
+    let size : length all ≡ 8 + 4 + 4 + length v.uuid + length name + 4 + 4 + 8 + 2 + 6 + length v.tree.salt =
+    joined signature (little_bytes 4 1) (little_bytes 4 (type_number v.hash_type)) v.uuid name
+    (little_bytes 4 v.tree.data_block) (little_bytes 4 v.tree.hash_block) (little_bytes 8 v.blocks)
+    (little_bytes 2 (length v.tree.salt)) (replicate 6 0) v.tree.salt in
+    let short : length all ≤ 512 =
+    omega (
+      arith,
+      size,
+      name_long v.tree.algorithm,
+      valid.uuid,
+      salt_most v.tree.rule,
+      valid.tree.salt_most,
+    ) in
+    let ends : length (all ++ replicate (512 - length all) 0) ≡ 512 =
+    omega (
+      arith,
+      short,
+      length-append all (replicate (512 - length all) 0),
+      length-replicate {A = ℕ} (512 - length all) 0,
+    ) in
+    ends

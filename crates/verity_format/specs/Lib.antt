@@ -1,3 +1,4 @@
 pub mod Superblocks
+pub mod Pads
 pub mod Descriptors
 pub mod Putting

@@ -24,13 +24,13 @@ use Rattle.verity_tree.proofs.JudgeLemmas.{judges-right}
 use Rattle.verity_tree.proofs.OrderLemmas.{ClosesOnce-all}
 
 -- one more block among those that are counted
-times-more : (l j : ℕ) (at : BlockIndex) (hash_blocks : List BlockIndex)
+pub times-more : (l j : ℕ) (at : BlockIndex) (hash_blocks : List BlockIndex)
     → times l j (at ∷ hash_blocks) ≡ cond ((at.level == l) && (at.index == j)) 1 0 + times l j hash_blocks
 times-more l j at hash_blocks =
     sum_by-cons (λ (b : BlockIndex). cond ((b.level == l) && (b.index == j)) 1 0) at hash_blocks
 
 -- a block that is counted is the first, or counted among the rest
-times-cases : (l j : ℕ) (at : BlockIndex) (hash_blocks : List BlockIndex) → 0 < times l j (at ∷ hash_blocks)
+pub times-cases : (l j : ℕ) (at : BlockIndex) (hash_blocks : List BlockIndex) → 0 < times l j (at ∷ hash_blocks)
     → ((at.level ≡ l) × (at.index ≡ j)) ⊎ (0 < times l j hash_blocks)
 times-cases l j at hash_blocks some =
     let skip : (at.level == l) && (at.index == j) ≡ false → 0 < times l j hash_blocks = λ miss.
@@ -71,7 +71,7 @@ times-none test l j (at ∷ hash_blocks) none some = go (test at) refl (times-no
         ]
 
 -- a block is counted among blocks of which it is the first
-times-first : (at : BlockIndex) (hash_blocks : List BlockIndex) → 0 < times at.level at.index (at ∷ hash_blocks)
+pub times-first : (at : BlockIndex) (hash_blocks : List BlockIndex) → 0 < times at.level at.index (at ∷ hash_blocks)
 times-first at hash_blocks =
     let a : eqb at.level at.level ≡ true = grind (arith, nat_tests) in
     let b : eqb at.index at.index ≡ true = grind (arith, nat_tests) in

@@ -19,11 +19,13 @@ pub mod VerdictLemmas
 pub mod ClosedBlockLemmas
 pub mod JudgeLemmas
 pub mod HoldsLemmas
+pub mod StandingLemmas
 pub mod PathSteps
 pub mod PieceLemmas
 pub mod ChainLemmas
 pub mod PathLemmas
 pub mod LinkLemmas
+pub mod BindingLemmas
 pub mod ClimbLemmas
 pub mod HandedOutLemmas
 pub mod PieceOfBytesLemmas

@@ -111,7 +111,7 @@ ok-IsTop p i block digest h =
     rw (in_data, long_is, same_is) refl
 
 -- a hash block is as long as those that stand above the data
-size-up : (s : Settings) (l : ℕ) → block_size_up s (suc l) ≡ s.hash_block
+pub size-up : (s : Settings) (l : ℕ) → block_size_up s (suc l) ≡ s.hash_block
 size-up s l = let tested : (suc l == 0) ≡ false = grind (arith, nat_tests) in rw tested refl
 
 -- the chain over joined blocks is the blocks

@@ -7,6 +7,7 @@ pub mod Verdicts
 pub mod Comparing
 pub mod Paths
 pub mod Links
+pub mod Collisions
 pub mod Feeding
 pub mod Steps
 pub mod Stores

@@ -1,14 +1,16 @@
 //! Laws of the definitions of trees: each holds for all settings and data. Those of slots, counts and places are
 //! `verity_plan`'s, and stand here too.
 ghost use Rattle.std.specs.Prelude.{◌≡◌, ◌⊎◌, ◌↔◌, ℕ, ◌+◌, ◌-◌, ◌/◌, ◌^◌, ◌<◌, ◌≤◌, List, [], length, slice_index_or};
-ghost use Rattle.std.specs.Prelude.{Result, Ok};
+ghost use Rattle.std.specs.Prelude.{Result, Ok, take, ◌≢◌};
 ghost use Rattle.std.specs.Int.{div_ceil};
+ghost use Rattle.verity_hash.specs.declared.salting.SaltRule.TheVariants.{PaddedBefore};
 ghost use Rattle.verity_plan.specs.Plans.{level_count, level_size, Planned, IsPlanned, level_count_of};
 ghost use Rattle.verity_plan.specs.Settings.{Settings, fan};
 ghost use Rattle.verity_tree.specs.ClosingOrder.{ClosesOnce, closed_after, times};
+ghost use Rattle.verity_tree.specs.Collisions.{Collide, TreesCollide, hashed_last, with_salt};
 ghost use Rattle.std.specs.List.{flat_map};
 ghost use Rattle.verity_tree.specs.Feeding.{BuildsInCalls, FeedCall, FeedsCalls, FeedsPieces, IsFed, IsFedFile};
-ghost use Rattle.verity_tree.specs.TreeOnDevice.{tree_block, HoldsTree};
+ghost use Rattle.verity_tree.specs.TreeOnDevice.{tree_block, tree_on_device, HoldsTree};
 ghost use Rattle.verity_tree.specs.declared.file_builder.FileBuilder.{FileBuilder};
 ghost use Rattle.verity_tree.specs.declared.tree_builder.TreeBuilder.{TreeBuilder};
 ghost use Rattle.verity_tree.specs.Levels.{data_blocks, level, height, root};
@@ -57,6 +59,12 @@ pub fn right_devices_hold_the_tree()
         × (HoldsTree p device bytes digest → verdict p device bytes digest ≡ Ok tt) }
 {}
 
+/// A device on which each block of a tree is put at its place, whatever it held before, holds the whole tree.
+pub fn built_devices_hold_the_tree()
+    ensures { (p : Planned) (bytes device : List ℕ) → IsPlanned p → p.wanted ≤ length bytes
+        → HoldsTree p (tree_on_device p (data_blocks p bytes) device) bytes (root p.settings (data_blocks p bytes)) }
+{}
+
 /// A data block and its path have one answer: accepted exactly if the path holds at every level, else the first fault.
 pub fn one_answer_is_right()
     ensures { (p : Planned) (i : ℕ) (block path root : List ℕ) (x y : Result Unit PathFault)
@@ -69,6 +77,35 @@ pub fn accepted_blocks_are_true()
     ensures { (p : Planned) (bytes : List ℕ) (i : ℕ) (block path : List ℕ) → IsPlanned p
         → IsAccepted p i block path (root p.settings (data_blocks p bytes))
         → (block ≡ slice_index_or (data_blocks p bytes) i []) ⊎ HasCollision p (data_blocks p bytes) i block path }
+{}
+
+/// A root hash binds the data: two data of one plan with one root hash have the same data blocks, and the same covered
+/// bytes; or at one place of their two trees different messages are hashed, and have one hash.
+pub fn root_hashes_bind_the_data()
+    ensures blocks { (p : Planned) (x y : List ℕ) → IsPlanned p
+        → root p.settings (data_blocks p x) ≡ root p.settings (data_blocks p y)
+        → (data_blocks p x ≡ data_blocks p y) ⊎ TreesCollide p.settings (data_blocks p x) (data_blocks p y) }
+    ensures bytes { (p : Planned) (x y : List ℕ) → IsPlanned p → p.wanted ≤ length x → p.wanted ≤ length y
+        → root p.settings (data_blocks p x) ≡ root p.settings (data_blocks p y)
+        → (take p.wanted x ≡ take p.wanted y) ⊎ TreesCollide p.settings (data_blocks p x) (data_blocks p y) }
+{}
+
+/// A root hash of dm-verity binds the salt too: if two plans that may differ in the salt alone have one root hash over
+/// some data each, their salts are the same; or what is hashed last are different messages with one hash.
+pub fn root_hashes_bind_the_salt()
+    ensures { (p : Planned) (salt x y : List ℕ) → IsPlanned p → IsPlanned (with_salt p salt)
+        → p.settings.rule ≢ PaddedBefore
+        → root p.settings (data_blocks p x) ≡ root (with_salt p salt).settings (data_blocks (with_salt p salt) y)
+        → (p.settings.salt ≡ salt)
+        ⊎ Collide p.settings.algorithm (hashed_last p x) (hashed_last (with_salt p salt) y) }
+{}
+
+/// Data on which the verdict is that all is right, against the root hash of some data, are these data in every covered
+/// byte; or the two trees show a collision of the hash function.
+pub fn right_data_are_true()
+    ensures { (p : Planned) (device x y : List ℕ) → IsPlanned p → p.wanted ≤ length y
+        → verdict p device x (root p.settings (data_blocks p y)) ≡ Ok tt
+        → (take p.wanted x ≡ take p.wanted y) ⊎ TreesCollide p.settings (data_blocks p x) (data_blocks p y) }
 {}
 
 /// Each data block is accepted by its true path.

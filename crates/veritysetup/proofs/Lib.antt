@@ -1,2 +1,3 @@
 pub mod PrintingLemmas
+pub mod FormattedLemmas
 pub mod ProgramLemmas

@@ -2,6 +2,7 @@
 pub mod Dump
 pub mod Format
 pub mod Verify
+pub mod GivenBack
 pub mod VerifySteps
 pub mod HashDevice
 pub mod Outcomes

@@ -2,6 +2,7 @@
 //! the program itself over any runtime.
 #![tactic(auto)]
 
+pub mod laws;
 mod options;
 mod program;
 mod runs;

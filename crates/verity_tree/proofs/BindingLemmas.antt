@@ -1,0 +1,243 @@
+-- Trees with one root hash stand above the same data, or show a collision.
+use Rattle.std.proofs.Common.{◌≡◌, ◌≢◌, ℕ, zero, suc, ◌+◌, ◌-◌, ◌*◌, ◌/◌, ◌%◌, ◌^◌, ◌<◌, ◌≤◌, ◌⊎◌, Bool, true, false}
+use Rattle.std.proofs.Common.{List, [], get_or, take, drop, length, replicate, arith, sym, ◌∙◌, ap, refl, inl, inr}
+use Rattle.std.proofs.Common.{length-append, length-drop}
+use Rattle.std.proofs.lemmas.Bool.{cases_lt}
+use Rattle.std.proofs.lemmas.List.{append_cancel_left, append_cancel_right, drop_at, ext_get_or, get_or-drop}
+use Rattle.std.proofs.lemmas.List.{get_or-take, get_or_append_left, length-take, length-take-le, take_at}
+use Rattle.std.proofs.lemmas.List.FromFn.{get_or-map-range_with_len}
+use Rattle.std.proofs.lemmas.Nat.{div-add-mod', mod_below}
+use Rattle.std.proofs.lemmas.Slice.Eq.{bytes_eq-Decides}
+use Rattle.std.specs.Fork.{slice_chunk}
+use Rattle.std.specs.Int.{div_ceil, next_multiple_of}
+use Rattle.std.specs.Str.{bytes_eq}
+use Rattle.verity_hash.specs.Hashing.{input_block_of, salted_input, with_zeros}
+use Rattle.verity_hash.specs.declared.algorithm.Algorithm.{Algorithm}
+use Rattle.verity_hash.specs.declared.salting.SaltRule.{SaltRule}
+use Rattle.verity_hash.specs.declared.salting.SaltRule.TheVariants.{Before, After, PaddedBefore}
+use Rattle.verity_plan.specs.Plans.{IsPlanned, Planned, level_count, level_count_of}
+use Rattle.verity_plan.specs.Settings.{Settings, fan, hash}
+use Rattle.verity_plan.proofs.CountLemmas.{div_ceil-pos, le-div_ceil, mul_le}
+use Rattle.verity_plan.proofs.FanLemmas.{fan-two, some_data}
+use Rattle.verity_plan.proofs.FitLemmas.{digest-slot, fan-fits, fan-pos}
+use Rattle.verity_tree.specs.Collisions.{Collide, TreesCollide, hashed_above, hashed_last, with_salt}
+use Rattle.verity_tree.specs.Levels.{block_at, cut, data_blocks, root}
+use Rattle.verity_tree.specs.Links.{block_size_up}
+use Rattle.verity_tree.specs.Paths.{true_chain}
+use Rattle.verity_tree.specs.Verdicts.{digest_in}
+use Rattle.verity_tree.proofs.ChainLemmas.{length-data, length-true_chain, true_chain-root, true_chain-up}
+use Rattle.verity_tree.proofs.LevelLemmas.{length-cut}
+use Rattle.verity_tree.proofs.LinkLemmas.{size-up}
+use Rattle.verity_tree.proofs.PathSteps.{bytes_eq-false}
+
+-- what is hashed for a block says the block
+salted_input-block : (algorithm : Algorithm) (rule : SaltRule) (salt x y : List ℕ)
+    → salted_input algorithm rule salt x ≡ salted_input algorithm rule salt y → x ≡ y
+salted_input-block algorithm Before salt x y e = append_cancel_left salt x y e
+salted_input-block algorithm After salt x y e = append_cancel_right x y salt e
+salted_input-block algorithm PaddedBefore salt x y e =
+    append_cancel_left (with_zeros (next_multiple_of (length salt) (input_block_of algorithm)) salt) x y e
+
+-- two true chains with one hash at a level, by whether the same is hashed there: they have one data block, or a
+-- collision at that level or below
+chains-collide-by : (s : Settings) (xs ys : List (List ℕ)) (i : ℕ) → 2 ≤ fan s → length xs ≡ length ys
+    → i < length xs → (l : ℕ) → l ≤ level_count (fan s) (length xs)
+    → hash s (true_chain s xs i l) ≡ hash s (true_chain s ys i l)
+    → (b : Bool) → bytes_eq (hashed_above s xs i l) (hashed_above s ys i l) ≡ b
+    → (get_or xs i [] ≡ get_or ys i []) ⊎ TreesCollide s xs ys
+unfolding hash
+chains-collide-by s xs ys i two same below l most one false apart =
+    inr (record {
+      index = i;
+      levels = l;
+      index_below = below;
+      levels_most = most;
+      collide = record { differ = bytes_eq-false _ _ apart; one_hash = one };
+    })
+chains-collide-by s xs ys i two same below zero most one true equal =
+    inl (salted_input-block s.algorithm s.rule s.salt (get_or xs i []) (get_or ys i [])
+    ((bytes_eq-Decides (hashed_above s xs i 0) (hashed_above s ys i 0)).0 equal))
+chains-collide-by s xs ys i two same below (suc l) most one true equal =
+    let above : true_chain s xs i (suc l) ≡ true_chain s ys i (suc l) =
+    salted_input-block s.algorithm s.rule s.salt (true_chain s xs i (suc l)) (true_chain s ys i (suc l))
+    ((bytes_eq-Decides (hashed_above s xs i (suc l)) (hashed_above s ys i (suc l))).0 equal) in
+    let some : 0 < fan s = omega (arith, two) in
+    let lower : hash s (true_chain s xs i l) ≡ hash s (true_chain s ys i l) =
+    true_chain-up s xs i l (digest-slot s) some below
+    ∙ ap (λ (block : List ℕ). digest_in s block (i / fan s ^ l % fan s)) above
+    ∙ sym (true_chain-up s ys i l (digest-slot s) some (omega (arith, below, same))) in
+    chains-collide-by s xs ys i two same below l (omega (arith, most)) lower
+    (bytes_eq (hashed_above s xs i l) (hashed_above s ys i l)) refl
+
+-- one data block
+block-bound : (s : Settings) (xs ys : List (List ℕ)) (i : ℕ) → 2 ≤ fan s → length xs ≡ length ys → i < length xs
+    → root s xs ≡ root s ys → (get_or xs i [] ≡ get_or ys i []) ⊎ TreesCollide s xs ys
+block-bound s xs ys i two same below one =
+    let levels = level_count (fan s) (length xs) in
+    let beside : i < length ys = omega (arith, below, same) in
+    chains-collide-by s xs ys i two same below levels (omega arith)
+    (true_chain-root s xs i two below ∙ one ∙ sym (true_chain-root s ys i two beside)
+    ∙ ap (λ (n : ℕ). hash s (true_chain s ys i (level_count (fan s) n))) (sym same))
+    (bytes_eq (hashed_above s xs i levels) (hashed_above s ys i levels)) refl
+
+-- the first k data blocks
+blocks-bound-below : (s : Settings) (xs ys : List (List ℕ)) → 2 ≤ fan s → length xs ≡ length ys
+    → root s xs ≡ root s ys → (k : ℕ) → k ≤ length xs
+    → ((i : ℕ) → i < k → get_or xs i [] ≡ get_or ys i []) ⊎ TreesCollide s xs ys
+blocks-bound-below s xs ys two same one zero most = inl (λ i low. absurd (omega (arith, low)))
+blocks-bound-below s xs ys two same one (suc k) most =
+    elim (blocks-bound-below s xs ys two same one k (omega (arith, most))) [
+      | inl before ↦ elim (block-bound s xs ys k two same (omega (arith, most)) one) [
+        | inl here ↦ inl (λ i low. elim (cases_lt i k) [
+          | inl less ↦ before i less
+          | inr past ↦
+              let last : i ≡ k = omega (arith, low, past) in
+              ap (λ (n : ℕ). get_or xs n []) last ∙ here ∙ ap (λ (n : ℕ). get_or ys n []) (sym last)
+        ])
+        | inr collide ↦ inr collide
+      ]
+      | inr collide ↦ inr collide
+    ]
+
+-- all data blocks
+pub blocks-bound : (s : Settings) (xs ys : List (List ℕ)) → 2 ≤ fan s → length xs ≡ length ys
+    → root s xs ≡ root s ys → (xs ≡ ys) ⊎ TreesCollide s xs ys
+blocks-bound s xs ys two same one =
+    elim (blocks-bound-below s xs ys two same one (length xs) (omega arith)) [
+      | inl each ↦ inl (ext_get_or [] xs ys same each)
+      | inr collide ↦ inr collide
+    ]
+
+-- a byte is found in its data block
+byte-cut : (s : Settings) (n wanted : ℕ) (bytes : List ℕ) (k : ℕ) → 0 < s.data_block → wanted ≤ n * s.data_block
+    → wanted ≤ length bytes → k < wanted
+    → get_or (get_or (cut s n wanted bytes) (k / s.data_block) []) (k % s.data_block) 0 ≡ get_or (take wanted bytes) k 0
+unfolding cut
+byte-cut s n wanted bytes k some room enough below =
+    let d = s.data_block in
+    let all = take wanted bytes in
+    let i = k / d in
+    let split : i * d + k % d ≡ k = div-add-mod' k d in
+    let low : k % d < d = mod_below k d some in
+    let few : i < n = elim (cases_lt i n) [
+      | inl less ↦ less
+      | inr past ↦
+          let far : n * d ≤ i * d = mul_le n i d past in
+          absurd (omega (arith, far, split, below, room))
+    ] in
+    let long : length all ≡ wanted = length-take-le wanted bytes enough in
+    let inside : k % d < length (slice_chunk all d i) =
+    omega (arith, length-take d (drop (i * d) all), length-drop (i * d) all, split, low, below, long) in
+    ap (λ (block : List ℕ). get_or block (k % d) 0)
+    (get_or-map-range_with_len (block_at d all) 0 n i i [] few (omega arith))
+    ∙ get_or_append_left (slice_chunk all d i) (replicate (d - length (slice_chunk all d i)) 0) 0 (k % d) inside
+    ∙ get_or-take d (drop (i * d) all) (k % d) 0 low ∙ get_or-drop (i * d) all (k % d) 0
+    ∙ ap (λ (n : ℕ). get_or all n 0) split
+
+-- the covered bytes are those of the data blocks
+pub bytes-cut : (s : Settings) (n wanted : ℕ) (x y : List ℕ) → 0 < s.data_block → wanted ≤ n * s.data_block
+    → wanted ≤ length x → wanted ≤ length y → cut s n wanted x ≡ cut s n wanted y → take wanted x ≡ take wanted y
+bytes-cut s n wanted x y some room of_x of_y same =
+    let long_x : length (take wanted x) ≡ wanted = length-take-le wanted x of_x in
+    let long_y : length (take wanted y) ≡ wanted = length-take-le wanted y of_y in
+    ext_get_or 0 (take wanted x) (take wanted y) (long_x ∙ sym long_y)
+    (λ k low.
+    let below : k < wanted = omega (arith, low, long_x) in
+    sym (byte-cut s n wanted x k some room of_x below)
+    ∙ ap (λ (blocks : List (List ℕ)). get_or (get_or blocks (k / s.data_block) []) (k % s.data_block) 0) same
+    ∙ byte-cut s n wanted y k some room of_y below)
+
+-- all covered bytes
+pub bytes-bound : (s : Settings) (n wanted : ℕ) (x y : List ℕ) → 2 ≤ fan s → 0 < s.data_block
+    → wanted ≤ n * s.data_block → wanted ≤ length x → wanted ≤ length y
+    → root s (cut s n wanted x) ≡ root s (cut s n wanted y)
+    → (take wanted x ≡ take wanted y) ⊎ TreesCollide s (cut s n wanted x) (cut s n wanted y)
+bytes-bound s n wanted x y two some room of_x of_y one =
+    elim (blocks-bound s (cut s n wanted x) (cut s n wanted y) two
+    (length-cut s n wanted x ∙ sym (length-cut s n wanted y)) one) [
+      | inl same ↦ inl (bytes-cut s n wanted x y some room of_x of_y same)
+      | inr collide ↦ inr collide
+    ]
+
+-- of a plan
+pub data-bound : (p : Planned) (x y : List ℕ) → IsPlanned p → p.wanted ≤ length x → p.wanted ≤ length y
+    → root p.settings (data_blocks p x) ≡ root p.settings (data_blocks p y)
+    → (take p.wanted x ≡ take p.wanted y) ⊎ TreesCollide p.settings (data_blocks p x) (data_blocks p y)
+data-bound p x y planned of_x of_y one =
+    let s = p.settings in
+    let some = some_data s planned.valid in
+    let most : div_ceil p.wanted s.data_block ≤ p.blocks = omega (arith, planned.blocks_are) in
+    bytes-bound s p.blocks p.wanted x y (fan-two s planned.valid) some
+    (le-div_ceil p.wanted s.data_block p.blocks some most) of_x of_y one
+
+-- ---- the salt
+
+some_blocks : (p : Planned) → IsPlanned p → 0 < p.blocks
+some_blocks p planned =
+    let some = div_ceil-pos p.wanted p.settings.data_block (some_data p.settings planned.valid) planned.some in
+    omega (arith, planned.blocks_are, some)
+
+-- bytes of one length that are joined to two salts
+salted_input-salt : (algorithm : Algorithm) (rule : SaltRule) (salt other x y : List ℕ) → rule ≢ PaddedBefore
+    → length x ≡ length y → salted_input algorithm rule salt x ≡ salted_input algorithm rule other y → salt ≡ other
+salted_input-salt algorithm Before salt other x y dm long e =
+    let size : length salt ≡ length other =
+    omega (arith, ap length e, length-append salt x, length-append other y, long) in
+    sym (take_at salt x (length salt) refl) ∙ ap (take (length salt)) e ∙ take_at other y (length salt) (sym size)
+salted_input-salt algorithm After salt other x y dm long e =
+    sym (drop_at x salt (length x) refl) ∙ ap (drop (length x)) e ∙ drop_at y other (length x) (sym long)
+salted_input-salt algorithm PaddedBefore salt other x y dm long e = absurd (dm refl)
+
+-- the length of a block above the first data block
+length-above : (p : Planned) (bytes : List ℕ) (l : ℕ) → IsPlanned p
+    → length (true_chain p.settings (data_blocks p bytes) 0 l) ≡ block_size_up p.settings l
+length-above p bytes zero planned =
+    length-data p.settings p.blocks p.wanted bytes 0 (some_blocks p planned)
+length-above p bytes (suc l) planned =
+    let s = p.settings in
+    let many : length (data_blocks p bytes) ≡ p.blocks = length-cut s p.blocks p.wanted bytes in
+    length-true_chain s (data_blocks p bytes) 0 l (digest-slot s) (fan-pos s planned.valid)
+    (fan-fits s planned.valid) (omega (arith, many, some_blocks p planned))
+    ∙ sym (size-up s l)
+
+-- the hash of what stands at the top
+hash-last : (p : Planned) (bytes : List ℕ) → IsPlanned p
+    → hash p.settings (true_chain p.settings (data_blocks p bytes) 0 (level_count_of p))
+    ≡ root p.settings (data_blocks p bytes)
+hash-last p bytes planned =
+    let s = p.settings in
+    let blocks = data_blocks p bytes in
+    let many : length blocks ≡ p.blocks = length-cut s p.blocks p.wanted bytes in
+    ap (λ (n : ℕ). hash s (true_chain s blocks 0 (level_count (fan s) n))) (sym many)
+    ∙ true_chain-root s blocks 0 (fan-two s planned.valid) (omega (arith, many, some_blocks p planned))
+
+same-levels : (p : Planned) (salt : List ℕ) → level_count_of (with_salt p salt) ≡ level_count_of p
+unfolding fan
+same-levels p salt = refl
+
+-- plans that differ in the salt alone
+pub salt-bound : (p : Planned) (salt x y : List ℕ) → IsPlanned p → IsPlanned (with_salt p salt)
+    → p.settings.rule ≢ PaddedBefore
+    → root p.settings (data_blocks p x) ≡ root (with_salt p salt).settings (data_blocks (with_salt p salt) y)
+    → (p.settings.salt ≡ salt) ⊎ Collide p.settings.algorithm (hashed_last p x) (hashed_last (with_salt p salt) y)
+unfolding hash
+salt-bound p salt x y planned other dm one =
+    by_test (bytes_eq (hashed_last p x) (hashed_last (with_salt p salt) y)) refl
+  where
+    by_test : (b : Bool) → bytes_eq (hashed_last p x) (hashed_last (with_salt p salt) y) ≡ b
+        → (p.settings.salt ≡ salt) ⊎ Collide p.settings.algorithm (hashed_last p x) (hashed_last (with_salt p salt) y)
+    by_test false apart = inr (record {
+      differ = bytes_eq-false _ _ apart;
+      one_hash = hash-last p x planned ∙ one ∙ sym (hash-last (with_salt p salt) y other);
+    })
+    by_test true equal =
+        let q = with_salt p salt in
+        let long : length (true_chain p.settings (data_blocks p x) 0 (level_count_of p))
+        ≡ length (true_chain q.settings (data_blocks q y) 0 (level_count_of q)) =
+        length-above p x (level_count_of p) planned
+        ∙ ap (block_size_up p.settings) (sym (same-levels p salt))
+        ∙ sym (length-above q y (level_count_of q) other) in
+        inl (salted_input-salt p.settings.algorithm p.settings.rule p.settings.salt salt
+        (true_chain p.settings (data_blocks p x) 0 (level_count_of p))
+        (true_chain q.settings (data_blocks q y) 0 (level_count_of q)) dm long
+        ((bytes_eq-Decides (hashed_last p x) (hashed_last q y)).0 equal))
