@@ -6,9 +6,9 @@ cd "$(dirname "$0")/.."
 . tests/checks.sh
 needs python3 python3
 
-most_definitions=122
-most_lines=409
-most_files=19
+most_definitions=108
+most_lines=359
+most_files=16
 
 found=$(tests/definitions.py) || { fail 'tests/definitions.py' "$found"; finish; exit 1; }
 read -r definitions _ lines _ files _ <<<"$(tail -n 1 <<<"$found")"

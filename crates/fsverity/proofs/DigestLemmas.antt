@@ -1,17 +1,17 @@
 -- What the answer of a pass over the data says of a file.
-use Rattle.std.proofs.Common.{◌≡◌, ℕ, ◌+◌, ◌*◌, ◌/◌, ◌<◌, ◌≤◌, Bool, true, false, List, [], length, replicate, sym, arith}
+use Rattle.std.proofs.Common.{◌≡◌, ℕ, ◌+◌, ◌*◌, ◌/◌, ◌<◌, ◌≤◌, Bool, true, false, List, [], length, replicate, sym}
+use Rattle.std.proofs.Common.{arith}
 use Rattle.std.specs.Prelude.{◌==◌, min, if◌then◌else◌}
 use Rattle.std.proofs.Math.Nat.{div-eq_of_lt-le}
 use Rattle.std.proofs.lemmas.List.{length-replicate}
 use Rattle.verity_io.specs.Reading.{HasRead}
-use Rattle.verity_tree.specs.Levels.{data_blocks, root}
+use Rattle.verity_tree.specs.Levels.{data_blocks, root, root_of_file}
 use Rattle.verity_tree.specs.Reading.{EndsWithin, FailsWithin}
-use Rattle.verity_tree.specs.TreeOnDevice.{tree_on_device}
-use Rattle.verity_plan.specs.Plans.{Planned}
+use Rattle.verity_tree.specs.TreeWriting.{tree_on_device}
+use Rattle.verity_plan.specs.Plans.{Planned, plan_of_file}
 use Rattle.verity_hash.proofs.HashLemmas.{length-salted_hash}
 use Rattle.verity_plan.specs.Settings.{Settings, digest_len, hash}
-use Rattle.fsverity.specs.Runs.FileDigest.{plan_of_file, with_tree}
-use Rattle.verity_tree.specs.Levels.{root_of_file}
+use Rattle.fsverity.specs.Runs.FileDigest.{with_tree}
 
 -- a source that ended within block i holds so many blocks, and not all that is wanted
 pub ends_short : (p : Planned) (i : ℕ) (before after : List ℕ) → EndsWithin p i before after →

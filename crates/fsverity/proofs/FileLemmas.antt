@@ -10,7 +10,7 @@ use Rattle.verity_hash.specs.declared.algorithm.Algorithm.{Algorithm}
 use Rattle.verity_hash.specs.declared.algorithm.Algorithm.TheVariants.{Sha256, Sha512, Sha1, Sha224, Sha384}
 use Rattle.verity_hash.specs.declared.salting.SaltRule.TheVariants.{PaddedBefore}
 use Rattle.verity_hash.proofs.HashLemmas.{length-hash_of}
-use Rattle.verity_plan.specs.Plans.{block_count}
+use Rattle.verity_plan.specs.Plans.{block_count, plan_of_file}
 use Rattle.verity_plan.specs.Settings.{IsValid, Settings, is_of_fsverity}
 use Rattle.verity_plan.proofs.CountLemmas.{le-div_ceil}
 use Rattle.verity_plan.proofs.FanLemmas.{fan-two, some_data}
@@ -21,7 +21,6 @@ use Rattle.verity_tree.specs.Levels.{cut, data_blocks, root, root_of_file}
 use Rattle.verity_tree.proofs.BindingLemmas.{bytes-bound}
 use Rattle.verity_tree.proofs.PathSteps.{bytes_eq-false}
 use Rattle.fsverity.specs.Runs.FileCollisions.{FilesCollide, blocks_of_file, descriptor_of_file}
-use Rattle.fsverity.specs.Runs.FileDigest.{plan_of_file}
 use Rattle.fsverity.proofs.DigestLemmas.{length-root_of_file, root_of_some}
 
 -- a hash function of fs-verity by the length of its digests

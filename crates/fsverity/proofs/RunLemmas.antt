@@ -1,5 +1,7 @@
 -- A run over files, file after file.
-use Rattle.std.proofs.Common.{◌≡◌, ◌≢◌, ℕ, zero, suc, ◌+◌, ◌<◌, ◌≤◌, List, [], ◌∷◌, ◌++◌, length, take, Bool, true, false, inl, inr, Option, Some, None, Result, Ok, Err, refl, ap, sym, subst, ◌∙◌, not, add-one, append-nil, arith}
+use Rattle.std.proofs.Common.{◌≡◌, ◌≢◌, ℕ, zero, suc, ◌+◌, ◌<◌, ◌≤◌, List, [], ◌∷◌, ◌++◌, length, take, Bool, true}
+use Rattle.std.proofs.Common.{false, inl, inr, Option, Some, None, Result, Ok, Err, refl, ap, sym, subst, ◌∙◌, not}
+use Rattle.std.proofs.Common.{add-one, append-nil, arith}
 use Rattle.std.specs.Prelude.{◌↔◌, IsErr, IsErrAnd, slice_get}
 use Rattle.std.proofs.lemmas.Option.{get_or_from_slice_get}
 use Rattle.std.specs.List.{prefix_len}
@@ -9,9 +11,11 @@ use Rattle.verity_plan.specs.Settings.{Settings}
 use Rattle.fsverity.proofs.FormLemmas.{Keeps-same}
 use Rattle.fsverity.specs.Texts.Lines.{line}
 use Rattle.fsverity.specs.Openers.Opening.{OpenerChange}
-use Rattle.fsverity.specs.Runs.Digest.{AreLines, DigestInput, HasReason, IsDigestAt, IsLargeAt, IsPartOfLine, first_without_digest, has_digest, line_at}
+use Rattle.fsverity.specs.Runs.Digest.{HasReason, IsLargeAt, IsPartOfLine, first_without_digest, has_digest}
+use Rattle.fsverity.specs.Runs.Digested.{AreLines, DigestInput, IsDigestAt, line_at}
 use Rattle.fsverity.specs.Runs.DigestSteps.{HasDigestAt, StopsStep, WritesStep}
-use Rattle.fsverity.specs.declared.runs.digest_fault.DigestFault.TheVariants.{TooLarge, SourceShort, SourceFailed, DeviceFailed, Memory}
+use Rattle.fsverity.specs.declared.runs.digest_fault.DigestFault.TheVariants.{TooLarge, SourceShort, SourceFailed}
+use Rattle.fsverity.specs.declared.runs.digest_fault.DigestFault.TheVariants.{DeviceFailed, Memory}
 use Rattle.fsverity.specs.declared.runs.run_fault.RunFault.{RunFault}
 use Rattle.fsverity.specs.declared.runs.run_fault.RunFault.TheVariants.{NotOpened, Digest, NotWritten}
 

@@ -2,7 +2,7 @@
 use Rattle.std.specs.Prelude.{ℕ, List, [], Option, length, map, string_bytes}
 use Rattle.std.specs.Io.KnownBytes.{Appends}
 use Rattle.verity_plan.specs.Settings.{Settings}
-use Rattle.fsverity.specs.Runs.Digest.{AreLines}
+use Rattle.fsverity.specs.Runs.Digested.{AreLines}
 use Rattle.fsverity.specs.Texts.Lines.{form_of}
 use Rattle.fsverity.specs.declared.texts.digest_lines.Form.{Form}
 use Rattle.fsverity.specs.declared.words.line.Line.{Line}

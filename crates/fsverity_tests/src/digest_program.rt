@@ -78,7 +78,7 @@ fn run_with_more<'a>(
     said_by(alloc, &runtime)
 }
 
-/// Command lines of one file, and whether output files are named.
+/// Command lines of one file, one of them with output files.
 const ENDS_FAR: [&str; 2] = [
     "fsverity digest three",
     "fsverity digest --out-merkle-tree t --out-descriptor d three",

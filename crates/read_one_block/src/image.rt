@@ -1,7 +1,7 @@
 //! An image with a trusted root hash, of which single blocks are read.
 ghost use Rattle.std.specs.Prelude.{◌≡◌, ◌*◌, ◌<◌, ℕ, List, length, take, drop, IfErr, OnOk};
 ghost use Rattle.verity_io.specs.Counting.{Counts, CountsFailure};
-ghost use Rattle.verity_plan.specs.Plans.{level_count_of};
+ghost use Rattle.verity_plan.specs.PlanCounts.{level_count_of};
 ghost use Rattle.verity_hash.specs.Hashing.{with_zeros};
 ghost use Rattle.verity_tree.specs.Levels.{block_at, data_blocks, root};
 ghost use Rattle.read_one_block.specs.Reading.{Answers, IsPathOn, IsRight, WasRead, data_failed, is_failure};

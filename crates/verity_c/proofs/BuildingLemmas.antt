@@ -1,13 +1,13 @@
 -- What a builder has answered is what the library for C says of it.
-use Rattle.std.proofs.Common.{◌≡◌, ◌<◌, ◌≤◌, ◌+◌, ℕ, Bool, true, false, List, ◌++◌, length, replicate, take}
-use Rattle.std.proofs.Common.{Option, Some, None, Result, Ok, IfOk, if◌then◌else◌, arith, ap, inl, inr}
-use Rattle.std.proofs.Common.{refl, subst, sym, ◌∙◌}
+use Rattle.std.proofs.Common.{◌≡◌, ◌<◌, ◌≤◌, ◌+◌, ℕ, Bool, true, false, List, ◌++◌, length, replicate, take, Option}
+use Rattle.std.proofs.Common.{Some, None, Result, Ok, IfOk, if◌then◌else◌, arith, ap, inl, inr, refl, subst, sym, ◌∙◌}
 use Rattle.std.proofs.lemmas.Bool.Decides.{nat_tests}
 use Rattle.std.proofs.lemmas.List.{length-replicate}
 use Rattle.std.specs.Prelude.{◌==◌}
 use Rattle.verity_format.specs.Descriptors.{digest_of_file}
 use Rattle.verity_hash.specs.declared.algorithm.Algorithm.{Algorithm as HashFunction}
-use Rattle.verity_plan.specs.Plans.{Planned, level_count_of}
+use Rattle.verity_plan.specs.Plans.{Planned}
+use Rattle.verity_plan.specs.PlanCounts.{level_count_of}
 use Rattle.verity_plan.proofs.CountLemmas.{mul_le}
 use Rattle.verity_plan.specs.Settings.{Settings, digest_len}
 use Rattle.verity_tree.proofs.OpenBlockLemmas.{length-hash}

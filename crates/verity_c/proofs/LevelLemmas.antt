@@ -1,7 +1,8 @@
 -- Each level has a first block.
 use Rattle.std.proofs.Common.{ℕ, ◌+◌, ◌^◌, ◌<◌, subst}
 use Rattle.std.proofs.Math.Nat.{zero-div}
-use Rattle.verity_plan.specs.Plans.{HasBlock, IsPlanned, Planned, level_count_of}
+use Rattle.verity_plan.specs.Plans.{HasBlock, IsPlanned, Planned}
+use Rattle.verity_plan.specs.PlanCounts.{level_count_of}
 use Rattle.verity_plan.specs.Settings.{fan}
 use Rattle.verity_plan.proofs.FitLemmas.{fan-pos}
 use Rattle.verity_plan.proofs.IndexLemmas.{HasBlock-above}

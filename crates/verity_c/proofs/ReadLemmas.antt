@@ -1,5 +1,6 @@
 -- The parameters that are read of a superblock make its plan.
-use Rattle.std.proofs.Common.{◌≡◌, ℕ, ◌%◌, ◌≤◌, true, List, ◌++◌, length, take, drop, replicate, arith, ap, refl, sym, ◌∙◌}
+use Rattle.std.proofs.Common.{◌≡◌, ℕ, ◌%◌, ◌≤◌, true, List, ◌++◌, length, take, drop, replicate, arith, ap, refl, sym}
+use Rattle.std.proofs.Common.{◌∙◌}
 use Rattle.std.proofs.lemmas.Bool.Decides.{nat_tests}
 use Rattle.std.proofs.lemmas.List.{drop-replicate, take_at}
 use Rattle.std.specs.Prelude.{◌-◌, ◌==◌, Some, Result, Ok, nat_le}
@@ -9,7 +10,8 @@ use Rattle.verity_hash.specs.declared.algorithm.Algorithm.TheVariants.{Sha256, S
 use Rattle.verity_format.specs.Superblocks.{IsValidSuperblock, SuperblockFields}
 use Rattle.verity_format.proofs.ReadLemmas.{verity_settings-ok}
 use Rattle.verity_plan.specs.Plans.{plan_at, superblock_size}
-use Rattle.verity_plan.specs.Settings.{IsValid, Settings, rule_of, type_number, type_of_number, verity_settings}
+use Rattle.verity_plan.specs.Settings.{IsValid, Settings, rule_of, type_number}
+use Rattle.verity_plan.specs.CheckedSettings.{type_of_number, verity_settings}
 use Rattle.verity_hash.specs.declared.salting.SaltRule.{SaltRule}
 use Rattle.verity_hash.specs.declared.salting.SaltRule.TheVariants.{Before, After}
 use Rattle.verity_plan.specs.declared.setting_fault.SettingFault.{SettingFault}

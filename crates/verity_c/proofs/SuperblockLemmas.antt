@@ -1,17 +1,17 @@
 -- Parameters that make a plan have a superblock, and those that are read of one write it again.
-use Rattle.std.proofs.Common.{◌≡◌, ◌≢◌, ◌==◌, ◌*◌, ◌∙◌, ℕ, Bool, true, false, List, length, Option, Some, None, Result, Ok}
-use Rattle.std.proofs.Common.{Err, if◌then◌else◌, nat_le, arith, ap, refl, sym}
+use Rattle.std.proofs.Common.{◌≡◌, ◌≢◌, ◌==◌, ◌*◌, ◌∙◌, ℕ, Bool, true, false, List, length, Option, Some, None, Result}
+use Rattle.std.proofs.Common.{Ok, Err, if◌then◌else◌, nat_le, arith, ap, refl, sym}
 use Rattle.std.proofs.lemmas.Bool.Decides.{nat_tests}
 use Rattle.std.specs.Prelude.{not, nat_lt}
 use Rattle.verity_hash.specs.Hashing.{digest_len_of}
 use Rattle.verity_hash.specs.declared.algorithm.Algorithm.{Algorithm as HashFunction}
 use Rattle.verity_format.proofs.ReadLemmas.{superblock_of-none}
-use Rattle.verity_format.specs.Superblocks.{IsValidSuperblock, SuperblockFields, hash_type_of, superblock_bytes}
-use Rattle.verity_format.specs.Superblocks.{superblock_of}
+use Rattle.verity_format.specs.Superblocks.{IsValidSuperblock, SuperblockFields, superblock_bytes}
+use Rattle.verity_format.specs.CheckedSuperblocks.{hash_type_of, superblock_of}
 use Rattle.verity_plan.proofs.PlanLemmas.{planned_is}
 use Rattle.verity_plan.specs.Plans.{IsPlanned, Planned, base_of, multiple_of, offset_unit, plan_at, plan_from}
-use Rattle.verity_plan.specs.Settings.{Settings, checked_settings, is_block_size, least_block, most_salt, rule_of}
-use Rattle.verity_plan.specs.Settings.{type_of_number}
+use Rattle.verity_plan.specs.Settings.{Settings, is_block_size, least_block, most_salt, rule_of}
+use Rattle.verity_plan.specs.CheckedSettings.{checked_settings, type_of_number}
 use Rattle.verity_plan.specs.declared.hash_type.HashType.{HashType}
 use Rattle.verity_plan.specs.declared.hash_type.HashType.TheVariants.{Current, Original}
 use Rattle.verity_plan.specs.declared.plan_fault.PlanFault.{PlanFault}

@@ -1,11 +1,13 @@
 -- What each call of the library for C answers: its status, and what it leaves in what it was handed to fill. A fault leaves
 -- that as it was.
-use Rattle.std.specs.Prelude.{◌≡◌, ℕ, ◌+◌, ◌/◌, ◌^◌, ◌==◌, List, [], length, nat_le, not, Option, Some, None}
-use Rattle.std.specs.Prelude.{Result, Ok, Err, if◌then◌else◌}
+use Rattle.std.specs.Prelude.{◌≡◌, ℕ, ◌+◌, ◌/◌, ◌^◌, ◌==◌, List, [], length, nat_le, not, Option, Some, None, Result}
+use Rattle.std.specs.Prelude.{Ok, Err, if◌then◌else◌}
 use Rattle.verity_format.specs.Descriptors.{DescriptorFields, descriptor_bytes, digest_of_file}
-use Rattle.verity_format.specs.Superblocks.{IsSuperblock, SuperblockFields, superblock_bytes, superblock_of}
+use Rattle.verity_format.specs.Superblocks.{IsSuperblock, SuperblockFields, superblock_bytes}
+use Rattle.verity_format.specs.CheckedSuperblocks.{superblock_of}
 use Rattle.verity_format.specs.declared.super_fault.SuperFault.{SuperFault}
-use Rattle.verity_plan.specs.Plans.{Planned, level_count_of, level_size_of, start_byte_of, superblock_size}
+use Rattle.verity_plan.specs.Plans.{Planned, start_byte_of, superblock_size}
+use Rattle.verity_plan.specs.PlanCounts.{level_count_of, level_size_of}
 use Rattle.verity_plan.specs.Settings.{Settings, digest_len, fan}
 use Rattle.verity_tree.specs.Links.{checked_link, checked_top}
 use Rattle.verity_tree.specs.Paths.{ChecksBlock}

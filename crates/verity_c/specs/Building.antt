@@ -1,10 +1,11 @@
 -- What the calls of the library for C answer that build a tree as pieces of its data come. Whoever reads a contract
 -- need not know how memory holds what was fed: it holds no bytes at the beginning, those before and those of the piece
 -- after feeding, and the answer at the end is of all. A fault leaves everything as it was.
-use Rattle.std.specs.Prelude.{◌≡◌, ◌≢◌, ◌<◌, ◌≤◌, ◌⊎◌, ℕ, ◌+◌, ◌==◌, ◌&&◌, List, [], ◌∷◌, ◌++◌, length}
-use Rattle.std.specs.Prelude.{Option, Some, None, Result, Ok, Err, if◌then◌else◌}
+use Rattle.std.specs.Prelude.{◌≡◌, ◌≢◌, ◌<◌, ◌≤◌, ◌⊎◌, ℕ, ◌+◌, ◌==◌, ◌&&◌, List, [], ◌∷◌, ◌++◌, length, Option, Some}
+use Rattle.std.specs.Prelude.{None, Result, Ok, Err, if◌then◌else◌}
 use Rattle.verity_format.specs.Descriptors.{digest_of_file}
-use Rattle.verity_plan.specs.Plans.{Planned, level_count_of, most_level_count}
+use Rattle.verity_plan.specs.Plans.{Planned}
+use Rattle.verity_plan.specs.PlanCounts.{level_count_of, most_level_count}
 use Rattle.verity_plan.specs.Settings.{Settings, digest_len}
 use Rattle.verity_tree.specs.ClosingOrder.{BlockIndex, block_index, handed_out}
 use Rattle.verity_tree.specs.Feeding.{IsFed, IsFedFile, IsHandedOut, IsPlaced, end_fault, feed_fault, feeding_length}

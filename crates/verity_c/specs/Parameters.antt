@@ -7,8 +7,8 @@ use Rattle.verity_hash.specs.declared.algorithm.Algorithm.TheVariants as algorit
 use Rattle.verity_hash.specs.declared.algorithm.Algorithm.{Algorithm as HashFunction}
 use Rattle.verity_format.specs.Superblocks.{SuperblockFields}
 use Rattle.verity_plan.specs.Plans.{Planned, multiple_of, offset_unit, plan_at, plan_for_bytes}
-use Rattle.verity_plan.specs.Settings.{Settings, fsverity_settings, most_verity_salt, type_number, type_of_number, verity_settings}
-use Rattle.verity_plan.specs.Settings.{most_salt}
+use Rattle.verity_plan.specs.Settings.{Settings, most_verity_salt, type_number, most_salt}
+use Rattle.verity_plan.specs.CheckedSettings.{fsverity_settings, type_of_number, verity_settings}
 use Rattle.verity_plan.specs.declared.hash_type.HashType.{HashType as TypeOfHash}
 use Rattle.verity_plan.specs.declared.plan_fault.PlanFault.{PlanFault}
 use Rattle.verity_plan.specs.declared.setting_fault.SettingFault.{SettingFault}

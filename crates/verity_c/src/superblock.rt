@@ -2,7 +2,7 @@
 ghost use Rattle.std.specs.Prelude.{◌≡◌, ◌≤◌, length, None};
 ghost use Rattle.verity_hash.specs.Hashing.{with_zeros};
 ghost use Rattle.verity_plan.specs.Settings.{most_verity_salt};
-ghost use Rattle.verity_format.specs.Superblocks.{superblock_fault};
+ghost use Rattle.verity_format.specs.CheckedSuperblocks.{superblock_fault};
 ghost use Rattle.verity_c.specs.Answers.{ReadsParameters, superblock_in, superblock_status, value_or};
 ghost use Rattle.verity_c.specs.Parameters.{parameters_of, plan_of};
 ghost use Rattle.verity_c.specs.Statuses.{status_of};

@@ -1,20 +1,23 @@
 -- Bytes say a superblock exactly if they pass every test, and then just one.
-use Rattle.std.proofs.Common.{◌≡◌, ℕ, ◌*◌, ◌<◌, ◌≤◌, Bool, true, false, List, [], ◌∷◌, ◌++◌, length, take, drop, Option}
-use Rattle.std.proofs.Common.{Some, None, is_some, nat_le, nat_lt, arith, refl, ap, sym, ◌∙◌, length-drop}
+use Rattle.std.proofs.Common.{◌≡◌, ℕ, ◌*◌, ◌<◌, ◌≤◌, Bool, true, false, List, [], ◌∷◌, length, take, drop, Option, Some}
+use Rattle.std.proofs.Common.{None, is_some, nat_le, nat_lt, arith, refl, ap, sym, ◌∙◌, length-drop}
 use Rattle.std.specs.Cmp.Lexicographic.{bytes_decides}
 use Rattle.std.proofs.lemmas.Bool.{eqb-true, le-leb, leb-true}
 use Rattle.std.proofs.lemmas.Bool.Decides.{nat_tests}
 use Rattle.std.proofs.lemmas.List.{length-take-le}
 use Rattle.verity_hash.specs.Hashing.{algorithm_named}
+use Rattle.verity_hash.specs.declared.algorithm.Algorithm.{Algorithm}
+use Rattle.verity_hash.specs.declared.salting.SaltRule.{SaltRule}
 use Rattle.verity_io.specs.Writing.{most_bytes}
-use Rattle.verity_plan.specs.Settings.{Settings, IsValid, digest_len, is_verity_block_size, least_block, most_salt}
-use Rattle.verity_plan.specs.Settings.{rule_of, type_of_number}
+use Rattle.verity_plan.specs.Settings.{Settings, IsValid, digest_len, least_block, most_salt, rule_of}
+use Rattle.verity_plan.specs.CheckedSettings.{is_verity_block_size, type_of_number}
 use Rattle.verity_plan.specs.declared.hash_type.HashType.{HashType}
 use Rattle.verity_plan.specs.declared.hash_type.HashType.TheVariants.{Original, Current}
-use Rattle.verity_format.specs.Superblocks.{field, number_at, until_zero, SuperblockFields}
-use Rattle.verity_format.specs.Superblocks.{IsSuperblock, blocks_tests, superblock_fault, first_failed, type_tests}
-use Rattle.verity_format.specs.Superblocks.{settings_tests, signature}
+use Rattle.verity_format.specs.Superblocks.{field, number_at, until_zero, SuperblockFields, IsSuperblock, signature}
+use Rattle.verity_format.specs.CheckedSuperblocks.{superblock_fault, first_failed, superblock_tests}
 use Rattle.verity_format.specs.declared.super_fault.SuperFault.{SuperFault}
+use Rattle.verity_format.proofs.NameLemmas.{name_of-same, named-back, named-is, numbered-back, numbered-is}
+use Rattle.verity_format.proofs.NameLemmas.{type_number-same}
 use Rattle.verity_format.proofs.ReadLemmas.{IsValid-verity}
 
 -- every test is passed
@@ -34,7 +37,7 @@ value_of (Some x) h = (x, refl)
 -- bytes that pass every test say a superblock
 pub fault_none-says : (s : List ℕ) → superblock_fault s ≡ None → (v : SuperblockFields) × IsSuperblock s v
 fault_none-says s none =
-    let all = passed (type_tests s ++ settings_tests s ++ blocks_tests s) none in
+    let all = passed (superblock_tests s) none in
     let long : 512 ≤ length s = leb-true 512 (length s) all.0 in
     let signed : take 8 s ≡ signature = (bytes_decides (take 8 s) signature).0 all.1.0 in
     let version : number_at 8 4 s ≡ 1 = eqb-true (number_at 8 4 s) 1 all.1.1.0 in
@@ -63,16 +66,14 @@ fault_none-says s none =
         long = long;
         signed = signed;
         version = version;
-        hash_type = typed.1;
+        hash_type = numbered-is (number_at 12 4 s) typed.0 typed.1;
         uuid = refl;
+        algorithm = named-is (until_zero (field 32 32 s)) known.0 known.1;
+        data_block = refl;
+        hash_block = refl;
         blocks = refl;
-        tree = record {
-          name = known.1;
-          data_block = refl;
-          hash_block = refl;
-          salt_size = sym held;
-          salt = ap (λ n. field 88 n s) held;
-        };
+        salt_size = sym held;
+        salt = ap (λ n. field 88 n s) held;
         valid = record { tree = valid; of_type = refl; uuid = sixteen; some = some; within = within };
       },
     )
@@ -106,14 +107,58 @@ says-fault_none s v a =
       a.signed,
       a.version,
       a.hash_type,
-      a.tree.data_block,
+      numbered-back v.hash_type,
+      a.data_block,
       sized,
-      a.tree.hash_block,
+      a.hash_block,
       hash_sized,
-      a.tree.name,
-      a.tree.salt_size,
+      a.algorithm,
+      named-back v.tree.algorithm,
+      a.salt_size,
       short,
       a.blocks,
       some,
       within,
     ) refl
+
+-- settings by their parts
+tree_from : Algorithm → SaltRule → List ℕ → ℕ → ℕ → Settings
+tree_from algorithm rule salt data_block hash_block =
+    record { algorithm = algorithm; rule = rule; salt = salt; data_block = data_block; hash_block = hash_block }
+
+tree-same : (s t : Settings) → s.algorithm ≡ t.algorithm → s.rule ≡ t.rule → s.salt ≡ t.salt
+    → s.data_block ≡ t.data_block → s.hash_block ≡ t.hash_block → s ≡ t
+unfolding tree_from
+tree-same s t algorithm rule salt data_block hash_block =
+    ap (λ (x : Algorithm). tree_from x s.rule s.salt s.data_block s.hash_block) algorithm
+    ∙ ap (λ (x : SaltRule). tree_from t.algorithm x s.salt s.data_block s.hash_block) rule
+    ∙ ap (λ (x : List ℕ). tree_from t.algorithm t.rule x s.data_block s.hash_block) salt
+    ∙ ap (λ (x : ℕ). tree_from t.algorithm t.rule t.salt x s.hash_block) data_block
+    ∙ ap (λ (x : ℕ). tree_from t.algorithm t.rule t.salt t.data_block x) hash_block
+
+-- a superblock by its parts
+superblock_from : HashType → Settings → List ℕ → ℕ → SuperblockFields
+superblock_from hash_type tree uuid blocks =
+    record { hash_type = hash_type; tree = tree; uuid = uuid; blocks = blocks }
+
+superblock-same : (v w : SuperblockFields) → v.hash_type ≡ w.hash_type → v.tree ≡ w.tree → v.uuid ≡ w.uuid
+    → v.blocks ≡ w.blocks → v ≡ w
+unfolding superblock_from
+superblock-same v w hash_type tree uuid blocks =
+    ap (λ (x : HashType). superblock_from x v.tree v.uuid v.blocks) hash_type
+    ∙ ap (λ (x : Settings). superblock_from w.hash_type x v.uuid v.blocks) tree
+    ∙ ap (λ (x : List ℕ). superblock_from w.hash_type w.tree x v.blocks) uuid
+    ∙ ap (λ (x : ℕ). superblock_from w.hash_type w.tree w.uuid x) blocks
+
+-- bytes say at most one superblock
+pub one-superblock : (s : List ℕ) (v w : SuperblockFields) → IsSuperblock s v → IsSuperblock s w → v ≡ w
+one-superblock s v w a b =
+    let one : v.hash_type ≡ w.hash_type = type_number-same v.hash_type w.hash_type (sym a.hash_type ∙ b.hash_type) in
+    let salts : length v.tree.salt ≡ length w.tree.salt = sym a.salt_size ∙ b.salt_size in
+    superblock-same v w one
+    (tree-same v.tree w.tree
+    (name_of-same v.tree.algorithm w.tree.algorithm (sym a.algorithm ∙ b.algorithm))
+    (a.valid.of_type ∙ ap rule_of one ∙ sym b.valid.of_type)
+    (sym a.salt ∙ ap (λ (n : ℕ). field 88 n s) salts ∙ b.salt)
+    (sym a.data_block ∙ b.data_block) (sym a.hash_block ∙ b.hash_block))
+    (sym a.uuid ∙ b.uuid) (sym a.blocks ∙ b.blocks)

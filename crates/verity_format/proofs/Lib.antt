@@ -1,5 +1,6 @@
 pub mod FieldLemmas
 pub mod KnownLemmas
+pub mod NameLemmas
 pub mod ReadLemmas
 pub mod TextLemmas
 pub mod LawLemmas

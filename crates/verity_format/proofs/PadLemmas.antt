@@ -10,13 +10,12 @@ use Rattle.std.proofs.lemmas.List.Sums.{fails_before_first, passes_at_first, pos
 use Rattle.std.specs.Prelude.{◌==◌, not, unwrap_or}
 use Rattle.std.specs.List.{position_or_len}
 use Rattle.byteorder.specs.Endian.{little_from}
-use Rattle.verity_hash.specs.Hashing.{algorithm_named}
-use Rattle.verity_plan.specs.Settings.{most_salt, rule_of, type_of_number}
+use Rattle.verity_plan.specs.Settings.{most_salt, rule_of}
 use Rattle.verity_plan.specs.declared.hash_type.HashType.{HashType}
 use Rattle.verity_plan.specs.declared.hash_type.HashType.TheVariants.{Original, Current}
 use Rattle.verity_format.specs.Pads.{AgreeOutsidePads, SameBetween}
 use Rattle.verity_format.specs.Superblocks.{field, number_at, until_zero, SuperblockFields, IsSuperblock}
-use Rattle.verity_format.specs.Superblocks.{superblock_fault}
+use Rattle.verity_format.specs.CheckedSuperblocks.{superblock_fault}
 
 -- the same bytes are the same number
 little_from-same : (i n : ℕ) (xs ys : List ℕ)
@@ -182,15 +181,13 @@ said-same s t v r a =
       long = r.other_whole;
       signed = sym r.signed ∙ a.signed;
       version = sym r.version ∙ a.version;
-      hash_type = ap type_of_number (sym r.hash_type) ∙ a.hash_type;
+      hash_type = sym r.hash_type ∙ a.hash_type;
       uuid = sym r.uuid ∙ a.uuid;
-      tree = record {
-        name = ap algorithm_named (sym r.name) ∙ a.tree.name;
-        data_block = sym r.data_block ∙ a.tree.data_block;
-        hash_block = sym r.hash_block ∙ a.tree.hash_block;
-        salt_size = sym r.salt_size ∙ a.tree.salt_size;
-        salt = sym (r.salt (length v.tree.salt) short a.tree.salt_size) ∙ a.tree.salt;
-      };
+      algorithm = sym r.name ∙ a.algorithm;
+      data_block = sym r.data_block ∙ a.data_block;
+      hash_block = sym r.hash_block ∙ a.hash_block;
+      salt_size = sym r.salt_size ∙ a.salt_size;
+      salt = sym (r.salt (length v.tree.salt) short a.salt_size) ∙ a.salt;
       blocks = sym r.blocks ∙ a.blocks;
       valid = a.valid;
     }

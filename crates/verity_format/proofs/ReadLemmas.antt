@@ -4,15 +4,16 @@ use Rattle.std.proofs.Common.{None, Ok, if◌then◌else◌, nat_le, nat_lt, tak
 use Rattle.std.proofs.lemmas.Bool.Decides.{nat_tests}
 use Rattle.verity_hash.specs.declared.algorithm.Algorithm.{Algorithm}
 use Rattle.verity_io.specs.Writing.{most_bytes}
-use Rattle.verity_plan.specs.Settings.{Settings, IsValid, is_verity_block_size, rule_of, verity_settings}
-use Rattle.verity_plan.specs.Settings.{type_of_number}
+use Rattle.verity_plan.specs.Settings.{Settings, IsValid, rule_of}
+use Rattle.verity_plan.specs.CheckedSettings.{is_verity_block_size, verity_settings, type_of_number}
 use Rattle.verity_plan.specs.declared.hash_type.HashType.{HashType}
 use Rattle.verity_plan.specs.declared.hash_type.HashType.TheVariants.{Original, Current}
-use Rattle.verity_format.specs.Superblocks.{SuperblockFields, superblock_of, superblock_of_type, hash_type_of}
-use Rattle.verity_format.specs.Superblocks.{field, number_at}
-use Rattle.verity_format.specs.Superblocks.{AreSettings, IsSuperblock, blocks_tests, superblock_fault, first_failed, type_tests}
-use Rattle.verity_format.specs.Superblocks.{settings_tests, signature}
+use Rattle.verity_format.specs.Superblocks.{SuperblockFields, field, number_at, until_zero, IsSuperblock, signature}
+use Rattle.verity_format.specs.CheckedSuperblocks.{superblock_of, superblock_of_type, hash_type_of, superblock_fault}
+use Rattle.verity_format.specs.CheckedSuperblocks.{first_failed}
+use Rattle.verity_format.specs.SuperblockSteps.{AreSettings, blocks_tests, type_tests, settings_tests}
 use Rattle.verity_format.specs.declared.super_fault.SuperFault.{SuperFault}
+use Rattle.verity_format.proofs.NameLemmas.{named-is, numbered-is}
 
 -- if these tests pass, those after them decide
 first_failed-passed : (xs ys : List (Bool × SuperFault)) → first_failed xs ≡ None
@@ -119,10 +120,14 @@ IsSuperblock-made s hash_type tree uuid blocks v valid rule sixteen made long si
       long = long;
       signed = signed;
       version = version;
-      hash_type = typed_as;
+      hash_type = numbered-is (number_at 12 4 s) hash_type typed_as;
       uuid = identity;
-      tree = settings;
+      algorithm = named-is (until_zero (field 32 32 s)) tree.algorithm settings.name;
+      data_block = settings.data_block;
+      hash_block = settings.hash_block;
       blocks = counted;
+      salt_size = settings.salt_size;
+      salt = settings.salt;
       valid = record { tree = valid; of_type = rule; uuid = sixteen; some = all.1; within = all.2 };
     })
 

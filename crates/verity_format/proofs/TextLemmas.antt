@@ -1,22 +1,22 @@
 -- The bytes of a superblock say it.
-use Rattle.std.proofs.Common.{◌≡◌, ℕ, ◌+◌, ◌-◌, ◌*◌, ◌<◌, ◌≤◌, List, ◌++◌, length, take, drop, replicate, Some, arith}
-use Rattle.std.proofs.Common.{refl, ap, sym, ◌∙◌, append_assoc, length-append}
+use Rattle.std.proofs.Common.{◌≡◌, ℕ, ◌+◌, ◌-◌, ◌*◌, ◌<◌, ◌≤◌, List, ◌++◌, length, take, drop, replicate, arith, refl}
+use Rattle.std.proofs.Common.{ap, sym, ◌∙◌, append_assoc, length-append}
 use Rattle.std.proofs.Math.Nat.{le-mul_of_pos_right}
 use Rattle.std.proofs.Math.Seq.{drop-append-add}
 use Rattle.std.proofs.lemmas.List.{drop_at, length-replicate, take_at}
 use Rattle.byteorder.specs.Endian.{little_bytes, little_number}
 use Rattle.byteorder.specs.Numbers.{little_number-reads_back}
-use Rattle.verity_hash.specs.Hashing.{name_of, algorithm_named, with_zeros}
+use Rattle.verity_hash.specs.Hashing.{name_of, with_zeros}
 use Rattle.verity_hash.specs.declared.algorithm.Algorithm.{Algorithm}
 use Rattle.verity_hash.specs.declared.algorithm.Algorithm.TheVariants.{Sha256, Sha512, Sha1, Sha224, Sha384}
 use Rattle.verity_hash.specs.declared.salting.SaltRule.{SaltRule}
 use Rattle.verity_hash.specs.declared.salting.SaltRule.TheVariants.{Before, After, PaddedBefore}
-use Rattle.verity_plan.specs.Settings.{most_salt, type_number, type_of_number}
+use Rattle.verity_plan.specs.Settings.{most_salt, type_number}
 use Rattle.verity_plan.specs.declared.hash_type.HashType.{HashType}
 use Rattle.verity_plan.specs.declared.hash_type.HashType.TheVariants.{Original, Current}
 use Rattle.verity_plan.proofs.FanLemmas.{data_most, hash_most, some_data}
-use Rattle.verity_format.specs.Superblocks.{number_at, until_zero, SuperblockFields, IsValidSuperblock}
-use Rattle.verity_format.specs.Superblocks.{IsSuperblock, signature, superblock_bytes}
+use Rattle.verity_format.specs.Superblocks.{number_at, until_zero, SuperblockFields, IsValidSuperblock, IsSuperblock}
+use Rattle.verity_format.specs.Superblocks.{signature, superblock_bytes}
 
 -- what follows the name
 tail : SuperblockFields → List ℕ → List ℕ
@@ -58,7 +58,7 @@ past uuid name rest m sixteen long =
     ∙ ap (λ (n : ℕ). drop n ((uuid ++ name) ++ rest)) (sym both) ∙ drop-append-add (uuid ++ name) rest m
 
 name_read : (algorithm : Algorithm) (rest : List ℕ)
-    → algorithm_named (until_zero (take 32 (with_zeros 32 (name_of algorithm) ++ rest))) ≡ Some algorithm
+    → until_zero (take 32 (with_zeros 32 (name_of algorithm) ++ rest)) ≡ name_of algorithm
 name_read Sha256 rest = refl
 name_read Sha512 rest = refl
 name_read Sha1 rest = refl
@@ -71,10 +71,6 @@ name_long Sha512 = refl
 name_long Sha1 = refl
 name_long Sha224 = refl
 name_long Sha384 = refl
-
-type_read : (hash_type : HashType) → type_of_number (type_number hash_type) ≡ Some hash_type
-type_read Original = refl
-type_read Current = refl
 
 type_small : (hash_type : HashType) → type_number hash_type < 256
 type_small Original = omega arith
@@ -105,23 +101,20 @@ fields_say v z valid long =
       long = long;
       signed = refl;
       version = refl;
-      hash_type = ap type_of_number
-          (little_number-reads_back 4 (type_number v.hash_type) (v.uuid ++ (name ++ tail v z)) (omega (arith, small)))
-          ∙ type_read v.hash_type;
+      hash_type =
+          little_number-reads_back 4 (type_number v.hash_type) (v.uuid ++ (name ++ tail v z)) (omega (arith, small));
       uuid = take_at v.uuid (name ++ tail v z) 16 valid.uuid;
-      tree = record {
-        name = ap (λ (t : List ℕ). algorithm_named (until_zero (take 32 t))) (drop_at v.uuid (name ++ tail v z) 16 valid.uuid)
-            ∙ name_read v.tree.algorithm (tail v z);
-        data_block = ap (little_number 4) (past v.uuid name (tail v z) 0 valid.uuid ln)
-            ∙ little_number-reads_back 4 v.tree.data_block after_data_block
-            (omega (arith, data_most v.tree valid.tree));
-        hash_block = ap (little_number 4) (past v.uuid name (tail v z) 4 valid.uuid ln)
-            ∙ little_number-reads_back 4 v.tree.hash_block after_hash_block
-            (omega (arith, hash_most v.tree valid.tree));
-        salt_size = size;
-        salt = ap (take (length v.tree.salt)) (past v.uuid name (tail v z) 24 valid.uuid ln)
-            ∙ take_at v.tree.salt z (length v.tree.salt) refl;
-      };
+      algorithm = ap (λ (t : List ℕ). until_zero (take 32 t)) (drop_at v.uuid (name ++ tail v z) 16 valid.uuid)
+          ∙ name_read v.tree.algorithm (tail v z);
+      data_block = ap (little_number 4) (past v.uuid name (tail v z) 0 valid.uuid ln)
+          ∙ little_number-reads_back 4 v.tree.data_block after_data_block
+          (omega (arith, data_most v.tree valid.tree));
+      hash_block = ap (little_number 4) (past v.uuid name (tail v z) 4 valid.uuid ln)
+          ∙ little_number-reads_back 4 v.tree.hash_block after_hash_block
+          (omega (arith, hash_most v.tree valid.tree));
+      salt_size = size;
+      salt = ap (take (length v.tree.salt)) (past v.uuid name (tail v z) 24 valid.uuid ln)
+          ∙ take_at v.tree.salt z (length v.tree.salt) refl;
       blocks = ap (little_number 8) (past v.uuid name (tail v z) 8 valid.uuid ln)
           ∙ little_number-reads_back 8 v.blocks after_blocks (omega (arith, blocks, valid.within));
       valid = valid;

@@ -24,7 +24,7 @@ pub record IsValidDescriptor (v : DescriptorFields) : Type 0 where
   pub described : IsDescribed v.tree v.root
   pub size : v.size < 2 ^ 64
 
--- the number of an algorithm in the kernel's interface, 0 if it has none
+-- the number of an algorithm in the kernel's interface (FS_VERITY_HASH_ALG_* of <linux/fsverity.h>), 0 if it has none
 abbrev pub algorithm_number : Algorithm → ℕ
 algorithm_number Sha256 = 1
 algorithm_number Sha512 = 2
@@ -42,11 +42,11 @@ descriptor_bytes v = with_zeros 256
     ++ with_zeros 64 v.root
     ++ v.tree.salt)
 
--- the digest of a file
+-- the file digest: the hash of the descriptor, without a salt
 abbrev pub digest_of_file : DescriptorFields → List ℕ
 digest_of_file v = hash_of v.tree.algorithm (descriptor_bytes v)
 
--- the eight letters, the algorithm's number, the digest's length, the digest
+-- the eight letters, the algorithm's number and the digest's length in two bytes each, the lowest first, the digest
 abbrev pub formatted_digest : Algorithm → List ℕ → List ℕ
 formatted_digest algorithm digest = codes "FSVerity"
     ++ little_bytes 2 (algorithm_number algorithm)

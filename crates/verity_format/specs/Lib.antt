@@ -1,4 +1,6 @@
 pub mod Superblocks
+pub mod CheckedSuperblocks
+pub mod SuperblockSteps
 pub mod Pads
 pub mod Descriptors
 pub mod Putting

@@ -11,8 +11,8 @@ SameBetween from to s t = (i : ℕ) → from ≤ i → i < to → slice_index s 
 abbrev pub HasNoZero : ℕ → ℕ → List ℕ → Type 0
 HasNoZero from to s = (i : ℕ) → from ≤ i → i < to → slice_index s i ≢ 0
 
--- two superblocks are the same outside the pads (82 to 88, and 344 to 512), the bytes that follow the name's first
--- zero, and those that follow the salt
+-- two superblocks are the same outside the pads (bytes 82 to 87, and 344 to 511), the bytes that follow the name's
+-- first zero, those that follow the salt, and those from byte 512 on
 pub record AgreeOutsidePads (s t : List ℕ) : Type 0 where
   pub whole : superblock_size ≤ length s
   pub other_whole : superblock_size ≤ length t

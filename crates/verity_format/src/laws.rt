@@ -3,8 +3,8 @@
 ghost use Rattle.std.specs.Prelude.{◌≡◌, ◌↔◌, ℕ, List, None, Ok};
 ghost use Rattle.verity_format.specs.Descriptors.{DescriptorFields, IsValidDescriptor, descriptor_bytes};
 ghost use Rattle.verity_format.specs.Pads.{AgreeOutsidePads};
-ghost use Rattle.verity_format.specs.Superblocks.{SuperblockFields, IsValidSuperblock};
-ghost use Rattle.verity_format.specs.Superblocks.{IsSuperblock, superblock_fault, superblock_bytes};
+ghost use Rattle.verity_format.specs.Superblocks.{SuperblockFields, IsValidSuperblock, IsSuperblock, superblock_bytes};
+ghost use Rattle.verity_format.specs.CheckedSuperblocks.{superblock_fault};
 
 use crate::{SuperFault, Superblock, read_superblock, write_superblock};
 

@@ -2,9 +2,11 @@
 ghost use Rattle.std.specs.Prelude.{◌≡◌, ◌≤◌, ◌+◌, ◌==◌, length, position, IfOk, IfErr, Some, None, nat_le, true};
 ghost use Rattle.verity_hash.specs.declared.salting.SaltRule.TheVariants.{Before};
 ghost use Rattle.verity_plan.specs.Plans.{superblock_size};
-ghost use Rattle.verity_plan.specs.Settings.{most_salt, is_verity_block_size, IsValid, rule_of};
-ghost use Rattle.verity_format.specs.Superblocks.{AreSettings, IsSuperblock, superblock_fault, first_failed};
-ghost use Rattle.verity_format.specs.Superblocks.{number_at, settings_tests, until_zero};
+ghost use Rattle.verity_plan.specs.Settings.{most_salt, IsValid, rule_of};
+ghost use Rattle.verity_plan.specs.CheckedSettings.{is_verity_block_size};
+ghost use Rattle.verity_format.specs.Superblocks.{IsSuperblock, number_at, until_zero};
+ghost use Rattle.verity_format.specs.SuperblockSteps.{AreSettings, settings_tests};
+ghost use Rattle.verity_format.specs.CheckedSuperblocks.{superblock_fault, first_failed};
 
 use crate::writing::VERSION;
 use crate::{SuperFault, Superblock};

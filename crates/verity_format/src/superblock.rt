@@ -1,6 +1,7 @@
 //! The value of a superblock.
 ghost use Rattle.std.specs.Prelude.{◌≡◌};
-ghost use Rattle.verity_format.specs.Superblocks.{IsValidSuperblock, superblock_of, hash_type_of};
+ghost use Rattle.verity_format.specs.Superblocks.{IsValidSuperblock};
+ghost use Rattle.verity_format.specs.CheckedSuperblocks.{superblock_of, hash_type_of};
 
 use std::marker::Model;
 use verity_hash::SaltRule;

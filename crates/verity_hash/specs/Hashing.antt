@@ -1,6 +1,6 @@
 -- Hash functions (FIPS 180-4, as the crates sha1 and sha2 define them, with the names of veritysetup(8) and
--- fsverity(1)), and the salted hash of a block (Linux kernel, dm-verity page, "Construction Parameters", hash type and
--- salt, and fs-verity page, "Merkle tree").
+-- fsverity(1)), and the salted hash of a block (Linux kernel, dm-verity page, "Construction Parameters", `<version>`
+-- and `<salt>`, and fs-verity page, "Merkle tree").
 use Rattle.std.specs.Prelude.{ℕ, List, codes, Option, Some, None, if◌then◌else◌, ◌≡◌, ◌-◌, ◌≤◌, ◌++◌, length, take}
 use Rattle.std.specs.Prelude.{replicate}
 use Rattle.std.specs.Str.{bytes_eq}

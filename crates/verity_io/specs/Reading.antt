@@ -3,7 +3,7 @@
 use Rattle.std.specs.Prelude.{IfOk, ◌≡◌, ◌≤◌, ℕ, ◌<◌, List, [], ◌++◌, length, take, drop, Result, MatchResult}
 use Rattle.verity_io.specs.declared.failed.Failed.{Failed}
 
--- n of the source's remaining bytes were read
+-- the first n of the source's remaining bytes were read
 pub record HasRead (n : ℕ) (before after : List ℕ) : Type 0 where
   pub enough : n ≤ length before
   pub rest : after ≡ drop n before

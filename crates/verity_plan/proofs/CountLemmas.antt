@@ -7,7 +7,8 @@ use Rattle.std.proofs.Math.Nat.{mul-le-mul_left, mul-le-mul_right, mul-pos, pow-
 use Rattle.std.proofs.lemmas.Bool.{cases_lt}
 use Rattle.std.specs.Int.{div_ceil}
 use Rattle.std.specs.Prelude.{nat_le}
-use Rattle.verity_plan.specs.Plans.{level_count, IsLevelCount}
+use Rattle.verity_plan.specs.Plans.{level_count}
+use Rattle.verity_plan.specs.PlanLaws.{IsLevelCount}
 use Rattle.verity_plan.proofs.LeastLemmas.{IsLeast-least_from}
 
 -- more of the same number are not less

@@ -4,7 +4,8 @@ use Rattle.std.proofs.lemmas.Bool.{cases_lt}
 use Rattle.std.proofs.lemmas.Nat.{div-add-mod'}
 use Rattle.std.proofs.Math.Nat.{div-div-eq-div-mul, one-le-pow, pow-suc}
 use Rattle.std.specs.Int.{div_ceil}
-use Rattle.verity_plan.specs.Plans.{HasBlock, Planned, level_count_of}
+use Rattle.verity_plan.specs.Plans.{HasBlock, Planned}
+use Rattle.verity_plan.specs.PlanCounts.{level_count_of}
 use Rattle.verity_plan.specs.Settings.{fan}
 use Rattle.verity_plan.proofs.CountLemmas.{le-div_ceil}
 

@@ -3,7 +3,8 @@ use Rattle.std.proofs.Common.{◌≡◌, ℕ, zero, suc, ◌+◌, ◌-◌, ◌<�
 use Rattle.std.proofs.lemmas.List.Sums.{sum_by-cons}
 use Rattle.std.proofs.lemmas.Bool.{cases_lt, cases_order}
 use Rattle.std.specs.List.{range_with_len}
-use Rattle.verity_plan.specs.Plans.{level_count, level_size, blocks_from, IsTreeBlock, place, PlacesAreOnce}
+use Rattle.verity_plan.specs.Plans.{level_count, level_size, blocks_from, IsTreeBlock, place}
+use Rattle.verity_plan.specs.PlanLaws.{PlacesAreOnce}
 
 -- the blocks of one level more
 pub blocks_from-suc : (fan n l k : ℕ) → blocks_from fan n l (suc k) ≡ level_size fan n l + blocks_from fan n (l + 1) k

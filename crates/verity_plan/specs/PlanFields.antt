@@ -1,7 +1,8 @@
 -- A plan's fields come back from its value: the number of levels and the end are computed once.
 -- For the private steps; not needed to read a public contract.
 use Rattle.std.proofs.Common.{◌≡◌, ℕ, sym, ap, ◌∙◌}
-use Rattle.verity_plan.specs.Plans.{Planned, IsPlanned, level_count_of, end_place_of}
+use Rattle.verity_plan.specs.Plans.{Planned, IsPlanned, end_place_of}
+use Rattle.verity_plan.specs.PlanCounts.{level_count_of}
 use Rattle.verity_plan.specs.declared.plan.Plan.TheInside.{Inside}
 
 -- what the fields say

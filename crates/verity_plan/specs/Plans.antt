@@ -4,8 +4,8 @@
 -- Levels: Linux kernel, dm-verity page, "Hash Tree". Places, counted in hash blocks: the top level first and level 0
 -- last, without gaps (the same page, "On-disk format": a depth at a time, from the root; cryptsetup's on-disk format
 -- page; Linux kernel, fs-verity page, "FS_IOC_READ_VERITY_METADATA").
-use Rattle.std.specs.Prelude.{◌<◌, ◌≤◌, ℕ, ◌+◌, ◌^◌, nat_le, ◌≡◌, ◌-◌, ◌*◌, ◌/◌, ◌%◌, ◌&&◌, ◌==◌, Bool, true, false, Option}
-use Rattle.std.specs.Prelude.{Some, None, Result, Ok, Err, if◌then◌else◌}
+use Rattle.std.specs.Prelude.{◌<◌, ◌≤◌, ℕ, ◌+◌, ◌^◌, nat_le, ◌≡◌, ◌-◌, ◌*◌, ◌/◌, ◌%◌, ◌&&◌, ◌==◌, Bool, true, false}
+use Rattle.std.specs.Prelude.{Option, Some, None, Result, Ok, Err, if◌then◌else◌}
 use Rattle.std.specs.List.{range_with_len, sum_by}
 use Rattle.std.specs.Int.{div_ceil}
 use Rattle.verity_plan.specs.Settings.{least_up_to, Settings, fan, IsValid}
@@ -17,16 +17,11 @@ use Rattle.verity_plan.specs.declared.plan_fault.PlanFault.TheVariants.{NoData, 
 unfoldable pub level_count : ℕ → ℕ → ℕ
 level_count fan n = least_up_to n (λ l. nat_le n (fan ^ l))
 
--- the least number of levels with n ≤ fan ^ levels
-pub record IsLevelCount (fan n levels : ℕ) : Type 0 where
-  pub enough : n ≤ fan ^ levels
-  pub least : (m : ℕ) → m < levels → fan ^ m < n
-
 -- the number of blocks of a level, level 0 next to the data
 abbrev pub level_size : ℕ → ℕ → ℕ → ℕ
 level_size fan n level = div_ceil n (fan ^ (level + 1))
 
--- the blocks of some levels from this one upward
+-- the number of blocks of so many levels, from this one upward
 abbrev pub blocks_from : ℕ → ℕ → ℕ → ℕ → ℕ
 blocks_from fan n level levels = sum_by (level_size fan n) (range_with_len level levels)
 
@@ -47,16 +42,7 @@ end_place fan n base = base + blocks_from fan n 0 (level_count fan n)
 abbrev pub start_byte : Settings → ℕ → ℕ → ℕ → ℕ → ℕ
 start_byte s n base level block = place (fan s) n base level block * s.hash_block
 
--- the places are base to the end, each that of one block
-pub record PlacesAreOnce (fan n base : ℕ) : Type 0 where
-  pub within : (l j : ℕ) → IsTreeBlock fan n l j → (base ≤ place fan n base l j)
-      × (place fan n base l j < end_place fan n base)
-  pub once : (l j m k : ℕ) → IsTreeBlock fan n l j → IsTreeBlock fan n m k → place fan n base l j ≡ place fan n base m k
-      → (l ≡ m) × (j ≡ k)
-  pub each : (p : ℕ) → base ≤ p → p < end_place fan n base → (l : ℕ) × (j : ℕ) × IsTreeBlock fan n l j
-      × (place fan n base l j ≡ p)
-
--- the number of data blocks, the bytes that are read for them, and where the tree begins, in hash blocks
+-- the settings, the number of data blocks, how many bytes are read for them, and where the tree begins, in hash blocks
 pub record Planned : Type 0 where
   pub settings : Settings
   pub blocks : ℕ
@@ -67,13 +53,18 @@ pub record Planned : Type 0 where
 abbrev pub block_count : Settings → ℕ → ℕ
 block_count s size = div_ceil size s.data_block
 
+-- the plan of a file's tree, which has its device to itself
+abbrev pub plan_of_file : Settings → ℕ → Planned
+plan_of_file s size = record { settings = s; blocks = block_count s size; wanted = size; base = 0 }
+
 -- the length of a superblock in bytes
 abbrev pub superblock_size : ℕ
 superblock_size = 512
 
--- where the tree begins, in hash blocks: at the first whole hash block after a superblock at this offset, or at
--- the offset if there is no superblock (cryptsetup's on-disk format page; veritysetup(8), `--hash-offset`); none if the
--- superblock's end, or the offset, is past the limit
+-- where the tree begins, in hash blocks: at the first whole hash block after a superblock at this offset, or without
+-- one at the hash block that the offset lies in, which begins at the offset if that is a multiple of its size
+-- (cryptsetup's on-disk format page; veritysetup(8), `--hash-offset`); none if the superblock's end, or the offset, is
+-- past the limit
 abbrev pub base_of : ℕ → Bool → ℕ → Option ℕ
 base_of offset true hash_block =
     if nat_le (offset + superblock_size) most_bytes then Some (div_ceil (offset + superblock_size) hash_block) else None
@@ -89,26 +80,7 @@ offset_unit false hash_block = hash_block
 abbrev pub multiple_of : ℕ → ℕ → Option ℕ
 multiple_of unit bytes = if bytes % unit == 0 then Some bytes else None
 
--- of a plan, the number of levels
-abbrev pub level_count_of : Planned → ℕ
-level_count_of p = level_count (fan p.settings) p.blocks
-
--- the number of levels of the largest tree that settings allow
-abbrev pub most_level_count : Settings → ℕ
-most_level_count s = level_count (fan s) (most_bytes / s.data_block)
-
--- the number of blocks of a level
-abbrev pub level_size_of : Planned → ℕ → ℕ
-level_size_of p level = level_size (fan p.settings) p.blocks level
-
--- the number of blocks one level below a level: below level 0 they are the data blocks
-abbrev pub size_under : Planned → ℕ → ℕ
-size_under p level = div_ceil p.blocks (fan p.settings ^ level)
-
--- the place of a block of a level, and the place after all
-abbrev pub place_of : Planned → ℕ → ℕ → ℕ
-place_of p level block = place (fan p.settings) p.blocks p.base level block
-
+-- of a plan, the place after all blocks
 abbrev pub end_place_of : Planned → ℕ
 end_place_of p = end_place (fan p.settings) p.blocks p.base
 
@@ -120,11 +92,7 @@ start_byte_of p level block = start_byte p.settings p.blocks p.base level block
 abbrev pub HasBlock : Planned → ℕ → ℕ → Type 0
 HasBlock p level block = IsTreeBlock (fan p.settings) p.blocks level block
 
--- room for one open block a level, a data block and a stored block to compare with, in bytes
-abbrev pub store_length_of : Planned → ℕ
-store_length_of p = level_count_of p * p.settings.hash_block + p.settings.data_block + p.settings.hash_block
-
--- both areas are within the limit
+-- the data area, and the hash device up to the tree's end, are within the limit
 abbrev pub has_room : Planned → Bool
 has_room p = nat_le (p.blocks * p.settings.data_block) most_bytes
     && nat_le (end_place_of p * p.settings.hash_block) most_bytes
@@ -151,7 +119,8 @@ abbrev pub plan_for_bytes : Settings → ℕ → ℕ → Result Planned PlanFaul
 plan_for_bytes s size base = checked_plan
     (record { settings = s; blocks = block_count s size; wanted = size; base = base })
 
--- the plan for this number of data blocks if the tree begins at this hash block; without one the hash area is too large
+-- the plan for this number of data blocks if the tree begins at this hash block; without one there is no data, or else
+-- the hash area is too large
 abbrev pub plan_from : Settings → ℕ → Option ℕ → Result Planned PlanFault
 plan_from tree blocks (Some base) = plan_for_blocks tree blocks base
 plan_from tree blocks None = if blocks == 0 then Err NoData else Err TooLarge

@@ -1,8 +1,8 @@
 -- What a tree is made by: the construction parameters of the Linux kernel's dm-verity page and the tree parameters of
--- its fs-verity page; how wide a slot of a hash block is and how many slots a hash block has; and which parameters make
--- settings.
-use Rattle.std.specs.Prelude.{◌≡◌, ℕ, zero, suc, ◌+◌, ◌*◌, ◌/◌, ◌^◌, ◌≤◌, ◌&&◌, ◌==◌, Bool, true, false, not, List}
-use Rattle.std.specs.Prelude.{length, Option, Some, None, Result, Ok, Err, if◌then◌else◌, nat_le, nat_lt}
+-- its fs-verity page; how wide a slot of a hash block is and how many slots a hash block has; and the limits of these
+-- parameters.
+use Rattle.std.specs.Prelude.{◌≡◌, ℕ, zero, suc, ◌+◌, ◌*◌, ◌/◌, ◌^◌, ◌≤◌, ◌&&◌, Bool, true, false, List, length, nat_le}
+use Rattle.std.specs.Prelude.{nat_lt}
 use Rattle.std.specs.Int.{is_power_of_two}
 use Rattle.verity_hash.specs.Hashing.{digest_len_of, with_zeros, salted_hash}
 use Rattle.verity_hash.specs.declared.algorithm.Algorithm.{Algorithm}
@@ -11,9 +11,22 @@ use Rattle.verity_hash.specs.declared.salting.SaltRule.{SaltRule}
 use Rattle.verity_hash.specs.declared.salting.SaltRule.TheVariants.{Before, After, PaddedBefore}
 use Rattle.verity_plan.specs.declared.hash_type.HashType.{HashType}
 use Rattle.verity_plan.specs.declared.hash_type.HashType.TheVariants.{Original, Current}
-use Rattle.verity_plan.specs.declared.setting_fault.SettingFault.{SettingFault}
-use Rattle.verity_plan.specs.declared.setting_fault.SettingFault.TheVariants.{Algorithm as OtherAlgorithm}
-use Rattle.verity_plan.specs.declared.setting_fault.SettingFault.TheVariants.{DataBlockSize, HashBlockSize, SaltSize}
+
+-- block sizes are in bytes
+pub record Settings : Type 0 where
+  pub algorithm : Algorithm
+  pub rule : SaltRule
+  pub salt : List ℕ
+  pub data_block : ℕ
+  pub hash_block : ℕ
+
+-- the salted hash of a block
+unfoldable pub hash : Settings → List ℕ → List ℕ
+hash s block = salted_hash s.algorithm s.rule s.salt block
+
+-- the length of a digest
+abbrev pub digest_len : Settings → ℕ
+digest_len s = digest_len_of s.algorithm
 
 -- the first of least, least + 1, .. that passes a test; least + fuel if none before it does
 unfoldable pub least_from : (ℕ → Bool) → ℕ → ℕ → ℕ
@@ -36,22 +49,6 @@ slot_count digest_len hash_block = 2 ^ log2 (hash_block / digest_len)
 unfoldable pub least_power : ℕ → ℕ
 least_power len = 2 ^ least_up_to len (λ k. nat_le len (2 ^ k))
 
--- block sizes are in bytes
-pub record Settings : Type 0 where
-  pub algorithm : Algorithm
-  pub rule : SaltRule
-  pub salt : List ℕ
-  pub data_block : ℕ
-  pub hash_block : ℕ
-
--- the salted hash of a block
-unfoldable pub hash : Settings → List ℕ → List ℕ
-hash s block = salted_hash s.algorithm s.rule s.salt block
-
--- the length of a digest
-abbrev pub digest_len : Settings → ℕ
-digest_len s = digest_len_of s.algorithm
-
 -- the width of a slot: the digest's length, in dm-verity's hash type 1 rounded up to a power of two
 abbrev pub width_by : SaltRule → ℕ → ℕ
 width_by Before digest_len = least_power digest_len
@@ -70,7 +67,7 @@ unfoldable pub fan : Settings → ℕ
 fan s = slot_count (digest_len s) s.hash_block
 
 -- the largest block size (of dm-verity, and for fs-verity this project's own); of dm-verity the smallest block size and
--- the longest salt
+-- the longest salt (cryptsetup's on-disk format page)
 abbrev pub most_block : ℕ
 most_block = 524288
 
@@ -95,11 +92,7 @@ least_block PaddedBefore digest_len = 2 * digest_len
 abbrev pub is_block_size : ℕ → ℕ → Bool
 is_block_size least size = is_power_of_two size && (nat_le least size && nat_le size most_block)
 
--- a block size of dm-verity
-abbrev pub is_verity_block_size : ℕ → Bool
-is_verity_block_size size = is_block_size least_verity_block size
-
--- fs-verity knows the algorithm (Linux kernel, fs-verity page, "fs-verity descriptor")
+-- fs-verity knows the algorithm (fsverity(1), `--hash-alg`)
 abbrev pub is_of_fsverity : Algorithm → Bool
 is_of_fsverity Sha256 = true
 is_of_fsverity Sha512 = true
@@ -118,37 +111,7 @@ abbrev pub rule_of : HashType → SaltRule
 rule_of Original = After
 rule_of Current = Before
 
--- the number of a hash type, and the hash type of a number (cryptsetup's on-disk format page, "hash type")
+-- the number of a hash type (cryptsetup's on-disk format page, "hash type")
 abbrev pub type_number : HashType → ℕ
 type_number Original = 0
 type_number Current = 1
-
-abbrev pub type_of_number : ℕ → Option HashType
-type_of_number number = if number == 0 then Some Original else (if number == 1 then Some Current else None)
-
--- the settings, or the first parameter past its limits: those of dm-verity (block sizes 512 to 524288, salts of up to
--- 256 bytes; cryptsetup's on-disk format page) and of fs-verity (block sizes are powers of two that hold at least two
--- digests, fsverity(1), `--block-size`, and Linux kernel, fs-verity page, "FS_IOC_ENABLE_VERITY"; salts of up to 32
--- bytes, the same page). That fs-verity's blocks have at most 524288 bytes is this project's own limit.
-abbrev pub checked_settings : Settings → Result Settings SettingFault
-checked_settings s =
-    if not (is_block_size (least_block s.rule (digest_len_of s.algorithm)) s.data_block) then Err DataBlockSize
-    else (if not (is_block_size (least_block s.rule (digest_len_of s.algorithm)) s.hash_block) then Err HashBlockSize
-    else (if nat_lt (most_salt s.rule) (length s.salt) then Err SaltSize else Ok s))
-
--- settings of dm-verity
-abbrev pub verity_settings : Algorithm → HashType → List ℕ → ℕ → ℕ → Result Settings SettingFault
-verity_settings algorithm hash_type salt data_block hash_block = checked_settings (record {
-  algorithm = algorithm;
-  rule = rule_of hash_type;
-  salt = salt;
-  data_block = data_block;
-  hash_block = hash_block;
-})
-
--- settings of fs-verity: data and tree blocks have one size, and the algorithm is one that fs-verity knows
-abbrev pub fsverity_settings : Algorithm → List ℕ → ℕ → Result Settings SettingFault
-fsverity_settings algorithm salt block =
-    if not (is_of_fsverity algorithm) then Err OtherAlgorithm
-    else (checked_settings
-    (record { algorithm = algorithm; rule = PaddedBefore; salt = salt; data_block = block; hash_block = block }))

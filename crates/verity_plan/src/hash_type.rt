@@ -1,6 +1,7 @@
 //! dm-verity's hash types.
 ghost use Rattle.std.specs.Prelude.{◌≡◌};
-ghost use Rattle.verity_plan.specs.Settings.{rule_of, type_number, type_of_number};
+ghost use Rattle.verity_plan.specs.Settings.{rule_of, type_number};
+ghost use Rattle.verity_plan.specs.CheckedSettings.{type_of_number};
 
 use verity_hash::SaltRule;
 

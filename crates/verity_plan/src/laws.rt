@@ -1,6 +1,7 @@
 //! Laws of the definitions of slots, counts and places: each holds for all settings and sizes.
 ghost use Rattle.std.specs.Prelude.{◌≡◌, ℕ, ◌*◌, ◌^◌, ◌<◌, ◌≤◌};
-ghost use Rattle.verity_plan.specs.Plans.{level_count, IsLevelCount, PlacesAreOnce};
+ghost use Rattle.verity_plan.specs.Plans.{level_count};
+ghost use Rattle.verity_plan.specs.PlanLaws.{IsLevelCount, PlacesAreOnce};
 ghost use Rattle.verity_plan.specs.Settings.{Settings, IsValid, digest_len, fan, slot_width};
 ghost use Rattle.verity_hash.specs.declared.salting.SaltRule.TheVariants.{Before, After, PaddedBefore};
 

@@ -2,9 +2,10 @@
 ghost use Rattle.std.specs.Prelude.{◌≡◌, ℕ, ◌+◌, ◌-◌, ◌*◌, ◌/◌, ◌^◌, ◌≤◌, ◌<◌, [], length, slice_index_or};
 ghost use Rattle.std.specs.Fork.{slice_chunk};
 ghost use Rattle.verity_io.specs.Writing.{most_bytes};
-ghost use Rattle.verity_plan.specs.Plans.{Planned, IsPlanned, start_byte_of, level_count_of, level_size_of, place_of, end_place_of};
-ghost use Rattle.verity_plan.specs.Plans.{store_length_of, size_under, HasBlock, checked_plan, plan_for_blocks};
-ghost use Rattle.verity_plan.specs.Plans.{plan_for_bytes, level_count, blocks_from, most_level_count};
+ghost use Rattle.verity_plan.specs.Plans.{Planned, IsPlanned, start_byte_of, end_place_of, HasBlock, checked_plan};
+ghost use Rattle.verity_plan.specs.Plans.{plan_for_blocks, plan_for_bytes, level_count, blocks_from};
+ghost use Rattle.verity_plan.specs.PlanCounts.{level_count_of, level_size_of, place_of, store_length_of, size_under};
+ghost use Rattle.verity_plan.specs.PlanCounts.{most_level_count};
 ghost use Rattle.verity_plan.specs.Settings.{digest_len, fan, hash, slot_width};
 
 use crate::{PlanFault, TreeSettings};
@@ -25,7 +26,8 @@ pub struct Plan {
 }
 
 impl Model for Plan {
-    ghost use Rattle.verity_plan.specs.Plans.{Planned, IsPlanned, start_byte_of, level_count_of, end_place_of};
+    ghost use Rattle.verity_plan.specs.Plans.{Planned, IsPlanned, start_byte_of, end_place_of};
+    ghost use Rattle.verity_plan.specs.PlanCounts.{level_count_of};
     ghost use Rattle.std.specs.Prelude.{◌≡◌};
 
     ghost Value = { Planned };

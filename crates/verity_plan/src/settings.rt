@@ -2,9 +2,10 @@
 ghost use Rattle.std.specs.Prelude.{true, ◌≡◌, ℕ, ◌*◌, ◌≤◌, ◌<◌, [], length, slice_index_or};
 ghost use Rattle.std.specs.Fork.{slice_chunk};
 ghost use Rattle.verity_plan.specs.Settings.{Settings, IsValid, hash, fan, slot_width, digest_len, least_block};
-ghost use Rattle.verity_plan.specs.Settings.{is_block_size, is_verity_block_size, is_of_fsverity, most_block};
-ghost use Rattle.verity_plan.specs.Settings.{most_salt, least_power, rule_of, checked_settings, verity_settings};
-ghost use Rattle.verity_plan.specs.Settings.{fsverity_settings};
+ghost use Rattle.verity_plan.specs.Settings.{is_block_size, is_of_fsverity, most_block, most_salt, least_power};
+ghost use Rattle.verity_plan.specs.Settings.{rule_of};
+ghost use Rattle.verity_plan.specs.CheckedSettings.{is_verity_block_size, checked_settings, verity_settings};
+ghost use Rattle.verity_plan.specs.CheckedSettings.{fsverity_settings};
 ghost use Rattle.verity_hash.specs.Hashing.{digest_len_of};
 
 use crate::{HashType, SettingFault};

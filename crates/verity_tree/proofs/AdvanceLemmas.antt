@@ -1,7 +1,7 @@
 -- Steps of a tree that is built as pieces of its data come: what stands before a step, and what comes of several.
-use Rattle.std.proofs.Common.{◌≡◌, ℕ, zero, suc, ◌+◌, ◌-◌, ◌*◌, ◌/◌, ◌%◌, ◌^◌, ◌<◌, ◌≤◌, ◌⊎◌, Bool, true, false, eqb, List, []}
-use Rattle.std.proofs.Common.{◌++◌, ◌∷◌, get_or, take, drop, length, arith, sym, ◌∙◌, ap, subst, inl, inr, refl, append_assoc}
-use Rattle.std.proofs.Common.{length-append, length-drop}
+use Rattle.std.proofs.Common.{◌≡◌, ℕ, zero, suc, ◌+◌, ◌-◌, ◌*◌, ◌/◌, ◌%◌, ◌^◌, ◌<◌, ◌≤◌, ◌⊎◌, Bool, true, false, eqb}
+use Rattle.std.proofs.Common.{List, [], ◌++◌, ◌∷◌, get_or, take, drop, length, arith, sym, ◌∙◌, ap, subst, inl, inr}
+use Rattle.std.proofs.Common.{refl, append_assoc, length-append, length-drop}
 use Rattle.std.proofs.lemmas.Bool.{cases_lt}
 use Rattle.std.proofs.lemmas.Bool.Decides.{nat_tests}
 use Rattle.std.proofs.lemmas.Nat.{div-add-mod', div-mul-add, mod_below}
@@ -10,17 +10,16 @@ use Rattle.std.proofs.lemmas.List.FromFn.{get_or-map-range_with_len}
 use Rattle.std.proofs.Math.Nat.{div-eq_of_lt, pow-zero}
 use Rattle.std.specs.Fork.{slice_chunk}
 use Rattle.verity_hash.specs.Hashing.{with_zeros}
-use Rattle.verity_plan.specs.Plans.{IsPlanned, Planned, block_count, level_count, level_count_of}
+use Rattle.verity_plan.specs.Plans.{IsPlanned, Planned, block_count, level_count}
+use Rattle.verity_plan.specs.PlanCounts.{level_count_of}
 use Rattle.verity_plan.specs.Settings.{fan, hash}
 use Rattle.verity_plan.proofs.CountLemmas.{IsLevelCount-level_count, le-div_ceil}
 use Rattle.verity_plan.proofs.FanLemmas.{fan-some, fan-two, some_data}
 use Rattle.verity_plan.proofs.IndexLemmas.{quotient-below}
-use Rattle.verity_tree.specs.ClosingOrder.{BlockIndex, closed_after}
+use Rattle.verity_tree.specs.ClosingOrder.{BlockIndex, closed_after, handed_out, blocks_before}
 use Rattle.verity_tree.specs.Levels.{block_at, blocks_up, cut, data_blocks, height, root}
 use Rattle.verity_tree.specs.Steps.Feeding.{Climbs, EndsDataBlock, FeedsOn, Hands, HasFed, IsHandingOut, IsSettled}
 use Rattle.verity_tree.specs.Steps.Feeding.{Stands, current_bytes, first_blocks, handed_at}
-use Rattle.verity_tree.specs.ClosingOrder.{handed_out}
-use Rattle.verity_tree.specs.ClosingOrder.{blocks_before}
 use Rattle.verity_tree.specs.Steps.OpenBlocks.{HasOpenBlocks}
 use Rattle.verity_tree.proofs.DataBlockLemmas.{blocks-some}
 use Rattle.verity_tree.proofs.FirstBlockLemmas.{plan-first_blocks}

@@ -15,7 +15,8 @@ use Rattle.verity_hash.specs.Hashing.{input_block_of, salted_input, with_zeros}
 use Rattle.verity_hash.specs.declared.algorithm.Algorithm.{Algorithm}
 use Rattle.verity_hash.specs.declared.salting.SaltRule.{SaltRule}
 use Rattle.verity_hash.specs.declared.salting.SaltRule.TheVariants.{Before, After, PaddedBefore}
-use Rattle.verity_plan.specs.Plans.{IsPlanned, Planned, level_count, level_count_of}
+use Rattle.verity_plan.specs.Plans.{IsPlanned, Planned, level_count}
+use Rattle.verity_plan.specs.PlanCounts.{level_count_of}
 use Rattle.verity_plan.specs.Settings.{Settings, fan, hash}
 use Rattle.verity_plan.proofs.CountLemmas.{div_ceil-pos, le-div_ceil, mul_le}
 use Rattle.verity_plan.proofs.FanLemmas.{fan-two, some_data}

@@ -8,21 +8,19 @@ use Rattle.std.proofs.Math.Nat.{one-le-pow, pow-suc}
 use Rattle.verity_plan.specs.Settings.{Settings, hash, fan}
 use Rattle.verity_tree.specs.Levels.{blocks_up}
 use Rattle.verity_plan.specs.Plans.{level_count, level_size, place, start_byte, Planned}
-use Rattle.verity_tree.specs.ClosingOrder.{closing_with, closes}
-use Rattle.verity_tree.specs.TreeOnDevice.{stored_block, tree_block, device_with}
-use Rattle.verity_tree.specs.ClosingOrder.{BlockIndex, block_index}
+use Rattle.verity_tree.specs.ClosingOrder.{closing_with, closes, BlockIndex, block_index, first_closing}
+use Rattle.verity_tree.specs.TreeOnDevice.{stored_block, tree_block}
+use Rattle.verity_tree.specs.TreeWriting.{device_with}
 use Rattle.verity_tree.specs.Steps.Cascade.{EndsBlock}
-use Rattle.verity_tree.specs.ClosingOrder.{first_closing}
 use Rattle.verity_tree.specs.Steps.OpenBlocks.{digests_under, open_block, open_block_with, IsReached, IsCarrying}
-use Rattle.verity_tree.specs.Steps.OpenBlocks.{IsNext}
-use Rattle.verity_tree.specs.Steps.OpenBlocks.{IsKept, cascade_state, arrival}
+use Rattle.verity_tree.specs.Steps.OpenBlocks.{IsNext, IsKept, cascade_state, arrival}
 use Rattle.verity_io.specs.Writing.{put}
 use Rattle.verity_tree.specs.Verdicts.{NoneDiffers, HoldsBlockAt}
 use Rattle.verity_plan.proofs.IndexLemmas.{quotient-below, quotient-next}
 use Rattle.verity_tree.proofs.QuotientLemmas.{IsReached-full}
 use Rattle.verity_tree.proofs.OpenBlockSteps.{level_digest-below, level_digest-next, level_digest-root, place-first}
-use Rattle.verity_tree.proofs.OrderSplit.{closing-prefix, closes-reached, closes-last, first_closing-more}
-use Rattle.verity_tree.proofs.OrderSplit.{closes-none, device_with-more}
+use Rattle.verity_tree.proofs.OrderSplit.{closing-prefix, closes-reached, closes-last, first_closing-more, closes-none}
+use Rattle.verity_tree.proofs.OrderSplit.{device_with-more}
 use Rattle.std.proofs.lemmas.List.Elements.{All-append, All-cons, All-nil}
 
 positive : (k : ℕ) → (k ≡ 0 → ⊥) → k ≡ (k - 1) + 1

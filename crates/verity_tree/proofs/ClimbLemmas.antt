@@ -7,17 +7,16 @@ use Rattle.std.proofs.lemmas.Nat.{div-add-mod', mod_below}
 use Rattle.std.proofs.Math.Nat.{mul-add-mod_self_right, mul-le-mul_right}
 use Rattle.std.specs.Int.{div_ceil}
 use Rattle.verity_hash.specs.Hashing.{with_zeros}
-use Rattle.verity_plan.specs.Plans.{IsPlanned, Planned, level_count_of}
+use Rattle.verity_plan.specs.Plans.{IsPlanned, Planned}
+use Rattle.verity_plan.specs.PlanCounts.{level_count_of}
 use Rattle.verity_plan.specs.Settings.{Settings, fan, hash}
 use Rattle.verity_plan.proofs.CountLemmas.{IsLevelCount-level_count, div_ceil-le, le-div_ceil}
 use Rattle.verity_plan.proofs.FanLemmas.{fan-some, fan-two, some_data}
 use Rattle.verity_plan.proofs.IndexLemmas.{quotient-below}
-use Rattle.verity_tree.specs.ClosingOrder.{BlockIndex, closed_after}
+use Rattle.verity_tree.specs.ClosingOrder.{BlockIndex, closed_after, first_closing, blocks_before}
 use Rattle.verity_tree.specs.Levels.{data_blocks}
-use Rattle.verity_tree.specs.ClosingOrder.{first_closing}
 use Rattle.verity_tree.specs.Steps.Feeding.{Climbs, EndsDataBlock, HasClosed, HasFed, IsHandingOut, Stands}
 use Rattle.verity_tree.specs.Steps.Feeding.{current_bytes, handed_at}
-use Rattle.verity_tree.specs.ClosingOrder.{blocks_before}
 use Rattle.verity_tree.specs.Steps.OpenBlocks.{HasOpenBlocks, IsCarrying, cascade_state}
 use Rattle.verity_tree.proofs.CascadeLemmas.{reached-down}
 use Rattle.verity_tree.proofs.DataBlockLemmas.{level_digest-data}
@@ -25,7 +24,8 @@ use Rattle.verity_tree.proofs.FirstBlockLemmas.{first_blocks-plan}
 use Rattle.verity_tree.proofs.LevelLemmas.{length-cut}
 use Rattle.verity_tree.proofs.OpenBlockSteps.{IsCarrying-first}
 use Rattle.verity_tree.proofs.QuotientLemmas.{div_ceil-last}
-use Rattle.verity_tree.proofs.OrderSplit.{closed_after-more, closes-none, closes-reached, closing-prefix, first_closing-more}
+use Rattle.verity_tree.proofs.OrderSplit.{closed_after-more, closes-none, closes-reached, closing-prefix}
+use Rattle.verity_tree.proofs.OrderSplit.{first_closing-more}
 
 -- the place of the last of some bytes is in its data block
 pub last-place : (count size : ℕ) → 0 < size → 0 < count

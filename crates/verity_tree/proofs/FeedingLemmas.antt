@@ -1,15 +1,15 @@
 -- The memory of a builder between two calls: its open blocks, and what comes after them.
-use Rattle.std.proofs.Common.{List, [], ap, arith, drop, length, refl, replicate, subst, sym, take, ℕ, suc}
-use Rattle.std.proofs.Common.{Some, None, true, false, Bool, inl, inr, length-drop}
-use Rattle.std.proofs.Common.{◌*◌, ◌++◌, ◌+◌, ◌-◌, ◌/◌, ◌<◌, ◌^◌, ◌∙◌, ◌∷◌, ◌≡◌, ◌≤◌}
+use Rattle.std.proofs.Common.{List, [], ap, arith, drop, length, refl, replicate, subst, sym, take, ℕ, suc, Some, None}
+use Rattle.std.proofs.Common.{true, false, Bool, inl, inr, length-drop, ◌*◌, ◌++◌, ◌+◌, ◌-◌, ◌/◌, ◌<◌, ◌^◌, ◌∙◌, ◌∷◌}
+use Rattle.std.proofs.Common.{◌≡◌, ◌≤◌, cond}
 use Rattle.std.proofs.lemmas.List.{append-nil, take-append-le, drop-append-le, take-replicate}
 use Rattle.std.proofs.Math.Nat.{zero-div}
 use Rattle.std.proofs.Math.Seq.{drop-append_seam, drop-nil, take-append_seam}
-use Rattle.verity_plan.specs.Plans.{IsPlanned, Planned, block_count, checked_plan, has_room, level_count_of, most_level_count}
-use Rattle.verity_plan.specs.Plans.{plan_for_bytes, start_byte_of}
+use Rattle.verity_plan.specs.Plans.{IsPlanned, Planned, block_count, checked_plan, has_room, plan_for_bytes}
+use Rattle.verity_plan.specs.Plans.{start_byte_of}
+use Rattle.verity_plan.specs.PlanCounts.{level_count_of, most_level_count}
 use Rattle.verity_plan.specs.declared.plan_fault.PlanFault.TheVariants.{NoData, TooLarge as NoRoom}
 use Rattle.verity_io.specs.Writing.{most_bytes}
-use Rattle.std.proofs.Common.{cond}
 use Rattle.std.proofs.lemmas.Bool.{cases_lt}
 use Rattle.std.proofs.lemmas.Bool.Decides.{nat_tests}
 use Rattle.std.specs.Prelude.{◌==◌, Err, Ok, nat_eq}
@@ -21,15 +21,13 @@ use Rattle.verity_tree.specs.Feeding.{Feeds, IsFed, IsFedFile, IsHandedOut, afte
 use Rattle.verity_tree.specs.Levels.{data_blocks}
 use Rattle.verity_tree.specs.TreeOnDevice.{tree_block}
 use Rattle.verity_tree.proofs.HandedOutLemmas.{handed-out-stays}
-use Rattle.verity_tree.specs.Steps.Feeding.{FeedsOn, HasFed, HoldsCurrent, IsHandingOut, Stands}
-use Rattle.verity_tree.specs.ClosingOrder.{blocks_before}
-use Rattle.verity_tree.specs.Steps.Feeding.{current_bytes, first_blocks, handed_at}
-use Rattle.verity_tree.specs.ClosingOrder.{handed_out}
+use Rattle.verity_tree.specs.Steps.Feeding.{FeedsOn, HasFed, HoldsCurrent, IsHandingOut, Stands, current_bytes}
+use Rattle.verity_tree.specs.Steps.Feeding.{first_blocks, handed_at}
+use Rattle.verity_tree.specs.ClosingOrder.{blocks_before, handed_out, block_index}
 use Rattle.verity_tree.specs.Steps.OpenBlocks.{HasOpenBlocks}
 use Rattle.verity_tree.specs.declared.file_builder.FileBuilder.{FileBuilder}
 use Rattle.verity_tree.specs.declared.tree_builder.HashBlock.{HashBlock}
 use Rattle.verity_tree.specs.declared.tree_builder.TreeBuilder.{TreeBuilder}
-use Rattle.verity_tree.specs.ClosingOrder.{block_index}
 use Rattle.verity_tree.proofs.OnePassLemmas.{HasOpenBlocks-zeros}
 
 -- no bytes are held anywhere

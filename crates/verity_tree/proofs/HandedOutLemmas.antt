@@ -1,6 +1,7 @@
 -- Hash blocks that are handed out stay the tree's, and joined over all calls they are those that building writes.
-use Rattle.std.proofs.Common.{◌≡◌, ℕ, ◌+◌, ◌*◌, ◌/◌, ◌^◌, ◌<◌, ◌≤◌, List, [], ◌∷◌, ◌++◌, get_or, length, min}
-use Rattle.std.proofs.Common.{zero, suc, Option, Some, None, take, drop, arith, refl, sym, ◌∙◌, ap, subst, inl, inr, append_assoc, length-append}
+use Rattle.std.proofs.Common.{◌≡◌, ℕ, ◌+◌, ◌*◌, ◌/◌, ◌^◌, ◌<◌, ◌≤◌, List, [], ◌∷◌, ◌++◌, get_or, length, min, zero, suc}
+use Rattle.std.proofs.Common.{Option, Some, None, take, drop, arith, refl, sym, ◌∙◌, ap, subst, inl, inr, append_assoc}
+use Rattle.std.proofs.Common.{length-append}
 use Rattle.std.proofs.lemmas.Bool.{cases_lt}
 use Rattle.std.proofs.lemmas.List.{append-nil}
 use Rattle.std.proofs.lemmas.List.Concat.{flat_map-cons}
@@ -8,19 +9,18 @@ use Rattle.std.proofs.Math.Nat.{mul-le-mul_right, one-le-pow, zero-div}
 use Rattle.std.specs.List.{flat_map}
 use Rattle.std.specs.Int.{div_ceil}
 use Rattle.verity_io.specs.Writing.{put}
-use Rattle.verity_plan.specs.Plans.{IsPlanned, Planned, level_count_of, start_byte}
+use Rattle.verity_plan.specs.Plans.{IsPlanned, Planned, start_byte}
+use Rattle.verity_plan.specs.PlanCounts.{level_count_of}
 use Rattle.verity_plan.specs.Settings.{fan}
 use Rattle.verity_plan.proofs.FanLemmas.{fan-some}
 use Rattle.verity_plan.proofs.IndexLemmas.{quotient-below}
-use Rattle.verity_tree.specs.ClosingOrder.{BlockIndex, closed_after}
-use Rattle.verity_tree.specs.Feeding.{BuildsInCalls, FeedCall, FeedsCalls, FeedsPieces, IsFed, IsFedFile, IsHandedOut, given}
-use Rattle.verity_tree.specs.Feeding.{written, written_all}
+use Rattle.verity_tree.specs.ClosingOrder.{BlockIndex, closed_after, first_closing, handed_out, blocks_before}
+use Rattle.verity_tree.specs.Feeding.{BuildsInCalls, FeedCall, FeedsCalls, FeedsPieces, IsFed, IsFedFile, IsHandedOut}
+use Rattle.verity_tree.specs.Feeding.{given, written, written_all}
 use Rattle.verity_tree.specs.Levels.{data_blocks}
-use Rattle.verity_tree.specs.ClosingOrder.{first_closing}
 use Rattle.verity_tree.specs.Steps.Feeding.{IsHandingOut, Stands}
-use Rattle.verity_tree.specs.ClosingOrder.{handed_out}
-use Rattle.verity_tree.specs.ClosingOrder.{blocks_before}
-use Rattle.verity_tree.specs.TreeOnDevice.{device_with, tree_block}
+use Rattle.verity_tree.specs.TreeOnDevice.{tree_block}
+use Rattle.verity_tree.specs.TreeWriting.{device_with}
 use Rattle.verity_tree.specs.declared.file_builder.FileBuilder.{FileBuilder}
 use Rattle.verity_tree.specs.declared.tree_builder.HashBlock.{HashBlock}
 use Rattle.verity_tree.specs.declared.tree_builder.TreeBuilder.{TreeBuilder}

@@ -20,6 +20,7 @@ pub mod ClosedBlockLemmas
 pub mod JudgeLemmas
 pub mod HoldsLemmas
 pub mod StandingLemmas
+pub mod BesideLemmas
 pub mod PathSteps
 pub mod PieceLemmas
 pub mod ChainLemmas

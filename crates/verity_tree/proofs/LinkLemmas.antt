@@ -1,12 +1,13 @@
 -- Blocks that are accepted one by one are an accepted path, and what an accepted block is.
-use Rattle.std.proofs.Common.{◌≡◌, ℕ, zero, suc, ◌+◌, ◌/◌, ◌%◌, ◌^◌, ◌<◌, ◌≤◌, ◌⊎◌, Bool, true, false, List}
-use Rattle.std.proofs.Common.{length, arith, sym, subst, ◌∙◌, ap, refl, inl, inr, cond}
+use Rattle.std.proofs.Common.{◌≡◌, ℕ, zero, suc, ◌+◌, ◌/◌, ◌%◌, ◌^◌, ◌<◌, ◌≤◌, ◌⊎◌, Bool, true, false, List, length}
+use Rattle.std.proofs.Common.{arith, sym, subst, ◌∙◌, ap, refl, inl, inr, cond}
 use Rattle.std.proofs.lemmas.Bool.{cases_lt}
 use Rattle.std.proofs.lemmas.Bool.Decides.{nat_tests}
 use Rattle.std.proofs.lemmas.Slice.Eq.{bytes_eq-Decides}
 use Rattle.std.specs.Prelude.{◌&&◌, ◌==◌, Result, Ok, Err, nat_le, not}
 use Rattle.std.specs.Str.{bytes_eq}
-use Rattle.verity_plan.specs.Plans.{Planned, IsPlanned, level_count, level_count_of}
+use Rattle.verity_plan.specs.Plans.{Planned, IsPlanned, level_count}
+use Rattle.verity_plan.specs.PlanCounts.{level_count_of}
 use Rattle.verity_plan.specs.Settings.{Settings, fan, hash}
 use Rattle.verity_plan.proofs.FanLemmas.{fan-two}
 use Rattle.verity_plan.proofs.FitLemmas.{digest-slot, fan-pos}

@@ -11,15 +11,15 @@ use Rattle.std.specs.Prelude.{Contains}
 use Rattle.verity_plan.proofs.CountLemmas.{mul_le}
 use Rattle.verity_plan.specs.Settings.{Settings, fan}
 use Rattle.verity_tree.specs.Levels.{hash_block_of, data_blocks}
-use Rattle.verity_tree.specs.ClosingOrder.{closing_with, closed_after}
-use Rattle.verity_tree.specs.TreeOnDevice.{tree_block, device_with, tree_on_device_after, StopsAt}
-use Rattle.verity_tree.specs.ClosingOrder.{BlockIndex, block_index}
+use Rattle.verity_tree.specs.ClosingOrder.{closing_with, closed_after, BlockIndex, block_index, first_closing}
+use Rattle.verity_tree.specs.TreeOnDevice.{tree_block}
+use Rattle.verity_tree.specs.TreeWriting.{device_with, tree_on_device_after, StopsAt}
 use Rattle.verity_io.specs.Writing.{Spoiled}
-use Rattle.verity_tree.proofs.OrderSplit.{closing-front, closed_after-front, closed_after-more, device_with-append, device_with-closed_after}
+use Rattle.verity_tree.proofs.OrderSplit.{closing-front, closed_after-front, closed_after-more, device_with-append}
+use Rattle.verity_tree.proofs.OrderSplit.{device_with-closed_after}
 use Rattle.verity_tree.specs.Reading.{ReadsUpTo, bytes_of}
 use Rattle.verity_io.specs.Reading.{HasRead}
 use Rattle.verity_tree.specs.Steps.Cascade.{ClosesWith}
-use Rattle.verity_tree.specs.ClosingOrder.{first_closing}
 use Rattle.verity_plan.specs.Plans.{Planned, start_byte_of}
 use Rattle.verity_tree.specs.Steps.OpenBlocks.{digests_under, open_block, HasOpenBlocks}
 use Rattle.verity_tree.proofs.OpenBlockSteps.{hash_block_of-none}

@@ -9,9 +9,8 @@ use Rattle.std.proofs.Math.Nat.{one-le-pow}
 use Rattle.std.specs.List.{filter, range_with_len}
 use Rattle.std.specs.Prelude.{◌==◌, ◌||◌, slice_index_or}
 use Rattle.verity_plan.specs.Plans.{level_count, start_byte}
-use Rattle.verity_tree.specs.ClosingOrder.{BlockIndex, block_index, closes, closing_with, closed_after}
-use Rattle.verity_tree.specs.TreeOnDevice.{device_with}
-use Rattle.verity_tree.specs.ClosingOrder.{first_closing}
+use Rattle.verity_tree.specs.ClosingOrder.{BlockIndex, block_index, closes, closing_with, closed_after, first_closing}
+use Rattle.verity_tree.specs.TreeWriting.{device_with}
 use Rattle.verity_plan.specs.Settings.{Settings, fan}
 use Rattle.verity_tree.specs.Steps.OpenBlocks.{IsReached}
 use Rattle.verity_tree.specs.Levels.{blocks_up}

@@ -5,7 +5,8 @@ use Rattle.std.proofs.lemmas.Bool.{cases_lt}
 use Rattle.std.proofs.lemmas.Slice.Eq.{bytes_eq-Decides}
 use Rattle.std.specs.Prelude.{Result, Ok, Err}
 use Rattle.std.specs.Str.{bytes_eq}
-use Rattle.verity_plan.specs.Plans.{level_count, Planned, IsPlanned, level_count_of}
+use Rattle.verity_plan.specs.Plans.{level_count, Planned, IsPlanned}
+use Rattle.verity_plan.specs.PlanCounts.{level_count_of}
 use Rattle.verity_tree.specs.Levels.{data_blocks, root}
 use Rattle.verity_tree.specs.Paths.{ChecksBlock, HasCollision, HoldsAt, IsAccepted, chain, true_chain, true_path}
 use Rattle.verity_tree.specs.declared.path.PathFault.{PathFault}

@@ -10,7 +10,8 @@ use Rattle.std.specs.Fork.{slice_chunk}
 use Rattle.std.specs.Prelude.{nat_lt}
 use Rattle.std.specs.Str.{bytes_eq}
 use Rattle.verity_tree.specs.Paths.{HasLengths, chain, digest_above}
-use Rattle.verity_plan.specs.Plans.{Planned, level_count_of}
+use Rattle.verity_plan.specs.Plans.{Planned}
+use Rattle.verity_plan.specs.PlanCounts.{level_count_of}
 use Rattle.verity_plan.specs.Settings.{Settings, digest_len, fan, slot_width}
 use Rattle.verity_tree.specs.Verdicts.{digest_in}
 use Rattle.verity_tree.proofs.VerdictLemmas.{digest-room}

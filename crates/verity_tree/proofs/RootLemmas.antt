@@ -5,7 +5,8 @@ use Rattle.std.proofs.lemmas.Bool.{cases_lt}
 use Rattle.std.proofs.lemmas.List.{length-map, get_or-map}
 use Rattle.std.proofs.Math.Nat.{pow-zero, pow-suc, one-le-pow}
 use Rattle.std.specs.Int.{div_ceil}
-use Rattle.verity_plan.specs.Plans.{level_count, IsLevelCount}
+use Rattle.verity_plan.specs.Plans.{level_count}
+use Rattle.verity_plan.specs.PlanLaws.{IsLevelCount}
 use Rattle.verity_plan.specs.Settings.{Settings, hash, fan}
 use Rattle.verity_tree.specs.Levels.{pack, blocks_up, root}
 use Rattle.verity_tree.specs.Steps.PlainRoots.{digests_up, root_of_digests}

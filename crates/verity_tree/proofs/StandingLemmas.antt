@@ -3,8 +3,9 @@ use Rattle.std.proofs.Common.{◌≡◌, ℕ, ◌+◌, ◌-◌, ◌*◌, ◌/◌
 use Rattle.std.proofs.Common.{replicate, get_or, arith, sym, subst, ◌∙◌, ap, refl, inl, inr, append_assoc}
 use Rattle.std.proofs.Common.{length-append, length-drop}
 use Rattle.std.proofs.lemmas.Bool.{cases_lt, cases_order}
-use Rattle.std.proofs.lemmas.List.{drop_at, ext_get_or, get_or-append_right, get_or-drop, get_or-take}
-use Rattle.std.proofs.lemmas.List.{get_or_append_left, length-replicate, length-take, length-take-le, take_at}
+use Rattle.std.proofs.lemmas.List.{drop_at, ext_get_or, get_or-append_right, get_or-drop, get_or-replicate, get_or-take}
+use Rattle.std.proofs.lemmas.List.{get_or_append_left, get_or_past, length-replicate, length-take, length-take-le}
+use Rattle.std.proofs.lemmas.List.{take_at}
 use Rattle.std.proofs.Math.Nat.{mul-div_cancel, mul-le-mul_right, one-le-pow}
 use Rattle.verity_io.specs.Writing.{put}
 use Rattle.verity_plan.specs.Plans.{IsPlanned, IsTreeBlock, Planned, place, start_byte, start_byte_of}
@@ -16,7 +17,8 @@ use Rattle.verity_plan.proofs.PlaceLemmas.{PlacesAreOnce-all}
 use Rattle.verity_plan.proofs.PlanLemmas.{some_hash}
 use Rattle.verity_tree.specs.ClosingOrder.{BlockIndex, closed_after, times}
 use Rattle.verity_tree.specs.Levels.{data_blocks, root}
-use Rattle.verity_tree.specs.TreeOnDevice.{HoldsTree, device_with, tree_block, tree_on_device}
+use Rattle.verity_tree.specs.TreeOnDevice.{HoldsTree, tree_block}
+use Rattle.verity_tree.specs.TreeWriting.{device_with, tree_on_device}
 use Rattle.verity_tree.proofs.ChainLemmas.{length-true_chain}
 use Rattle.verity_tree.proofs.HoldsLemmas.{times-cases, times-first, times-more}
 use Rattle.verity_tree.proofs.LevelLemmas.{length-cut}
@@ -35,7 +37,7 @@ length-before_put device at =
       length-replicate {A = ℕ} (at - length device) 0,
     )
 
-length-put : (device : List ℕ) (at : ℕ) (bytes : List ℕ)
+pub length-put : (device : List ℕ) (at : ℕ) (bytes : List ℕ)
     → length (put device at bytes) ≡ at + length bytes + (length device - (at + length bytes))
 length-put device at bytes =
     omega (
@@ -55,18 +57,27 @@ put-here device at bytes =
     ∙ ap (take (length bytes)) (drop_at (before_put device at) (bytes ++ rest) at (length-before_put device at))
     ∙ take_at bytes rest (length bytes) refl
 
--- bytes beside them stay
-byte-before : (device : List ℕ) (at : ℕ) (bytes : List ℕ) (i : ℕ) → i < at → i < length device
+-- bytes beside them stay, or are zeros past the old end
+byte-before : (device : List ℕ) (at : ℕ) (bytes : List ℕ) (i : ℕ) → i < at
     → get_or (put device at bytes) i 0 ≡ get_or device i 0
-byte-before device at bytes i low below =
-    let front : i < length (take at device) = omega (arith, length-take at device, low, below) in
+byte-before device at bytes i low =
+    let filled : List ℕ = replicate (at - length device) 0 in
     let gap : i < length (before_put device at) = omega (arith, length-before_put device at, low) in
     let inside : i < length (before_put device at ++ bytes) =
     omega (arith, gap, length-append (before_put device at) bytes) in
+    let front : get_or (before_put device at) i 0 ≡ get_or device i 0 = elim (cases_lt i (length device)) [
+      | inl below ↦
+          let there : i < length (take at device) = omega (arith, length-take at device, low, below) in
+          get_or_append_left (take at device) filled 0 i there ∙ get_or-take at device i 0 low
+      | inr past ↦
+          let whole : length (take at device) ≡ length device = omega (arith, length-take at device, low, past) in
+          get_or-append_right (take at device) filled (length device) i 0 whole past
+          ∙ get_or-replicate (at - length device) (i - length device) 0 0 (omega (arith, low, past))
+          ∙ sym (get_or_past device i 0 past)
+    ] in
     get_or_append_left (before_put device at ++ bytes) (drop (at + length bytes) device) 0 i inside
     ∙ get_or_append_left (before_put device at) bytes 0 i gap
-    ∙ get_or_append_left (take at device) (replicate (at - length device) 0) 0 i front
-    ∙ get_or-take at device i 0 low
+    ∙ front
 
 byte-after : (device : List ℕ) (at : ℕ) (bytes : List ℕ) (i : ℕ) → at + length bytes ≤ i
     → get_or (put device at bytes) i 0 ≡ get_or device i 0
@@ -78,6 +89,11 @@ byte-after device at bytes i past =
     get_or-append_right front (drop (at + length bytes) device) (at + length bytes) i 0 long past
     ∙ get_or-drop (at + length bytes) device (i - (at + length bytes)) 0
     ∙ ap (λ (n : ℕ). get_or device n 0) back
+
+pub put-byte : (device : List ℕ) (at : ℕ) (bytes : List ℕ) (i : ℕ) → (i < at) ⊎ (at + length bytes ≤ i)
+    → get_or (put device at bytes) i 0 ≡ get_or device i 0
+put-byte device at bytes i (inl low) = byte-before device at bytes i low
+put-byte device at bytes i (inr past) = byte-after device at bytes i past
 
 -- and so does a range of them
 pub put-beside : (device : List ℕ) (at : ℕ) (bytes : List ℕ) (a n : ℕ) → a + n ≤ length device
@@ -91,15 +107,14 @@ put-beside device at bytes a n within apart =
     ext_get_or 0 (take n (drop a after)) (take n (drop a device)) (of_after ∙ sym of_device) (λ k low.
     let below : k < n = omega (arith, low, of_after) in
     let same : get_or after (a + k) 0 ≡ get_or device (a + k) 0 = elim apart [
-      | inl before ↦
-          byte-before device at bytes (a + k) (omega (arith, before, below)) (omega (arith, within, below))
+      | inl before ↦ byte-before device at bytes (a + k) (omega (arith, before, below))
       | inr past ↦ byte-after device at bytes (a + k) (omega (arith, past))
     ] in
     get_or-take n (drop a after) k 0 below ∙ get_or-drop a after k 0 ∙ same
     ∙ sym (get_or-take n (drop a device) k 0 below ∙ get_or-drop a device k 0))
 
 -- bytes of a device that are as many as a range has are the whole range
-range-within : (device bytes : List ℕ) (a n : ℕ) → 0 < n → length bytes ≡ n → take n (drop a device) ≡ bytes
+pub range-within : (device bytes : List ℕ) (a n : ℕ) → 0 < n → length bytes ≡ n → take n (drop a device) ≡ bytes
     → a + n ≤ length device
 range-within device bytes a n some long here =
     omega (arith, ap length here, length-take n (drop a device), length-drop a device, long, some)
@@ -123,7 +138,7 @@ apart s n base l j m k here there other =
     ]
 
 -- a block of the tree has a hash block's length
-length-tree_block : (s : Settings) (blocks : List (List ℕ)) (l j : ℕ) → fan s * slot_width s ≤ s.hash_block
+pub length-tree_block : (s : Settings) (blocks : List (List ℕ)) (l j : ℕ) → fan s * slot_width s ≤ s.hash_block
     → IsTreeBlock (fan s) (length blocks) l j → length (tree_block s blocks l j) ≡ s.hash_block
 length-tree_block s blocks l j room here =
     let width = fan s ^ (l + 1) in

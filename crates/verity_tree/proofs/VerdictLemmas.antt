@@ -1,11 +1,11 @@
 -- Stored blocks beside the tree's.
-use Rattle.std.proofs.Common.{◌≡◌, ℕ, zero, suc, ◌+◌, ◌*◌, ◌<◌, ◌≤◌, Bool, true, false}
-use Rattle.std.proofs.Common.{arith, ◌∙◌, ap, refl, inl, inr}
+use Rattle.std.proofs.Common.{◌≡◌, ℕ, zero, suc, ◌+◌, ◌*◌, ◌<◌, ◌≤◌, Bool, true, false, arith, ◌∙◌, ap, refl, inl, inr}
 use Rattle.std.proofs.lemmas.Bool.{cases_lt}
 use Rattle.std.proofs.Math.Nat.{mul-le-mul_right}
 use Rattle.std.specs.Prelude.{find, Some, None}
 use Rattle.std.specs.List.{range_with_len}
-use Rattle.verity_plan.specs.Plans.{Planned, HasBlock, size_under}
+use Rattle.verity_plan.specs.Plans.{Planned, HasBlock}
+use Rattle.verity_plan.specs.PlanCounts.{size_under}
 use Rattle.verity_plan.specs.Settings.{Settings, digest_len, fan, slot_width}
 use Rattle.verity_plan.proofs.CountLemmas.{mul-lt_div_ceil}
 use Rattle.verity_plan.proofs.FitLemmas.{digest-slot}

@@ -4,7 +4,7 @@ use Rattle.verity_hash.specs.declared.digest.Digest.{Digest}
 use Rattle.verity_io.specs.Reading.{HasRead}
 use Rattle.verity_plan.specs.Plans.{Planned}
 use Rattle.verity_tree.specs.ClosingOrder.{block_index}
-use Rattle.verity_tree.specs.TreeOnDevice.{tree_on_device, tree_on_device_after, StopsAt}
+use Rattle.verity_tree.specs.TreeWriting.{tree_on_device, tree_on_device_after, StopsAt}
 use Rattle.verity_tree.specs.Levels.{data_blocks, root}
 use Rattle.verity_tree.specs.Reading.{EndsWithin, FailsWithin, ReadsUpTo}
 use Rattle.verity_tree.specs.declared.building.BuildFault.{BuildFault}

@@ -3,7 +3,8 @@
 -- bytes at the beginning, those before and those of the piece after feeding, and the answer at the end is of all.
 use Rattle.std.specs.Prelude.{◌≡◌, ◌⊎◌, ◌<◌, ◌≤◌, ℕ, ◌+◌, ◌*◌, ◌/◌, ◌^◌, Bool, true, false, List, [], ◌∷◌, ◌++◌, length}
 use Rattle.std.specs.Prelude.{take, drop, nat_lt, Option, Some, None, Result, Ok, Err, if◌then◌else◌}
-use Rattle.verity_plan.specs.Plans.{Planned, level_count_of, most_level_count, plan_for_bytes, start_byte_of}
+use Rattle.verity_plan.specs.Plans.{Planned, plan_for_bytes, start_byte_of}
+use Rattle.verity_plan.specs.PlanCounts.{level_count_of, most_level_count}
 use Rattle.verity_plan.specs.Settings.{Settings, fan}
 use Rattle.verity_plan.specs.declared.plan_fault.PlanFault.{PlanFault}
 use Rattle.verity_plan.specs.declared.plan_fault.PlanFault.TheVariants.{NoData, TooLarge as NoRoom}
@@ -11,9 +12,9 @@ use Rattle.std.specs.List.{flat_map}
 use Rattle.verity_tree.specs.ClosingOrder.{BlockIndex, block_index, blocks_before, closed_after, handed_out}
 use Rattle.verity_tree.specs.Levels.{data_blocks}
 use Rattle.verity_tree.specs.Steps.Feeding.{HasFed, Stands}
-use Rattle.verity_tree.specs.ClosingOrder.{handed_out}
 use Rattle.verity_io.specs.Writing.{put}
-use Rattle.verity_tree.specs.TreeOnDevice.{tree_block, tree_on_device}
+use Rattle.verity_tree.specs.TreeOnDevice.{tree_block}
+use Rattle.verity_tree.specs.TreeWriting.{tree_on_device}
 use Rattle.verity_tree.specs.declared.feed_fault.FeedFault.{FeedFault}
 use Rattle.verity_tree.specs.declared.feed_fault.FeedFault.TheVariants.{TooLong, TooShort, TooLarge, Waiting, Level}
 use Rattle.verity_tree.specs.declared.file_builder.FileBuilder.{FileBuilder}

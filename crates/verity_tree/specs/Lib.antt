@@ -1,6 +1,7 @@
 pub mod Levels
 pub mod ClosingOrder
 pub mod TreeOnDevice
+pub mod TreeWriting
 pub mod Reading
 pub mod Building
 pub mod Verdicts

@@ -5,7 +5,8 @@ use Rattle.std.specs.Prelude.{◌≡◌, ◌≢◌, ◌<◌, ℕ, suc, ◌/◌, 
 use Rattle.std.specs.Prelude.{if◌then◌else◌, Result, Ok, Err}
 use Rattle.std.specs.List.{flat_map, range_with_len}
 use Rattle.std.specs.Str.{bytes_eq}
-use Rattle.verity_plan.specs.Plans.{Planned, level_count_of}
+use Rattle.verity_plan.specs.Plans.{Planned}
+use Rattle.verity_plan.specs.PlanCounts.{level_count_of}
 use Rattle.verity_plan.specs.Settings.{Settings, fan, hash}
 use Rattle.verity_tree.specs.Verdicts.{digest_in}
 use Rattle.verity_tree.specs.declared.link.LinkFault.{LinkFault}

@@ -5,7 +5,8 @@ use Rattle.std.specs.Prelude.{slice_index_or, if◌then◌else◌, Result, Ok, E
 use Rattle.std.specs.Fork.{slice_chunk}
 use Rattle.std.specs.List.{flat_map, range_with_len}
 use Rattle.verity_tree.specs.TreeOnDevice.{tree_block}
-use Rattle.verity_plan.specs.Plans.{Planned, level_count_of}
+use Rattle.verity_plan.specs.Plans.{Planned}
+use Rattle.verity_plan.specs.PlanCounts.{level_count_of}
 use Rattle.verity_plan.specs.Settings.{Settings, fan, hash}
 use Rattle.verity_tree.specs.Verdicts.{digest_in}
 use Rattle.verity_tree.specs.declared.path.PathFault.{PathFault}

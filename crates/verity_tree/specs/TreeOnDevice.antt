@@ -1,10 +1,8 @@
 -- What a device holds of a tree: each hash block at its place (cryptsetup's on-disk format page; Linux kernel,
 -- dm-verity page, "On-disk format").
-use Rattle.std.specs.Prelude.{◌≡◌, ℕ, ◌≤◌, List, [], ◌∷◌, length, slice_index_or, take, drop}
-use Rattle.verity_plan.specs.Plans.{start_byte, Planned, start_byte_of, HasBlock}
-use Rattle.verity_io.specs.Writing.{put, Spoiled}
-use Rattle.verity_plan.specs.Settings.{Settings, fan}
-use Rattle.verity_tree.specs.ClosingOrder.{BlockIndex, ComesNext, closed_after}
+use Rattle.std.specs.Prelude.{◌≡◌, ℕ, ◌≤◌, List, [], length, slice_index_or, take, drop}
+use Rattle.verity_plan.specs.Plans.{Planned, start_byte_of, HasBlock}
+use Rattle.verity_plan.specs.Settings.{Settings}
 use Rattle.verity_tree.specs.Levels.{level, data_blocks, root}
 
 -- block j of level l above these data blocks
@@ -15,30 +13,9 @@ tree_block s blocks l j = slice_index_or (level s blocks l) j []
 abbrev pub stored_block : Planned → List ℕ → ℕ → ℕ → List ℕ
 stored_block p device level block = take p.settings.hash_block (drop (start_byte_of p level block) device)
 
--- the device holds the whole tree above the data, each hash block at its place, and the root hash is the tree's
+-- there is as much data as the plan wants, the device holds the whole tree above it, each hash block at its place, and
+-- the root hash is the tree's
 pub record HoldsTree (p : Planned) (device bytes digest : List ℕ) : Type 0 where
   pub enough : p.wanted ≤ length bytes
   pub stands : (l j : ℕ) → HasBlock p l j → stored_block p device l j ≡ tree_block p.settings (data_blocks p bytes) l j
   pub root_is : root p.settings (data_blocks p bytes) ≡ digest
-
--- a device with these blocks of the tree put at their places, one after another
-unfoldable pub device_with : Settings → List (List ℕ) → ℕ → List BlockIndex → List ℕ → List ℕ
-device_with s blocks base [] device = device
-device_with s blocks base (next ∷ rest) device =
-    device_with s blocks base rest
-    (put device (start_byte s (length blocks) base next.level next.index) (tree_block s blocks next.level next.index))
-
--- a device with the tree's blocks that closed after i data blocks put at their places
-abbrev pub tree_on_device_after : Planned → List (List ℕ) → ℕ → List ℕ → List ℕ
-tree_on_device_after p blocks i = device_with p.settings blocks p.base (closed_after (fan p.settings) p.blocks i)
-
--- a device with all of the tree's blocks put at their places
-abbrev pub tree_on_device : Planned → List (List ℕ) → List ℕ → List ℕ
-tree_on_device p blocks before = tree_on_device_after p blocks p.blocks before
-
--- a device with the blocks before this one in closing order put at their places, and this one's range spoiled
-pub record StopsAt (p : Planned) (blocks : List (List ℕ)) (block : BlockIndex) (before after : List ℕ) : Type 0 where
-  pub done : List BlockIndex
-  pub next : ComesNext (closed_after (fan p.settings) p.blocks p.blocks) done block
-  pub spoiled : Spoiled (device_with p.settings blocks p.base done before)
-      (start_byte_of p block.level block.index) p.settings.hash_block after

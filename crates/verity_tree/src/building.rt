@@ -3,7 +3,7 @@ ghost use Rattle.std.specs.Prelude.{◌≡◌, length, IfErr, IfOk};
 ghost use Rattle.verity_io.specs.Counting.{Counts};
 ghost use Rattle.verity_tree.specs.Building.{Builds, BuildsOnDevice, IsOfSource, device_failed, source_failed};
 ghost use Rattle.verity_tree.specs.Levels.{data_blocks};
-ghost use Rattle.verity_plan.specs.Plans.{store_length_of};
+ghost use Rattle.verity_plan.specs.PlanCounts.{store_length_of};
 ghost use Rattle.verity_plan.specs.Settings.{digest_len};
 
 use crate::pass::closed_block::Task;

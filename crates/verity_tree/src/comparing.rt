@@ -1,6 +1,6 @@
 //! A stored tree that is compared in one pass with the data.
 ghost use Rattle.std.specs.Prelude.{◌≡◌, length};
-ghost use Rattle.verity_plan.specs.Plans.{store_length_of};
+ghost use Rattle.verity_plan.specs.PlanCounts.{store_length_of};
 
 use crate::part::Part;
 use crate::pass::cascade::Stop;

@@ -1,6 +1,6 @@
 //! A file's tree that is built as pieces of the file come, whose length isn't known before.
 ghost use Rattle.std.specs.Prelude.{◌≡◌, ◌≤◌, ℕ, ◌+◌, ◌*◌, ◌++◌, List, [], length, IfErr, IfOk};
-ghost use Rattle.verity_plan.specs.Plans.{most_level_count};
+ghost use Rattle.verity_plan.specs.PlanCounts.{most_level_count};
 ghost use Rattle.verity_tree.specs.Feeding.{IsFedFile, fault_in, feeding_length, file_fault};
 ghost use Rattle.verity_tree.specs.Levels.{root_of_file};
 

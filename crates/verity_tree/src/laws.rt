@@ -1,16 +1,18 @@
 //! Laws of the definitions of trees: each holds for all settings and data. Those of slots, counts and places are
 //! `verity_plan`'s, and stand here too.
 ghost use Rattle.std.specs.Prelude.{◌≡◌, ◌⊎◌, ◌↔◌, ℕ, ◌+◌, ◌-◌, ◌/◌, ◌^◌, ◌<◌, ◌≤◌, List, [], length, slice_index_or};
-ghost use Rattle.std.specs.Prelude.{Result, Ok, take, ◌≢◌};
+ghost use Rattle.std.specs.Prelude.{Result, Ok, slice_index, take, ◌*◌, ◌≢◌};
 ghost use Rattle.std.specs.Int.{div_ceil};
 ghost use Rattle.verity_hash.specs.declared.salting.SaltRule.TheVariants.{PaddedBefore};
-ghost use Rattle.verity_plan.specs.Plans.{level_count, level_size, Planned, IsPlanned, level_count_of};
+ghost use Rattle.verity_plan.specs.Plans.{end_place_of, level_count, level_size, Planned, IsPlanned};
+ghost use Rattle.verity_plan.specs.PlanCounts.{level_count_of};
 ghost use Rattle.verity_plan.specs.Settings.{Settings, fan};
 ghost use Rattle.verity_tree.specs.ClosingOrder.{ClosesOnce, closed_after, times};
 ghost use Rattle.verity_tree.specs.Collisions.{Collide, TreesCollide, hashed_last, with_salt};
 ghost use Rattle.std.specs.List.{flat_map};
 ghost use Rattle.verity_tree.specs.Feeding.{BuildsInCalls, FeedCall, FeedsCalls, FeedsPieces, IsFed, IsFedFile};
-ghost use Rattle.verity_tree.specs.TreeOnDevice.{tree_block, tree_on_device, HoldsTree};
+ghost use Rattle.verity_tree.specs.TreeOnDevice.{tree_block, HoldsTree};
+ghost use Rattle.verity_tree.specs.TreeWriting.{tree_on_device};
 ghost use Rattle.verity_tree.specs.declared.file_builder.FileBuilder.{FileBuilder};
 ghost use Rattle.verity_tree.specs.declared.tree_builder.TreeBuilder.{TreeBuilder};
 ghost use Rattle.verity_tree.specs.Levels.{data_blocks, level, height, root};
@@ -59,10 +61,14 @@ pub fn right_devices_hold_the_tree()
         × (HoldsTree p device bytes digest → verdict p device bytes digest ≡ Ok tt) }
 {}
 
-/// A device on which each block of a tree is put at its place, whatever it held before, holds the whole tree.
+/// A device on which each block of a tree is put at its place, whatever it held before, holds the whole tree. Every byte
+/// outside the tree's range is as before, or a zero past the old end.
 pub fn built_devices_hold_the_tree()
-    ensures { (p : Planned) (bytes device : List ℕ) → IsPlanned p → p.wanted ≤ length bytes
+    ensures holds { (p : Planned) (bytes device : List ℕ) → IsPlanned p → p.wanted ≤ length bytes
         → HoldsTree p (tree_on_device p (data_blocks p bytes) device) bytes (root p.settings (data_blocks p bytes)) }
+    ensures beside { (p : Planned) (bytes device : List ℕ) (i : ℕ) → IsPlanned p
+        → (i < p.base * p.settings.hash_block) ⊎ (end_place_of p * p.settings.hash_block ≤ i)
+        → slice_index (tree_on_device p (data_blocks p bytes) device) i ≡ slice_index device i }
 {}
 
 /// A data block and its path have one answer: accepted exactly if the path holds at every level, else the first fault.
@@ -79,8 +85,9 @@ pub fn accepted_blocks_are_true()
         → (block ≡ slice_index_or (data_blocks p bytes) i []) ⊎ HasCollision p (data_blocks p bytes) i block path }
 {}
 
-/// A root hash binds the data: two data of one plan with one root hash have the same data blocks, and the same covered
-/// bytes; or at one place of their two trees different messages are hashed, and have one hash.
+/// Together with the plan a root hash binds the data: two data with one root hash by one plan have the same data blocks
+/// and, if each is long enough, the same covered bytes; or at one place of their two trees different messages are
+/// hashed, and have one hash.
 pub fn root_hashes_bind_the_data()
     ensures blocks { (p : Planned) (x y : List ℕ) → IsPlanned p
         → root p.settings (data_blocks p x) ≡ root p.settings (data_blocks p y)
@@ -100,8 +107,8 @@ pub fn root_hashes_bind_the_salt()
         ⊎ Collide p.settings.algorithm (hashed_last p x) (hashed_last (with_salt p salt) y) }
 {}
 
-/// Data on which the verdict is that all is right, against the root hash of some data, are these data in every covered
-/// byte; or the two trees show a collision of the hash function.
+/// If the verdict on some data is that all is right, against the root hash of other data by the same plan, the two are
+/// the same in every covered byte; or their trees show a collision of the hash function.
 pub fn right_data_are_true()
     ensures { (p : Planned) (device x y : List ℕ) → IsPlanned p → p.wanted ≤ length y
         → verdict p device x (root p.settings (data_blocks p y)) ≡ Ok tt

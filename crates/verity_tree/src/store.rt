@@ -1,7 +1,7 @@
 //! The memory that a pass over the data works in.
 ghost use Rattle.std.specs.Borrow.{Array, Lends, sem, u8 as byte};
 ghost use Rattle.std.specs.Prelude.{◌≡◌, ◌↔◌, length, vec_capacity, IfOk, IsTrue};
-ghost use Rattle.verity_plan.specs.Plans.{store_length_of};
+ghost use Rattle.verity_plan.specs.PlanCounts.{store_length_of};
 ghost use Rattle.verity_tree.specs.contracts.store.Store.{the_row};
 
 use std::alloc::{AllocError, Global};

@@ -1,6 +1,7 @@
 //! A tree that is built as pieces of its data come, with each hash block handed out as it closes.
 ghost use Rattle.std.specs.Prelude.{◌≡◌, ℕ, ◌+◌, ◌*◌, ◌/◌, ◌^◌, ◌<◌, ◌≤◌, List, [], length, take, IfErr, IfOk};
-ghost use Rattle.verity_plan.specs.Plans.{level_count_of, start_byte_of};
+ghost use Rattle.verity_plan.specs.Plans.{start_byte_of};
+ghost use Rattle.verity_plan.specs.PlanCounts.{level_count_of};
 ghost use Rattle.verity_plan.specs.Settings.{fan};
 ghost use Rattle.verity_tree.specs.ClosingOrder.{blocks_before};
 ghost use Rattle.verity_tree.specs.Feeding.{Feeds, IsFed, Takes, end_fault, fault_in, feed_fault, feeding_length};

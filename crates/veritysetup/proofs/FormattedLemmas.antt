@@ -1,38 +1,29 @@
--- What format leaves on a device is read back, and verified.
-use Rattle.std.proofs.Common.{◌≡◌, ℕ, ◌+◌, ◌*◌, ◌<◌, ◌≤◌, Bool, true, false, List, length, take}
-use Rattle.std.proofs.Common.{drop, map, Some, None, Ok, nat_le, cond, arith, sym, subst, ◌∙◌, ap, refl}
-use Rattle.std.proofs.lemmas.Bool.{le-leb}
+-- A formatted device is the one that writing each hash block and then the superblock leaves.
+use Rattle.std.proofs.Common.{◌≡◌, ◌⊎◌, ℕ, ◌+◌, ◌-◌, ◌*◌, ◌<◌, ◌≤◌, Bool, true, false, ◌&&◌, ◌||◌, List, length, take}
+use Rattle.std.proofs.Common.{drop, get_or, Some, None, nat_le, cond, arith, sym, subst, ◌∙◌, ap, refl, inl}
+use Rattle.std.proofs.Common.{inr}
+use Rattle.std.proofs.lemmas.Bool.{cases_lt}
 use Rattle.std.proofs.lemmas.Bool.Decides.{nat_tests}
-use Rattle.std.proofs.lemmas.List.{length-take, length-take-le}
+use Rattle.std.proofs.lemmas.List.{ext_get_or, get_or-drop, get_or-take}
 use Rattle.std.specs.Int.{div_ceil}
-use Rattle.std.specs.List.{range_with_len}
-use Rattle.std.specs.Prelude.{◌==◌}
-use Rattle.std.specs.Result.{result_ok}
-use Rattle.hex.specs.Hex.{decode_of, encode_lower, lower_digits}
-use Rattle.hex.proofs.HexLemmas.{decode_of-encode_lower, length-encode_with}
-use Rattle.verity_hash.specs.Hashing.{digest_len_of}
-use Rattle.verity_hash.proofs.DigestBytes.{bytes-salted_hash}
-use Rattle.verity_hash.proofs.HashLemmas.{length-salted_hash}
 use Rattle.verity_io.specs.Writing.{most_bytes, put}
-use Rattle.verity_plan.specs.Plans.{IsPlanned, Planned, base_of, checked_plan, end_place_of, plan_from}
-use Rattle.verity_plan.specs.Settings.{Settings, hash}
-use Rattle.verity_plan.proofs.CountLemmas.{div_ceil-pos, le-div_ceil}
-use Rattle.verity_plan.proofs.FanLemmas.{some_data}
+use Rattle.verity_plan.specs.Plans.{HasBlock, IsPlanned, base_of, end_place_of, start_byte_of}
+use Rattle.verity_plan.proofs.CountLemmas.{le-div_ceil}
 use Rattle.verity_plan.proofs.PlanLemmas.{some_hash}
-use Rattle.verity_format.specs.Superblocks.{IsSuperblock, IsValidSuperblock, superblock_bytes}
-use Rattle.verity_format.proofs.TextLemmas.{length-superblock_bytes, text_says}
-use Rattle.verity_tree.specs.Levels.{block_at, cut, data_blocks, root}
-use Rattle.verity_tree.specs.TreeOnDevice.{HoldsTree, tree_on_device}
-use Rattle.verity_tree.proofs.StandingLemmas.{put-before, put-here, put-holds}
-use Rattle.veritysetup.specs.Options.VeritySettings.{PartsAgree, VeritySettings, read_root}
-use Rattle.veritysetup.specs.Runs.Format.{root_above}
-use Rattle.veritysetup.specs.Runs.GivenBack.{IsGivenBack}
-use Rattle.veritysetup.specs.Runs.HashDevice.{formatted_device, superblock_at, superblock_for}
-use Rattle.veritysetup.specs.Runs.Verify.{Describes, IsVerified, plan_of}
-use Rattle.veritysetup.specs.declared.runs.verify_input.VerifyInput.{VerifyInput}
-use Rattle.veritysetup.specs.declared.runs.verify_input.VerifyInput.TheVariants.{Stored, Given}
+use Rattle.verity_format.specs.Superblocks.{IsValidSuperblock, superblock_bytes}
+use Rattle.verity_format.proofs.TextLemmas.{length-superblock_bytes}
+use Rattle.verity_tree.specs.Levels.{data_blocks}
+use Rattle.verity_tree.specs.TreeOnDevice.{HoldsTree}
+use Rattle.verity_tree.specs.TreeWriting.{tree_on_device}
+use Rattle.verity_tree.proofs.DataBlockLemmas.{blocks-some}
+use Rattle.verity_tree.proofs.BesideLemmas.{block-within, tree-byte, tree-bytes, tree-no_longer, tree-no_shorter}
+use Rattle.verity_tree.proofs.StandingLemmas.{length-put, put-before, put-byte, put-here, put-holds, range-within}
+use Rattle.veritysetup.specs.Options.VeritySettings.{PartsAgree, VeritySettings}
+use Rattle.veritysetup.specs.Runs.Formatted.{IsFormattedDevice, is_within, is_written, root_above}
+use Rattle.veritysetup.specs.Runs.HashDevice.{superblock_at, superblock_for}
+use Rattle.veritysetup.specs.Runs.Format.{formatted_device}
 
--- settings that a superblock can say
+-- what settings keep to: a plan that can be carried out, parts that agree, a UUID of 16 bytes
 pub record AreWhole (s : VeritySettings) : Type 0 where
   pub planned : IsPlanned s.plan
   pub agree : PartsAgree s
@@ -40,17 +31,12 @@ pub record AreWhole (s : VeritySettings) : Type 0 where
 
 -- ---- the superblock
 
-some_blocks : (p : Planned) → IsPlanned p → 0 < p.blocks
-some_blocks p planned =
-    let some = div_ceil-pos p.wanted p.settings.data_block (some_data p.settings planned.valid) planned.some in
-    omega (arith, planned.blocks_are, some)
-
-superblock-valid : (s : VeritySettings) → AreWhole s → IsValidSuperblock (superblock_for s)
+pub superblock-valid : (s : VeritySettings) → AreWhole s → IsValidSuperblock (superblock_for s)
 superblock-valid s whole = record {
   tree = whole.planned.valid;
   of_type = whole.agree.of_type;
   uuid = whole.uuid;
-  some = some_blocks s.plan whole.planned;
+  some = blocks-some s.plan whole.planned;
   within = whole.planned.data_most;
 }
 
@@ -63,66 +49,6 @@ with-superblock s blocks before has = rw has refl
 without-superblock : (s : VeritySettings) (blocks : List (List ℕ)) (before : List ℕ) → s.superblock ≡ false
     → formatted_device s blocks before ≡ tree_on_device s.plan blocks before
 without-superblock s blocks before none = rw none refl
-
--- it is read back
-pub superblock-back : (s : VeritySettings) (blocks : List (List ℕ)) (before : List ℕ) → AreWhole s
-    → s.superblock ≡ true
-    → IsSuperblock (superblock_at s.offset (formatted_device s blocks before)) (superblock_for s)
-superblock-back s blocks before whole has =
-    let v = superblock_for s in
-    let valid = superblock-valid s whole in
-    let tree = tree_on_device s.plan blocks before in
-    let read : superblock_at s.offset (formatted_device s blocks before) ≡ superblock_bytes v =
-    ap (λ (device : List ℕ). take 512 (drop s.offset device)) (with-superblock s blocks before has)
-    ∙ ap (λ (n : ℕ). take n (drop s.offset (put tree s.offset (superblock_bytes v))))
-    (sym (length-superblock_bytes v valid))
-    ∙ put-here tree s.offset (superblock_bytes v) in
-    subst (λ (bytes : List ℕ). IsSuperblock bytes v) (sym read) (text_says v valid)
-
--- ---- the plan
-
--- a plan that can be carried out is made
-planned-checked : (p : Planned) → IsPlanned p → checked_plan p ≡ Ok p
-planned-checked p planned =
-    let some = some_blocks p planned in
-    let filled : (p.blocks == 0) ≡ false = grind (arith, nat_tests, some) in
-    let of_data : nat_le (p.blocks * p.settings.data_block) most_bytes ≡ true =
-    le-leb (p.blocks * p.settings.data_block) most_bytes planned.data_most in
-    let of_hash : nat_le (end_place_of p * p.settings.hash_block) most_bytes ≡ true =
-    le-leb (end_place_of p * p.settings.hash_block) most_bytes planned.hash_most in
-    rw (filled, of_data, of_hash) refl
-
--- a plan for whole blocks, by its parts
-plan_from-parts : (p : Planned) → p.wanted ≡ p.blocks * p.settings.data_block
-    → plan_from p.settings p.blocks (Some p.base) ≡ checked_plan p
-plan_from-parts p whole =
-    ap (λ (n : ℕ). checked_plan (record { settings = p.settings; blocks = p.blocks; wanted = n; base = p.base }))
-    (sym whole)
-
--- what the superblock describes is the plan
-plan-back : (s : VeritySettings) → AreWhole s → s.superblock ≡ true → plan_of s.offset (superblock_for s) ≡ Ok s.plan
-plan-back s whole has =
-    let p = s.plan in
-    ap (λ (b : Bool). plan_from p.settings p.blocks (base_of s.offset b p.settings.hash_block)) (sym has)
-    ∙ ap (plan_from p.settings p.blocks) whole.agree.based
-    ∙ plan_from-parts p whole.agree.whole
-    ∙ planned-checked p whole.planned
-
--- ---- the root hash
-
--- the digits of a root hash are read as it
-root-back : (s : Settings) (blocks : List (List ℕ))
-    → read_root s.algorithm (encode_lower (root s blocks)) ≡ Some (root s blocks)
-unfolding root hash
-root-back s blocks =
-    let digest = root s blocks in
-    let long : length (encode_lower digest) ≡ 2 * digest_len_of s.algorithm =
-    length-encode_with lower_digits digest
-    ∙ ap (λ (n : ℕ). 2 * n) (length-salted_hash s.algorithm s.rule s.salt _) in
-    let right : (length (encode_lower digest) == 2 * digest_len_of s.algorithm) ≡ true =
-    grind (arith, nat_tests, long) in
-    ap (λ (b : Bool). cond b (result_ok (decode_of (encode_lower digest))) None) right
-    ∙ ap result_ok (decode_of-encode_lower digest (bytes-salted_hash s.algorithm s.rule s.salt _))
 
 -- ---- the tree
 
@@ -164,57 +90,221 @@ holds-formatted s bytes before whole enough = by_test s.superblock refl
         (omega (arith, superblock-before s whole has, length-superblock_bytes v (superblock-valid s whole)))
         (put-holds s.plan bytes before whole.planned enough))
 
--- ---- all of it
+-- ---- what is written
 
--- the covered bytes alone decide the data blocks
-data_blocks-same : (p : Planned) (x y : List ℕ) → take p.wanted x ≡ take p.wanted y
-    → data_blocks p x ≡ data_blocks p y
-unfolding cut
-data_blocks-same p x y same =
-    ap (λ (xs : List ℕ). map (block_at p.settings.data_block xs) (range_with_len 0 p.blocks)) same
+both_false : (x y : Bool) → (x || y) ≡ false → (x ≡ false) × (y ≡ false)
+both_false true y e = cc
+both_false false y e = (refl, e)
 
--- verify accepts what format leaves
-pub verified-back : (s : VeritySettings) (input : VerifyInput) (covered bytes before : List ℕ) → AreWhole s
-    → s.plan.wanted ≤ length covered → IsGivenBack input s (root_above s covered)
-    → take s.plan.wanted bytes ≡ take s.plan.wanted covered
-    → IsVerified input (formatted_device s (data_blocks s.plan covered) before) bytes (drop s.plan.wanted bytes)
-verified-back s input covered bytes before whole enough given same =
-    let p = s.plan in
-    let w = p.wanted in
-    let blocks : data_blocks p bytes ≡ data_blocks p covered = data_blocks-same p bytes covered same in
-    let long : w ≤ length bytes =
-    omega (arith, ap length same, length-take-le w covered enough, length-take w bytes) in
-    let one : root_above s bytes ≡ root_above s covered = ap (root p.settings) blocks in
-    let held : HoldsTree p (formatted_device s (data_blocks p covered) before) bytes (root_above s covered) =
-    subst (λ (digest : List ℕ). HoldsTree p (formatted_device s (data_blocks p covered) before) bytes digest) one
-    (subst (λ (bs : List (List ℕ)). HoldsTree p (formatted_device s bs before) bytes (root_above s bytes)) blocks
-    (holds-formatted s bytes before whole long)) in
-    by_input input given held
+one_true : (x y : Bool) → (x || y) ≡ true → (x ≡ true) ⊎ (y ≡ true)
+one_true true y e = inl refl
+one_true false y e = inr e
+
+two_true : (x y : Bool) → (x && y) ≡ true → (x ≡ true) × (y ≡ true)
+two_true true y e = (refl, e)
+two_true false y e = cc
+
+within_true : (first end i : ℕ) → is_within first end i ≡ true → (first ≤ i) × (i < end)
+within_true first end i e = (grind (arith, nat_tests, e), grind (arith, nat_tests, e))
+
+within_false : (first end i : ℕ) → is_within first end i ≡ false → (i < first) ⊎ (end ≤ i)
+within_false first end i e = elim (cases_lt i first) [
+  | inl before ↦ inl before
+  | inr from ↦ elim (cases_lt i end) [
+    | inr past ↦ inr past
+    | inl below ↦ absurd (grind (arith, nat_tests, e, from, below))
+  ]
+]
+
+-- a byte that isn't written is outside the tree's range
+beside-tree : (s : VeritySettings) (i : ℕ) → is_written s i ≡ false
+    → (i < s.plan.base * s.plan.settings.hash_block) ⊎ (end_place_of s.plan * s.plan.settings.hash_block ≤ i)
+beside-tree s i miss =
+    within_false (s.plan.base * s.plan.settings.hash_block) (end_place_of s.plan * s.plan.settings.hash_block) i
+    (both_false _ _ miss).1
+
+-- and outside the superblock
+beside-superblock : (s : VeritySettings) (i : ℕ) → s.superblock ≡ true → is_written s i ≡ false
+    → (i < s.offset) ⊎ (s.offset + 512 ≤ i)
+beside-superblock s i has miss =
+    let outside : (s.superblock && is_within s.offset (s.offset + 512) i) ≡ false = (both_false _ _ miss).0 in
+    within_false s.offset (s.offset + 512) i
+    (ap (λ (b : Bool). b && is_within s.offset (s.offset + 512) i) (sym has) ∙ outside)
+
+-- ---- what is written leaves a formatted device
+
+formatted-superblock : (s : VeritySettings) (blocks : List (List ℕ)) (before : List ℕ) → AreWhole s
+    → s.superblock ≡ true
+    → superblock_at s.offset (formatted_device s blocks before) ≡ superblock_bytes (superblock_for s)
+formatted-superblock s blocks before whole has =
+    let v = superblock_for s in
+    let tree = tree_on_device s.plan blocks before in
+    ap (λ (device : List ℕ). take 512 (drop s.offset device)) (with-superblock s blocks before has)
+    ∙ ap (λ (n : ℕ). take n (drop s.offset (put tree s.offset (superblock_bytes v))))
+    (sym (length-superblock_bytes v (superblock-valid s whole)))
+    ∙ put-here tree s.offset (superblock_bytes v)
+
+formatted-others : (s : VeritySettings) (source before : List ℕ) → AreWhole s → (i : ℕ) → is_written s i ≡ false
+    → get_or (formatted_device s (data_blocks s.plan source) before) i 0 ≡ get_or before i 0
+formatted-others s source before whole i miss = by_test s.superblock refl
   where
-    by_input : (input : VerifyInput) → IsGivenBack input s (root_above s covered)
-        → HoldsTree s.plan (formatted_device s (data_blocks s.plan covered) before) bytes (root_above s covered)
-        → IsVerified input (formatted_device s (data_blocks s.plan covered) before) bytes (drop s.plan.wanted bytes)
-    by_input (Stored offset text) given held =
-        let device = formatted_device s (data_blocks s.plan covered) before in
-        let digest = root_above s covered in
-        record {
-          plan = s.plan;
-          root = digest;
-          trusted = subst (λ (n : ℕ). Describes n text.now device s.plan digest) (sym given.1)
-              (subst (λ (digits : List ℕ). Describes s.offset digits device s.plan digest) (sym given.2)
-              (record {
-                fields = superblock_for s;
-                superblock = superblock-back s (data_blocks s.plan covered) before whole given.0;
-                plan_is = plan-back s whole given.0;
-                root_is = root-back s.plan.settings (data_blocks s.plan covered);
-              }));
-          holds = held;
-          read = record { enough = held.enough; rest = refl };
-        }
-    by_input (Given settings) given held = record {
-      plan = s.plan;
-      root = root_above s covered;
-      trusted = (sym given.0, given.1);
-      holds = held;
-      read = record { enough = held.enough; rest = refl };
-    }
+    by_test : (b : Bool) → s.superblock ≡ b
+        → get_or (formatted_device s (data_blocks s.plan source) before) i 0 ≡ get_or before i 0
+    by_test false none =
+        ap (λ (device : List ℕ). get_or device i 0) (without-superblock s (data_blocks s.plan source) before none)
+        ∙ tree-byte s.plan source before i whole.planned (beside-tree s i miss)
+    by_test true has =
+        let bytes = superblock_bytes (superblock_for s) in
+        let long : length bytes ≡ 512 = length-superblock_bytes (superblock_for s) (superblock-valid s whole) in
+        let tree = tree_on_device s.plan (data_blocks s.plan source) before in
+        let outside : (i < s.offset) ⊎ (s.offset + length bytes ≤ i) =
+        elim (beside-superblock s i has miss) [
+          | inl low ↦ inl low
+          | inr past ↦ inr (omega (arith, past, long))
+        ] in
+        ap (λ (device : List ℕ). get_or device i 0) (with-superblock s (data_blocks s.plan source) before has)
+        ∙ put-byte tree s.offset bytes i outside
+        ∙ tree-byte s.plan source before i whole.planned (beside-tree s i miss)
+
+formatted-no_shorter : (s : VeritySettings) (blocks : List (List ℕ)) (before : List ℕ)
+    → length before ≤ length (formatted_device s blocks before)
+formatted-no_shorter s blocks before = by_test s.superblock refl
+  where
+    by_test : (b : Bool) → s.superblock ≡ b → length before ≤ length (formatted_device s blocks before)
+    by_test false none =
+        omega (
+          arith,
+          ap length (without-superblock s blocks before none),
+          tree-no_shorter s.plan blocks before,
+        )
+    by_test true has =
+        omega (
+          arith,
+          ap length (with-superblock s blocks before has),
+          length-put (tree_on_device s.plan blocks before) s.offset (superblock_bytes (superblock_for s)),
+          tree-no_shorter s.plan blocks before,
+        )
+
+-- a block that is written ends before a byte from which on nothing is written
+block-before : (s : VeritySettings) (i : ℕ) → AreWhole s → ((j : ℕ) → i ≤ j → is_written s j ≡ false)
+    → (l j : ℕ) → HasBlock s.plan l j → start_byte_of s.plan l j + s.plan.settings.hash_block ≤ i
+block-before s i whole none l j here =
+    let size = s.plan.settings.hash_block in
+    let some : 0 < size = some_hash s.plan whole.planned in
+    let last = start_byte_of s.plan l j + size - 1 in
+    let within = block-within s.plan l j here in
+    elim (cases_lt i (start_byte_of s.plan l j + size)) [
+      | inr past ↦ past
+      | inl below ↦
+          let from : i ≤ last = omega (arith, below) in
+          elim (beside-tree s last (none last from)) [
+            | inl low ↦ absurd (omega (arith, low, within.0, some))
+            | inr high ↦ absurd (omega (arith, high, within.1, some))
+          ]
+    ]
+
+formatted-no_longer : (s : VeritySettings) (source before : List ℕ) → AreWhole s → (i : ℕ) → length before ≤ i
+    → ((j : ℕ) → i ≤ j → is_written s j ≡ false)
+    → length (formatted_device s (data_blocks s.plan source) before) ≤ i
+formatted-no_longer s source before whole i past none = by_test s.superblock refl
+  where
+    tree-most : length (tree_on_device s.plan (data_blocks s.plan source) before) ≤ i
+    tree-most = tree-no_longer s.plan source before i whole.planned past (block-before s i whole none)
+
+    by_test : (b : Bool) → s.superblock ≡ b → length (formatted_device s (data_blocks s.plan source) before) ≤ i
+    by_test false sets =
+        omega (arith, ap length (without-superblock s (data_blocks s.plan source) before sets), tree-most)
+    by_test true sets =
+        let last = s.offset + 511 in
+        let ends : s.offset + 512 ≤ i = elim (cases_lt i (s.offset + 512)) [
+          | inr fits ↦ fits
+          | inl below ↦
+              let from : i ≤ last = omega (arith, below) in
+              elim (beside-superblock s last sets (none last from)) [
+                | inl low ↦ absurd (omega (arith, low))
+                | inr high ↦ absurd (omega (arith, high))
+              ]
+        ] in
+        omega (
+          arith,
+          ap length (with-superblock s (data_blocks s.plan source) before sets),
+          length-put (tree_on_device s.plan (data_blocks s.plan source) before) s.offset
+              (superblock_bytes (superblock_for s)),
+          length-superblock_bytes (superblock_for s) (superblock-valid s whole),
+          ends,
+          tree-most,
+        )
+
+-- a device on which all is written is formatted
+pub written-formatted : (s : VeritySettings) (source before : List ℕ) → AreWhole s → s.plan.wanted ≤ length source
+    → IsFormattedDevice s source before (formatted_device s (data_blocks s.plan source) before)
+written-formatted s source before whole enough = record {
+  tree = holds-formatted s source before whole enough;
+  superblock = formatted-superblock s (data_blocks s.plan source) before whole;
+  others = formatted-others s source before whole;
+  no_shorter = formatted-no_shorter s (data_blocks s.plan source) before;
+  no_longer = formatted-no_longer s source before whole;
+}
+
+-- ---- and there is no other
+
+-- a byte of the superblock is the same on two formatted devices
+superblock-byte : (s : VeritySettings) (a b : List ℕ) (i : ℕ) → AreWhole s → s.offset ≤ i → i < s.offset + 512
+    → superblock_at s.offset a ≡ superblock_bytes (superblock_for s)
+    → superblock_at s.offset b ≡ superblock_bytes (superblock_for s)
+    → (i < length a) × (get_or a i 0 ≡ get_or b i 0)
+superblock-byte s a b i whole from to of_a of_b =
+    let bytes = superblock_bytes (superblock_for s) in
+    let long : length bytes ≡ 512 = length-superblock_bytes (superblock_for s) (superblock-valid s whole) in
+    let fits : s.offset + 512 ≤ length a = range-within a bytes s.offset 512 (omega arith) long of_a in
+    let n = i - s.offset in
+    let below : n < 512 = omega (arith, from, to) in
+    let back : s.offset + n ≡ i = omega (arith, from) in
+    let byte : (device : List ℕ) → get_or (take 512 (drop s.offset device)) n 0 ≡ get_or device i 0 = λ device.
+    get_or-take 512 (drop s.offset device) n 0 below ∙ get_or-drop s.offset device n 0
+    ∙ ap (λ (k : ℕ). get_or device k 0) back in
+    (omega (arith, fits, to), sym (byte a) ∙ ap (λ (xs : List ℕ). get_or xs n 0) (of_a ∙ sym of_b) ∙ byte b)
+
+-- and so is each byte that is written
+written-same : (s : VeritySettings) (source before a b : List ℕ) → AreWhole s
+    → IsFormattedDevice s source before a → IsFormattedDevice s source before b → (i : ℕ) → is_written s i ≡ true
+    → (i < length a) × (get_or a i 0 ≡ get_or b i 0)
+written-same s source before a b whole of_a of_b i hit =
+    elim (one_true _ _ hit) [
+      | inl top ↦
+          let both = two_true s.superblock (is_within s.offset (s.offset + 512) i) top in
+          let within = within_true s.offset (s.offset + 512) i both.1 in
+          superblock-byte s a b i whole within.0 within.1 (of_a.superblock both.0) (of_b.superblock both.0)
+      | inr tree ↦
+          let within =
+          within_true (s.plan.base * s.plan.settings.hash_block) (end_place_of s.plan * s.plan.settings.hash_block) i
+          tree in
+          tree-bytes s.plan source a b (root_above s source) i whole.planned of_a.tree of_b.tree within.0 within.1
+    ]
+
+formatted-most : (s : VeritySettings) (source before a b : List ℕ) → AreWhole s → IsFormattedDevice s source before a
+    → IsFormattedDevice s source before b → length a ≤ length b
+formatted-most s source before a b whole of_a of_b =
+    of_a.no_longer (length b) of_b.no_shorter (λ j past. by_test j past (is_written s j) refl)
+  where
+    by_test : (j : ℕ) → length b ≤ j → (hit : Bool) → is_written s j ≡ hit → is_written s j ≡ false
+    by_test j past false miss = miss
+    by_test j past true hit =
+        let same = written-same s source before b a whole of_b of_a j hit in
+        absurd (omega (arith, past, same.0))
+
+-- two devices that are formatted alike are the same
+pub formatted-same : (s : VeritySettings) (source before a b : List ℕ) → AreWhole s
+    → IsFormattedDevice s source before a → IsFormattedDevice s source before b → a ≡ b
+formatted-same s source before a b whole of_a of_b =
+    let long : length a ≡ length b =
+    omega (
+      arith,
+      formatted-most s source before a b whole of_a of_b,
+      formatted-most s source before b a whole of_b of_a,
+    ) in
+    ext_get_or 0 a b long (λ i below. by_test i (is_written s i) refl)
+  where
+    by_test : (i : ℕ) (hit : Bool) → is_written s i ≡ hit → get_or a i 0 ≡ get_or b i 0
+    by_test i true hit = (written-same s source before a b whole of_a of_b i hit).1
+    by_test i false miss = of_a.others i miss ∙ sym (of_b.others i miss)

@@ -1,3 +1,4 @@
 pub mod PrintingLemmas
 pub mod FormattedLemmas
+pub mod AcceptedLemmas
 pub mod ProgramLemmas

@@ -1,12 +1,13 @@
 -- What a command's run leaves in its writers, by how it ended.
-use Rattle.std.proofs.Common.{◌≡◌, ◌∙◌, ◌≤◌, ℕ, zero, suc, arith, append-nil, ap, refl, sym, List, [], ◌++◌, take, Option, Some, None, Result, Ok, Err}
+use Rattle.std.proofs.Common.{◌≡◌, ◌∙◌, ◌≤◌, ℕ, zero, suc, arith, append-nil, ap, refl, sym, List, [], ◌++◌, take}
+use Rattle.std.proofs.Common.{Option, Some, None, Result, Ok, Err}
 use Rattle.std.specs.Io.KnownBytes.{Appends, Keeps}
 use Rattle.command_line.specs.Printing.{AppendsPrefix}
 use Rattle.verity_io.specs.Counting.{Change}
 use Rattle.veritysetup.specs.Options.VeritySettings.{VeritySettings}
 use Rattle.veritysetup.specs.Runs.Format.{FormatRun, PrintsReport, fault_status, fault_message}
 use Rattle.veritysetup.specs.Runs.Outcomes.{message_of, status_of}
-use Rattle.veritysetup.specs.Texts.Reports.{TextChange}
+use Rattle.veritysetup.specs.Texts.TextChanges.{TextChange}
 use Rattle.veritysetup.specs.Program.CommandRuns.{CommandRun, Grows}
 use Rattle.veritysetup.specs.declared.runs.format.FormatFault.{FormatFault}
 use Rattle.veritysetup.specs.declared.runs.format.FormatFault.TheVariants.{Store, Build, Superblock, Report}

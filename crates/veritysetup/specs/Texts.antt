@@ -2,4 +2,5 @@
 pub mod Messages
 pub mod ProgramMessages
 pub mod Reports
+pub mod TextChanges
 pub mod ReportSteps

@@ -1,19 +1,18 @@
 -- A run of `fsverity digest` over files, one after another (fsverity(1), "fsverity digest"): a line for each, up to the
 -- first that fails.
-use Rattle.std.specs.Prelude.{◌≡◌, ◌⊎◌, ℕ, zero, suc, ◌+◌, ◌<◌, ◌≤◌, Bool, true, false, not, List, [], ◌++◌, length, take, Option, Some, None, slice_get, slice_index_or}
+use Rattle.std.specs.Prelude.{◌≡◌, ◌⊎◌, ℕ, ◌+◌, ◌<◌, ◌≤◌, Bool, true, false, not, List, [], ◌++◌, length, take, Option}
+use Rattle.std.specs.Prelude.{Some, None, slice_get, slice_index_or}
 use Rattle.std.specs.List.{prefix_len}
 use Rattle.std.specs.Io.KnownBytes.{Appends}
 use Rattle.command_line.specs.Printing.{AppendsPrefix}
 use Rattle.verity_io.specs.Counting.{Counts, Rose}
-use Rattle.verity_format.specs.Descriptors.{digest_of_file}
-use Rattle.verity_plan.specs.Settings.{Settings, digest_len}
-use Rattle.verity_tree.specs.Levels.{root_of_file}
-use Rattle.fsverity.specs.Runs.FileDigest.{descriptor_of, fault_of_source, is_too_large}
-use Rattle.fsverity.specs.Texts.Lines.{line}
+use Rattle.verity_plan.specs.Settings.{Settings}
+use Rattle.fsverity.specs.Runs.FileDigest.{fault_of_source}
+use Rattle.fsverity.specs.Runs.Digested.{is_too_large, DigestInput, IsDigestAt, line_at, AreLines}
 use Rattle.fsverity.specs.Texts.Messages.{run_fault_message}
 use Rattle.fsverity.specs.Openers.Opening.{OpenerChange}
-use Rattle.fsverity.specs.declared.runs.digest_fault.DigestFault.TheVariants.{TooLarge, SourceShort, SourceFailed, DeviceFailed, Memory}
-use Rattle.fsverity.specs.declared.texts.digest_lines.Form.{Form}
+use Rattle.fsverity.specs.declared.runs.digest_fault.DigestFault.TheVariants.{TooLarge, SourceShort, SourceFailed}
+use Rattle.fsverity.specs.declared.runs.digest_fault.DigestFault.TheVariants.{DeviceFailed, Memory}
 use Rattle.fsverity.specs.declared.runs.run_fault.RunFault.{RunFault}
 use Rattle.fsverity.specs.declared.runs.run_fault.RunFault.TheVariants.{NotOpened, Digest, NotWritten}
 
@@ -46,34 +45,6 @@ HasReason s opener f (Digest (SourceFailed i)) =
 HasReason s opener f (Digest (DeviceFailed level block)) = ⊥
 HasReason s opener f (Digest Memory) = opener.told → f < first_without_digest s opener.files
 HasReason s opener f NotWritten = opener.told → f < first_without_digest s opener.files
-
--- what a run gets beside its files: the settings, the form of the lines, and the files' names
-pub record DigestInput : Type 0 where
-  pub settings : Settings
-  pub form : Form
-  pub names : List (List ℕ)
-
--- the digest of a file that is not too large, made of a root hash of the settings' length; if the files are told, the
--- file of this index is there, and size and root hash are its own
-pub record IsDigestAt (s : Settings) (told : Type 0) (files : List (Option (List ℕ))) (i : ℕ) (digest : List ℕ)
-    : Type 0 where
-  pub size : ℕ
-  pub fits : is_too_large s size ≡ false
-  pub root : List ℕ
-  pub root_length : length root ≡ digest_len s
-  pub digest_is : digest ≡ digest_of_file (descriptor_of s size root)
-  pub of_file : told → (bytes : List ℕ) × ((slice_get files i ≡ Some (Some bytes)) × (size ≡ length bytes))
-      × (root ≡ root_of_file s size bytes)
-
--- the line of a digest, with the name of this index
-abbrev pub line_at : DigestInput → ℕ → List ℕ → List ℕ
-line_at run i digest = line run.form run.settings.algorithm digest (slice_index_or run.names i [])
-
--- the text is the lines of the files before this index, in order
-abbrev pub AreLines : DigestInput → Type 0 → List (Option (List ℕ)) → ℕ → List ℕ → Type 0
-AreLines run told files zero text = text ≡ []
-AreLines run told files (suc f) text = (before digest : List ℕ) × AreLines run told files f before
-    × IsDigestAt run.settings told files f digest × (text ≡ before ++ line_at run f digest)
 
 -- what is written of the line of file f, at which a run ended: if a write failed its first bytes, fewer than all, and
 -- otherwise nothing

@@ -1,27 +1,22 @@
 -- The file digest of fs-verity (Linux kernel, fs-verity page, "fs-verity descriptor" and "Merkle tree"), and the answer
 -- of making one of a source's bytes.
-use Rattle.std.specs.Prelude.{◌≡◌, ℕ, ◌+◌, ◌*◌, ◌/◌, ◌<◌, ◌≤◌, ◌==◌, ◌&&◌, min, Bool, true, false, not, List, [], length, Option, Some, None, IsNone, MatchOption, Result, Ok, Err, MatchResult, is_ok, nat_lt, if◌then◌else◌}
-use Rattle.verity_format.specs.Descriptors.{DescriptorFields, descriptor_bytes, digest_of_file}
+use Rattle.std.specs.Prelude.{◌≡◌, ℕ, ◌+◌, ◌*◌, ◌/◌, ◌<◌, ◌≤◌, ◌==◌, min, Bool, true, false, List, [], length, Option}
+use Rattle.std.specs.Prelude.{Some, None, IsNone, MatchOption, Result, Ok, Err, MatchResult, if◌then◌else◌}
+use Rattle.verity_format.specs.Descriptors.{descriptor_bytes, digest_of_file}
 use Rattle.verity_io.specs.Reading.{HasRead}
-use Rattle.verity_tree.specs.Levels.{data_blocks, root, root_of_file}
+use Rattle.verity_tree.specs.Levels.{data_blocks, root_of_file}
 use Rattle.verity_tree.specs.Building.{BuildsOnDevice}
-use Rattle.verity_tree.specs.TreeOnDevice.{tree_on_device}
+use Rattle.verity_tree.specs.TreeWriting.{tree_on_device}
 use Rattle.verity_tree.specs.Reading.{ReadsUpTo}
 use Rattle.verity_tree.specs.declared.building.BuildFault.{BuildFault}
-use Rattle.verity_tree.specs.declared.building.BuildFault.TheVariants as build
-use Rattle.verity_plan.specs.Plans.{Planned, block_count, plan_for_bytes}
+use Rattle.verity_plan.specs.Plans.{plan_of_file}
 use Rattle.verity_plan.specs.Settings.{Settings, digest_len}
 use Rattle.fsverity.specs.declared.runs.digest_fault.DigestFault.{DigestFault}
-use Rattle.fsverity.specs.declared.runs.digest_fault.DigestFault.TheVariants.{TooLarge, SourceShort, SourceFailed, DeviceFailed, Memory}
+use Rattle.fsverity.specs.declared.runs.digest_fault.DigestFault.TheVariants.{TooLarge, SourceShort, SourceFailed}
+use Rattle.fsverity.specs.declared.runs.digest_fault.DigestFault.TheVariants.{DeviceFailed, Memory}
 use Rattle.fsverity.specs.declared.runs.file_digest.FileDigest.{FileDigest}
-
--- the descriptor of so many bytes with this root hash
-abbrev pub descriptor_of : Settings → ℕ → List ℕ → DescriptorFields
-descriptor_of s size root = record { tree = s; size = size; root = root }
-
--- the plan of a file's tree, which has its device to itself
-abbrev pub plan_of_file : Settings → ℕ → Planned
-plan_of_file s size = record { settings = s; blocks = block_count s size; wanted = size; base = 0 }
+use Rattle.fsverity.specs.Runs.Digested.{descriptor_of}
+use Rattle.verity_tree.specs.declared.building.BuildFault.TheVariants as build
 
 -- a device with the tree of the first size bytes; an empty file has none
 abbrev pub with_tree : Settings → ℕ → List ℕ → List ℕ → List ℕ
@@ -45,10 +40,6 @@ pub record IsDigestOfSource (s : Settings) (size : ℕ) (told : Type 0) (bytes :
 -- the descriptor of the first size bytes, and the file digest
 abbrev pub IsFileDigest : Settings → ℕ → List ℕ → FileDigest → Type 0
 IsFileDigest s size bytes made = IsDigestOfRoot s size (root_of_file s size bytes) made
-
--- there is data, and no plan for it
-abbrev pub is_too_large : Settings → ℕ → Bool
-is_too_large s size = nat_lt 0 size && not (is_ok (plan_for_bytes s size 0))
 
 -- the fault of building the tree, if it is one
 abbrev pub build_fault : DigestFault → Option BuildFault

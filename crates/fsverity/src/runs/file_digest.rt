@@ -1,5 +1,5 @@
 //! The digest of a file.
-ghost use Rattle.std.specs.Prelude.{◌≡◌, ◌↔◌, ◌<◌, ℕ, length, false, IsTrue, IsOk, IfOk, IfErr, Result};
+ghost use Rattle.std.specs.Prelude.{◌≡◌, ◌↔◌, ◌<◌, length, false, IsTrue, IsOk, IfOk, IfErr};
 ghost use Rattle.verity_hash.specs.declared.salting.SaltRule.TheVariants.{PaddedBefore};
 ghost use Rattle.fsverity.specs.declared.runs.digest_fault.DigestFault.TheVariants.{TooLarge};
 
@@ -20,8 +20,9 @@ pub struct FileDigest {
 
 ghost use Rattle.verity_plan.specs.Settings.{digest_len};
 ghost use Rattle.verity_io.specs.Counting.{Counts};
-ghost use Rattle.fsverity.specs.Runs.FileDigest.{GivesDigest, ComesBeforeReading, IsDigestOfSource, IsDigestOfRoot, Stands};
-ghost use Rattle.fsverity.specs.Runs.FileDigest.{device_failed, is_too_large, source_failed};
+ghost use Rattle.fsverity.specs.Runs.FileDigest.{GivesDigest, ComesBeforeReading, IsDigestOfSource, IsDigestOfRoot};
+ghost use Rattle.fsverity.specs.Runs.FileDigest.{Stands, device_failed, source_failed};
+ghost use Rattle.fsverity.specs.Runs.Digested.{is_too_large};
 ghost use Rattle.fsverity.specs.Runs.DigestSteps.{GivesRoot};
 
 /// The digest of the first `size` bytes of a source, which are read once: the hash of the file's descriptor (Linux

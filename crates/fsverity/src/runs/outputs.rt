@@ -3,9 +3,10 @@ ghost use Rattle.std.specs.Prelude.{◌≡◌, ◌↔◌, ◌⊎◌, length, fal
 ghost use Rattle.verity_hash.specs.declared.salting.SaltRule.TheVariants.{PaddedBefore};
 ghost use Rattle.verity_plan.specs.Settings.{digest_len};
 ghost use Rattle.verity_io.specs.Counting.{Counts, change};
-ghost use Rattle.fsverity.specs.Runs.FileDigest.{GivesDigest, IsDigestOfSource, device_failed, is_too_large, source_failed};
-ghost use Rattle.fsverity.specs.Runs.Outputs.{IsWritten, OutputRun, Reads, WritesOutputs, WritesTree};
-ghost use Rattle.fsverity.specs.Runs.Outputs.{digest_result, output_change, output_task};
+ghost use Rattle.fsverity.specs.Runs.FileDigest.{GivesDigest, IsDigestOfSource, device_failed, source_failed};
+ghost use Rattle.fsverity.specs.Runs.Digested.{is_too_large};
+ghost use Rattle.fsverity.specs.Runs.Outputs.{IsWritten, OutputRun, Reads, WritesOutputs, WritesTree, digest_result};
+ghost use Rattle.fsverity.specs.Runs.Outputs.{output_change, output_task};
 ghost use Rattle.fsverity.specs.declared.runs.digest_fault.DigestFault.TheVariants.{TooLarge};
 
 use crate::texts::line_printing::print_line;

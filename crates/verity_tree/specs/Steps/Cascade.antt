@@ -4,8 +4,10 @@ use Rattle.std.specs.Prelude.{◌≡◌, ◌⊎◌, ℕ, ◌+◌, ◌/◌, ◌%�
 use Rattle.verity_hash.specs.declared.digest.Digest.{Digest}
 use Rattle.verity_plan.specs.Settings.{Settings, hash, fan}
 use Rattle.verity_tree.specs.ClosingOrder.{closing_with, closes, first_closing}
-use Rattle.verity_tree.specs.TreeOnDevice.{tree_block, device_with, stored_block}
-use Rattle.verity_plan.specs.Plans.{Planned, start_byte_of, level_count_of}
+use Rattle.verity_tree.specs.TreeOnDevice.{tree_block, stored_block}
+use Rattle.verity_tree.specs.TreeWriting.{device_with}
+use Rattle.verity_plan.specs.Plans.{Planned, start_byte_of}
+use Rattle.verity_plan.specs.PlanCounts.{level_count_of}
 use Rattle.verity_tree.specs.declared.pass.cascade.Stop.{Stop}
 use Rattle.verity_tree.specs.declared.pass.closed_block.Task.{Task}
 use Rattle.verity_tree.specs.Steps.ClosedBlocks.{IsHashBlockFault, call_failed, closed_block}

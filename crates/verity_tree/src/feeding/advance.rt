@@ -1,6 +1,6 @@
 //! One step of a tree that is built as pieces of its data come.
 ghost use Rattle.std.specs.Prelude.{◌≡◌, ◌⊎◌, ℕ, ◌+◌, ◌*◌, ◌<◌, ◌≤◌, ◌==◌, List, length, take, true};
-ghost use Rattle.verity_plan.specs.Plans.{level_count_of};
+ghost use Rattle.verity_plan.specs.PlanCounts.{level_count_of};
 ghost use Rattle.verity_tree.specs.Levels.{data_blocks};
 ghost use Rattle.verity_plan.specs.Settings.{digest_len};
 ghost use Rattle.verity_tree.specs.Steps.Feeding.{Climbs, EndsDataBlock, FeedsOn, Stands};

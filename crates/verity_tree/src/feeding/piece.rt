@@ -1,11 +1,10 @@
 //! Bytes of a piece that are taken: whole data blocks from where they lie, up to eight side by side, or what a data
 //! block still wants.
 ghost use Rattle.std.specs.Prelude.{◌≡◌, ℕ, ◌+◌, ◌*◌, ◌/◌, ◌<◌, ◌≤◌, ◌++◌, List, length, take};
-ghost use Rattle.verity_plan.specs.Plans.{level_count_of};
+ghost use Rattle.verity_plan.specs.PlanCounts.{level_count_of};
 ghost use Rattle.verity_plan.specs.Settings.{fan};
-ghost use Rattle.verity_tree.specs.ClosingOrder.{closed_after};
+ghost use Rattle.verity_tree.specs.ClosingOrder.{closed_after, blocks_before};
 ghost use Rattle.verity_tree.specs.Steps.Feeding.{HasFed, IsSettled, first_blocks};
-ghost use Rattle.verity_tree.specs.ClosingOrder.{blocks_before};
 ghost use Rattle.verity_tree.specs.Steps.OpenBlocks.{HasOpenBlocks};
 
 use crate::feeding::current::{fill_current, keep_digest};

@@ -1,6 +1,6 @@
 //! Steps until a hash block closes, all bytes of a piece are taken, or all open blocks are closed.
 ghost use Rattle.std.specs.Prelude.{◌≡◌, ◌⊎◌, ℕ, ◌+◌, ◌*◌, ◌<◌, ◌≤◌, ◌++◌, List, length, take, true, false};
-ghost use Rattle.verity_plan.specs.Plans.{level_count_of};
+ghost use Rattle.verity_plan.specs.PlanCounts.{level_count_of};
 ghost use Rattle.verity_tree.specs.Levels.{data_blocks, root};
 ghost use Rattle.verity_tree.specs.Steps.Feeding.{FeedsOn, HasFed, Stands};
 

@@ -6,7 +6,8 @@ ghost use Rattle.verity_tree.specs.Steps.Cascade.{Carries, CarriesCompared, Carr
 ghost use Rattle.verity_tree.specs.Steps.Cascade.{EndsBlock, StepsLevel, carry_failed, step_failed};
 ghost use Rattle.verity_tree.specs.declared.pass.closed_block.Task.TheVariants.{Compare};
 ghost use Rattle.verity_tree.specs.Steps.OpenBlocks.{HasOpenBlocks, arrival, level_digest};
-ghost use Rattle.verity_plan.specs.Plans.{Planned, HasBlock, level_count_of};
+ghost use Rattle.verity_plan.specs.Plans.{Planned, HasBlock};
+ghost use Rattle.verity_plan.specs.PlanCounts.{level_count_of};
 ghost use Rattle.verity_plan.specs.Settings.{digest_len, fan};
 
 use crate::pass::closed_block::{HashBlockFault, Job, write_or_compare};

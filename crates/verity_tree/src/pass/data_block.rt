@@ -2,7 +2,7 @@
 ghost use Rattle.std.specs.Prelude.{◌≡◌, ℕ, ◌+◌, ◌*◌, ◌-◌, ◌<◌, ◌≤◌, ◌++◌, List, length, take, replicate, IfOk};
 ghost use Rattle.verity_io.specs.Counting.{Counts};
 ghost use Rattle.verity_io.specs.Reading.{HasRead};
-ghost use Rattle.verity_plan.specs.Plans.{level_count_of};
+ghost use Rattle.verity_plan.specs.PlanCounts.{level_count_of};
 ghost use Rattle.verity_plan.specs.Settings.{digest_len};
 ghost use Rattle.verity_tree.specs.Reading.{bytes_of};
 ghost use Rattle.verity_tree.specs.Steps.DataBlocks.{ReadsBlock, TakesDataBlock, read_failed};

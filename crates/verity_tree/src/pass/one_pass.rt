@@ -1,9 +1,9 @@
 //! One pass over the data, with one open block a level.
 ghost use Rattle.std.specs.Prelude.{◌≡◌, ℕ, ◌+◌, ◌*◌, ◌<◌, ◌≤◌, List, length, IfOk};
 ghost use Rattle.verity_io.specs.Counting.{Counts};
-ghost use Rattle.verity_tree.specs.Steps.OnePass.{Passes, PassesCompared, PassesOnDevice, device_failed};
-ghost use Rattle.verity_tree.specs.Steps.OnePass.{source_failed};
-ghost use Rattle.verity_plan.specs.Plans.{IsPlanned, Planned, level_count_of, store_length_of};
+ghost use Rattle.verity_tree.specs.Steps.OnePass.{Passes, PassesCompared, PassesOnDevice, device_failed, source_failed};
+ghost use Rattle.verity_plan.specs.Plans.{IsPlanned, Planned};
+ghost use Rattle.verity_plan.specs.PlanCounts.{level_count_of, store_length_of};
 ghost use Rattle.verity_tree.specs.Levels.{data_blocks};
 ghost use Rattle.verity_tree.specs.Steps.ReadingAhead.{length_of, window_for};
 ghost use Rattle.verity_plan.specs.Settings.{digest_len};

@@ -3,14 +3,14 @@ ghost use Rattle.std.specs.Prelude.{◌≡◌, ℕ, ◌+◌, ◌*◌, ◌<◌, �
 ghost use Rattle.std.specs.Fork.{slice_chunk};
 ghost use Rattle.verity_io.specs.Counting.{Counts};
 ghost use Rattle.verity_io.specs.Reading.{HasRead};
-ghost use Rattle.verity_plan.specs.Plans.{level_count_of};
+ghost use Rattle.verity_plan.specs.PlanCounts.{level_count_of};
 ghost use Rattle.verity_plan.specs.Settings.{digest_len};
 ghost use Rattle.verity_tree.specs.Reading.{bytes_of};
 ghost use Rattle.verity_tree.specs.Steps.DataBlocks.{read_failed};
 ghost use Rattle.verity_tree.specs.Steps.OpenBlocks.{HasOpenBlocks};
-ghost use Rattle.verity_tree.specs.Steps.ReadingAhead.{HoldsDataBlocks, IsAhead, HasNext, IsWithinHashBlock, ReadsCount, IsBatch};
-ghost use Rattle.verity_tree.specs.Steps.ReadingAhead.{ReadsRow, SourceStandsAt, TakesDigest, ahead_failed, next_failed};
-ghost use Rattle.verity_tree.specs.Steps.ReadingAhead.{stop_failed, rows_from, window_for};
+ghost use Rattle.verity_tree.specs.Steps.ReadingAhead.{HoldsDataBlocks, IsAhead, HasNext, IsWithinHashBlock};
+ghost use Rattle.verity_tree.specs.Steps.ReadingAhead.{ReadsCount, IsBatch, ReadsRow, SourceStandsAt, TakesDigest};
+ghost use Rattle.verity_tree.specs.Steps.ReadingAhead.{ahead_failed, next_failed, stop_failed, rows_from, window_for};
 
 use crate::pass::data_block::{BlockFault, read_data_block, take_data_block};
 use verity_hash::Digest;

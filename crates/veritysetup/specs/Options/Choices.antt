@@ -1,13 +1,20 @@
 -- What the options choose, or the first fault, in this order: numbers, hash algorithm, hash type, block sizes, salt,
 -- UUID, hash offset, then whether the data makes a plan and leaves the hash area alone, and the root hash. The order is
 -- this project's own.
-use Rattle.std.specs.Prelude.{ℕ, ◌/◌, ◌&&◌, Bool, not, nat_lt, List, Option, Result, Ok, Err, ok_or, unwrap_or, if◌then◌else◌}
-use Rattle.verity_plan.specs.Settings.{rule_of, type_of_number}
+use Rattle.std.specs.Prelude.{ℕ, ◌/◌, ◌&&◌, Bool, not, nat_lt, List, Option, Result, Ok, Err, ok_or, unwrap_or}
+use Rattle.std.specs.Prelude.{if◌then◌else◌}
+use Rattle.verity_plan.specs.Settings.{rule_of}
+use Rattle.verity_plan.specs.CheckedSettings.{type_of_number}
 use Rattle.command_line.specs.Options.{algorithm_or_default, default_block_size, number_or, ◌>>=◌}
-use Rattle.veritysetup.specs.Options.OptionTexts.{OptionTexts, superblock_uuid, block_size_of, number_if_given, root_if_given, salt_or_random, uuid_or_random}
-use Rattle.veritysetup.specs.declared.options.option_fault.OptionName.TheVariants.{Format, DataBlockSize, HashBlockSize, DataBlocks, HashOffset}
+use Rattle.veritysetup.specs.Options.OptionTexts.{OptionTexts, superblock_uuid, block_size_of, number_if_given}
+use Rattle.veritysetup.specs.Options.OptionTexts.{root_if_given, salt_or_random, uuid_or_random}
+use Rattle.veritysetup.specs.declared.options.option_fault.OptionName.TheVariants.{Format, DataBlockSize, HashBlockSize}
+use Rattle.veritysetup.specs.declared.options.option_fault.OptionName.TheVariants.{DataBlocks, HashOffset}
 use Rattle.veritysetup.specs.declared.options.option_fault.OptionFault.{OptionFault}
-use Rattle.veritysetup.specs.declared.options.option_fault.OptionFault.TheVariants.{BadNumber, UnknownHash, BadHashType, BadBlockSize, BadSalt, BadUuid, BadHashOffset, NoData, TooLarge, Overlap, BadRoot}
+use Rattle.veritysetup.specs.declared.options.option_fault.OptionFault.TheVariants.{BadNumber, UnknownHash, BadHashType}
+use Rattle.veritysetup.specs.declared.options.option_fault.OptionFault.TheVariants.{BadBlockSize, BadSalt, BadUuid}
+use Rattle.veritysetup.specs.declared.options.option_fault.OptionFault.TheVariants.{BadHashOffset, NoData, TooLarge}
+use Rattle.veritysetup.specs.declared.options.option_fault.OptionFault.TheVariants.{Overlap, BadRoot}
 use Rattle.verity_plan.specs.Plans.{Planned, multiple_of, offset_unit, plan_at, superblock_size}
 use Rattle.verity_plan.specs.declared.plan_fault.PlanFault.{PlanFault}
 use Rattle.verity_plan.specs.declared.plan_fault.PlanFault.TheVariants as plan

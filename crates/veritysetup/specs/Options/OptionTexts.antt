@@ -1,11 +1,12 @@
 -- What the texts of options stand for, one by one, with the defaults of veritysetup(8).
-use Rattle.std.specs.Prelude.{ℕ, Bool, true, false, List, [], replicate, take, drop, codes}
-use Rattle.std.specs.Prelude.{Option, Some, None, option_map, if◌then◌else◌}
+use Rattle.std.specs.Prelude.{ℕ, Bool, true, false, List, [], replicate, take, drop, codes, Option, Some, None}
+use Rattle.std.specs.Prelude.{option_map, if◌then◌else◌}
 use Rattle.std.specs.Str.{bytes_eq}
 use Rattle.uuid.specs.Text.{parsed}
 use Rattle.verity_hash.specs.declared.algorithm.Algorithm.{Algorithm}
 use Rattle.verity_hash.specs.declared.salting.SaltRule.TheVariants.{Before}
-use Rattle.verity_plan.specs.Settings.{is_verity_block_size, most_salt}
+use Rattle.verity_plan.specs.Settings.{most_salt}
+use Rattle.verity_plan.specs.CheckedSettings.{is_verity_block_size}
 use Rattle.command_line.specs.Options.{number_of, salt_of}
 use Rattle.veritysetup.specs.Options.Uuids.{random_uuid}
 use Rattle.veritysetup.specs.Options.VeritySettings.{read_root}

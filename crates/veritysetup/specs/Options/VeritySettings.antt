@@ -9,7 +9,7 @@ use Rattle.verity_plan.specs.Settings.{rule_of}
 use Rattle.verity_plan.specs.Plans.{Planned, base_of}
 use Rattle.verity_plan.specs.declared.hash_type.HashType.{HashType}
 
--- the bytes of a root hash
+-- the bytes that the text of a root hash stands for, if it has two digits for each byte of a digest
 abbrev pub read_root : Algorithm → List ℕ → Option (List ℕ)
 read_root algorithm text = if length text == 2 * digest_len_of algorithm then result_ok (decode_of text) else None
 
@@ -23,7 +23,8 @@ pub record VeritySettings : Type 0 where
   pub plan : Planned
   pub root : Option (List ℕ)
 
--- the tree is of the hash type, over whole data blocks, and begins at the offset, or after the superblock there
+-- the tree is of the hash type, over whole data blocks, and begins after the superblock at the offset, or without one at
+-- the hash block that the offset lies in
 pub record PartsAgree (s : VeritySettings) : Type 0 where
   pub of_type : s.plan.settings.rule ≡ rule_of s.hash_type
   pub whole : s.plan.wanted ≡ s.plan.blocks * s.plan.settings.data_block

@@ -1,7 +1,7 @@
 -- What a command's run answers and leaves in its writers, whatever its files do.
 use Rattle.std.specs.Prelude.{◌≡◌, ◌≤◌, ℕ, List, Option}
 use Rattle.std.specs.Io.KnownBytes.{Appends, Keeps}
-use Rattle.veritysetup.specs.Texts.Reports.{TextChange}
+use Rattle.veritysetup.specs.Texts.TextChanges.{TextChange}
 
 -- 0 done, 1 refused, 2 verification failed, 3 out of memory, 4 no random bytes, data that ends too soon, output that
 -- can't be written, or a file that can't be opened, read or written

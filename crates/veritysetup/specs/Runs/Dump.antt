@@ -3,11 +3,14 @@ use Rattle.std.specs.Prelude.{◌≡◌, ℕ, Bool, false, List, Option, None, R
 use Rattle.std.specs.Io.KnownBytes.{Keeps}
 use Rattle.verity_format.specs.Superblocks.{SuperblockFields, IsSuperblock}
 use Rattle.verity_io.specs.Counting.{Change, Counts}
-use Rattle.veritysetup.specs.Texts.Messages.{super_message, unread_superblock_message, memory_message, unwritten_output_message}
+use Rattle.veritysetup.specs.Texts.Messages.{super_message, unread_superblock_message, memory_message}
+use Rattle.veritysetup.specs.Texts.Messages.{unwritten_output_message}
 use Rattle.veritysetup.specs.Runs.Outcomes.{status_of, message_of}
-use Rattle.veritysetup.specs.Texts.Reports.{TextChange, report_text, uuid_text}
+use Rattle.veritysetup.specs.Texts.Reports.{report_text, uuid_text}
+use Rattle.veritysetup.specs.Texts.TextChanges.{TextChange}
 use Rattle.command_line.specs.Printing.{AppendsPrefix, Prints}
-use Rattle.veritysetup.specs.Runs.HashDevice.{superblock_at, ReadsSuperblock, is_unread}
+use Rattle.veritysetup.specs.Runs.HashDevice.{superblock_at}
+use Rattle.veritysetup.specs.Runs.StoredSuperblock.{ReadsSuperblock, is_unread}
 use Rattle.veritysetup.specs.declared.runs.dump.DumpFault.{DumpFault}
 use Rattle.veritysetup.specs.declared.runs.dump.DumpFault.TheVariants.{Superblock, Report}
 use Rattle.command_line.specs.declared.printing.print_fault.PrintFault.{PrintFault}

@@ -1,24 +1,27 @@
 -- How a run of format ends (veritysetup(8), "format"; statuses and messages are this project's own). If it stops at a
 -- fault, nothing that comes later has been done: the superblock is written after all hash blocks, the report last.
-use Rattle.std.specs.Prelude.{◌≡◌, ℕ, Bool, true, false, List, Option, Some, Result, Ok, Err, if◌then◌else◌}
+use Rattle.std.specs.Prelude.{◌≡◌, ℕ, Bool, true, false, List, Result, Ok, Err, if◌then◌else◌, Option}
 use Rattle.std.specs.Io.KnownBytes.{Appends, Keeps}
 use Rattle.verity_io.specs.Counting.{Change, Counts}
-use Rattle.verity_io.specs.Writing.{Spoiled}
+use Rattle.verity_io.specs.Writing.{put, Spoiled}
 use Rattle.verity_plan.specs.Plans.{superblock_size}
 use Rattle.verity_tree.specs.Building.{Builds, BuildsOnDevice}
 use Rattle.verity_io.specs.Reading.{HasRead}
-use Rattle.verity_tree.specs.TreeOnDevice.{tree_on_device}
-use Rattle.verity_tree.specs.Building as building
-use Rattle.verity_tree.specs.Levels.{root, data_blocks}
+use Rattle.verity_tree.specs.TreeWriting.{tree_on_device}
+use Rattle.verity_tree.specs.Levels.{data_blocks}
 use Rattle.veritysetup.specs.Options.VeritySettings.{VeritySettings}
-use Rattle.veritysetup.specs.Runs.HashDevice.{formatted_device, superblock_for}
-use Rattle.veritysetup.specs.Texts.Messages.{build_message, memory_message, unwritten_output_message, unwritten_superblock_message}
+use Rattle.veritysetup.specs.Runs.HashDevice.{superblock_for}
+use Rattle.veritysetup.specs.Texts.Messages.{build_message, memory_message, unwritten_output_message}
+use Rattle.veritysetup.specs.Texts.Messages.{unwritten_superblock_message}
 use Rattle.veritysetup.specs.Runs.Outcomes.{status_of, message_of}
-use Rattle.veritysetup.specs.Texts.Reports.{TextChange, no_uuid_text, report_text, uuid_text}
+use Rattle.veritysetup.specs.Texts.TextChanges.{TextChange}
 use Rattle.command_line.specs.Printing.{AppendsPrefix, Prints}
 use Rattle.veritysetup.specs.declared.runs.format.FormatFault.{FormatFault}
-use Rattle.veritysetup.specs.declared.runs.format.FormatFault.TheVariants.{Store, Build, Superblock, Report}
+use Rattle.veritysetup.specs.declared.runs.format.FormatFault.TheVariants.{Superblock, Store, Build, Report}
 use Rattle.command_line.specs.declared.printing.print_fault.PrintFault.TheVariants.{Memory, Output}
+use Rattle.veritysetup.specs.Runs.Formatted.{root_above, format_report}
+use Rattle.verity_format.specs.Superblocks.{superblock_bytes}
+use Rattle.verity_tree.specs.Building as building
 
 -- the status of a fault
 abbrev pub fault_status : FormatFault → ℕ
@@ -36,17 +39,13 @@ fault_message Superblock = unwritten_superblock_message
 fault_message (Report Memory) = memory_message
 fault_message (Report (Output count)) = unwritten_output_message
 
--- the root hash of the tree above some data
-abbrev pub root_above : VeritySettings → List ℕ → List ℕ
-root_above s bytes = root s.plan.settings (data_blocks s.plan bytes)
+-- a device with the superblock at the hash offset, if there is one
+abbrev pub with_superblock : VeritySettings → List ℕ → List ℕ
+with_superblock s device = if s.superblock then put device s.offset (superblock_bytes (superblock_for s)) else device
 
--- the text in the report's line of the UUID
-abbrev pub report_uuid : VeritySettings → List ℕ
-report_uuid s = if s.superblock then uuid_text s.uuid else no_uuid_text
-
--- the report of format, with this root hash
-abbrev pub format_report : VeritySettings → List ℕ → List ℕ → List ℕ
-format_report s path root = report_text path (report_uuid s) (superblock_for s) (Some root)
+-- the device with the whole tree above these data blocks, and the superblock
+abbrev pub formatted_device : VeritySettings → List (List ℕ) → List ℕ → List ℕ
+formatted_device s blocks before = with_superblock s (tree_on_device s.plan blocks before)
 
 -- how much was read of the source: once the tree is built, the bytes of all data blocks
 abbrev pub Reads : VeritySettings → Result (Unit {0}) FormatFault → List ℕ → List ℕ → Type 0
@@ -93,9 +92,3 @@ pub record FormatRun (s : VeritySettings) (path : List ℕ) (status : ℕ) (sour
   pub message : AppendsPrefix (message_of fault_message outcome) texts.msgs_before texts.msgs_after
   pub source_counted : Counts (source_failed outcome) source.failures_before source.failures_after
   pub device_counted : Counts (device_failed outcome) device.failures_before device.failures_after
-
--- what status 0 stands for: the data was read once, the device is formatted, and the report with the root is printed
-pub record IsFormatted (s : VeritySettings) (path : List ℕ) (source device : Change) (texts : TextChange) : Type 0 where
-  pub read : HasRead s.plan.wanted source.before source.after
-  pub stands : device.after ≡ formatted_device s (data_blocks s.plan source.before) device.before
-  pub printed : Appends texts.out_before texts.out_after (format_report s path (root_above s source.before))

@@ -1,21 +1,18 @@
 -- How a run of verify ends (veritysetup(8), "verify"; statuses and messages are this project's own).
-use Rattle.std.specs.Prelude.{◌≡◌, ℕ, Bool, true, false, List, Option, Some, None, Result, Ok, Err}
+use Rattle.std.specs.Prelude.{◌≡◌, ℕ, Bool, true, false, List, Option, None, Result, Ok, Err}
 use Rattle.verity_format.specs.Superblocks.{SuperblockFields, IsSuperblock}
 use Rattle.verity_io.specs.Counting.{Change, Counts}
-use Rattle.verity_io.specs.Reading.{HasRead}
 use Rattle.verity_plan.specs.Plans.{Planned, plan_at}
 use Rattle.verity_plan.specs.declared.plan_fault.PlanFault.{PlanFault}
 use Rattle.verity_tree.specs.Comparing.{CompareReads, Judges}
-use Rattle.verity_tree.specs.Comparing as comparing
-use Rattle.verity_tree.specs.TreeOnDevice.{HoldsTree}
 use Rattle.verity_tree.specs.declared.comparing.CompareFault.{CompareFault}
-use Rattle.verity_tree.specs.declared.comparing.CompareFault.TheVariants as fault
 use Rattle.veritysetup.specs.Options.VeritySettings.{read_root}
-use Rattle.veritysetup.specs.Texts.Messages.{compare_message, memory_message, option_message, super_message, too_large_message, unread_superblock_message}
+use Rattle.veritysetup.specs.Texts.Messages.{compare_message, memory_message, option_message, super_message}
+use Rattle.veritysetup.specs.Texts.Messages.{too_large_message, unread_superblock_message}
 use Rattle.veritysetup.specs.Runs.Outcomes.{status_of, message_of}
 use Rattle.command_line.specs.Printing.{AppendsPrefix}
-use Rattle.veritysetup.specs.Runs.HashDevice.{ReadsSuperblock, superblock_at, is_unread}
-use Rattle.veritysetup.specs.declared.options.option_fault.OptionFault.TheVariants as option
+use Rattle.veritysetup.specs.Runs.HashDevice.{superblock_at}
+use Rattle.veritysetup.specs.Runs.StoredSuperblock.{ReadsSuperblock, is_unread}
 use Rattle.veritysetup.specs.declared.runs.stored_superblock.StoredFault.TheVariants.{Unread, Refused}
 use Rattle.veritysetup.specs.declared.runs.verify_fault.InputFault.{InputFault}
 use Rattle.veritysetup.specs.declared.runs.verify_fault.InputFault.TheVariants.{Superblock, TooLarge, BadRoot}
@@ -23,6 +20,10 @@ use Rattle.veritysetup.specs.declared.runs.verify_fault.VerifyFault.{VerifyFault
 use Rattle.veritysetup.specs.declared.runs.verify_fault.VerifyFault.TheVariants.{Input, Store, Compare}
 use Rattle.veritysetup.specs.declared.runs.verify_input.VerifyInput.{VerifyInput}
 use Rattle.veritysetup.specs.declared.runs.verify_input.VerifyInput.TheVariants.{Stored, Given}
+use Rattle.veritysetup.specs.Runs.Verified.{Trusts}
+use Rattle.verity_tree.specs.Comparing as comparing
+use Rattle.verity_tree.specs.declared.comparing.CompareFault.TheVariants as fault
+use Rattle.veritysetup.specs.declared.options.option_fault.OptionFault.TheVariants as option
 
 -- the status of a comparison that ends with a fault
 abbrev pub compare_status : CompareFault → ℕ
@@ -58,30 +59,19 @@ fault_message (Input fault) = input_message fault
 fault_message Store = memory_message
 fault_message (Compare fault) = compare_message fault
 
--- the plan of the tree that a superblock at this offset describes: its hash blocks stand after the superblock
-abbrev pub plan_of : ℕ → SuperblockFields → Result Planned PlanFault
-plan_of offset v = plan_at v.tree v.blocks offset true
-
--- a superblock at this offset and the text of a root hash give this plan and this root hash
-pub record Describes (offset : ℕ) (text device : List ℕ) (plan : Planned) (root : List ℕ) : Type 0 where
-  pub fields : SuperblockFields
-  pub superblock : IsSuperblock (superblock_at offset device) fields
-  pub plan_is : plan_of offset fields ≡ Ok plan
-  pub root_is : read_root fields.tree.algorithm text ≡ Some root
-
 -- the superblock at this offset describes some data, so if there is no plan the hash area is too large
 pub record IsTooLarge (offset : ℕ) (device : List ℕ) : Type 0 where
   pub fields : SuperblockFields
   pub superblock : IsSuperblock (superblock_at offset device) fields
   pub cause : PlanFault
-  pub no_plan : plan_of offset fields ≡ Err cause
+  pub no_plan : plan_at fields.tree fields.blocks offset true ≡ Err cause
 
 -- there is a plan, and the text is no root hash
 pub record IsBadRoot (offset : ℕ) (text device : List ℕ) : Type 0 where
   pub fields : SuperblockFields
   pub superblock : IsSuperblock (superblock_at offset device) fields
   pub plan : Planned
-  pub plan_is : plan_of offset fields ≡ Ok plan
+  pub plan_is : plan_at fields.tree fields.blocks offset true ≡ Ok plan
   pub no_root : read_root fields.tree.algorithm text ≡ None
 
 -- why nothing is compared: the superblock is read, then the plan is made, then the text is read
@@ -89,12 +79,6 @@ abbrev pub RefusesStored : ℕ → List ℕ → List ℕ → InputFault → Type
 RefusesStored offset text device (Superblock cause) = ReadsSuperblock (Err cause) offset device
 RefusesStored offset text device TooLarge = IsTooLarge offset device
 RefusesStored offset text device BadRoot = IsBadRoot offset text device
-
--- what the stored tree is compared by for an input: a superblock and the text of a root hash, or settings with a root
--- hash
-abbrev pub Trusts : VerifyInput → List ℕ → Planned → List ℕ → Type 0
-Trusts (Stored offset text) device plan root = Describes offset text.now device plan root
-Trusts (Given settings) device plan root = (plan ≡ settings.now.plan) × (settings.now.root ≡ Some root)
 
 -- why nothing is compared for an input
 abbrev pub Refuses : VerifyInput → List ℕ → InputFault → Type 0
@@ -117,15 +101,6 @@ Verifies input device before after (Err (Input fault)) = Refuses input device fa
 Verifies input device before after (Err Store) =
     ((plan : Planned) × (root : List ℕ) × Trusts input device plan root) × (after ≡ before)
 Verifies input device before after (Err (Compare fault)) = Compares input device before after (Err fault)
-
--- what status 0 stands for: the device holds the whole tree above the data, of which just the wanted bytes were read,
--- and the root hash is the tree's
-pub record IsVerified (input : VerifyInput) (device before after : List ℕ) : Type 0 where
-  pub plan : Planned
-  pub root : List ℕ
-  pub trusted : Trusts input device plan root
-  pub holds : HoldsTree plan device before root
-  pub read : HasRead plan.wanted before after
 
 -- the device could not be read at the superblock
 abbrev pub input_unread : InputFault → Bool

@@ -1,7 +1,8 @@
 -- What a step of verify answers before the comparison.
 -- For the private steps; not needed to read a public contract.
 use Rattle.std.specs.Prelude.{ℕ, Bool, false, List, Result, Ok, Err}
-use Rattle.veritysetup.specs.Runs.Verify.{Trusts, Refuses, Describes, RefusesStored, input_unread}
+use Rattle.veritysetup.specs.Runs.Verify.{Refuses, RefusesStored, input_unread}
+use Rattle.veritysetup.specs.Runs.Verified.{Trusts, Describes}
 use Rattle.veritysetup.specs.declared.runs.trusted_tree.TrustedTree.{TrustedTree}
 use Rattle.veritysetup.specs.declared.runs.verify_fault.InputFault.{InputFault}
 use Rattle.veritysetup.specs.declared.runs.verify_input.VerifyInput.{VerifyInput}

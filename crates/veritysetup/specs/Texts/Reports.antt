@@ -1,4 +1,4 @@
--- The report of format and dump, modelled on what veritysetup(8) prints, and what contracts see of what is printed.
+-- The report of format and dump, modelled on what veritysetup(8) prints.
 use Rattle.std.specs.Prelude.{ℕ, ◌-◌, List, [], ◌∷◌, ◌++◌, length, replicate, codes, Option, Some, None}
 use Rattle.std.specs.Fmt.{decimal}
 use Rattle.std.specs.List.{concat}
@@ -45,19 +45,3 @@ report_text path uuid v root = title path
     ++ report_line (codes "Hash algorithm:") (name_of v.tree.algorithm)
     ++ report_line (codes "Salt:") (salt_text v.tree.salt)
     ++ root_line root
-
--- what the writers of the report and of the message hold before and after, if that is known
-pub record TextChange : Type 0 where
-  pub out_before : Option (List ℕ)
-  pub out_after : Option (List ℕ)
-  pub msgs_before : Option (List ℕ)
-  pub msgs_after : Option (List ℕ)
-
--- what the writers hold before and after, as these two functions read it
-abbrev pub text_change : {O M : Type 0} → (O → Option (List ℕ)) → (M → Option (List ℕ)) → O → O → M → M → TextChange
-text_change out_contents msgs_contents out_old out_new msgs_old msgs_new = record {
-  out_before = out_contents out_old;
-  out_after = out_contents out_new;
-  msgs_before = msgs_contents msgs_old;
-  msgs_after = msgs_contents msgs_new;
-}

@@ -1,6 +1,6 @@
 //! `veritysetup dump` over the files of a runtime.
 ghost use Rattle.std.specs.Prelude.{◌≡◌, IfErr};
-ghost use Rattle.veritysetup.specs.Texts.Reports.{text_change};
+ghost use Rattle.veritysetup.specs.Texts.TextChanges.{text_change};
 ghost use Rattle.veritysetup.specs.Program.CommandRuns.{CommandRun};
 ghost use Rattle.veritysetup.specs.Program.Refusals.{EndsRefused, line_offset};
 

@@ -2,7 +2,7 @@
 ghost use Rattle.std.specs.Prelude.{◌≡◌};
 ghost use Rattle.std.specs.Io.KnownBytes.{Keeps};
 ghost use Rattle.veritysetup.specs.Program.CommandRuns.{CommandRun, IsStatus};
-ghost use Rattle.veritysetup.specs.Texts.Reports.{text_change};
+ghost use Rattle.veritysetup.specs.Texts.TextChanges.{text_change};
 
 use crate::program::dump::dump_file;
 use crate::program::file_paths::FilePaths;

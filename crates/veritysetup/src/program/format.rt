@@ -5,7 +5,7 @@ ghost use Rattle.verity_tree.specs.Levels.{whole_blocks};
 ghost use Rattle.veritysetup.specs.Options.Choices.{settings_of};
 ghost use Rattle.veritysetup.specs.Texts.Messages.{short_message};
 ghost use Rattle.veritysetup.specs.Options.OptionTexts.{option_texts};
-ghost use Rattle.veritysetup.specs.Texts.Reports.{text_change};
+ghost use Rattle.veritysetup.specs.Texts.TextChanges.{text_change};
 ghost use Rattle.veritysetup.specs.Program.CommandRuns.{CommandRun};
 ghost use Rattle.veritysetup.specs.Program.RandomBytes.{random_bytes};
 ghost use Rattle.veritysetup.specs.Program.Refusals.{EndsRefused};

@@ -3,7 +3,7 @@ ghost use Rattle.std.specs.Prelude.{◌≡◌, IsTrue};
 ghost use Rattle.std.specs.Io.KnownBytes.{Appends};
 ghost use Rattle.verity_io.specs.Counting.{Counts, change};
 ghost use Rattle.veritysetup.specs.Runs.Dump.{DumpRun, DumpsTo, device_failed, fault_status, fault_message};
-ghost use Rattle.veritysetup.specs.Texts.Reports.{text_change};
+ghost use Rattle.veritysetup.specs.Texts.TextChanges.{text_change};
 ghost use Rattle.command_line.specs.Printing.{AppendsPrefix};
 
 use crate::runs::stored_superblock::{StoredFault, stored_superblock};

@@ -1,15 +1,15 @@
 //! The run of format.
-ghost use Rattle.std.specs.Prelude.{◌≡◌, ℕ, List, IfOk, OnOk, OnErr, IsTrue, string_bytes};
+ghost use Rattle.std.specs.Prelude.{◌≡◌, ℕ, List, length, IfOk, OnOk, OnErr, IsTrue, string_bytes};
 ghost use Rattle.std.specs.Io.KnownBytes.{Appends};
 ghost use Rattle.verity_io.specs.Counting.{Counts, CountsFailure, change};
 ghost use Rattle.verity_io.specs.Writing.{Spoiled};
-ghost use Rattle.verity_plan.specs.Plans.{superblock_size};
+ghost use Rattle.verity_plan.specs.Plans.{IsPlanned, superblock_size};
 ghost use Rattle.verity_tree.specs.Levels.{data_blocks};
-ghost use Rattle.veritysetup.specs.Runs.Format.{FormatRun, IsFormatted, PrintsReport, Reads, Writes};
-ghost use Rattle.veritysetup.specs.Runs.Format.{device_failed, fault_status, fault_message, format_report, root_above};
-ghost use Rattle.veritysetup.specs.Runs.Format.{source_failed};
-ghost use Rattle.veritysetup.specs.Runs.HashDevice.{with_superblock};
-ghost use Rattle.veritysetup.specs.Texts.Reports.{text_change};
+ghost use Rattle.veritysetup.specs.Options.VeritySettings.{PartsAgree};
+ghost use Rattle.veritysetup.specs.Runs.Format.{FormatRun, PrintsReport, Reads, Writes, device_failed, fault_status};
+ghost use Rattle.veritysetup.specs.Runs.Format.{fault_message, source_failed, with_superblock};
+ghost use Rattle.veritysetup.specs.Runs.Formatted.{IsFormatted, format_report, root_above};
+ghost use Rattle.veritysetup.specs.Texts.TextChanges.{text_change};
 ghost use Rattle.command_line.specs.Printing.{AppendsPrefix};
 
 use crate::options::settings::Settings;
@@ -141,6 +141,16 @@ fn build_and_report<S: Source, D: Device, O: Write>(
     }
 }
 
+/// What all settings keep to. Called for the proof.
+fn settings_are_whole(settings: &Settings)
+    ensures planned { IsPlanned settings.now.plan }
+    ensures agree { PartsAgree settings.now }
+    ensures uuid { length settings.now.uuid ≡ 16 }
+{
+    let _uuid = settings.uuid();
+    let _blocks = settings.plan().blocks();
+}
+
 /// Makes a hash device for the data of a source: builds the tree and writes it, then the superblock if one is
 /// wanted, and prints a report with the root hash (veritysetup(8), "format"). The answer is the status: 0 done, 3 out
 /// of memory, 4 the source or the device failed, the data is too short, or `out` can't be written. A fault's message
@@ -159,9 +169,8 @@ pub fn run_format<S: Source, D: Device, O: Write, M: Write>(
 
     // Status 0: the device is formatted, the data was read once, the report is printed.
     ensures formatted { result ≡ 0 → S.tells source.old → D.tells device.old → IsFormatted settings.now hash_path.now
-        (change S.tells S.remaining S.failures source.old source.new)
-        (change D.tells D.content D.failures device.old device.new)
-        (text_change O.contents M.contents out.old out.new msgs.old msgs.new) }
+        (S.remaining source.old) (S.remaining source.new) (D.content device.old) (D.content device.new)
+        (O.contents out.old) (O.contents out.new) }
 
     // Each status: one outcome says what became of source, device, out and msgs, and which count of failures rose.
     ensures run { FormatRun settings.now hash_path.now result
@@ -169,6 +178,7 @@ pub fn run_format<S: Source, D: Device, O: Write, M: Write>(
         (change D.tells D.content D.failures device.old device.new)
         (text_change O.contents M.contents out.old out.new msgs.old msgs.new) }
 {
+    settings_are_whole(settings);
     match build_and_report(alloc, settings, hash_path, source, device, out) {
         Ok(()) => 0,
         Err(fault) => {

@@ -1,7 +1,7 @@
 //! The superblock that a hash device holds.
 ghost use Rattle.std.specs.Prelude.{◌≡◌};
 ghost use Rattle.verity_io.specs.Counting.{Counts};
-ghost use Rattle.veritysetup.specs.Runs.HashDevice.{ReadsSuperblock, superblock_unread};
+ghost use Rattle.veritysetup.specs.Runs.StoredSuperblock.{ReadsSuperblock, superblock_unread};
 
 use verity_format::{SuperFault, Superblock, read_superblock};
 use verity_plan::SUPERBLOCK_SIZE;

@@ -1,7 +1,8 @@
 //! The run of verify.
 ghost use Rattle.std.specs.Prelude.{◌≡◌};
 ghost use Rattle.verity_io.specs.Counting.{Counts, change};
-ghost use Rattle.veritysetup.specs.Runs.Verify.{IsVerified, Verifies, VerifyRun, device_failed, source_failed};
+ghost use Rattle.veritysetup.specs.Runs.Verify.{Verifies, VerifyRun, device_failed, source_failed};
+ghost use Rattle.veritysetup.specs.Runs.Verified.{IsVerified};
 
 use crate::runs::trusted_tree::{TrustedTree, read_trusted_tree};
 use crate::runs::verify_fault::VerifyFault;

@@ -1,5 +1,5 @@
 use Rattle.std.proofs.Common.{ℕ, ◌*◌, arith, ap}
-use Rattle.verity_plan.specs.Plans.{level_count_of}
+use Rattle.verity_plan.specs.PlanCounts.{level_count_of}
 use Rattle.verity_plan.proofs.PlanLemmas.{store_few}
 use Rattle.read_one_block.proofs.image.path_length.Goals as goal
 

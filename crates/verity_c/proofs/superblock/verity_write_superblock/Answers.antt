@@ -1,5 +1,5 @@
 use Rattle.std.proofs.Common.{◌≡◌, None, sym}
-use Rattle.verity_format.specs.Superblocks.{superblock_of}
+use Rattle.verity_format.specs.CheckedSuperblocks.{superblock_of}
 use Rattle.verity_c.proofs.SuperblockLemmas.{some_superblock}
 use Rattle.verity_c.proofs.superblock.verity_write_superblock.Goals as goal
 

@@ -3,8 +3,11 @@ use Rattle.std.proofs.Common.{◌≡◌, ◌*◌, ◌<◌, nat_le, nat_lt, true,
 use Rattle.std.proofs.lemmas.Bool.Decides.{nat_tests}
 use Rattle.std.proofs.lemmas.Result.{err_from_is_err_and}
 use Rattle.verity_io.specs.Writing.{most_bytes}
-use Rattle.verity_format.specs.Superblocks.{number_at, first_failed, type_tests}
-use Rattle.verity_format.proofs.ReadLemmas.{IsSuperblock-made, superblock_fault-blocks, superblock_fault-settings, superblock_of-none}
+use Rattle.verity_format.specs.Superblocks.{number_at}
+use Rattle.verity_format.specs.CheckedSuperblocks.{first_failed}
+use Rattle.verity_format.specs.SuperblockSteps.{type_tests}
+use Rattle.verity_format.proofs.ReadLemmas.{IsSuperblock-made, superblock_fault-blocks, superblock_fault-settings}
+use Rattle.verity_format.proofs.ReadLemmas.{superblock_of-none}
 use Rattle.verity_format.proofs.reading.read_superblock.Goals as goal
 
 pub returns-in_err-tree-clause-fault : goal.returns-in_err-tree-clause-fault

@@ -1,5 +1,6 @@
 use Rattle.std.proofs.Common.{◌≡◌, ℕ, suc, ◌+◌, ◌<◌, List, length, arith, ap, ◌∙◌}
-use Rattle.verity_plan.specs.Plans.{Planned, level_count_of}
+use Rattle.verity_plan.specs.Plans.{Planned}
+use Rattle.verity_plan.specs.PlanCounts.{level_count_of}
 use Rattle.verity_tree.proofs.LinkLemmas.{accepted-linked, linked-accepted}
 use Rattle.verity_tree.proofs.laws.accepted_links_are_accepted_paths.Goals as goal
 

@@ -1,10 +1,10 @@
-use Rattle.std.proofs.Common.{◌≡◌, ℕ, ◌+◌, ◌-◌, ◌*◌, ◌<◌, min, arith, sym, ap, ◌∙◌, below_more}
-use Rattle.std.proofs.Common.{refl}
+use Rattle.std.proofs.Common.{◌≡◌, ℕ, ◌+◌, ◌-◌, ◌*◌, ◌<◌, min, arith, sym, ap, ◌∙◌, below_more, refl}
 use Rattle.verity_tree.specs.declared.part.Part.TheVariants.{Child}
 use Rattle.std.specs.Prelude.{find, not}
 use Rattle.std.specs.Str.{bytes_eq}
 use Rattle.std.specs.List.{range_with_len}
-use Rattle.verity_plan.specs.Plans.{Planned, size_under}
+use Rattle.verity_plan.specs.Plans.{Planned}
+use Rattle.verity_plan.specs.PlanCounts.{size_under}
 use Rattle.verity_plan.specs.Settings.{fan}
 use Rattle.verity_tree.specs.Verdicts.{digest_in, part_at}
 use Rattle.verity_tree.proofs.VerdictLemmas.{digest-room, find-range, find-range_none, first-child}

@@ -1,19 +1,19 @@
-use Rattle.std.proofs.Common.{ℕ, List, drop, sym, subst}
-use Rattle.verity_format.specs.Superblocks.{IsSuperblock}
-use Rattle.verity_tree.specs.Levels.{data_blocks}
-use Rattle.veritysetup.specs.Runs.HashDevice.{superblock_at, superblock_for}
-use Rattle.veritysetup.specs.Runs.Verify.{IsVerified}
-use Rattle.veritysetup.proofs.FormattedLemmas.{superblock-back, verified-back}
+use Rattle.veritysetup.proofs.AcceptedLemmas.{accepted-back, superblock-back, verified-back}
 use Rattle.veritysetup.proofs.laws.formatted_devices_are_verified.Goals as goal
 
 pub returns-clause-superblock : goal.returns-clause-superblock
-returns-clause-superblock c = λ s path source rest before after texts planned agree uuid has formatted.
-    subst (λ (device : List ℕ). IsSuperblock (superblock_at s.offset device) (superblock_for s)) (sym formatted.stands)
-    (superblock-back s (data_blocks s.plan source) before
-    (record { planned = planned; agree = agree; uuid = uuid }) has)
+returns-clause-superblock c = λ s path source rest before after out out_after planned agree uuid has formatted.
+    superblock-back s source before after (record { planned = planned; agree = agree; uuid = uuid }) formatted.stands has
 
 pub returns-clause-verified : goal.returns-clause-verified
-returns-clause-verified c = λ s path source rest before after bytes texts input planned agree uuid formatted given same.
-    subst (λ (device : List ℕ). IsVerified input device bytes (drop s.plan.wanted bytes)) (sym formatted.stands)
-    (verified-back s input source bytes before
-    (record { planned = planned; agree = agree; uuid = uuid }) formatted.read.enough given same)
+returns-clause-verified c =
+    λ s path source rest before after bytes out out_after input planned agree uuid formatted given same.
+    verified-back s input source bytes before after (record { planned = planned; agree = agree; uuid = uuid })
+    formatted.stands given same
+
+pub returns-clause-accepted : goal.returns-clause-accepted
+returns-clause-accepted c =
+    λ s path source rest before after bytes left out out_after input outcome planned agree uuid formatted given same
+    verifies.
+    accepted-back s source bytes before after left input outcome
+    (record { planned = planned; agree = agree; uuid = uuid }) formatted.stands given same verifies

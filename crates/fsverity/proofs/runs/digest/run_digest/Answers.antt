@@ -1,11 +1,12 @@
-use Rattle.std.proofs.Common.{◌≡◌, ◌+◌, ◌<◌, ℕ, List, [], Some, false, not, length, get_or, ap, refl, ◌∙◌, arith, map, option_map}
+use Rattle.std.proofs.Common.{◌≡◌, ◌+◌, ◌<◌, ℕ, List, [], Some, false, not, length, get_or, ap, refl, ◌∙◌, arith, map}
+use Rattle.std.proofs.Common.{option_map}
 use Rattle.std.proofs.lemmas.List.{length-map}
 use Rattle.std.proofs.lemmas.List.Sums.{prefix_len-le-length}
 use Rattle.std.proofs.lemmas.Option.{get_or_from_slice_get, slice_get-get_or, slice_get-map}
 use Rattle.std.specs.List.{slice_get}
 use Rattle.fsverity.specs.Openers.Opening.{opener_change}
 use Rattle.fsverity.specs.Runs.Digest.{has_digest}
-use Rattle.fsverity.specs.Runs.FileDigest.{is_too_large}
+use Rattle.fsverity.specs.Runs.Digested.{is_too_large}
 use Rattle.command_line.proofs.Prefixes.{appends_nothing}
 use Rattle.verity_format.proofs.KnownLemmas.{appends_twice}
 use Rattle.fsverity.proofs.RunLemmas.{line_more, part_of_line, passes_more, stops_run}

@@ -1,7 +1,8 @@
 use Rattle.std.proofs.Common.{◌≡◌, ◌≤◌, List, ℕ, map}
 use Rattle.std.specs.Io.KnownBytes.{Appends}
 use Rattle.fsverity.specs.Openers.Opening.{SameFiles}
-use Rattle.fsverity.specs.Runs.Digest.{AreLines, first_without_digest}
+use Rattle.fsverity.specs.Runs.Digest.{first_without_digest}
+use Rattle.fsverity.specs.Runs.Digested.{AreLines}
 use Rattle.fsverity.proofs.runs.digest.run_digest.Given as goal
 
 abbrev pub invariant-loop-name : goal.invariant-loop-name

@@ -1,5 +1,6 @@
 use Rattle.std.proofs.Common.{ℕ, ◌*◌, arith, ap, ◌∙◌, subst}
-use Rattle.verity_plan.specs.Plans.{IsPlanned, place_of}
+use Rattle.verity_plan.specs.Plans.{IsPlanned}
+use Rattle.verity_plan.specs.PlanCounts.{place_of}
 use Rattle.verity_plan.proofs.PlanLemmas.{byte-room}
 use Rattle.verity_plan.proofs.plan.Plan.byte.Goals as goal
 

@@ -1,6 +1,6 @@
 use Rattle.std.proofs.Common.{ℕ, ◌<◌, arith, ap, ◌∙◌, refl}
 use Rattle.std.specs.Int.{div_ceil}
-use Rattle.verity_plan.specs.Plans.{size_under}
+use Rattle.verity_plan.specs.PlanCounts.{size_under}
 use Rattle.verity_plan.specs.Settings.{fan}
 use Rattle.verity_plan.proofs.PlanLemmas.{size-more}
 use Rattle.verity_plan.proofs.plan.Plan.level_size.Goals as goal

@@ -1,6 +1,7 @@
 use Rattle.std.proofs.Common.{◌≡◌, ℕ, ◌+◌, ◌-◌, ◌<◌, arith, ◌∙◌, ap, subst}
 use Rattle.std.specs.Int.{div_ceil}
-use Rattle.verity_plan.specs.Plans.{level_size, blocks_from, IsPlanned, level_count_of}
+use Rattle.verity_plan.specs.Plans.{level_size, blocks_from, IsPlanned}
+use Rattle.verity_plan.specs.PlanCounts.{level_count_of}
 use Rattle.verity_plan.specs.Settings.{fan}
 use Rattle.verity_plan.proofs.PlaceLemmas.{blocks_from-level, PlacesAreOnce-all}
 use Rattle.verity_plan.proofs.PlanLemmas.{size-more, levels_few, end_few}

@@ -1,6 +1,7 @@
 use Rattle.std.proofs.Common.{◌≡◌, ◌+◌, ◌-◌, ◌^◌}
 use Rattle.std.specs.Int.{div_ceil}
-use Rattle.verity_plan.specs.Plans.{blocks_from, level_count_of}
+use Rattle.verity_plan.specs.Plans.{blocks_from}
+use Rattle.verity_plan.specs.PlanCounts.{level_count_of}
 use Rattle.verity_plan.specs.Settings.{fan}
 use Rattle.verity_plan.proofs.plan.Plan.place.Given as goal
 

@@ -1,16 +1,19 @@
 -- A hash block closes, or bytes are taken.
-use Rattle.std.proofs.Common.{◌≡◌, ◌⊎◌, ℕ, ◌+◌, ◌<◌, ◌≤◌, List, length, take, true, false, ◌/◌, ◌%◌, Bool, nat_lt, eqb, arith, inl, inr, sym, ◌∙◌, ap, subst}
+use Rattle.std.proofs.Common.{◌≡◌, ◌⊎◌, ℕ, ◌+◌, ◌<◌, ◌≤◌, List, length, take, true, false, ◌/◌, ◌%◌, Bool, nat_lt, eqb}
+use Rattle.std.proofs.Common.{arith, inl, inr, sym, ◌∙◌, ap, subst}
 use Rattle.std.proofs.lemmas.Bool.Decides.{nat_tests}
 use Rattle.std.proofs.lemmas.List.{length-take-le}
-use Rattle.verity_plan.specs.Plans.{level_count_of}
+use Rattle.verity_plan.specs.PlanCounts.{level_count_of}
 use Rattle.verity_plan.specs.Settings.{fan}
-use Rattle.verity_tree.specs.ClosingOrder.{closed_after}
+use Rattle.verity_tree.specs.ClosingOrder.{closed_after, blocks_before}
 use Rattle.verity_tree.specs.Steps.Feeding.{Climbs, EndsDataBlock}
-use Rattle.verity_tree.specs.ClosingOrder.{blocks_before}
-use Rattle.verity_tree.proofs.AdvanceLemmas.{Climbs-settled, FeedsOn-climbs, FeedsOn-takes, Stands-ends, Stands-settled, TakesMore}
+use Rattle.verity_tree.proofs.AdvanceLemmas.{Climbs-settled, FeedsOn-climbs, FeedsOn-takes, Stands-ends, Stands-settled}
+use Rattle.verity_tree.proofs.AdvanceLemmas.{TakesMore}
 use Rattle.verity_tree.proofs.feeding.advance.advance.Goals as goal
-use Rattle.verity_tree.proofs.feeding.advance.advance.Goals.{then-count-gt0+then-count-size-eq0, then-progress-gt0, else-progress-gt0, then-count-gt0+else-count-size-eq0, else-count-gt0}
-use Rattle.verity_tree.proofs.feeding.advance.advance.Goals.{else-ends-via-then-ends+else-climb, else-ends-via-else-ends}
+use Rattle.verity_tree.proofs.feeding.advance.advance.Goals.{then-count-gt0+then-count-size-eq0, then-progress-gt0}
+use Rattle.verity_tree.proofs.feeding.advance.advance.Goals.{else-progress-gt0, then-count-gt0+else-count-size-eq0}
+use Rattle.verity_tree.proofs.feeding.advance.advance.Goals.{else-count-gt0, else-ends-via-then-ends+else-climb}
+use Rattle.verity_tree.proofs.feeding.advance.advance.Goals.{else-ends-via-else-ends}
 
 -- the remainder by the size that was asked for
 remainder-is : (n count size result : ℕ) → n ≡ count → result ≡ size → n % size ≡ count % result

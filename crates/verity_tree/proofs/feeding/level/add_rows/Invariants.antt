@@ -1,5 +1,5 @@
 use Rattle.std.proofs.Common.{◌≡◌, ℕ, ◌+◌, ◌*◌, ◌<◌, ◌≤◌, List, [], length, slice_index_or}
-use Rattle.verity_plan.specs.Plans.{level_count_of}
+use Rattle.verity_plan.specs.PlanCounts.{level_count_of}
 use Rattle.verity_tree.specs.Steps.OpenBlocks.{HasOpenBlocks, level_digest}
 use Rattle.verity_tree.proofs.feeding.level.add_rows.Given as goal
 

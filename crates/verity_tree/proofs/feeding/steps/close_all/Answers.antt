@@ -1,7 +1,7 @@
 -- Level after level closes after the last byte.
 use Rattle.std.proofs.Common.{◌≡◌, ℕ, ◌++◌, List, [], take, arith, ◌∙◌, ap, subst}
 use Rattle.std.proofs.lemmas.List.{append-nil, take_all}
-use Rattle.verity_plan.specs.Plans.{level_count_of}
+use Rattle.verity_plan.specs.PlanCounts.{level_count_of}
 use Rattle.verity_tree.specs.Steps.Feeding.{Stands}
 use Rattle.verity_tree.proofs.feeding.steps.close_all.Goals as goal
 

@@ -1,7 +1,8 @@
 -- The digest of the block that is left is the root hash.
-use Rattle.std.proofs.Common.{◌≡◌, ℕ, suc, ◌+◌, ◌-◌, ◌*◌, ◌%◌, ◌<◌, List, length, take, drop, arith, sym, ◌∙◌, ap, subst}
+use Rattle.std.proofs.Common.{◌≡◌, ℕ, suc, ◌+◌, ◌-◌, ◌*◌, ◌%◌, ◌<◌, List, length, take, drop, arith, sym, ◌∙◌, ap}
+use Rattle.std.proofs.Common.{subst}
 use Rattle.std.specs.Fork.{slice_chunk}
-use Rattle.verity_plan.specs.Plans.{level_count_of}
+use Rattle.verity_plan.specs.PlanCounts.{level_count_of}
 use Rattle.verity_plan.specs.Settings.{hash}
 use Rattle.verity_tree.specs.Steps.Feeding.{HasFed, HoldsCurrent, IsHandingOut, Stands}
 use Rattle.verity_tree.proofs.AdvanceLemmas.{single-current, single-root, single-within, top-root}

@@ -1,5 +1,5 @@
 use Rattle.std.proofs.Common.{arith, refl}
-use Rattle.verity_plan.specs.Plans.{most_level_count}
+use Rattle.verity_plan.specs.PlanCounts.{most_level_count}
 use Rattle.verity_plan.proofs.FanLemmas.{some_data}
 use Rattle.verity_tree.proofs.FeedingLemmas.{HasFed-none}
 use Rattle.verity_tree.proofs.file_builder.FileBuilder.begin.Goals as goal

@@ -2,10 +2,10 @@ use Rattle.std.proofs.Common.{List, ap, arith, false, length, refl, subst, sym, 
 use Rattle.std.proofs.lemmas.Bool.Decides.{nat_tests}
 use Rattle.std.specs.Prelude.{Ok, nat_eq}
 use Rattle.verity_plan.proofs.CountLemmas.{mul_le}
-use Rattle.verity_plan.specs.Plans.{IsPlanned, Planned, most_level_count, plan_for_bytes}
+use Rattle.verity_plan.specs.Plans.{IsPlanned, Planned, plan_for_bytes}
+use Rattle.verity_plan.specs.PlanCounts.{most_level_count}
 use Rattle.verity_plan.specs.Settings.{Settings}
-use Rattle.verity_tree.specs.Levels.{root_of_file}
-use Rattle.verity_tree.specs.Levels.{data_blocks, root}
+use Rattle.verity_tree.specs.Levels.{root_of_file, data_blocks, root}
 use Rattle.verity_tree.specs.Steps.Feeding.{HasFed}
 use Rattle.verity_tree.proofs.FeedingLemmas.{FilePlan-is, IsFedFile-parted, file_levels, file_room}
 use Rattle.verity_tree.proofs.file_builder.FileBuilder.end.Goals as goal

@@ -1,9 +1,11 @@
-use Rattle.std.proofs.Common.{List, [], ap, arith, length, length-append, refl, subst, sym, ℕ, ◌*◌, ◌++◌, ◌+◌, ◌∷◌, ◌<◌, ◌∙◌, ◌≡◌}
+use Rattle.std.proofs.Common.{List, [], ap, arith, length, length-append, refl, subst, sym, ℕ, ◌*◌, ◌++◌, ◌+◌, ◌∷◌, ◌<◌}
+use Rattle.std.proofs.Common.{◌∙◌, ◌≡◌}
 use Rattle.std.proofs.lemmas.List.{append-nil}
 use Rattle.std.specs.Prelude.{Err, None, Result, Some, if◌then◌else◌}
 use Rattle.verity_io.specs.Writing.{most_bytes}
 use Rattle.verity_plan.proofs.CountLemmas.{mul_le}
-use Rattle.verity_plan.specs.Plans.{Planned, most_level_count, plan_for_bytes}
+use Rattle.verity_plan.specs.Plans.{Planned, plan_for_bytes}
+use Rattle.verity_plan.specs.PlanCounts.{most_level_count}
 use Rattle.verity_plan.specs.Settings.{Settings}
 use Rattle.verity_plan.specs.declared.plan_fault.PlanFault.{PlanFault}
 use Rattle.verity_plan.specs.declared.plan_fault.PlanFault.TheVariants.{NoData}
@@ -11,7 +13,8 @@ use Rattle.verity_tree.specs.Feeding.{IsFedFile, is_too_large}
 use Rattle.verity_tree.specs.Steps.Feeding.{HasFed}
 use Rattle.verity_tree.specs.declared.feed_fault.FeedFault.TheVariants.{TooLarge}
 use Rattle.verity_tree.specs.declared.file_builder.FileBuilder.{FileBuilder}
-use Rattle.verity_tree.proofs.FeedingLemmas.{FilePlan-is, FilePlan-large, FilePlan-none, IsFedFile-parted, file_levels, file_room, joined}
+use Rattle.verity_tree.proofs.FeedingLemmas.{FilePlan-is, FilePlan-large, FilePlan-none, IsFedFile-parted, file_levels}
+use Rattle.verity_tree.proofs.FeedingLemmas.{file_room, joined}
 use Rattle.verity_tree.proofs.file_builder.FileBuilder.feed.Goals as goal
 
 pub returns-in_default-clause-fault : goal.returns-in_default-clause-fault

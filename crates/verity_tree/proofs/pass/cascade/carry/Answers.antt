@@ -1,10 +1,10 @@
 use Rattle.std.proofs.Common.{List, ap, arith, eqb, length, refl, subst, sym, true, ℕ, ◌*◌, ◌+◌, ◌-◌, ◌/◌, ◌<◌, ◌^◌}
-use Rattle.std.proofs.Common.{◌∙◌}
-use Rattle.std.proofs.Common.{◌≡◌, ◌≤◌}
-use Rattle.verity_tree.specs.ClosingOrder.{BlockIndex, closing_with, closes}
-use Rattle.verity_tree.specs.TreeOnDevice.{tree_block, device_with, stored_block}
-use Rattle.verity_tree.specs.ClosingOrder.{first_closing}
-use Rattle.verity_plan.specs.Plans.{level_count, start_byte, start_byte_of, level_count_of}
+use Rattle.std.proofs.Common.{◌∙◌, ◌≡◌, ◌≤◌}
+use Rattle.verity_tree.specs.ClosingOrder.{BlockIndex, closing_with, closes, first_closing}
+use Rattle.verity_tree.specs.TreeOnDevice.{tree_block, stored_block}
+use Rattle.verity_tree.specs.TreeWriting.{device_with}
+use Rattle.verity_plan.specs.Plans.{level_count, start_byte, start_byte_of}
+use Rattle.verity_plan.specs.PlanCounts.{level_count_of}
 use Rattle.verity_tree.specs.Steps.OpenBlocks.{IsCarrying, digests_under, open_block_with, cascade_state}
 use Rattle.verity_plan.specs.Settings.{fan}
 use Rattle.verity_io.specs.Writing.{Spoiled}
@@ -13,8 +13,8 @@ use Rattle.verity_tree.specs.Steps.ClosedBlocks.{IsHashBlockFault, closed_block}
 use Rattle.verity_tree.specs.Verdicts.{NoneDiffers}
 use Rattle.verity_tree.proofs.OpenBlockSteps.{carry-closed, carry-kept, carry-all, IsCarrying-first, place-first}
 use Rattle.verity_tree.proofs.CascadeLemmas.{level_digest-is_next, closed-block, closes-stopped_all, closing-below}
-use Rattle.verity_tree.proofs.CascadeLemmas.{closing-done, closing-kept, closing-place, device-closed}
-use Rattle.verity_tree.proofs.CascadeLemmas.{ends-here, none-differs-more}
+use Rattle.verity_tree.proofs.CascadeLemmas.{closing-done, closing-kept, closing-place, device-closed, ends-here}
+use Rattle.verity_tree.proofs.CascadeLemmas.{none-differs-more}
 use Rattle.verity_tree.proofs.pass.cascade.carry.Goals as goal
 
 pub overflow_add-last : goal.overflow_add-last

@@ -3,8 +3,8 @@ use Rattle.verity_plan.specs.Settings.{fan, digest_len}
 use Rattle.verity_tree.specs.Steps.OpenBlocks.{HasOpenBlocks, level_digest, IsCarrying, cascade_state}
 use Rattle.verity_tree.specs.Steps.Cascade.{EndsBlock}
 use Rattle.verity_tree.specs.ClosingOrder.{first_closing}
-use Rattle.verity_tree.specs.TreeOnDevice.{device_with}
-use Rattle.verity_plan.specs.Plans.{level_count_of}
+use Rattle.verity_tree.specs.TreeWriting.{device_with}
+use Rattle.verity_plan.specs.PlanCounts.{level_count_of}
 use Rattle.verity_tree.specs.Verdicts.{NoneDiffers}
 use Rattle.verity_tree.specs.declared.pass.closed_block.Task.TheVariants.{Compare}
 use Rattle.verity_tree.proofs.pass.cascade.carry.Given as goal

@@ -2,7 +2,8 @@ use Rattle.std.proofs.Common.{◌≡◌, ℕ, ◌-◌, ◌*◌, ◌<◌, min, Li
 use Rattle.verity_io.specs.Reading.{HasRead}
 use Rattle.verity_tree.specs.Reading.{bytes_of}
 use Rattle.verity_tree.specs.Steps.DataBlocks.{StopsBy, TakesDataBlock}
-use Rattle.verity_plan.specs.Plans.{Planned, IsPlanned, level_count_of}
+use Rattle.verity_plan.specs.Plans.{Planned, IsPlanned}
+use Rattle.verity_plan.specs.PlanCounts.{level_count_of}
 use Rattle.verity_tree.specs.declared.pass.data_block.BlockFault.{BlockFault}
 use Rattle.verity_tree.specs.declared.pass.data_block.BlockFault.TheVariants.{Short, Failed}
 use Rattle.verity_tree.proofs.OnePassLemmas.{HasOpenBlocks-after}

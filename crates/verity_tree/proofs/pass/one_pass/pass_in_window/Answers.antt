@@ -1,22 +1,19 @@
 use Rattle.std.proofs.Common.{List, arith, length, refl, rules, subst, sym, ℕ, ◌+◌, ◌<◌, ◌∙◌, ◌≡◌, ◌≤◌}
-use Rattle.verity_tree.specs.ClosingOrder.{closing_with, closed_after}
-use Rattle.verity_tree.specs.TreeOnDevice.{tree_block, device_with}
-use Rattle.verity_tree.specs.ClosingOrder.{first_closing}
+use Rattle.verity_tree.specs.ClosingOrder.{closing_with, closed_after, first_closing}
+use Rattle.verity_tree.specs.TreeOnDevice.{tree_block}
+use Rattle.verity_tree.specs.TreeWriting.{device_with, tree_on_device_after}
 use Rattle.verity_tree.specs.Levels.{data_blocks}
-use Rattle.verity_plan.specs.Plans.{level_count_of}
+use Rattle.verity_plan.specs.PlanCounts.{level_count_of}
 use Rattle.verity_tree.proofs.OnePassLemmas.{HasOpenBlocks-zeros, reads-up-to, image-next, image-stopped}
 use Rattle.verity_tree.proofs.OnePassLemmas.{none-differs-closed_after, stops-for}
 use Rattle.verity_plan.proofs.FitLemmas.{fan-pos}
 use Rattle.verity_tree.proofs.LevelLemmas.{length-cut}
-use Rattle.verity_tree.proofs.DataBlockLemmas.{blocks-some}
-use Rattle.verity_tree.specs.Steps.ClosedBlocks.{IsHashBlockFault, closed_block}
+use Rattle.verity_tree.proofs.DataBlockLemmas.{blocks-some, bytes_of-all}
+use Rattle.verity_tree.specs.Steps.ClosedBlocks.{IsHashBlockFault, closed_block, call_failed}
 use Rattle.verity_tree.specs.Verdicts.{NoneDiffers}
 use Rattle.verity_plan.specs.Settings.{fan}
 use Rattle.verity_tree.proofs.ReadingAheadLemmas.{all-read, not-failed, read-to, settled}
-use Rattle.verity_tree.proofs.DataBlockLemmas.{bytes_of-all}
-use Rattle.verity_tree.specs.TreeOnDevice.{tree_on_device_after}
 use Rattle.verity_tree.specs.Steps.ReadingAhead.{IsWithinHashBlock}
-use Rattle.verity_tree.specs.Steps.ClosedBlocks.{call_failed}
 use Rattle.verity_io.specs.Counting.{Counts}
 use Rattle.verity_io.specs.Reading.{HasRead}
 use Rattle.verity_plan.specs.Plans.{Planned}

@@ -1,6 +1,7 @@
-use Rattle.std.proofs.Common.{Bool, List, ap, arith, length, length-append, subst, take, ℕ, ◌*◌, ◌++◌, ◌+◌, ◌∙◌, ◌≡◌, ◌≤◌}
+use Rattle.std.proofs.Common.{Bool, List, ap, arith, length, length-append, subst, take, ℕ, ◌*◌, ◌++◌, ◌+◌, ◌∙◌, ◌≡◌}
+use Rattle.std.proofs.Common.{◌≤◌}
 use Rattle.std.proofs.lemmas.List.{length-take-le}
-use Rattle.verity_plan.specs.Plans.{level_count_of}
+use Rattle.verity_plan.specs.PlanCounts.{level_count_of}
 use Rattle.verity_tree.specs.Steps.Feeding.{FeedsOn}
 use Rattle.verity_tree.proofs.FeedingLemmas.{Feeds-none, Feeds-some, IsFed-parted}
 use Rattle.verity_tree.proofs.tree_builder.TreeBuilder.feed.Goals as goal

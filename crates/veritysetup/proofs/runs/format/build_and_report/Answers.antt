@@ -1,7 +1,7 @@
 use Rattle.std.proofs.Common.{◌∙◌, ◌≡◌, ap, refl, List, ℕ}
 use Rattle.verity_tree.specs.Levels.{root, data_blocks}
 use Rattle.verity_plan.specs.Plans.{Planned}
-use Rattle.veritysetup.specs.Runs.Format.{root_above}
+use Rattle.veritysetup.specs.Runs.Formatted.{root_above}
 use Rattle.veritysetup.proofs.PrintingLemmas.{Keeps-refl}
 use Rattle.veritysetup.proofs.runs.format.build_and_report.Goals as goal
 
