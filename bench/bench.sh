@@ -4,7 +4,7 @@
 # SIZE=MEBIBYTES, FILES=COUNT and ROUNDS=COUNT change the defaults.
 set -eu
 cd "$(dirname "$0")/.."
-. tests/checks.sh
+. tests/lib/checks.sh
 has_program fsverity
 has_program veritysetup
 has_program bench_bare

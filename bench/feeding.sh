@@ -4,7 +4,7 @@
 # in one run, and prints a table. SIZE=MEBIBYTES and ROUNDS=COUNT change the defaults.
 set -eu
 cd "$(dirname "$0")/.."
-. tests/checks.sh
+. tests/lib/checks.sh
 needs gcc gcc
 LIB=${LIB:-lib}
 if [ ! -e "$LIB/libverity.a" ]; then

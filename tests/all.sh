@@ -22,10 +22,9 @@ else
 fi
 # The longest first, so that no processor waits for one at the end.
 parts+=('tests/memory.sh --short' tests/soak.sh)
-# Files of a folder that only others read are not executable.
 for script in tests/interop/*.sh tests/programs/*.sh tests/processor.sh tests/readme.sh tests/manual.sh; do
     for build in "${builds[@]}"; do
-        if [ -x "$script" ]; then parts+=("env BIN=$build $script"); fi
+        parts+=("env BIN=$build $script")
     done
 done
 # A million random feedings, over all libraries together.
@@ -37,7 +36,7 @@ for script in tests/library/*.sh; do
     case $script in
     */images.sh | */feeding.sh) continue ;;
     esac
-    if [ -x "$script" ]; then parts+=("$script"); fi
+    parts+=("$script")
 done
 parts+=(tests/definitions.sh tests/install.sh tests/completion.sh)
 BIN=bin exec tests/run.sh "${parts[@]}"

@@ -4,7 +4,7 @@
 # earlier runs left before it begins, so these are the programs that it has just proved.
 set -u
 cd "$(dirname "$0")/.."
-. tests/checks.sh
+. tests/lib/checks.sh
 needs rt 'none: the Rattle toolchain'
 kit=$(dirname "$(rt doc)")
 

@@ -3,7 +3,7 @@
 # programs' own usage and the manual's values. BIN=FOLDER takes the programs of another folder.
 set -u
 cd "$(dirname "$0")/.."
-. tests/checks.sh
+. tests/lib/checks.sh
 . completions/fsverity
 . completions/veritysetup
 has_program fsverity

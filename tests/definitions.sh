@@ -3,7 +3,7 @@
 # tests/definitions.py finds them, are those that docs/DEFINITIONS.md lists first, and their definitions are no longer.
 set -u
 cd "$(dirname "$0")/.."
-. tests/checks.sh
+. tests/lib/checks.sh
 needs python3 python3
 
 most_definitions=108

@@ -5,7 +5,7 @@
 # `make uninstall` just these files are gone.
 set -u
 cd "$(dirname "$0")/.."
-. tests/checks.sh
+. tests/lib/checks.sh
 has_program fsverity
 has_program veritysetup
 needs make make

@@ -6,9 +6,9 @@
 # MODULES=FOLDER a kernel that isn't in /boot. About ten minutes.
 set -u
 cd "$(dirname "$0")/.."
-. tests/checks.sh
+. tests/lib/checks.sh
 . tests/kernel/machine.sh
-. tests/kernel/images.sh
+. tests/kernel/kernel_images.sh
 has_program veritysetup
 has_program fsverity
 needs qemu-system-x86_64 qemu-system-x86

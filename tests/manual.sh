@@ -4,8 +4,8 @@
 # programs' usages.
 set -u
 cd "$(dirname "$0")/.."
-. tests/checks.sh
-. tests/examples.sh
+. tests/lib/checks.sh
+. tests/lib/document_examples.sh
 has_program fsverity
 has_program veritysetup
 

@@ -6,8 +6,8 @@
 # refused, and if there is no C compiler, the programs' commands are left out.
 set -u
 cd "$(dirname "$0")/.."
-. tests/checks.sh
-. tests/programs/images.sh
+. tests/lib/checks.sh
+. tests/lib/images.sh
 short=no
 if [ "${1:-}" = --short ]; then short=yes; fi
 if [ $short = no ]; then needs cc gcc; fi

@@ -3,7 +3,7 @@
 # and say so, and have done nothing. BIN=FOLDER takes the programs of another folder.
 set -u
 cd "$(dirname "$0")/.."
-. tests/checks.sh
+. tests/lib/checks.sh
 has_program fsverity
 has_program veritysetup
 needs qemu-x86_64 qemu-user

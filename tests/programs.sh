@@ -2,8 +2,4 @@
 # Runs the programs under bin/ as a user would, and compares status, standard output, standard error and files with
 # stated expectations. BIN=FOLDER takes the programs of another folder.
 cd "$(dirname "$0")/.."
-parts=(--)
-for script in tests/programs/*.sh; do
-    if [ -x "$script" ]; then parts+=("$script"); fi
-done
-exec tests/run.sh "${parts[@]}"
+exec tests/run.sh -- tests/programs/*.sh

@@ -3,8 +3,8 @@
 # they print with what the README shows. An example is a run of indented lines with '$ ' before each command.
 set -u
 cd "$(dirname "$0")/.."
-. tests/checks.sh
-. tests/examples.sh
+. tests/lib/checks.sh
+. tests/lib/document_examples.sh
 has_program fsverity
 has_program veritysetup
 

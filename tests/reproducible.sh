@@ -4,7 +4,7 @@
 # copied but the sources, and all is proved again.
 set -u
 cd "$(dirname "$0")/.."
-. tests/checks.sh
+. tests/lib/checks.sh
 has_program fsverity
 has_program veritysetup
 needs rt 'none: the Rattle toolchain'

@@ -9,7 +9,7 @@
 #   tests/soak.sh --self-test      runs faulty programs, and passes if each is seen
 set -u
 cd "$(dirname "$0")/.."
-. tests/checks.sh
+. tests/lib/checks.sh
 has_program fsverity
 has_program veritysetup
 needs python3 python3

@@ -3,7 +3,7 @@
 # which shows nothing counts as failed, unless it is given only names of crates.
 set -u
 cd "$(dirname "$0")/.."
-. tests/checks.sh
+. tests/lib/checks.sh
 needs rt 'none: the Rattle toolchain'
 needs python3 python3
 if [ $# -gt 0 ]; then exec tests/wrong_bodies.py "$@"; fi

@@ -4,9 +4,9 @@
 # of these.
 set -u
 cd "$(dirname "$0")/../.."
-. tests/checks.sh
-. tests/programs/images.sh
-. tests/programs/loops.sh
+. tests/lib/checks.sh
+. tests/lib/images.sh
+. tests/lib/loops.sh
 has_program fsverity
 has_program veritysetup
 needs_other veritysetup cryptsetup-bin

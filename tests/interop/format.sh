@@ -5,8 +5,8 @@
 # with data and hash area in one file. SETTINGS=all takes every combination, for a minute or two.
 set -u
 cd "$(dirname "$0")/../.."
-. tests/checks.sh
-. tests/interop/settings.sh
+. tests/lib/checks.sh
+. tests/lib/settings.sh
 has_program veritysetup
 needs_other veritysetup cryptsetup-bin
 

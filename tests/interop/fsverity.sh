@@ -4,7 +4,7 @@
 # digest of both is signed to one signature.
 set -u
 cd "$(dirname "$0")/../.."
-. tests/checks.sh
+. tests/lib/checks.sh
 has_program fsverity
 needs_other fsverity fsverity
 

@@ -3,8 +3,8 @@
 # writes for the same settings, and with the one that bin/veritysetup writes.
 set -u
 cd "$(dirname "$0")/../.."
-. tests/checks.sh
-. tests/programs/images.sh
+. tests/lib/checks.sh
+. tests/lib/images.sh
 has_program veritysetup
 needs_other veritysetup cryptsetup-bin
 

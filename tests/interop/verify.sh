@@ -1,12 +1,12 @@
 #!/bin/bash
 # Images that the veritysetup of Debian's package cryptsetup-bin makes are accepted by bin/veritysetup verify, and one
-# changed bit anywhere in the covered data or in a hash block is refused with the block that tests/interop/expected.py
+# changed bit anywhere in the covered data or in a hash block is refused with the block that tests/lib/expected.py
 # names, a computation of its own. Over the settings of format.sh, at hash offsets and without a superblock.
 # SETTINGS=all takes every combination, for some six minutes. Needs python3.
 set -u
 cd "$(dirname "$0")/../.."
-. tests/checks.sh
-. tests/interop/settings.sh
+. tests/lib/checks.sh
+. tests/lib/settings.sh
 has_program veritysetup
 needs_other veritysetup cryptsetup-bin
 needs python3 python3
@@ -21,7 +21,7 @@ below() {
     below=$((((RANDOM << 30) + (RANDOM << 15) + RANDOM) % $1))
 }
 
-# Where the hash area is and what it is made by: the options of verify, and those of tests/interop/expected.py.
+# Where the hash area is and what it is made by: the options of verify, and those of tests/lib/expected.py.
 place=()
 expected_place=()
 
@@ -30,7 +30,7 @@ expected_place=()
 refused() {
     local name=$1 expected change file offset mask
     shift
-    mapfile -t expected < <(tests/interop/expected.py "${expected_place[@]}" "$data" "$image" "$root" "$@")
+    mapfile -t expected < <(tests/lib/expected.py "${expected_place[@]}" "$data" "$image" "$root" "$@")
     for change in "$@"; do
         read -r file offset mask <<<"$change"
         if [ "$file" = data ]; then file=$data; else file=$image; fi

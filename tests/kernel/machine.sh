@@ -1,5 +1,5 @@
 # The virtual machine of tests/kernel.sh: which kernel runs in it, what is packed into it, what it is asked and what it
-# answers. Sourced after tests/checks.sh.
+# answers. Sourced after tests/lib/checks.sh.
 
 # The guest's files, and the seconds after which a guest that hasn't ended has failed.
 guest=$scratch/guest

@@ -3,9 +3,9 @@
 # trees that are built of pieces. SEED=N draws other settings, ARM_LIB=FOLDER takes the library of another folder.
 set -u
 cd "$(dirname "$0")/../.."
-. tests/checks.sh
-. tests/library/common.sh
-. tests/library/feeding_common.sh
+. tests/lib/checks.sh
+. tests/lib/c_programs.sh
+. tests/lib/feeding_programs.sh
 ARM_LIB=${ARM_LIB:-lib/aarch64}
 needs aarch64-linux-gnu-gcc gcc-aarch64-linux-gnu
 needs qemu-aarch64 qemu-user

@@ -3,8 +3,8 @@
 # Debian's veritysetup and a file of fsverity, and compares what header and page say of functions, statuses and the version.
 set -u
 cd "$(dirname "$0")/../.."
-. tests/checks.sh
-. tests/library/common.sh
+. tests/lib/checks.sh
+. tests/lib/c_programs.sh
 LIB=$(realpath "$LIB")
 has_library "$LIB/libverity.a"
 has_library "$LIB/libverity.so.1"

@@ -5,7 +5,7 @@
 # tools for 64-bit ARM are there, boot_check and the stack are tried by them too.
 set -u
 cd "$(dirname "$0")/../.."
-. tests/checks.sh
+. tests/lib/checks.sh
 LIB=$(realpath "${LIB:-lib}")
 for file in libverity.a libverity.so.1; do
     if [ ! -e "$LIB/$file" ]; then

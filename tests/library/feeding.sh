@@ -8,9 +8,9 @@
 # folder.
 set -u
 cd "$(dirname "$0")/../.."
-. tests/checks.sh
-. tests/library/common.sh
-. tests/library/feeding_common.sh
+. tests/lib/checks.sh
+. tests/lib/c_programs.sh
+. tests/lib/feeding_programs.sh
 needs gcc gcc
 needs python3 python3
 has_library "$LIB/libverity.a"

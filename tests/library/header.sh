@@ -4,8 +4,8 @@
 # memset. LIB=FOLDER takes the library of another folder.
 set -u
 cd "$(dirname "$0")/../.."
-. tests/checks.sh
-. tests/library/common.sh
+. tests/lib/checks.sh
+. tests/lib/c_programs.sh
 needs gcc gcc
 needs nm binutils
 needs readelf binutils

@@ -6,8 +6,8 @@
 # folder.
 set -u
 cd "$(dirname "$0")/../.."
-. tests/checks.sh
-. tests/library/common.sh
+. tests/lib/checks.sh
+. tests/lib/c_programs.sh
 needs gcc gcc
 needs python3 python3
 has_library "$LIB/libverity.a"

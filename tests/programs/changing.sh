@@ -3,9 +3,9 @@
 # it is known how much they have read.
 set -u
 cd "$(dirname "$0")/../.."
-. tests/checks.sh
-. tests/programs/images.sh
-. tests/programs/running.sh
+. tests/lib/checks.sh
+. tests/lib/images.sh
+. tests/lib/running.sh
 has_program fsverity
 has_program veritysetup
 

@@ -3,9 +3,9 @@
 # meant for a stream lands in a file.
 set -u
 cd "$(dirname "$0")/../.."
-. tests/checks.sh
-. tests/programs/images.sh
-. tests/programs/digests.sh
+. tests/lib/checks.sh
+. tests/lib/images.sh
+. tests/lib/digests.sh
 has_program fsverity
 has_program veritysetup
 fsverity=$BIN/fsverity

@@ -2,7 +2,7 @@
 # Runs bin/veritysetup with command lines that it refuses: clap's whole text, and the usage.
 set -u
 cd "$(dirname "$0")/../.."
-. tests/checks.sh
+. tests/lib/checks.sh
 has_program veritysetup
 veritysetup=$BIN/veritysetup
 

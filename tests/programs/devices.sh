@@ -2,10 +2,10 @@
 # Runs the programs over block devices: loop devices over files of this script, and further nodes of the same devices.
 set -u
 cd "$(dirname "$0")/../.."
-. tests/checks.sh
-. tests/programs/images.sh
-. tests/programs/digests.sh
-. tests/programs/loops.sh
+. tests/lib/checks.sh
+. tests/lib/images.sh
+. tests/lib/digests.sh
+. tests/lib/loops.sh
 has_program fsverity
 has_program veritysetup
 needs_loops

@@ -2,8 +2,8 @@
 # Runs bin/veritysetup format as a user would: images, files, memory and streams.
 set -u
 cd "$(dirname "$0")/../.."
-. tests/checks.sh
-. tests/programs/images.sh
+. tests/lib/checks.sh
+. tests/lib/images.sh
 has_program veritysetup
 veritysetup=$BIN/veritysetup
 

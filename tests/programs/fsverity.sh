@@ -2,8 +2,8 @@
 # Runs bin/fsverity as a user would: files, output files, memory and streams, with SHA-256, blocks of 4096 and no salt.
 set -u
 cd "$(dirname "$0")/../.."
-. tests/checks.sh
-. tests/programs/digests.sh
+. tests/lib/checks.sh
+. tests/lib/digests.sh
 has_program fsverity
 fsverity=$BIN/fsverity
 

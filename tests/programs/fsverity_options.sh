@@ -2,8 +2,8 @@
 # Runs bin/fsverity as a user would: options, forms of the line, and command lines.
 set -u
 cd "$(dirname "$0")/../.."
-. tests/checks.sh
-. tests/programs/digests.sh
+. tests/lib/checks.sh
+. tests/lib/digests.sh
 has_program fsverity
 fsverity=$BIN/fsverity
 usage='Usage: fsverity digest [--hash-alg NAME] [--block-size BYTES] [--salt HEX]

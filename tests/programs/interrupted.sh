@@ -3,9 +3,9 @@
 # its superblock, on a tree of which verify names the first block that is not its own.
 set -u
 cd "$(dirname "$0")/../.."
-. tests/checks.sh
-. tests/programs/images.sh
-. tests/programs/running.sh
+. tests/lib/checks.sh
+. tests/lib/images.sh
+. tests/lib/running.sh
 has_program veritysetup
 veritysetup=$BIN/veritysetup
 

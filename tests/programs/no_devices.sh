@@ -2,8 +2,8 @@
 # Runs the programs where there are no device files, as in a container without any: /dev is an empty folder there.
 set -u
 cd "$(dirname "$0")/../.."
-. tests/checks.sh
-. tests/programs/images.sh
+. tests/lib/checks.sh
+. tests/lib/images.sh
 has_program fsverity
 has_program veritysetup
 

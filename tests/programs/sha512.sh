@@ -3,8 +3,8 @@
 # without a salt, whose bytes come from sha512sum.
 set -u
 cd "$(dirname "$0")/../.."
-. tests/checks.sh
-. tests/programs/images.sh
+. tests/lib/checks.sh
+. tests/lib/images.sh
 ALGORITHM=sha512
 has_program fsverity
 has_program veritysetup

@@ -3,7 +3,7 @@
 # window, also at their largest, and with blocks that are hashed one by one.
 set -u
 cd "$(dirname "$0")/../.."
-. tests/checks.sh
+. tests/lib/checks.sh
 has_program fsverity
 has_program veritysetup
 

@@ -4,8 +4,8 @@
 # nothing is shown.
 set -u
 cd "$(dirname "$0")/../.."
-. tests/checks.sh
-. tests/programs/images.sh
+. tests/lib/checks.sh
+. tests/lib/images.sh
 needs script bsdutils
 has_program fsverity
 has_program veritysetup

@@ -21,7 +21,7 @@ from multiprocessing import Process, SimpleQueue
 
 sys.dont_write_bytecode = True
 HERE = os.path.dirname(os.path.abspath(__file__))
-sys.path.insert(1, os.path.join(HERE, "..", "interop"))
+sys.path.insert(1, os.path.join(HERE, "..", "lib"))
 
 import debian
 import fsverity_cases

@@ -1,4 +1,4 @@
-# The digests of fs-verity, of SHA-256 with blocks of 4096 and no salt, by sha256sum. Sourced after tests/checks.sh.
+# The digests of fs-verity, of SHA-256 with blocks of 4096 and no salt, by sha256sum. Sourced after tests/lib/checks.sh.
 
 # root FILE: the root hash of a file that is not empty, level by level.
 root() {

@@ -1,4 +1,4 @@
-# The settings over which bin/veritysetup and Debian's veritysetup are compared. Sourced after tests/checks.sh.
+# The settings over which bin/veritysetup and Debian's veritysetup are compared. Sourced after tests/lib/checks.sh.
 
 UUID=00112233-4455-4677-8899-aabbccddeeff
 block_sizes=(512 1024 4096)

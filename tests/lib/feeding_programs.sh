@@ -1,4 +1,4 @@
-# What feeding.sh and arm.sh share: how the programs that feed data are built and run. Sourced after common.sh.
+# What tests/library/feeding.sh and arm.sh share: how the programs that feed data are built and run. Sourced after tests/lib/c_programs.sh.
 
 # The sources of each program, beside its own.
 feeding_sources=(tests/library/feeding_calls.c tests/library/support.c)

@@ -1,4 +1,4 @@
-# Runs the examples of documents word for word. Sourced after tests/checks.sh, at the repository's root.
+# Runs the examples of documents word for word. Sourced after tests/lib/checks.sh, at the repository's root.
 
 # The programs' messages as the manual pages have them, each after its status and with `_` for each name or number.
 stated_messages=$(awk '/^\.Ss Status [0-9]$/ { status = $3 } sub(/^\.It /, "") && status { print status, $0 }

@@ -1,4 +1,4 @@
-# Images for the checks of veritysetup, made of stated bytes. Sourced after tests/checks.sh.
+# Images for the checks of veritysetup, made of stated bytes. Sourced after tests/lib/checks.sh.
 
 UUID=00112233-4455-4677-8899-aabbccddeeff
 TAB=$(printf '\t')

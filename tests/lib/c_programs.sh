@@ -1,5 +1,5 @@
-# What the scripts of this folder share: how the C programs are built and counted, and images of Debian's programs over
-# random settings. Sourced after tests/checks.sh.
+# What the scripts of tests/library share: how the C programs are built and counted, and images of Debian's programs over
+# random settings. Sourced after tests/lib/checks.sh.
 
 LIB=${LIB:-lib}
 SEED=${SEED:-1}
@@ -17,7 +17,7 @@ has_library() {
     fi
 }
 
-# compiles OUT COMPILER WORD..: builds a program of this folder. WORD.. are its sources, options and the library.
+# compiles OUT COMPILER WORD..: builds a program of tests/library. WORD.. are its sources, options and the library.
 compiles() {
     local out=$1 compiler=$2
     shift 2
@@ -188,7 +188,7 @@ tries_images() {
 tries_random() {
     local program=$1 calls=$2
     shift 2
-    tests/library/chains.py "$SEED" 300 >"$scratch/chains"
+    tests/lib/chains.py "$SEED" 300 >"$scratch/chains"
     adds "random calls of seed $SEED" "$@" "$program" "$SEED" "$calls" "$scratch/chains"
     echo "seed $SEED: $(grep ' calls, ' "$scratch/.ran")"
 }

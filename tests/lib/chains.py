@@ -2,18 +2,16 @@
 """Data blocks with paths that the definitions accept, for fuzz.c: chains.py SEED COUNT prints so many.
 
 A chain is a data block of random bytes, and above it hash blocks of random bytes with the digest of the block below
-in its slot; so trees of any size have one. Digests are those of hashlib, shapes those of tests/interop/trees.py.
+in its slot; so trees of any size have one. Digests are those of hashlib, shapes those of tests/lib/trees.py.
 Numbers are little-endian, in the order in which fuzz.c reads them.
 """
 
 import hashlib
-import os
 import random
 import struct
 import sys
 
 sys.dont_write_bytecode = True
-sys.path.insert(0, os.path.join(os.path.dirname(os.path.abspath(__file__)), "..", "interop"))
 from trees import FS_VERITY, MOST_BYTES, Settings, Shape, salted
 
 NUMBERS = {"sha256": 1, "sha512": 2, "sha1": 3, "sha224": 4, "sha384": 5}

@@ -1,4 +1,4 @@
-# Runs in the background that can be stopped and ended by signals. Sourced after tests/checks.sh.
+# Runs in the background that can be stopped and ended by signals. Sourced after tests/lib/checks.sh.
 
 # starts COMMAND..: runs a command in the background, and lets signals end it as they do in a terminal. Sets `pid`.
 starts() {
