@@ -7,7 +7,7 @@
 set -u
 cd "$(dirname "$0")/.."
 . tests/lib/checks.sh
-. tests/lib/images.sh
+. tests/lib/stated_images.sh
 short=no
 if [ "${1:-}" = --short ]; then short=yes; fi
 if [ $short = no ]; then needs cc gcc; fi
@@ -29,15 +29,15 @@ some_refused() {
 # How each test of the run functions ends if a request is refused, from its first request to its last. Each ends whole
 # if none is.
 declare -A endings_of=(
-    [images::format_is_whole]='Unprepared Untouched Stopped'
-    [images::format_of_a_tree_alone_is_whole]='Unprepared Untouched Stopped'
-    [images::dump_is_whole]='Unprepared Untouched'
-    [images::verify_is_whole]='Unprepared Untouched'
-    [images::verify_of_a_tree_alone_is_whole]='Unprepared Untouched'
-    [images::verify_of_a_changed_image_is_whole]='Unprepared Untouched NoMessage'
-    [digests::digest_is_whole]='Unprepared Untouched Stopped'
-    [digests::digest_with_output_files_is_whole]='Unprepared Untouched Stopped'
-    [digests::digest_of_no_file_is_whole]='Unprepared'
+    [veritysetup_runs::format_is_whole]='Unprepared Untouched Stopped'
+    [veritysetup_runs::format_of_a_tree_alone_is_whole]='Unprepared Untouched Stopped'
+    [veritysetup_runs::dump_is_whole]='Unprepared Untouched'
+    [veritysetup_runs::verify_is_whole]='Unprepared Untouched'
+    [veritysetup_runs::verify_of_a_tree_alone_is_whole]='Unprepared Untouched'
+    [veritysetup_runs::verify_of_a_changed_image_is_whole]='Unprepared Untouched NoMessage'
+    [fsverity_runs::digest_is_whole]='Unprepared Untouched Stopped'
+    [fsverity_runs::digest_with_output_files_is_whole]='Unprepared Untouched Stopped'
+    [fsverity_runs::digest_of_no_file_is_whole]='Unprepared'
 )
 
 # endings_in LOG: each test that has run and how it ended, a line each.
@@ -87,7 +87,7 @@ first_requests() {
     for number in "${!ending_at[@]}"; do
         refuse_of_run_functions "$number" || return
         while read -r test ending; do
-            same "request $number of $test" "$ending" "$(sed -n "s/^[a-z]*::$test //p" "$scratch/endings")"
+            same "request $number of $test" "$ending" "$(sed -n "s/^[a-z_]*::$test //p" "$scratch/endings")"
         done <<<"${ending_at[$number]}"
     done
 }

@@ -18,10 +18,10 @@ in the file exactly once, after the pairs before it. These lines may follow:
 
 Usage: tests/wrong_bodies.py [--anew] [--only WORD] [CRATE..]
 
---only takes the bodies whose name has the word. The crates are proved and built first, of which `rt ci` repeats nothing
-that a gate has just done. As that keeps what it has proved, so what passed here is kept, in the user's folder for such
-things ($XDG_CACHE_HOME), under a checksum of all that it rests on: the body, its crate and those below it, the toolchain
-and this script. Only that isn't tried again, and with --anew all is. The last line is 'N passed, M failed'.
+--only takes the bodies whose name has the word. The crates are proved and built first, unless tests/gate.sh has just done
+that here, of the same sources. What passed is kept, in the user's folder for such things ($XDG_CACHE_HOME), under a
+checksum of all that it rests on: the body, its crate and those below it, the toolchain and this script. Only that isn't
+tried again, and with --anew all is. The last line is 'N passed, M failed'.
 """
 
 import concurrent.futures
@@ -42,6 +42,9 @@ TOP = os.path.dirname(os.path.dirname(os.path.abspath(__file__)))
 # What passed is kept here, each in a file, until it hasn't been looked for in so many seconds.
 KEPT = os.path.join(os.environ.get("XDG_CACHE_HOME") or os.path.expanduser("~/.cache"), "verity-wrong-bodies")
 KEPT_FOR = 14 * 24 * 3600
+
+# What the gate proved last was made of sources with this sum (tests/gate.sh).
+GATE_SUM = os.path.join(TOP, "bin", "gate.sum")
 
 
 # ---- The bodies ----
@@ -584,8 +587,23 @@ def copy_crates(names, to):
     shutil.copy(f"{TOP}/HANDLES", to)
 
 
+def libraries_of_gate():
+    """The folders of the libraries that a gate has proved of just these sources, and that nobody has built since; none
+    if there are no such."""
+    folders = sorted(glob.glob(f"{TOP}/crates/*/out/rlib"))
+    if not os.path.exists(GATE_SUM) or any(os.path.exists(f"{folder}/stamp") for folder in folders):
+        return []
+    said = subprocess.run(["bash", "-c", ". ./building.sh && sources"], cwd=TOP, stdout=subprocess.PIPE, text=True)
+    with open(GATE_SUM, encoding="utf-8") as file:
+        return folders if said.returncode == 0 and said.stdout == file.read() else []
+
+
 def built(listed, wanted, room):
-    """Proves these crates and those below them, as they stand, and builds them: the folders of their libraries."""
+    """Proves these crates and those below them, as they stand, and builds them: the folders of their libraries. What a
+    gate has just proved here is taken as it is."""
+    folders = libraries_of_gate()
+    if folders:
+        return folders
     names = with_those_below(wanted, listed)
     copy_crates(names, room)
     with open(f"{room}/crates.txt", "w", encoding="utf-8") as lines:
@@ -628,6 +646,8 @@ def changes_of(crate, wanted, report):
 
 
 def main(words):
+    if [it for it in words if it.startswith("--") and it not in ("--anew", "--only")]:
+        sys.exit(__doc__)
     wanted = words[words.index("--only") + 1] if "--only" in words else ""
     names = [it for it in words if not it.startswith("--") and it != wanted]
     kit = os.path.dirname(subprocess.run(["rt", "doc"], stdout=subprocess.PIPE, check=True, text=True).stdout.strip())

@@ -4,7 +4,7 @@
 set -u
 cd "$(dirname "$0")/../.."
 . tests/lib/checks.sh
-. tests/lib/images.sh
+. tests/lib/stated_images.sh
 has_program veritysetup
 needs_other veritysetup cryptsetup-bin
 
@@ -15,7 +15,7 @@ options=(--format 1 --hash sha256 --data-block-size 4096 --hash-block-size 4096 
 
 # The other program pads the superblock of a single data block to a whole block.
 veritysetup format "${options[@]}" "$scratch/data" "$scratch/peer" >/dev/null
-truncate -s 512 "$scratch/peer"
+truncate -s $SUPERBLOCK_SIZE "$scratch/peer"
 same_bytes 'the worked superblock by the other veritysetup' "$scratch/stated" "$scratch/peer"
 
 "$BIN/veritysetup" format "${options[@]}" "$scratch/data" "$scratch/own" >/dev/null

@@ -1,6 +1,8 @@
 # What the scripts of tests/library share: how the C programs are built and counted, and images of Debian's programs over
 # random settings. Sourced after tests/lib/checks.sh.
 
+. tests/lib/layouts.sh
+
 LIB=${LIB:-lib}
 SEED=${SEED:-1}
 # Longer than any run takes, on a slow machine too.
@@ -94,7 +96,7 @@ fan_out() {
 }
 
 # verity_image MOST-BYTES: makes a dm-verity image by Debian's program at random, with at most so much data. Sets
-# `words` to what images.c is told of it.
+# `words` to what debian_images.c is told of it.
 verity_image() {
     local hash type data_size hash_size area offset root options place
     one_of sha1 sha224 sha256 sha256 sha384 sha512
@@ -158,8 +160,7 @@ fsverity_image() {
         return 1
     fi
     digest=$(cat "$scratch/report")
-    # The root hash stands at byte 16 of the descriptor.
-    root=$(od -An -v -tx1 -j 16 -N $((${#digest} / 2)) "$scratch/descriptor" | tr -d ' \n')
+    root=$(od -An -v -tx1 -j $ROOT_AT -N $((${#digest} / 2)) "$scratch/descriptor" | tr -d ' \n')
     words=(fsverity "$hash" "$block" "$salt" "$size" "$scratch/file" "$scratch/tree" "$root" "$digest")
 }
 

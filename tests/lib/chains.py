@@ -1,9 +1,8 @@
 #!/usr/bin/env python3
 """Data blocks with paths that the definitions accept, for fuzz.c: chains.py SEED COUNT prints so many.
 
-A chain is a data block of random bytes, and above it hash blocks of random bytes with the digest of the block below
-in its slot; so trees of any size have one. Digests are those of hashlib, shapes those of tests/lib/trees.py.
-Numbers are little-endian, in the order in which fuzz.c reads them.
+Digests are those of hashlib, chains and shapes those of tests/lib/trees.py. Numbers are little-endian, in the order in
+which fuzz.c reads them.
 """
 
 import hashlib
@@ -12,7 +11,8 @@ import struct
 import sys
 
 sys.dont_write_bytecode = True
-from trees import FS_VERITY, MOST_BYTES, Settings, Shape, salted
+from layouts import SUPERBLOCK_SIZE, descriptor
+from trees import FS_VERITY, MOST_BYTES, Settings, Shape, chain
 
 NUMBERS = {"sha256": 1, "sha512": 2, "sha1": 3, "sha224": 4, "sha384": 5}
 
@@ -29,9 +29,9 @@ def device(numbers):
     count = some_number(numbers, MOST_BYTES // data_block)
     settings = Settings(numbers.choice(list(NUMBERS)), data_block, hash_block, salt, count, numbers.randint(0, 1))
     superblock = numbers.random() < 0.5
-    unit = 512 if superblock else hash_block
+    unit = SUPERBLOCK_SIZE if superblock else hash_block
     offset = numbers.choice((0, some_number(numbers, MOST_BYTES))) // unit * unit
-    base = -(-(offset + 512 * superblock) // hash_block)
+    base = -(-(offset + SUPERBLOCK_SIZE * superblock) // hash_block)
     return settings, superblock, offset, base
 
 
@@ -45,13 +45,12 @@ def file(numbers):
 
 
 def file_digest(settings, size, root):
-    """The hash of the descriptor (Linux kernel, fs-verity page)."""
-    head = (1, NUMBERS[settings.name], settings.data_block.bit_length() - 1, len(settings.salt), 0, size)
-    descriptor = struct.pack("<BBBBIQ64s32s", *head, root, settings.salt).ljust(256, b"\0")
-    return hashlib.new(settings.name, descriptor).digest()
+    """The hash of the descriptor."""
+    return hashlib.new(settings.name, descriptor(settings, size, root)).digest()
 
 
-def chain(numbers):
+def drawn_chain(numbers):
+    """The parts of one chain, as fuzz.c reads them."""
     while True:
         is_file = numbers.random() < 0.5
         if is_file:
@@ -64,29 +63,20 @@ def chain(numbers):
             break
     last = settings.count - 1
     index = numbers.choice((0, last, numbers.randint(0, last)))
-    block = numbers.randbytes(settings.data_block)
-    path, below, number = [], block, index
-    for _ in shape.sizes:
-        above = bytearray(numbers.randbytes(settings.hash_block))
-        at = number % shape.fan * shape.width
-        above[at : at + shape.length] = salted(settings)(below)
-        number //= shape.fan
-        below = bytes(above)
-        path.append(below)
-    root = salted(settings)(below)
+    blocks, root = chain(shape, index, numbers)
     digest = file_digest(settings, size, root) if is_file else b""
     hash_type = 0 if is_file else settings.hash_type
     yield struct.pack("<IIIIIII", is_file, NUMBERS[settings.name], hash_type, settings.data_block, settings.hash_block,
                       not superblock, len(settings.salt))
     yield struct.pack("<QQQQ", size, offset, index, len(shape.sizes))
     yield settings.salt.ljust(256, b"\0") + root.ljust(64, b"\0") + digest.ljust(64, b"\0")
-    yield block + b"".join(path)
+    yield b"".join(blocks)
 
 
 def main():
     numbers = random.Random(int(sys.argv[1]))
     for _ in range(int(sys.argv[2])):
-        for part in chain(numbers):
+        for part in drawn_chain(numbers):
             sys.stdout.buffer.write(part)
 
 

@@ -153,6 +153,14 @@ digests() {
     split -b "$2" --filter="${3:-sha256sum}" "$1" | while read -r digest _; do bytes "$digest"; done
 }
 
+# hash_blocks FILE SIZE HASH-BLOCK [PROGRAM]: writes the hash blocks of HASH-BLOCK bytes above a file's blocks of SIZE
+# bytes: their digests, whose length divides that of a hash block, and zeros up to whole hash blocks.
+hash_blocks() {
+    digests "$1" "$2" "${4:-sha256sum}" >"$scratch/.above"
+    truncate -s "%$3" "$scratch/.above"
+    cat "$scratch/.above"
+}
+
 # set_byte FILE OFFSET HEX: overwrites one byte.
 set_byte() {
     bytes "$3" | dd of="$1" bs=1 seek="$2" conv=notrunc status=none

@@ -8,18 +8,17 @@ superblock of HASH is read as the on-disk format page of cryptsetup has it; --ba
 """
 
 import argparse
-import struct
 import sys
 
 sys.dont_write_bytecode = True
+from layouts import SUPERBLOCK_SIZE, read_superblock
 from trees import Settings, Tree, verdict
 
 
 def of_superblock(superblock):
     """The settings that a superblock describes."""
-    name = superblock[32:64].split(b"\0")[0].decode()
-    data_block, hash_block, count, salt_size = struct.unpack("<IIQH", superblock[64:82])
-    return Settings(name, data_block, hash_block, superblock[88 : 88 + salt_size], count, superblock[12])
+    fields = read_superblock(superblock)
+    return Settings(*(getattr(fields, name) for name in Settings._fields))
 
 
 def of_text(text):
@@ -33,8 +32,9 @@ def tree_of(options, device, data):
     if options.bare:
         settings = of_text(options.bare)
         return Tree(settings, options.hash_offset // settings.hash_block, data)
-    settings = of_superblock(device[options.hash_offset : options.hash_offset + 512])
-    return Tree(settings, -(-(options.hash_offset + 512) // settings.hash_block), data)
+    first = options.hash_offset + SUPERBLOCK_SIZE
+    settings = of_superblock(device[options.hash_offset : first])
+    return Tree(settings, -(-first // settings.hash_block), data)
 
 
 def main():

@@ -56,6 +56,20 @@ class Shape:
         return self.base + sum(self.sizes[level + 1 :]) + block
 
 
+def chain(shape, index, numbers):
+    """A data block of random bytes, the hash blocks above it, each of random bytes with the digest of the block below
+    in its slot, and the root hash. So trees of any size have one."""
+    settings = shape.settings
+    blocks = [numbers.randbytes(settings.data_block)]
+    for _ in shape.sizes:
+        above = bytearray(numbers.randbytes(settings.hash_block))
+        at = index % shape.fan * shape.width
+        above[at : at + shape.length] = salted(settings)(blocks[-1])
+        blocks.append(bytes(above))
+        index //= shape.fan
+    return blocks, salted(settings)(blocks[-1])
+
+
 class Tree(Shape):
     """The tree of some data. If this ends before the last data block, it is the hash blocks that have closed."""
 

@@ -24,7 +24,7 @@ if compiles "$scratch/refused" "${static[@]}" tests/library/refused.c "$ARM_LIB/
     adds 'refused' qemu-aarch64 "$scratch/refused"
 fi
 draws_data
-if compiles "$scratch/images" "${static[@]}" tests/library/images.c tests/library/words.c "$ARM_LIB/libverity.a"; then
+if compiles "$scratch/images" "${static[@]}" tests/library/debian_images.c tests/library/words.c "$ARM_LIB/libverity.a"; then
     tries_images "$scratch/images" 14 8 $((1 << 20)) qemu-aarch64
 fi
 if compiles "$scratch/fuzz" "${static[@]}" tests/library/fuzz.c "$ARM_LIB/libverity.a"; then

@@ -1,6 +1,7 @@
 #!/bin/bash
-# Builds and runs the examples of include/verity.h, of man/verity.3 and of README.md word for word, over an image of
-# Debian's veritysetup and a file of fsverity, and compares what header and page say of functions, statuses and the version.
+# Builds and runs the examples of include/verity.h, of man/verity.3 and of docs/LIBRARY.md word for word, over an image
+# of Debian's veritysetup and a file of fsverity, and compares what header and page say of functions, statuses and the
+# version.
 set -u
 cd "$(dirname "$0")/../.."
 . tests/lib/checks.sh
@@ -57,11 +58,11 @@ else
     echo "left out: the page's commands: pkg-config or xxd is not installed"
 fi
 
-# README's program: a superblock, a data block, its path and the root hash come one after another.
+# docs/LIBRARY.md's program: a superblock, a data block, its path and the root hash come one after another.
 awk '/^    #include "verity.h"|^    #include <stdio.h>/ { shown = 1 } shown && !/^(    .*)?$/ { exit } shown { print substr($0, 5) }' \
-    "$root/README.md" >readme.c
-same 'README.md: it is there' yes "$(grep -q verity_check_block readme.c && echo yes)"
-runs 'README.md: it is built' 0 '' '' cc -Wall -I"$root/include" readme.c "$LIB/libverity.a" -o readme
+    "$root/docs/LIBRARY.md" >block.c
+same 'docs/LIBRARY.md: it is there' yes "$(grep -q verity_check_block block.c && echo yes)"
+runs 'docs/LIBRARY.md: it is built' 0 '' '' cc -Wall -I"$root/include" block.c "$LIB/libverity.a" -o block
 # The path of data block 1: level 1 is block 1 of the hash device, and level 0 begins with block 2.
 {
     head -c 512 image.hash
@@ -70,11 +71,11 @@ runs 'README.md: it is built' 0 '' '' cc -Wall -I"$root/include" readme.c "$LIB/
     dd if=image.hash bs=4096 skip=1 count=1 status=none
     bytes "$hash"
 } >input
-./readme <input
-same 'README.md: the right block' 0 "$?"
+./block <input
+same 'docs/LIBRARY.md: the right block' 0 "$?"
 flip input 600 1
-./readme <input
-same 'README.md: a changed block' 1 "$?"
+./block <input
+same 'docs/LIBRARY.md: a changed block' 1 "$?"
 
 # The header's loop, in a program that feeds standard input in pieces of 10000 bytes and writes the hash device.
 {
@@ -123,17 +124,17 @@ same_bytes "the header's loop: hash device" image.hash fed.hash
 head -c 4096 image.ext4 | ./feed fed.hash >root
 same "the header's loop: too few bytes" 118 "$?"
 
-# README's lines for a file, in a program that reads it from standard input.
+# docs/LIBRARY.md's lines for a file, in a program that reads it from standard input.
 {
     printf '%s\n' '#include <unistd.h>' '#include "verity.h"' 'int main(void)' '{' \
         '    static uint8_t memory[36864], piece[10000], root[32], digest[32];' '    ssize_t length;' '    int file = 0;' \
         '    struct fsverity_params params = {.hash_algorithm = VERITY_SHA256, .block_size = 4096};'
-    sed -n '/^    fsverity_build_begin(/,/^ *fsverity_build_end(/p' "$root/README.md"
+    sed -n '/^    fsverity_build_begin(/,/^ *fsverity_build_end(/p' "$root/docs/LIBRARY.md"
     printf '%s\n' '    return write(1, digest, 32) != 32;' '}'
 } >file.c
-runs 'README.md: the lines for a file are built' 0 '' '' cc -Wall -I"$root/include" file.c "$LIB/libverity.a" -o file
+runs 'docs/LIBRARY.md: the lines for a file are built' 0 '' '' cc -Wall -I"$root/include" file.c "$LIB/libverity.a" -o file
 if command -v fsverity >/dev/null; then
-    same 'README.md: the digest of a file' "$(fsverity digest --compact image.ext4)" \
+    same 'docs/LIBRARY.md: the digest of a file' "$(fsverity digest --compact image.ext4)" \
         "$(./file <image.ext4 | od -An -v -tx1 | tr -d ' \n')"
 else
     echo 'left out: the digest of a file: fsverity is not installed'

@@ -350,49 +350,29 @@ copy_checks() {
 
 # deep_paths: writes files for tests/library/stack.c: blocks of the deepest trees there are, and of usual ones.
 deep_paths() {
-    python3 - "$scratch" <<'END'
+    PYTHONPATH=tests/lib PYTHONDONTWRITEBYTECODE=1 python3 - "$scratch" <<'END'
 import hashlib, itertools, random, struct, sys
+from layouts import SUPERBLOCK_SIZE, descriptor, superblock
+from trees import FS_VERITY, MOST_BYTES, Settings, Shape, chain
 source = random.Random(1)
 
-def path(index, blocks, block_size, fit, slot, digest):
-    """A random data block, random hash blocks above it that have its digest, and the root hash."""
-    block = source.randbytes(block_size)
-    parts = [block]
-    while blocks > 1:
-        above = bytearray(source.randbytes(hash_block_size))
-        place = index % fit * slot
-        found = digest(parts[-1])
-        above[place:place + len(found)] = found
-        parts.append(bytes(above))
-        index, blocks = index // fit, -(-blocks // fit)
-    return b''.join(parts) + digest(parts[-1])
-
-def write(name, index, start, rest):
+def write(name, start, settings):
+    index = settings.count - 2
+    blocks, root = chain(Shape(settings, 0), index, source)
     with open(f'{sys.argv[1]}/{name}.path', 'wb') as file:
-        file.write(struct.pack('<Q', index) + start.ljust(512, b'\0') + rest)
+        file.write(struct.pack('<Q', index) + start.ljust(SUPERBLOCK_SIZE, b'\0') + b''.join(blocks) + root)
 
 for name, kind, salt_size, size in itertools.product(
         ['sha256', 'sha512', 'sha1', 'sha224', 'sha384'], [0, 1], [0, 1, 32, 256], [512, 4096]):
-    hash_block_size, digest_size, salt = size, hashlib.new(name).digest_size, source.randbytes(salt_size)
-    fit = 1 << (size // digest_size).bit_length() - 1
-    slot = size // fit if kind == 1 else digest_size
-    blocks = (2**63 - 1) // size if size == 512 else 100000
-    index = blocks - 2
-    start = struct.pack('<8sII16s32sIIQH6x256s', b'verity', 1, kind, source.randbytes(16), name.encode(), size, size,
-                        blocks, salt_size, salt)
-    write(f'image-{name}-{kind}-{salt_size}-{size}', index, start, path(index, blocks, size, fit, slot,
-          lambda block: hashlib.new(name, salt + block if kind == 1 else block + salt).digest()))
+    count = MOST_BYTES // size if size == 512 else 100000
+    settings = Settings(name, size, size, source.randbytes(salt_size), count, kind)
+    write(f'image-{name}-{kind}-{salt_size}-{size}', superblock(settings, source.randbytes(16)), settings)
 
 for name, salt_size, size in itertools.product(['sha256', 'sha512'], [0, 1, 32], [0, 1024, 4096]):
-    hash_block_size, salt = size or 2 * hashlib.new(name).digest_size, source.randbytes(salt_size)
+    block, salt = size or 2 * hashlib.new(name).digest_size, source.randbytes(salt_size)
     file_size = 2**60 + 77
-    blocks = -(-file_size // hash_block_size)
-    padded = salt.ljust(hashlib.new(name).block_size, b'\0') if salt else b''
-    start = struct.pack('<BBBBIQ64s32s', 1, {'sha256': 1, 'sha512': 2}[name], hash_block_size.bit_length() - 1,
-                        salt_size, 0, file_size, b'', salt)
-    write(f'file-{name}-{salt_size}-{size}', blocks - 2, start, path(
-        blocks - 2, blocks, hash_block_size, hash_block_size // hashlib.new(name).digest_size,
-        hashlib.new(name).digest_size, lambda block: hashlib.new(name, padded + block).digest()))
+    settings = Settings(name, block, block, salt, -(-file_size // block), FS_VERITY)
+    write(f'file-{name}-{salt_size}-{size}', descriptor(settings, file_size, b''), settings)
 END
 }
 

@@ -49,7 +49,7 @@ struct expected {
     /* The tree's hash blocks from the first on, the root hash and of a file descriptor and digest. */
     const uint8_t *hashes;
     uint8_t root[VERITY_MAX_DIGEST_SIZE];
-    uint8_t descriptor[256];
+    uint8_t descriptor[DESCRIPTOR_SIZE];
     uint8_t digest[VERITY_MAX_DIGEST_SIZE];
 };
 
@@ -159,15 +159,15 @@ static void ends(struct feeding *feeding)
     struct tree *tree = &feeding->building.tree;
     size_t length = feeding->shape.status == VERITY_OK ? feeding->shape.digest_size
                                                        : digest_size_of(tree->file.hash_algorithm), level;
-    uint8_t root[VERITY_MAX_DIGEST_SIZE] = {0}, digest[VERITY_MAX_DIGEST_SIZE] = {0}, descriptor[256];
+    uint8_t root[VERITY_MAX_DIGEST_SIZE] = {0}, digest[VERITY_MAX_DIGEST_SIZE] = {0}, descriptor[DESCRIPTOR_SIZE];
 
     check(call_build_end(&feeding->building, root, length, digest, tree->is_file ? length : 0) == VERITY_OK, "the end");
     check(memcmp(root, expected->root, length) == 0, "the root hash");
     if (tree->is_file) {
         check(tree->file.size == expected->size, "the size is %" PRIu64, tree->file.size);
         check(memcmp(digest, expected->digest, length) == 0, "the file digest");
-        check(call_descriptor(&tree->file, bytes_of(root, length), descriptor, 256) == VERITY_OK &&
-                      memcmp(descriptor, expected->descriptor, 256) == 0, "the descriptor");
+        check(call_descriptor(&tree->file, bytes_of(root, length), descriptor, DESCRIPTOR_SIZE) == VERITY_OK &&
+                      memcmp(descriptor, expected->descriptor, DESCRIPTOR_SIZE) == 0, "the descriptor");
         return;
     }
     for (level = 0; level < feeding->shape.levels; level++)
@@ -277,11 +277,11 @@ static void check_cuts(uint32_t least, uint32_t most)
 static void check_superblock(const struct verity_params *params, const uint8_t *expected)
 {
     struct verity_params again;
-    uint8_t superblock[512];
+    uint8_t superblock[SUPERBLOCK_SIZE];
 
-    check(call_write_superblock(params, superblock, 512) == VERITY_OK, "the superblock");
-    check(memcmp(superblock, expected, 512) == 0, "the bytes of the superblock");
-    check(call_read_superblock(bytes_of(superblock, 512), params->hash_offset, &again) == VERITY_OK &&
+    check(call_write_superblock(params, superblock, SUPERBLOCK_SIZE) == VERITY_OK, "the superblock");
+    check(memcmp(superblock, expected, SUPERBLOCK_SIZE) == 0, "the bytes of the superblock");
+    check(call_read_superblock(bytes_of(superblock, SUPERBLOCK_SIZE), params->hash_offset, &again) == VERITY_OK &&
                   again.data_blocks == params->data_blocks && memcmp(again.uuid, params->uuid, 16) == 0 &&
                   memcmp(again.salt, params->salt, params->salt_size) == 0, "the superblock is read again");
 }
@@ -335,10 +335,10 @@ static void feed_file(char **words)
     digest_size = digest_size_of(params->hash_algorithm);
     expected.data = content_of(words[4], 1, &length);
     expected.size = params->size;
-    descriptor = content_of(words[5], 256, &length_of_descriptor);
-    memcpy(expected.descriptor, descriptor, 256);
-    memcpy(expected.root, descriptor + 16, digest_size);
-    check(length_of_descriptor == 256 && length == expected.size, "the lengths of the files");
+    descriptor = content_of(words[5], DESCRIPTOR_SIZE, &length_of_descriptor);
+    memcpy(expected.descriptor, descriptor, DESCRIPTOR_SIZE);
+    memcpy(expected.root, descriptor + FILE_ROOT_AT, digest_size);
+    check(length_of_descriptor == DESCRIPTOR_SIZE && length == expected.size, "the lengths of the files");
     check(bytes_of_text(words[6], expected.digest, sizeof expected.digest) == digest_size, "the file digest's length");
     feed_cut(&tree, &expected, false);
 }
@@ -349,7 +349,7 @@ static void feed_settings(struct tree *tree, const uint8_t *data, bool is_one)
     struct expected expected = {.data = data, .size = tree->is_file ? tree->file.size : 0};
     struct shape shape = shape_of(tree);
     uint64_t length = shape.data_blocks * shape.data_block_size;
-    uint8_t *padded = memory_of(length), *hashes = memory_of(tree_length(&shape)), superblock[512];
+    uint8_t *padded = memory_of(length), *hashes = memory_of(tree_length(&shape)), superblock[SUPERBLOCK_SIZE];
 
     if (!tree->is_file)
         expected.size = length;
@@ -359,7 +359,7 @@ static void feed_settings(struct tree *tree, const uint8_t *data, bool is_one)
         reference_tree(tree, &shape, padded, hashes, expected.root);
     if (tree->is_file) {
         reference_descriptor(&tree->file, expected.root, expected.descriptor);
-        hash_of(tree->file.hash_algorithm, expected.descriptor, 256, expected.digest);
+        hash_of(tree->file.hash_algorithm, expected.descriptor, DESCRIPTOR_SIZE, expected.digest);
     } else {
         write_superblock(superblock, &tree->device, name_of(tree->device.hash_algorithm));
         check_superblock(&tree->device, superblock);

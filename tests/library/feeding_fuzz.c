@@ -332,7 +332,7 @@ static void end(struct run *run, const uint8_t *right)
     size_t size = digest_size_of(is_file ? building->tree.file.hash_algorithm : building->tree.device.hash_algorithm);
     size_t root_length = run->is_disturbed && once_in(8) ? random_below(65) : size;
     size_t digest_length = !is_file ? 0 : run->is_disturbed && once_in(8) ? random_below(65) : size;
-    uint8_t root[65] = {0}, digest[65] = {0}, descriptor[256], digests[VERITY_MAX_DIGEST_SIZE] = {0};
+    uint8_t root[65] = {0}, digest[65] = {0}, descriptor[DESCRIPTOR_SIZE], digests[VERITY_MAX_DIGEST_SIZE] = {0};
     uint32_t says = end_says(building, root_length, digest_length);
     uint32_t status = call_build_end(building, root, root_length, digest, digest_length);
     uint64_t blocks = 0;
@@ -344,7 +344,7 @@ static void end(struct run *run, const uint8_t *right)
     check(status == VERITY_OK && memcmp(root, right, size) == 0, "the root hash");
     if (is_file) {
         reference_descriptor(&building->tree.file, root, descriptor);
-        hash_of(building->tree.file.hash_algorithm, descriptor, 256, digests);
+        hash_of(building->tree.file.hash_algorithm, descriptor, DESCRIPTOR_SIZE, digests);
         check(building->tree.file.size == run->size && memcmp(digest, digests, size) == 0, "the file digest");
     } else {
         for (level = 0; level < run->shape.levels; level++)

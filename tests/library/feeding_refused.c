@@ -97,7 +97,7 @@ static void faults_of_devices(void)
     check(call_write_superblock(params, superblock, 511) == VERITY_BAD_LENGTH, "a superblock of 511 bytes");
     check(call_write_superblock(params, superblock, 513) == VERITY_BAD_LENGTH, "a superblock of 513 bytes");
     check(call_write_superblock(params, superblock, 0) == VERITY_BAD_LENGTH, "a superblock of no bytes");
-    check(call_write_superblock(params, superblock, 512) == VERITY_OK, "a superblock");
+    check(call_write_superblock(params, superblock, SUPERBLOCK_SIZE) == VERITY_OK, "a superblock");
 }
 
 static void faults_of_files(void)
@@ -120,10 +120,11 @@ static void faults_of_files(void)
     params->salt_size = 1;
     each_refuses(building, VERITY_BAD_LENGTH, false, "the memory, before the size");
     check(call_descriptor(params, short_root, descriptor, 255) == VERITY_BAD_ROOT_LENGTH, "a root hash of 31 bytes");
-    check(call_descriptor(params, bytes_of(some, 33), descriptor, 256) == VERITY_BAD_ROOT_LENGTH, "one of 33");
+    check(call_descriptor(params, bytes_of(some, 33), descriptor, DESCRIPTOR_SIZE) == VERITY_BAD_ROOT_LENGTH,
+          "one of 33");
     check(call_descriptor(params, right_root, descriptor, 255) == VERITY_BAD_LENGTH, "a descriptor of 255 bytes");
     check(call_descriptor(params, right_root, descriptor, 257) == VERITY_BAD_LENGTH, "a descriptor of 257 bytes");
-    check(call_descriptor(params, right_root, descriptor, 256) == VERITY_OK, "a descriptor of any size");
+    check(call_descriptor(params, right_root, descriptor, DESCRIPTOR_SIZE) == VERITY_OK, "a descriptor of any size");
 }
 
 /* Memory that is a byte too short or too long, and lengths of root hash and digest beside the right ones. */
@@ -293,7 +294,7 @@ static void files_go_on(void)
     struct building building = right(true);
     struct fsverity_params *params = &building.tree.file;
     size_t length = building.memory_length, size = 39 * 512 + 100, at, piece;
-    uint8_t expected[VERITY_MAX_DIGEST_SIZE], expected_digest[VERITY_MAX_DIGEST_SIZE], descriptor[256];
+    uint8_t expected[VERITY_MAX_DIGEST_SIZE], expected_digest[VERITY_MAX_DIGEST_SIZE], descriptor[DESCRIPTOR_SIZE];
     struct verity_fed fed;
     struct shape shape;
 
@@ -314,7 +315,7 @@ static void files_go_on(void)
     shape = shape_of(&building.tree);
     reference_tree(&building.tree, &shape, padded, hashes, expected);
     reference_descriptor(params, expected, descriptor);
-    hash_of(VERITY_SHA256, descriptor, 256, expected_digest);
+    hash_of(VERITY_SHA256, descriptor, DESCRIPTOR_SIZE, expected_digest);
     check(call_build_end(&building, root, 32, digest, 32) == VERITY_OK && memcmp(root, expected, 32) == 0 &&
                   memcmp(digest, expected_digest, 32) == 0,
           "the digest after pieces that were refused");

@@ -75,7 +75,7 @@ static void draw_device(struct verity_params *params)
     if (once_in(8) && params->data_block_size > 0)
         params->data_blocks = LARGEST / params->data_block_size + random_below(3) - 1;
     params->no_superblock = once_in(2) ? 0 : (uint32_t)some_number();
-    unit = params->no_superblock ? params->hash_block_size : 512;
+    unit = params->no_superblock ? params->hash_block_size : SUPERBLOCK_SIZE;
     params->hash_offset = once_in(4) ? edge() : once_in(2) ? 0 : some_number();
     if (!once_in(16) && unit > 0)
         params->hash_offset -= params->hash_offset % unit;
@@ -250,7 +250,7 @@ static void try_superblock(void)
     static const char *const names[] = {"sha", "SHA256", "sha2567", "", "md5", "sha512sha512sha512sha512sha512sh"};
     struct verity_params params, found, said, before;
     uint8_t superblock[600];
-    size_t length = 512 + (once_in(4) ? random_below(sizeof superblock - 512) : 0), changes;
+    size_t length = SUPERBLOCK_SIZE + (once_in(4) ? random_below(sizeof superblock - SUPERBLOCK_SIZE) : 0), changes;
     uint64_t offset = once_in(4) ? random_number() : 0;
     uint32_t status, expected;
 
@@ -262,12 +262,12 @@ static void try_superblock(void)
                              ? name_of(params.hash_algorithm)
                              : names[random_below(6)]);
         if (once_in(2))
-            random_bytes(superblock + 82, 6);
+            random_bytes(superblock + FIRST_PAD_AT, FIRST_PAD_SIZE);
         for (changes = random_below(4); changes > 1; changes--)
-            superblock[random_below(once_in(2) ? 16 : 512)] ^= (uint8_t)(1 << random_below(8));
+            superblock[random_below(once_in(2) ? UUID_AT : SUPERBLOCK_SIZE)] ^= (uint8_t)(1 << random_below(8));
     }
     if (once_in(32))
-        length = random_below(512);
+        length = random_below(SUPERBLOCK_SIZE);
     random_bytes((uint8_t *)&before, sizeof before);
     found = said = before;
     expected = superblock_says(bytes_of(superblock, length), offset, &said);

@@ -124,24 +124,12 @@ int main(void)
 EOC
 if compiles "$scratch/layout" gcc "$scratch/layout.c" "$LIB/libverity.a"; then
     # SHA-384, type 1, data blocks of 1024, hash blocks of 4096, 0x0000010203040506 blocks, salt 'salt'.
-    {
-        bytes 7665726974790000
-        little_endian 4 1
-        little_endian 4 1
-        bytes 000102030405060708090a0b0c0d0e0f
-        printf sha384 && zeros 26
-        little_endian 4 1024
-        little_endian 4 4096
-        bytes 0605040302010000
-        little_endian 2 4
-        zeros 6
-        printf salt && zeros 420
-    } >"$scratch/superblock"
+    ALGORITHM=sha384 HASH_TYPE=1 UUID=000102030405060708090a0b0c0d0e0f
+    superblock 1024 4096 $((0x010203040506)) 73616c74 >"$scratch/superblock"
     paint=$(printf 'a5%.0s' $(seq 312))
     read_bytes=05000000010000000004000000100000060504030201000088776655443322110000000004000000
     read_bytes+=73616c74$(printf '00%.0s' $(seq 252))000102030405060708090a0b0c0d0e0f
-    # The descriptor: version, algorithm, logarithm of the block size, salt size, four zeros, size, root hash, salt.
-    { bytes 01020b03000000000102030405060708 && zeros 64 && printf abc && zeros 173; } >"$scratch/descriptor"
+    descriptor 01020b03 $((0x0807060504030201)) "$(printf '%0128d' 0)" 616263 >"$scratch/descriptor"
     same 'length of the descriptor' 256 "$(stat -c %s "$scratch/descriptor")"
     "$scratch/layout" <"$scratch/superblock" >"$scratch/layout.txt"
     same 'the structs' "0

@@ -215,21 +215,22 @@ void reference_tree(const struct tree *tree, const struct shape *shape, const ui
     salted_hash(tree, below, length, root);
 }
 
-void reference_descriptor(const struct fsverity_params *params, const uint8_t *root, uint8_t descriptor[256])
+void reference_descriptor(const struct fsverity_params *params, const uint8_t *root,
+                          uint8_t descriptor[DESCRIPTOR_SIZE])
 {
     uint32_t size = params->block_size;
     size_t i;
 
-    memset(descriptor, 0, 256);
-    descriptor[0] = 1;
-    descriptor[1] = (uint8_t)params->hash_algorithm;
+    memset(descriptor, 0, DESCRIPTOR_SIZE);
+    descriptor[FILE_VERSION_AT] = 1;
+    descriptor[FILE_ALGORITHM_AT] = (uint8_t)params->hash_algorithm;
     while (size > 1) {
         size /= 2;
-        descriptor[2]++;
+        descriptor[FILE_BLOCK_SIZE_AT]++;
     }
-    descriptor[3] = (uint8_t)params->salt_size;
+    descriptor[FILE_SALT_SIZE_AT] = (uint8_t)params->salt_size;
     for (i = 0; i < 8; i++)
-        descriptor[8 + i] = (uint8_t)(params->size >> 8 * i);
-    memcpy(descriptor + 16, root, digest_size_of(params->hash_algorithm));
-    memcpy(descriptor + 80, params->salt, params->salt_size);
+        descriptor[FILE_SIZE_AT + i] = (uint8_t)(params->size >> 8 * i);
+    memcpy(descriptor + FILE_ROOT_AT, root, digest_size_of(params->hash_algorithm));
+    memcpy(descriptor + FILE_SALT_AT, params->salt, params->salt_size);
 }

@@ -18,6 +18,7 @@ void reference_tree(const struct tree *tree, const struct shape *shape, const ui
                     uint8_t *root);
 
 /* The fs-verity descriptor of parameters and a root hash. */
-void reference_descriptor(const struct fsverity_params *params, const uint8_t *root, uint8_t descriptor[256]);
+void reference_descriptor(const struct fsverity_params *params, const uint8_t *root,
+                          uint8_t descriptor[DESCRIPTOR_SIZE]);
 
 #endif

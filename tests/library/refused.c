@@ -261,64 +261,64 @@ static void superblock_faults(void)
                                         "sha-256", "md5", "sha3-256", "sha512/256", "sha384sha384sha384sha384sha384sh"};
     static const uint64_t offsets[] = {1, 511, LARGEST, UINT64_MAX};
     struct tree tree = {.is_file = false};
-    uint8_t superblock[512];
+    uint8_t superblock[SUPERBLOCK_SIZE];
     size_t i, levels = PAINT;
 
     write_superblock(superblock, &params, "sha");
-    superblock[0] = 'V';
-    superblock[8] = 2;
-    refuses_superblock(superblock, 511, VERITY_SHORT_SUPERBLOCK, "all is wrong");
-    refuses_superblock(superblock, 512, VERITY_BAD_SIGNATURE, "all but the length");
-    superblock[0] = 'v';
-    refuses_superblock(superblock, 512, VERITY_BAD_VERSION, "from the version on");
-    superblock[8] = 1;
-    refuses_superblock(superblock, 512, VERITY_BAD_HASH_TYPE, "from the hash type on");
+    superblock[SIGNATURE_AT] = 'V';
+    superblock[VERSION_AT] = 2;
+    refuses_superblock(superblock, SUPERBLOCK_SIZE - 1, VERITY_SHORT_SUPERBLOCK, "all is wrong");
+    refuses_superblock(superblock, SUPERBLOCK_SIZE, VERITY_BAD_SIGNATURE, "all but the length");
+    superblock[SIGNATURE_AT] = 'v';
+    refuses_superblock(superblock, SUPERBLOCK_SIZE, VERITY_BAD_VERSION, "from the version on");
+    superblock[VERSION_AT] = 1;
+    refuses_superblock(superblock, SUPERBLOCK_SIZE, VERITY_BAD_HASH_TYPE, "from the hash type on");
     params.hash_type = 0;
     write_superblock(superblock, &params, "sha");
-    refuses_superblock(superblock, 512, VERITY_BAD_DATA_BLOCK_SIZE, "from the data block size on");
+    refuses_superblock(superblock, SUPERBLOCK_SIZE, VERITY_BAD_DATA_BLOCK_SIZE, "from the data block size on");
     params.data_block_size = 1024;
     write_superblock(superblock, &params, "sha");
-    refuses_superblock(superblock, 512, VERITY_BAD_HASH_BLOCK_SIZE, "from the hash block size on");
+    refuses_superblock(superblock, SUPERBLOCK_SIZE, VERITY_BAD_HASH_BLOCK_SIZE, "from the hash block size on");
     params.hash_block_size = 4096;
     write_superblock(superblock, &params, "sha");
-    refuses_superblock(superblock, 512, VERITY_BAD_HASH_ALGORITHM, "from the hash algorithm on");
+    refuses_superblock(superblock, SUPERBLOCK_SIZE, VERITY_BAD_HASH_ALGORITHM, "from the hash algorithm on");
     write_superblock(superblock, &params, "sha384");
-    refuses_superblock(superblock, 512, VERITY_BAD_SALT_SIZE, "from the salt size on");
+    refuses_superblock(superblock, SUPERBLOCK_SIZE, VERITY_BAD_SALT_SIZE, "from the salt size on");
     params.salt_size = 256;
     write_superblock(superblock, &params, "sha384");
-    refuses_superblock(superblock, 512, VERITY_NO_DATA, "without data");
+    refuses_superblock(superblock, SUPERBLOCK_SIZE, VERITY_NO_DATA, "without data");
     params.data_blocks = LARGEST / 1024 + 1;
     write_superblock(superblock, &params, "sha384");
-    refuses_superblock(superblock, 512, VERITY_TOO_LARGE, "too much data");
+    refuses_superblock(superblock, SUPERBLOCK_SIZE, VERITY_TOO_LARGE, "too much data");
     params.data_blocks = LARGEST / 1024;
     write_superblock(superblock, &params, "sha384");
-    refuses_superblock(superblock, 512, VERITY_OK, "all is mended");
+    refuses_superblock(superblock, SUPERBLOCK_SIZE, VERITY_OK, "all is mended");
 
     for (i = 0; i < sizeof wrong / sizeof *wrong; i++) {
         write_superblock(superblock, &params, wrong[i]);
-        refuses_superblock(superblock, 512, VERITY_BAD_HASH_ALGORITHM, wrong[i]);
+        refuses_superblock(superblock, SUPERBLOCK_SIZE, VERITY_BAD_HASH_ALGORITHM, wrong[i]);
     }
     write_superblock(superblock, &params, "sha384");
     /* What stands behind the zero of the name, in the padding, and behind the salt doesn't count. */
-    memset(superblock + 32 + 7, 'x', 32 - 7);
-    memset(superblock + 82, 'x', 6);
-    memset(superblock + 344, 'x', 168);
-    refuses_superblock(superblock, 512, VERITY_OK, "other bytes that don't count");
-    for (i = 0; i < 8; i++) {
+    memset(superblock + ALGORITHM_AT + 7, 'x', ALGORITHM_SIZE - 7);
+    memset(superblock + FIRST_PAD_AT, 'x', FIRST_PAD_SIZE);
+    memset(superblock + LAST_PAD_AT, 'x', LAST_PAD_SIZE);
+    refuses_superblock(superblock, SUPERBLOCK_SIZE, VERITY_OK, "other bytes that don't count");
+    for (i = SIGNATURE_AT; i < VERSION_AT; i++) {
         superblock[i] ^= 0x20;
-        refuses_superblock(superblock, 512, VERITY_BAD_SIGNATURE, "a byte of the signature");
+        refuses_superblock(superblock, SUPERBLOCK_SIZE, VERITY_BAD_SIGNATURE, "a byte of the signature");
         superblock[i] ^= 0x20;
     }
-    for (i = 8; i < 12; i++) {
+    for (i = VERSION_AT; i < HASH_TYPE_AT; i++) {
         superblock[i] ^= 0x80;
-        refuses_superblock(superblock, 512, VERITY_BAD_VERSION, "a byte of the version");
+        refuses_superblock(superblock, SUPERBLOCK_SIZE, VERITY_BAD_VERSION, "a byte of the version");
         superblock[i] ^= 0x80;
     }
     /* Any hash offset is read; what it can't be is said by the next function. */
     params.data_blocks = 1000;
     write_superblock(superblock, &params, "sha384");
     for (i = 0; i < sizeof offsets / sizeof *offsets; i++) {
-        check(call_read_superblock(bytes_of(superblock, 512), offsets[i], &tree.device) == VERITY_OK &&
+        check(call_read_superblock(bytes_of(superblock, SUPERBLOCK_SIZE), offsets[i], &tree.device) == VERITY_OK &&
                       tree.device.hash_offset == offsets[i], "hash offset %" PRIu64, offsets[i]);
         check(call_level_count(&tree, &levels) == VERITY_BAD_HASH_OFFSET && levels == PAINT,
               "levels with hash offset %" PRIu64, offsets[i]);

@@ -17,9 +17,10 @@
 #include <string.h>
 #include <ucontext.h>
 
+#include "layouts.h"
 #include "verity.h"
 
-enum { STACK_SIZE = 24576, PATTERN = 0xa5, FILE_ROOM = 1 << 20, MOST_BLOCKS = 20 };
+enum { STACK_SIZE = 24576, PATTERN = 0xa5, FILE_ROOM = 1 << 20, MOST_BLOCKS = 20, INDEX_SIZE = 8 };
 
 static _Alignas(64) uint8_t stack[STACK_SIZE];
 static ucontext_t main_context, call_context;
@@ -28,7 +29,7 @@ static size_t empty;
 /* The arguments of the calls, and what they fill. */
 static struct verity_params params, filled;
 static struct fsverity_params file_params;
-static uint8_t superblock[512], *block, *path, *root, digest[2 * VERITY_MAX_DIGEST_SIZE];
+static uint8_t superblock[SUPERBLOCK_SIZE], *block, *path, *root, digest[2 * VERITY_MAX_DIGEST_SIZE];
 static size_t block_size, hash_block_size, levels, at_level, root_length, found_levels, found_level;
 static uint64_t index_of_block, found_start, found_blocks;
 static uint32_t status;
@@ -36,8 +37,9 @@ static uint32_t status;
 /* What is fed: so many data blocks and a byte, up to the end of a tree, or across the middle of a large file's. */
 static struct verity_build build;
 static struct verity_fed fed;
-static uint8_t memory[1 << 16], piece[(MOST_BLOCKS + 1) * 4096], bytes_out[512];
-static size_t memory_length, found_length, piece_length, superblock_length = 512, descriptor_length = 256;
+static uint8_t memory[1 << 16], piece[(MOST_BLOCKS + 1) * 4096], bytes_out[SUPERBLOCK_SIZE];
+static size_t memory_length, found_length, piece_length;
+static size_t superblock_length = SUPERBLOCK_SIZE, descriptor_length = DESCRIPTOR_SIZE;
 static uint64_t all_bytes;
 
 /* The block that is checked at a level. */
@@ -231,18 +233,18 @@ static uint64_t little_endian(const uint8_t *bytes, size_t width) {
 
 /* Takes the parameters of a descriptor. */
 static void read_descriptor(const uint8_t *bytes) {
-    file_params.hash_algorithm = bytes[1];
-    file_params.block_size = UINT32_C(1) << bytes[2];
-    file_params.salt_size = bytes[3];
-    file_params.size = little_endian(bytes + 8, 8);
-    memcpy(file_params.salt, bytes + 80, sizeof file_params.salt);
+    file_params.hash_algorithm = bytes[FILE_ALGORITHM_AT];
+    file_params.block_size = UINT32_C(1) << bytes[FILE_BLOCK_SIZE_AT];
+    file_params.salt_size = bytes[FILE_SALT_SIZE_AT];
+    file_params.size = little_endian(bytes + FILE_SIZE_AT, 8);
+    memcpy(file_params.salt, bytes + FILE_SALT_AT, sizeof file_params.salt);
 }
 
 static void measure_file(uint8_t *bytes, size_t length) {
-    int of_files = bytes[8] == 1;
+    int of_files = bytes[INDEX_SIZE + FILE_VERSION_AT] == 1;
 
-    index_of_block = little_endian(bytes, 8);
-    memcpy(superblock, bytes + 8, sizeof superblock);
+    index_of_block = little_endian(bytes, INDEX_SIZE);
+    memcpy(superblock, bytes + INDEX_SIZE, sizeof superblock);
     if (of_files) {
         read_descriptor(superblock);
         block_size = hash_block_size = file_params.block_size;
@@ -254,11 +256,12 @@ static void measure_file(uint8_t *bytes, size_t length) {
         if (status == VERITY_OK)
             status = verity_level_count(&params, &levels);
     }
-    if (status != VERITY_OK || levels == 0 || length < 8 + sizeof superblock + block_size + levels * hash_block_size) {
+    if (status != VERITY_OK || levels == 0 ||
+        length < INDEX_SIZE + sizeof superblock + block_size + levels * hash_block_size) {
         fprintf(stderr, "the file has other parameters: status %u\n", (unsigned)status);
         exit(1);
     }
-    block = bytes + 8 + sizeof superblock;
+    block = bytes + INDEX_SIZE + sizeof superblock;
     path = block + block_size;
     root = path + levels * hash_block_size;
     root_length = (size_t)(bytes + length - root);

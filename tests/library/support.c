@@ -158,7 +158,7 @@ static void put_slots(struct shape *shape, bool wide_slots)
 
 static uint32_t device_fault(const struct verity_params *params)
 {
-    uint32_t unit = params->no_superblock ? params->hash_block_size : 512;
+    uint32_t unit = params->no_superblock ? params->hash_block_size : SUPERBLOCK_SIZE;
 
     if (digest_size_of(params->hash_algorithm) == 0)
         return VERITY_BAD_HASH_ALGORITHM;
@@ -213,7 +213,7 @@ struct shape shape_of(const struct tree *tree)
         put_slots(&shape, device->hash_type == 1);
         base = device->hash_offset;
         if (device->no_superblock == 0)
-            base += 512;
+            base += SUPERBLOCK_SIZE;
         if (base > MOST_BYTES) {
             shape.status = VERITY_TOO_LARGE;
             return shape;
@@ -248,12 +248,12 @@ static void put_number(uint8_t *bytes, size_t width, uint64_t number)
         bytes[i] = (uint8_t)(number >> 8 * i);
 }
 
-static uint32_t named(const uint8_t field[32])
+static uint32_t named(const uint8_t field[ALGORITHM_SIZE])
 {
-    char name[33] = "";
+    char name[ALGORITHM_SIZE + 1] = "";
     uint32_t algorithm;
 
-    memcpy(name, field, 32);
+    memcpy(name, field, ALGORITHM_SIZE);
     for (algorithm = 5; algorithm > 0; algorithm--)
         if (strcmp(name, functions[algorithm].name) == 0)
             break;
@@ -265,51 +265,51 @@ uint32_t superblock_says(struct bytes bytes, uint64_t hash_offset, struct verity
     struct verity_params said = {.hash_offset = hash_offset};
     const uint8_t *at = bytes.at;
 
-    if (bytes.length < 512)
+    if (bytes.length < SUPERBLOCK_SIZE)
         return VERITY_SHORT_SUPERBLOCK;
-    if (memcmp(at, "verity\0\0", 8) != 0)
+    if (memcmp(at + SIGNATURE_AT, "verity\0\0", SIGNATURE_SIZE) != 0)
         return VERITY_BAD_SIGNATURE;
-    if (number_at(at + 8, 4) != 1)
+    if (number_at(at + VERSION_AT, 4) != 1)
         return VERITY_BAD_VERSION;
-    said.hash_type = (uint32_t)number_at(at + 12, 4);
+    said.hash_type = (uint32_t)number_at(at + HASH_TYPE_AT, 4);
     if (said.hash_type > 1)
         return VERITY_BAD_HASH_TYPE;
-    said.data_block_size = (uint32_t)number_at(at + 64, 4);
+    said.data_block_size = (uint32_t)number_at(at + DATA_BLOCK_SIZE_AT, 4);
     if (!is_power_up_to_limit(said.data_block_size, 512))
         return VERITY_BAD_DATA_BLOCK_SIZE;
-    said.hash_block_size = (uint32_t)number_at(at + 68, 4);
+    said.hash_block_size = (uint32_t)number_at(at + HASH_BLOCK_SIZE_AT, 4);
     if (!is_power_up_to_limit(said.hash_block_size, 512))
         return VERITY_BAD_HASH_BLOCK_SIZE;
-    said.hash_algorithm = named(at + 32);
+    said.hash_algorithm = named(at + ALGORITHM_AT);
     if (said.hash_algorithm == 0)
         return VERITY_BAD_HASH_ALGORITHM;
-    said.salt_size = (uint32_t)number_at(at + 80, 2);
-    if (said.salt_size > 256)
+    said.salt_size = (uint32_t)number_at(at + SALT_SIZE_AT, 2);
+    if (said.salt_size > SALT_ROOM)
         return VERITY_BAD_SALT_SIZE;
-    said.data_blocks = number_at(at + 72, 8);
+    said.data_blocks = number_at(at + DATA_BLOCKS_AT, 8);
     if (said.data_blocks == 0)
         return VERITY_NO_DATA;
     if ((wide)said.data_blocks * said.data_block_size > MOST_BYTES)
         return VERITY_TOO_LARGE;
-    memcpy(said.uuid, at + 16, 16);
-    memcpy(said.salt, at + 88, said.salt_size);
+    memcpy(said.uuid, at + UUID_AT, UUID_SIZE);
+    memcpy(said.salt, at + SALT_AT, said.salt_size);
     *params = said;
     return VERITY_OK;
 }
 
-void write_superblock(uint8_t superblock[512], const struct verity_params *params, const char *name)
+void write_superblock(uint8_t superblock[SUPERBLOCK_SIZE], const struct verity_params *params, const char *name)
 {
-    memset(superblock, 0, 512);
-    memcpy(superblock, "verity", 6);
-    put_number(superblock + 8, 4, 1);
-    put_number(superblock + 12, 4, params->hash_type);
-    memcpy(superblock + 16, params->uuid, 16);
-    memcpy(superblock + 32, name, strnlen(name, 32));
-    put_number(superblock + 64, 4, params->data_block_size);
-    put_number(superblock + 68, 4, params->hash_block_size);
-    put_number(superblock + 72, 8, params->data_blocks);
-    put_number(superblock + 80, 2, params->salt_size);
-    memcpy(superblock + 88, params->salt, 256);
+    memset(superblock, 0, SUPERBLOCK_SIZE);
+    memcpy(superblock + SIGNATURE_AT, "verity", 6);
+    put_number(superblock + VERSION_AT, 4, 1);
+    put_number(superblock + HASH_TYPE_AT, 4, params->hash_type);
+    memcpy(superblock + UUID_AT, params->uuid, UUID_SIZE);
+    memcpy(superblock + ALGORITHM_AT, name, strnlen(name, ALGORITHM_SIZE));
+    put_number(superblock + DATA_BLOCK_SIZE_AT, 4, params->data_block_size);
+    put_number(superblock + HASH_BLOCK_SIZE_AT, 4, params->hash_block_size);
+    put_number(superblock + DATA_BLOCKS_AT, 8, params->data_blocks);
+    put_number(superblock + SALT_SIZE_AT, 2, params->salt_size);
+    memcpy(superblock + SALT_AT, params->salt, SALT_ROOM);
 }
 
 /* Buffers. Each one that a call takes has a region of its own, between memory that can't be read or written. */

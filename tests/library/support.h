@@ -9,6 +9,7 @@
 #include <stddef.h>
 #include <stdint.h>
 
+#include "layouts.h"
 #include "verity.h"
 
 /* Counts a check. One that doesn't hold is printed, the first fifty of them. */
@@ -74,8 +75,8 @@ uint64_t slot_number(const struct shape *shape, uint64_t index, size_t level);
 /* What verity.h says of a superblock's bytes: the first fault, or the parameters. */
 uint32_t superblock_says(struct bytes bytes, uint64_t hash_offset, struct verity_params *params);
 
-/* Writes a superblock, without looking at what the parameters say. name fills 32 bytes with zeros behind it. */
-void write_superblock(uint8_t superblock[512], const struct verity_params *params, const char *name);
+/* Writes a superblock, without looking at what the parameters say. name has zeros behind it. */
+void write_superblock(uint8_t superblock[SUPERBLOCK_SIZE], const struct verity_params *params, const char *name);
 
 /*
  * A call of the library. Each buffer has just the length that is said: it stands right before or right behind memory

@@ -1,4 +1,4 @@
-/* The words of images.c and feeding.c; see words.h. */
+/* The words of debian_images.c and feeding.c; see words.h. */
 #include "words.h"
 
 #include <stdio.h>

@@ -1,4 +1,4 @@
-/* How images.c and feeding.c read the words that they are handed. What can't be read ends the program. */
+/* How debian_images.c and feeding.c read the words that they are handed. What can't be read ends the program. */
 #ifndef WORDS_H
 #define WORDS_H
 

@@ -1,10 +1,11 @@
 #!/bin/bash
-# Files that become shorter or longer while the programs read them. The programs are stopped by a signal meanwhile, so
-# it is known how much they have read.
+# Files that become shorter or longer while the programs read them, and two runs over one HASH. The programs are stopped
+# by a signal meanwhile, so it is known how much they have read.
 set -u
 cd "$(dirname "$0")/../.."
 . tests/lib/checks.sh
-. tests/lib/images.sh
+. tests/lib/stated_images.sh
+. tests/lib/digests.sh
 . tests/lib/running.sh
 has_program fsverity
 has_program veritysetup
@@ -65,20 +66,46 @@ root=$(root_of_zeros)
 short='Data ends before the end of block '
 
 shrinks 'format of data that becomes shorter' 4 "$short" . "$BIN/veritysetup" format "${options[@]}" "$data" "$hash"
+if [ -e "$hash" ]; then pass; else fail 'format of data that becomes shorter' 'no HASH is left'; fi
 runs 'format of data that becomes shorter: no superblock' 1 '' 'No verity superblock.' "$BIN/veritysetup" dump "$hash"
 grows 'format of data that becomes longer' "$(report "$hash" $block $block $((size / block)) - "$root")" \
     "$BIN/veritysetup" format "${options[@]}" "$data" "$hash"
 grows 'verify of data that becomes longer' '' "$BIN/veritysetup" verify "$data" "$hash" "$root"
 shrinks 'verify of data that becomes shorter' 4 "$short" . "$BIN/veritysetup" verify "$data" "$hash" "$root"
 
-# The descriptor of fs-verity: version 1, SHA-256, blocks of two to the 12, no salt, the size, the root hash.
-{
-    bytes 01010c0000000000
-    little_endian 8 $size
-    bytes "$root"
-    zeros 208
-} >"$scratch/descriptor"
-grows 'digest of a file that becomes longer' "sha256:$(sha256 "$scratch/descriptor") $data" \
+# has_read_much FILE: the process has read more than 16 MiB of a file, and so has written hash blocks.
+has_read_much() {
+    is_within "$1" && [ "$at" -gt $((16 << 20)) ]
+}
+
+# at_one_time: a second format over the same HASH runs while the first one is stopped. Both end with 0, and verify finds
+# that neither tree stands.
+at_one_time() {
+    local tries=5 first second root
+    anew
+    rm -f "$hash"
+    until starts "$BIN/veritysetup" format --salt=aa --uuid "$UUID" "$data" "$hash" && waits_for has_read_much "$data" &&
+        kill -STOP "$pid" && waits_for is_stopped && is_within "$data"; do
+        tries=$((tries - 1))
+        if [ "$tries" -eq 0 ]; then
+            fail 'two runs at one time' 'the first was never stopped'
+            return
+        fi
+        { kill -KILL "$pid"; wait "$pid"; } 2>/dev/null
+    done
+    second=$("$BIN/veritysetup" format --salt=bb --uuid "$UUID" "$data" "$hash" | sed -n "s/^Root hash: *$TAB//p")
+    kill -CONT "$pid"
+    ended 'two runs at one time: the first' 0 any ''
+    first=$(sed -n "s/^Root hash: *$TAB//p" "$scratch/.out")
+    for root in "$first" "$second"; do
+        same 'two runs at one time: the root hash' 64 "${#root}"
+        runs 'two runs at one time: verify' 2 '' 'Verification failed: level 0 block 0, child 0.' \
+            "$BIN/veritysetup" verify "$data" "$hash" "$root"
+    done
+}
+at_one_time
+
+grows 'digest of a file that becomes longer' "sha256:$(digest "$root" $size) $data" \
     "$BIN/fsverity" digest "$data"
 shrinks 'digest of a file that becomes shorter' 1 'fsverity: file ends before the end of block ' ": $data." \
     "$BIN/fsverity" digest "$data"

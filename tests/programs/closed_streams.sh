@@ -4,7 +4,7 @@
 set -u
 cd "$(dirname "$0")/../.."
 . tests/lib/checks.sh
-. tests/lib/images.sh
+. tests/lib/stated_images.sh
 . tests/lib/digests.sh
 has_program fsverity
 has_program veritysetup
@@ -46,7 +46,7 @@ line="sha256:$(digest "$(root "$file")" 4097) $file"
 cp "$scratch/descriptor" "$scratch/descriptor_expected"
 cp "$file" "$scratch/whole"
 truncate -s %4096 "$scratch/whole"
-{ digests "$scratch/whole" 4096 && zeros 4032; } >"$scratch/tree_expected"
+hash_blocks "$scratch/whole" 4096 4096 >"$scratch/tree_expected"
 cp "$file" "$scratch/file_before"
 
 # digests_to OUTPUT..: a digest with these output files, `tree` and `made`, new or there before.

@@ -3,7 +3,7 @@
 set -u
 cd "$(dirname "$0")/../.."
 . tests/lib/checks.sh
-. tests/lib/images.sh
+. tests/lib/stated_images.sh
 . tests/lib/digests.sh
 . tests/lib/loops.sh
 has_program fsverity

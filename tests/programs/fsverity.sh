@@ -115,10 +115,7 @@ output_files() {
     line="sha256:$(digest "$(root "$file")" 4097) $file"
     cp "$file" "$scratch/whole"
     truncate -s %4096 "$scratch/whole"
-    {
-        digests "$scratch/whole" 4096
-        zeros 4032
-    } >"$scratch/expected"
+    hash_blocks "$scratch/whole" 4096 4096 >"$scratch/expected"
     sample 100000 >"$scratch/tree"
     runs 'a tree file and a descriptor file' 0 "$line" '' \
         "$fsverity" digest --out-merkle-tree "$scratch/tree" --out-descriptor="$scratch/made" "$file"
@@ -166,6 +163,15 @@ output_files_that_fail() {
     runs 'a full device as the tree file' 1 '' 'fsverity: cannot write tree block 0 of level 0.' \
         "$fsverity" digest --out-merkle-tree /dev/full --out-descriptor "$scratch/made" "$file"
     is_text 'no descriptor after a tree that is not written' '' "$scratch/made"
+    # Level 0 begins at byte 1536: seven of its blocks end within 5120 bytes.
+    sample 153600 >"$scratch/many"
+    rm -f "$scratch/tree" "$scratch/made"
+    # shellcheck disable=SC2016
+    runs 'a tree that is refused on the way' 1 '' 'fsverity: cannot write tree block 7 of level 0.' \
+        bash -c 'ulimit -f 5; trap "" XFSZ; exec "$@"' - "$fsverity" digest --block-size 512 \
+        --out-merkle-tree "$scratch/tree" --out-descriptor "$scratch/made" "$scratch/many"
+    same 'a tree that is refused on the way: a part of it stays' 5120 "$(stat -c %s "$scratch/tree")"
+    is_text 'a tree that is refused on the way: an empty descriptor' '' "$scratch/made"
     runs 'a full device as the descriptor file' 1 '' 'fsverity: cannot write descriptor.' \
         "$fsverity" digest --out-descriptor /dev/full "$file"
     mkdir "$scratch/outputs"

@@ -58,14 +58,7 @@ salted_example() {
         zeros 1023
     } >"$scratch/block"
     root=$(sha256 "$scratch/block")
-    {
-        bytes 01010a0200000000
-        little_endian 8 1
-        bytes "$root"
-        zeros 32
-        bytes abcd
-        zeros 174
-    } >"$scratch/descriptor"
+    descriptor 01010a02 1 "$root" abcd >"$scratch/descriptor"
     runs 'a salt and a block size' 0 "sha256:$(sha256 "$scratch/descriptor") $scratch/one" '' \
         "$fsverity" digest "$scratch/one" --salt ABcd --block-size 1024
 }
@@ -81,13 +74,7 @@ option_forms() {
         printf a
         zeros 1023
     } >"$scratch/block"
-    {
-        bytes 01020a0200000000
-        little_endian 8 1
-        bytes "$(sha512 "$scratch/block")"
-        bytes abcd
-        zeros 174
-    } >"$scratch/descriptor"
+    descriptor 01020a02 1 "$(sha512 "$scratch/block")" abcd >"$scratch/descriptor"
     line="sha512:$(sha512 "$scratch/descriptor") $one"
     runs 'options of two words before a file' 0 "$line" '' \
         "$fsverity" digest --hash-alg sha512 --block-size 1024 --salt ABcd "$one"

@@ -4,7 +4,7 @@
 set -u
 cd "$(dirname "$0")/../.."
 . tests/lib/checks.sh
-. tests/lib/images.sh
+. tests/lib/stated_images.sh
 . tests/lib/running.sh
 has_program veritysetup
 veritysetup=$BIN/veritysetup

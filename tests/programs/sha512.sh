@@ -4,7 +4,7 @@
 set -u
 cd "$(dirname "$0")/../.."
 . tests/lib/checks.sh
-. tests/lib/images.sh
+. tests/lib/stated_images.sh
 ALGORITHM=sha512
 has_program fsverity
 has_program veritysetup
@@ -14,26 +14,14 @@ data=$scratch/data.img
 hash=$scratch/hash.img
 image=$scratch/image.img
 
-# salted BLOCK: the digest of a block with the bytes $before it and those $after it.
-salted() {
-    { bytes "$before" && cat "$1" && bytes "$after"; } | sha512sum | cut -c1-128
-}
-
-# level FILE FULL: the salted digests of a file's blocks of 512 bytes, and zeros up to FULL bytes.
-level() {
-    local part
-    rm -f "$scratch"/part.*
-    split -b 512 -a 4 "$1" "$scratch/part."
-    { for part in "$scratch"/part.*; do bytes "$(salted "$part")"; done && zeros "$2"; } | head -c "$2"
-}
-
-# image_of SALT: the image of 17 data blocks; eight digests fill a hash block, so there are three and one. Sets `root`.
+# image_of SALT: the image of 17 data blocks, whose salted digests $salted gives; eight digests fill a hash block, so
+# there are three and one. Sets `root`.
 image_of() {
     sample 8704 >"$data"
-    level "$data" 1536 >"$scratch/level0"
-    level "$scratch/level0" 512 >"$scratch/level1"
+    hash_blocks "$data" 512 512 "$salted" >"$scratch/level0"
+    hash_blocks "$scratch/level0" 512 512 "$salted" >"$scratch/level1"
     { superblock 512 512 17 "$1" && cat "$scratch/level1" "$scratch/level0"; } >"$image"
-    root=$(salted "$scratch/level1")
+    root=$(sh -c "$salted" <"$scratch/level1" | cut -c1-128)
 }
 
 # changed OFFSET TEXT: verify names the block of a changed byte of the hash file.
@@ -46,7 +34,7 @@ changed() {
 options=(--hash sha512 --data-block-size 512 --hash-block-size 512 --uuid "$UUID")
 
 current() {
-    before=abcdef after=
+    salted='{ printf "\253\315\357" && cat; } | sha512sum'
     image_of abcdef
     runs 'format' 0 "$(report "$hash" 512 512 17 abcdef "$root")" '' \
         "$veritysetup" format "${options[@]}" --salt=abcdef "$data" "$hash"
@@ -67,23 +55,18 @@ current() {
 
 # In hash type 0 the salt comes after the block. Digests of 64 bytes stand without gaps in both types.
 original() {
-    before='' after=abcdef
+    salted='{ cat && printf "\253\315\357"; } | sha512sum'
     image_of abcdef
-    set_byte "$image" 12 00
+    set_byte "$image" $HASH_TYPE_AT 00
     rm -f "$hash"
     runs 'hash type 0' 0 any '' "$veritysetup" format "${options[@]}" --format 0 --salt=abcdef "$data" "$hash"
     same_bytes 'hash type 0: the hash file' "$image" "$hash"
     runs 'hash type 0: verify' 0 '' '' "$veritysetup" verify "$data" "$image" "$root"
 }
 
-# described SIZE ROOT SALT: the file digest of blocks of 4096, SHA-512 of the descriptor of 256 bytes.
+# described SIZE ROOT SALT: the file digest of blocks of 4096, SHA-512 of the descriptor.
 described() {
-    {
-        bytes "01020c$(printf %02x $((${#3} / 2)))00000000"
-        little_endian 8 "$1"
-        bytes "$2$3"
-        zeros $((32 - ${#3} / 2 + 144))
-    } >"$scratch/descriptor"
+    descriptor "01020c$(printf %02x $((${#3} / 2)))" "$1" "$2" "$3" >"$scratch/descriptor"
     sha512 "$scratch/descriptor"
 }
 
@@ -92,7 +75,7 @@ digests_of_files() {
     sample 4097 >"$file"
     cp "$file" "$scratch/whole"
     truncate -s %4096 "$scratch/whole"
-    { digests "$scratch/whole" 4096 sha512sum && zeros 3968; } >"$scratch/tree"
+    hash_blocks "$scratch/whole" 4096 4096 sha512sum >"$scratch/tree"
     runs 'digest' 0 "sha512:$(described 4097 "$(sha512 "$scratch/tree")" '') $file" '' \
         "$BIN/fsverity" digest --hash-alg sha512 --out-merkle-tree "$scratch/made" "$file"
     same_bytes 'digest: the tree file' "$scratch/tree" "$scratch/made"

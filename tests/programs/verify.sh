@@ -3,7 +3,7 @@
 set -u
 cd "$(dirname "$0")/../.."
 . tests/lib/checks.sh
-. tests/lib/images.sh
+. tests/lib/stated_images.sh
 has_program veritysetup
 veritysetup=$BIN/veritysetup
 
@@ -28,23 +28,27 @@ with_changed_byte() {
 superblocks() {
     runs 'dump' 0 "$(report "$image" 512 512 17 -)" '' "$veritysetup" dump "$image"
     cp "$image" "$hash"
-    for offset in 39 63 82 87 88 343 344 511; do set_byte "$hash" "$offset" ff; done
+    # Behind the zero of the name, in the pads, and in the salt, of which no byte counts.
+    for offset in $((ALGORITHM_AT + 7)) $((DATA_BLOCK_SIZE_AT - 1)) $FIRST_PAD_AT $((SALT_AT - 1)) $SALT_AT \
+        $((LAST_PAD_AT - 1)) $LAST_PAD_AT $((SUPERBLOCK_SIZE - 1)); do
+        set_byte "$hash" "$offset" ff
+    done
     runs 'dump: pads are ignored' 0 "$(report "$hash" 512 512 17 -)" '' "$veritysetup" dump "$hash"
     runs 'verify: pads are ignored' 0 '' '' "$veritysetup" verify "$data" "$hash" "$root"
 
-    head -c 511 "$image" >"$scratch/short"
+    head -c $((SUPERBLOCK_SIZE - 1)) "$image" >"$scratch/short"
     refuses_superblock '511 bytes' 'Superblock is too short.' "$scratch/short"
     : >"$scratch/empty"
     refuses_superblock 'an empty file' 'Superblock is too short.' "$scratch/empty"
-    with_changed_byte 'another signature' 'No verity superblock.' 7 01
-    with_changed_byte 'another version' 'Superblock version 2 is not supported.' 8 02
-    with_changed_byte 'another hash type' 'Superblock hash type 2 is not supported.' 12 02
-    with_changed_byte 'another data block size' 'Superblock data block size 768 is not valid.' 65 03
-    with_changed_byte 'another hash block size' 'Superblock hash block size 256 is not valid.' 69 01
-    with_changed_byte 'another algorithm' 'Superblock hash algorithm is not supported.' 32 41
-    with_changed_byte 'a long salt' 'Superblock salt size 512 is not valid.' 81 02
-    with_changed_byte 'no data blocks' 'No data blocks.' 72 00
-    with_changed_byte 'too many data blocks' 'Data or hash area is too large.' 79 80
+    with_changed_byte 'another signature' 'No verity superblock.' $((SIGNATURE_AT + 7)) 01
+    with_changed_byte 'another version' 'Superblock version 2 is not supported.' $VERSION_AT 02
+    with_changed_byte 'another hash type' 'Superblock hash type 2 is not supported.' $HASH_TYPE_AT 02
+    with_changed_byte 'another data block size' 'Superblock data block size 768 is not valid.' $((DATA_BLOCK_SIZE_AT + 1)) 03
+    with_changed_byte 'another hash block size' 'Superblock hash block size 256 is not valid.' $((HASH_BLOCK_SIZE_AT + 1)) 01
+    with_changed_byte 'another algorithm' 'Superblock hash algorithm is not supported.' $ALGORITHM_AT 41
+    with_changed_byte 'a long salt' 'Superblock salt size 512 is not valid.' $((SALT_SIZE_AT + 1)) 02
+    with_changed_byte 'no data blocks' 'No data blocks.' $DATA_BLOCKS_AT 00
+    with_changed_byte 'too many data blocks' 'Data or hash area is too large.' $((DATA_BLOCKS_AT + 7)) 80
 }
 
 # Superblocks and trees elsewhere than at the start of HASH, and trees without a superblock.

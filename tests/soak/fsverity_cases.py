@@ -1,7 +1,7 @@
 """Random runs of fsverity digest: files and words."""
 
 import texts
-from fsverity_expected import NUMBERS
+from layouts import FILE_ALGORITHMS
 from reading import Scene
 from texts import chance
 
@@ -13,8 +13,8 @@ ABSENT = ["absent", "none/there", "", "x" * 300]
 
 def options(rng):
     """The options of a way to digest, and its block size and fan-out."""
-    name = rng.choice(list(NUMBERS))
-    length = 32 * NUMBERS[name]
+    name = rng.choice(list(FILE_ALGORITHMS))
+    length = 32 * FILE_ALGORITHMS[name]
     size = rng.choice([2 * length, 2 * length, 4 * length, texts.block_size(rng), texts.block_size(rng), 4096])
     given = {
         "hash-alg": (name, name != "sha256"),

@@ -4,11 +4,11 @@ import hashlib
 import struct
 from collections import namedtuple
 
+from layouts import FILE_ALGORITHMS
+from layouts import descriptor as packed
 from reading import USAGE, Outcome, Refused, hexadecimal, is_block_size, not_utf8, number, read_line
 from trees import FS_VERITY, Settings, Tree
 
-# The hash functions and their numbers in a descriptor.
-NUMBERS = {"sha256": 1, "sha512": 2}
 OUTPUTS = ["out-merkle-tree", "out-descriptor"]
 
 # How files are digested: function, block size and salt.
@@ -42,7 +42,7 @@ def chosen(line):
     """How the options have files digested."""
     options = line.options
     name = options.get("hash-alg", "sha256")
-    if name not in NUMBERS:
+    if name not in FILE_ALGORITHMS:
         raise Refused(2, "fsverity: unknown hash algorithm.")
     block = number(options.get("block-size", "4096"))
     if block is None or not is_block_size(block, 2 * hashlib.new(name).digest_size):
@@ -59,12 +59,11 @@ def descriptor(way, data):
     """The 256 bytes about a file, and its tree, the top level first."""
     count = -(-len(data) // way.block)
     root, stored = b"", b""
+    settings = Settings(way.name, way.block, way.block, way.salt, count, FS_VERITY)
     if count:
-        settings = Settings(way.name, way.block, way.block, way.salt, count, FS_VERITY)
         tree = Tree(settings, 0, data.ljust(count * way.block, b"\0"))
         root, stored = tree.root, bytes(tree.on(b""))
-    head = (1, NUMBERS[way.name], way.block.bit_length() - 1, len(way.salt), len(data))
-    return struct.pack("<BBBB4xQ64s32s144x", *head, root, way.salt), stored
+    return packed(settings, len(data), root), stored
 
 
 def printed(options, way, described, path):
@@ -72,7 +71,7 @@ def printed(options, way, described, path):
     digest = hashlib.new(way.name, described).digest()
     ending = "" if "compact" in options else f" {path}"
     if "for-builtin-sig" in options:
-        text = (b"FSVerity" + struct.pack("<HH", NUMBERS[way.name], len(digest)) + digest).hex()
+        text = (b"FSVerity" + struct.pack("<HH", FILE_ALGORITHMS[way.name], len(digest)) + digest).hex()
     else:
         text = digest.hex() if "compact" in options else f"{way.name}:{digest.hex()}"
     return f"{text}{ending}\n".encode()

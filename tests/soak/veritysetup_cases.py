@@ -1,17 +1,17 @@
 """Random runs of veritysetup: files and words."""
 
 import texts
+from layouts import SUPERBLOCK_FIELDS, SUPERBLOCK_SIZE, superblock
 from reading import Scene
 from texts import chance
 from trees import Settings, Shape, Tree, put
-from veritysetup_expected import NAMES, SUPERBLOCK_SIZE, Area, placed, superblock
+from veritysetup_expected import NAMES, Area, placed
 
 DATA, HASH = "data", "hash"
 HARD_SIZES = [2**31, 2**32, 2**40, 2**62, 2**63 - 4096, 2**63 - 1024, 2**63 - 512, 2**63, 2**64 - 512]
 
-# Where the fields of a superblock begin, and how long they are; the last is all of it.
-FIELDS = [(0, 8), (8, 4), (12, 4), (16, 16), (32, 32), (64, 4), (68, 4), (72, 8), (80, 2), (82, 6), (88, 256)]
-FIELDS += [(344, 168), (0, 512)]
+# The fields of a superblock, and all of it.
+FIELDS = [*SUPERBLOCK_FIELDS.items(), ("all", (0, SUPERBLOCK_SIZE))]
 
 
 def settings(rng):
@@ -172,7 +172,7 @@ def change(rng, area, data, device):
     elif kind < 6:
         flip(rng, device, at)
     elif kind == 6:
-        flip(rng, device, area.offset, area.offset + 344)
+        flip(rng, device, area.offset, area.offset + SUPERBLOCK_FIELDS["last_pad"][0])
     elif kind == 7:
         cut(rng, device, chosen.hash_block)
     elif kind == 8:
@@ -204,16 +204,16 @@ def verify_case(rng):
 def hostile(rng, text):
     """Sets one field of a superblock to something else."""
     hard = [0, 1, 2, 255, 256, 257, 768, 4095, 524288, 1048576, 2**31, 2**32 - 1, 2**54, 2**55, 2**63 - 1, 2**64 - 1]
-    at, size = rng.choice(FIELDS)
+    name, (at, size) = rng.choice(FIELDS)
     value = rng.choice([*hard, rng.getrandbits(8 * size), 1 << rng.randrange(8 * size)]) % 256**size
     field = value.to_bytes(size, "little")
-    if at == 32 and chance(rng, 0.8):
-        name = rng.choice(NAMES + texts.NOT_NAMES).encode()
-        field = (name + bytes(chance(rng, 0.7)) + rng.randbytes(32)).ljust(32, b"\0")[:32]
-    if at in (64, 68) and chance(rng, 0.5):
-        field = texts.block_size(rng).to_bytes(4, "little")
-    if at == 72 and chance(rng, 0.5):
-        field = rng.randint(1, 400).to_bytes(8, "little")
+    if name == "name" and chance(rng, 0.8):
+        chosen = rng.choice(NAMES + texts.NOT_NAMES).encode()
+        field = (chosen + bytes(chance(rng, 0.7)) + rng.randbytes(size)).ljust(size, b"\0")[:size]
+    if name in ("data_block", "hash_block") and chance(rng, 0.5):
+        field = texts.block_size(rng).to_bytes(size, "little")
+    if name == "count" and chance(rng, 0.5):
+        field = rng.randint(1, 400).to_bytes(size, "little")
     text[at : at + size] = field
 
 
@@ -229,7 +229,7 @@ def superblock_case(rng):
         hostile(rng, text)
     device[area.offset : end] = text
     if chance(rng, 0.1):
-        cut(rng, device, 512)
+        cut(rng, device, SUPERBLOCK_SIZE)
     options = {"hash-offset": texts.number(rng, area.offset)} if area.offset or chance(rng, 0.1) else {}
     if chance(rng, 0.05):
         huge = rng.choice([512, 1024, *HARD_SIZES]) + rng.choice([0, 0, 512])

@@ -1,13 +1,12 @@
 """What veritysetup does with some words and files: a second reading of docs/DEFINITIONS.md and veritysetup(8)."""
 
 import re
-import struct
 from collections import namedtuple
 
+from layouts import SIGNATURE, SUPERBLOCK_SIZE, read_superblock, superblock
 from reading import USAGE, Outcome, Refused, hexadecimal, is_block_size, not_utf8, number, read_line, uuid, uuid_text
 from trees import MOST_BYTES, Settings, Shape, Tree, put, verdict
 
-SUPERBLOCK_SIZE = 512
 NAMES = ["sha256", "sha512", "sha384", "sha224", "sha1"]
 
 # What is drawn if no salt or no UUID is given.
@@ -137,25 +136,6 @@ def format_run(line, scene, drawn):
     return Outcome(0, report(hash_path, area, tree.root), "", scene.files | {name: bytes(device)})
 
 
-def superblock(settings, named):
-    """The 512 bytes that say how a tree was made."""
-    text = struct.pack(
-        "<8sII16s32sIIQH6x256s168x",
-        b"verity",
-        1,
-        settings.hash_type,
-        named,
-        settings.name.encode(),
-        settings.data_block,
-        settings.hash_block,
-        settings.count,
-        len(settings.salt),
-        settings.salt,
-    )
-    assert len(text) == SUPERBLOCK_SIZE
-    return text
-
-
 def report(path, area, root=None):
     """The report of format, and of dump, which has no root hash."""
     settings = area.settings
@@ -189,25 +169,22 @@ def described(device, offset):
     text = device[offset : offset + SUPERBLOCK_SIZE]
     if len(text) < SUPERBLOCK_SIZE:
         raise Refused(1, "Superblock is too short.")
-    if text[:8] != b"verity\0\0":
+    fields = read_superblock(text)
+    if fields.signature != SIGNATURE:
         raise Refused(1, "No verity superblock.")
-    version, hash_type = struct.unpack("<II", text[8:16])
-    data_block, hash_block, count, salt_size = struct.unpack("<IIQH", text[64:82])
-    name = text[32:64].split(b"\0")[0].decode("latin-1")
     for wrong, message in [
-        (version != 1, f"Superblock version {version} is not supported."),
-        (hash_type > 1, f"Superblock hash type {hash_type} is not supported."),
-        (not is_block_size(data_block, 512), f"Superblock data block size {data_block} is not valid."),
-        (not is_block_size(hash_block, 512), f"Superblock hash block size {hash_block} is not valid."),
-        (name not in NAMES, "Superblock hash algorithm is not supported."),
-        (salt_size > 256, f"Superblock salt size {salt_size} is not valid."),
-        (count == 0, "No data blocks."),
-        (count * data_block > MOST_BYTES, "Data or hash area is too large."),
+        (fields.version != 1, f"Superblock version {fields.version} is not supported."),
+        (fields.hash_type > 1, f"Superblock hash type {fields.hash_type} is not supported."),
+        (not is_block_size(fields.data_block, 512), f"Superblock data block size {fields.data_block} is not valid."),
+        (not is_block_size(fields.hash_block, 512), f"Superblock hash block size {fields.hash_block} is not valid."),
+        (fields.name not in NAMES, "Superblock hash algorithm is not supported."),
+        (fields.salt_size > 256, f"Superblock salt size {fields.salt_size} is not valid."),
+        (fields.count == 0, "No data blocks."),
+        (fields.count * fields.data_block > MOST_BYTES, "Data or hash area is too large."),
     ]:
         if wrong:
             raise Refused(1, message)
-    settings = Settings(name, data_block, hash_block, text[88 : 88 + salt_size], count, hash_type)
-    return settings, text[16:32]
+    return Settings(*(getattr(fields, name) for name in Settings._fields)), fields.uuid
 
 
 def dump_run(line, scene):

@@ -1,5 +1,4 @@
 pub mod Prefixes
-pub mod Usages
 pub mod Chains
 pub mod Named
 pub mod Causes

@@ -8,10 +8,10 @@ use Rattle.std.proofs.lemmas.Option.{slice_get-get_or}
 use Rattle.std.proofs.Math.Seq.{take-append-add}
 use Rattle.std.proofs.lemmas.Bool.{cases_lt}
 use Rattle.std.specs.Io.KnownBytes.{Appends}
-use Rattle.verity_format.proofs.KnownLemmas.{appends_twice}
-use Rattle.verity_format.specs.Putting.{bytes_taken}
-use Rattle.verity_format.specs.declared.putting.PutFault.{PutFault}
-use Rattle.command_line.specs.Printing.{AppendsPrefix}
+use Rattle.verity_io.proofs.KnownLemmas.{appends_twice}
+use Rattle.verity_io.specs.Putting.{bytes_taken}
+use Rattle.verity_io.specs.declared.putting.PutFault.{PutFault}
+use Rattle.command_line.specs.Writing.{AppendsPrefix}
 
 -- nothing was written
 pub appends_nothing : (held : Option (List ℕ)) → Appends held held []

@@ -1,7 +1,7 @@
 pub mod Options
 pub mod Arguments
 pub mod LineFaults
-pub mod Printing
+pub mod Writing
 pub mod NullFiles
 pub mod SystemWords
 pub mod Progress

@@ -1,12 +1,12 @@
 //! What the two programs share: the texts of options and their defaults, the words of the command line, the arguments
-//! that clap reads, the printing of texts and messages, the opening of files, and the progress of long work.
+//! that clap reads, the writing of texts and messages, the opening of files, and the progress of long work.
 #![tactic(auto)]
 
 mod files;
 mod options;
-mod printing;
 mod progress;
 mod words;
+mod writing;
 
 pub use files::identity::{
     FileIdentity, FileStatus, Identities, are_same_file, paths_are_same_file,
@@ -16,13 +16,13 @@ pub use files::opening::{is_folder, open_measured, open_readable, open_writable}
 pub use options::algorithms::algorithm_or_default;
 pub use options::numbers::{DEFAULT_BLOCK_SIZE, number_or, read_number};
 pub use options::salts::read_salt;
-pub use printing::messages::{write_message, write_pieces, write_text};
-pub use printing::print_fault::{PrintFault, print_whole};
 pub use progress::progress_line::{ErasingWriter, ProgressLine};
 pub use progress::progress_reader::ProgressReader;
 pub use progress::progress_runtime::ProgressRuntime;
-pub use words::arguments::{flag, option, positional, positionals, program};
+pub use words::arguments::{Argument, CommandTable, program};
 pub use words::borrowed::{text_of, texts_of};
 pub use words::copies::{copied_value, copied_values, is_given};
 pub use words::line_fault::LineFault;
 pub use words::system_words::{WordsFault, given_words, not_utf8_message};
+pub use writing::messages::{write_message, write_pieces, write_text};
+pub use writing::print_fault::{PrintFault, write_whole};

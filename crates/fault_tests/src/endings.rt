@@ -1,7 +1,7 @@
 //! How the steps of a command say that its run ends, whatever fails in it.
 use crate::scene::{Program, Scene};
 use crate::steps::{Files, Step};
-use fixtures::Said;
+use fixtures::RunOutput;
 use memory_runtime::Call;
 use std::alloc::{AllocError, Global};
 
@@ -39,7 +39,7 @@ pub const CALLS: [Call; 6] = [
 /// How a run ends.
 #[derive(Drop)]
 pub struct Ending {
-    pub said: Said,
+    pub output: RunOutput,
     /// The files after the run.
     pub files: Files,
     /// How often each of `CALLS` was made.
@@ -52,7 +52,7 @@ fn front(bytes: &[u8], room: usize) -> &[u8] {
 }
 
 impl Ending {
-    /// Counts a call. The answer is its number.
+    /// Counts a call. The result is its number.
     fn count(&mut self, call: Call) -> u64 {
         let Some(made) = self.calls.get_mut(call as usize) else {
             return 0;
@@ -61,14 +61,14 @@ impl Ending {
         *made
     }
 
-    /// Prints a text, as far as there is room. The answer is whether there was room for all of it.
+    /// Prints a text, as far as there is room. The result is whether there was room for all of it.
     fn print(&mut self, text: &[u8], room: usize) -> Result<bool, AllocError> {
-        let left = room.saturating_sub(self.said.out.len());
-        self.said.out.extend_from_slice(front(text, left))?;
+        let left = room.saturating_sub(self.output.out.len());
+        self.output.out.extend_from_slice(front(text, left))?;
         Ok(text.len() <= left)
     }
 
-    /// Takes a step. The answer is whether the run goes on.
+    /// Takes a step. The result is whether the run goes on.
     fn take(
         &mut self,
         alloc: Global,
@@ -94,8 +94,8 @@ impl Ending {
             }
         };
         if !goes_on && !message.is_empty() {
-            self.said.status = program.failed();
-            self.said
+            self.output.status = program.failed();
+            self.output
                 .msgs
                 .extend_from_slice(front(message, trial.message_room))?;
         }
@@ -104,8 +104,11 @@ impl Ending {
 
     /// The first difference from how a run ended. Each call must be made just as often, or each but these.
     pub fn differs(&self, found: &Ending, but: &[Call]) -> Option<&'static str> {
-        let Said { status, out, msgs } = &self.said;
-        if let Some(what) = found.said.differs(*status, out.as_slice(), msgs.as_slice()) {
+        let RunOutput { status, out, msgs } = &self.output;
+        if let Some(what) = found
+            .output
+            .differs(*status, out.as_slice(), msgs.as_slice())
+        {
             Some(what)
         } else if self.files != found.files {
             Some("the files")
@@ -134,13 +137,13 @@ impl Scene {
         for (name, bytes) in &self.files {
             files.push((*name, bytes.to_vec(self.alloc)?))?;
         }
-        let said = Said {
+        let output = RunOutput {
             status: 0,
             out: Vec::new(self.alloc),
             msgs: Vec::new(self.alloc),
         };
         Ok(Ending {
-            said,
+            output,
             files,
             calls: [0; 6],
         })

@@ -1,34 +1,14 @@
 //! Superblocks and trees from an attacker: dump and verify end with a status that says so and one line, and change
 //! nothing.
-use fixtures::{Shape, Tree, data, flip, flip_bit, lay, superblock, with_zeros};
+use fixtures::{Image, SUPERBLOCK_FIELDS, SUPERBLOCK_SIZE, flip, flip_bit, image_of, lay};
 use std::alloc::{AllocError, Global};
 use std::test::Fail;
-use verity_hash::Algorithm;
 use verity_tree::{MemoryDevice, MemorySource};
 use veritysetup::{VerifyInput, run_dump, run_verify};
 
-/// Data, its hash device, and the digits of its root hash.
-#[derive(Drop)]
-struct Image {
-    data: Vec<u8>,
-    device: Vec<u8>,
-    root: String,
-}
-
 /// The image of 17 blocks of 512 bytes, with a salt.
-fn image_17(alloc: Global) -> Result<Image, AllocError> {
-    let data = data(alloc, 8704)?;
-    let salt = b"\xab\xcd".as_slice();
-    let mut shape = Shape::new(alloc, Algorithm::Sha256, (512, 512), (16, 32));
-    shape.before = salt.to_vec(alloc)?;
-    let tree: Tree = shape.tree(alloc, data.as_slice(), 2)?;
-    let front = superblock(1, b"sha256", (512, 512), 17, salt);
-    let area = tree.on_device(alloc, 0)?;
-    Ok(Image {
-        data,
-        device: with_zeros(alloc, &[&front, area.as_slice()], 0)?,
-        root: hex::encode(alloc, tree.root.as_slice())?,
-    })
+fn salted_image(alloc: Global) -> Result<Image, AllocError> {
+    image_of(alloc, 512, b"\xab\xcd", 17, 2)
 }
 
 /// Whether a run ended as one may: with status 0 and no message, or with one of these and one line.
@@ -40,7 +20,7 @@ fn is_an_end(status: u8, may: &[u8], msgs: &[u8]) -> bool {
     may.contains(&status) && lines == 1 && msgs.ends_with(b"\n")
 }
 
-/// Dumps a hash device, and verifies it against the data of an image. The answer is the status of verify, or none if one
+/// Dumps a hash device, and verifies it against the data of an image. The result is the status of verify, or none if one
 /// of the two didn't end as it may, or changed the device.
 fn verified(alloc: Global, image: &Image, bytes: &[u8]) -> Result<Option<u8>, AllocError> {
     let mut out = Vec::new(alloc);
@@ -51,8 +31,11 @@ fn verified(alloc: Global, image: &Image, bytes: &[u8]) -> Result<Option<u8>, Al
         return Ok(None);
     }
     msgs.clear();
-    let root = image.root.as_str();
-    let input = VerifyInput::Stored { offset: 0, root };
+    let root = hex::encode(alloc, image.root.as_slice())?;
+    let input = VerifyInput::Stored {
+        offset: 0,
+        root: root.as_str(),
+    };
     let mut source = MemorySource::new(image.data.as_slice());
     let status = run_verify(alloc, &input, &mut source, &mut device, &mut msgs);
     let ended = is_an_end(status, &[1, 2, 4], msgs.as_slice()) && device.bytes() == bytes;
@@ -97,22 +80,6 @@ impl Numbers {
     }
 }
 
-/// The offsets and widths of a superblock's fields, pads among them.
-const FIELDS: [(usize, usize); 12] = [
-    (0, 8),
-    (8, 4),
-    (12, 4),
-    (16, 16),
-    (32, 32),
-    (64, 4),
-    (68, 4),
-    (72, 8),
-    (80, 2),
-    (82, 6),
-    (88, 256),
-    (344, 168),
-];
-
 /// Dumps and verifies an image with other bytes in a field of this offset and width.
 fn verified_with_field(
     alloc: Global,
@@ -137,10 +104,10 @@ fn verified_with_change(alloc: Global, image: &Image, at: usize) -> Result<Optio
 /// Every status but that of too little memory comes up.
 #[test]
 fn superblocks_with_a_spoiled_field_are_judged(rt: HostRuntime) -> Result<(), Fail> {
-    let image = image_17(rt.alloc())?;
+    let image = salted_image(rt.alloc())?;
     let mut numbers = Numbers { state: 17 };
     let mut seen = [false; 5];
-    for &(at, width) in &FIELDS {
+    for &(at, width) in &SUPERBLOCK_FIELDS {
         for round in 0..200 {
             let status = verified_with_field(rt.alloc(), &image, at, width, &mut numbers)?;
             assert!(rt; status.is_some(), "at {at}, round {round}");
@@ -156,10 +123,10 @@ fn superblocks_with_a_spoiled_field_are_judged(rt: HostRuntime) -> Result<(), Fa
 #[test]
 fn trees_with_a_changed_byte_are_refused(rt: HostRuntime) -> Result<(), Fail> {
     let alloc = rt.alloc();
-    let image = image_17(alloc)?;
+    let image = salted_image(alloc)?;
     let whole = verified(alloc, &image, image.device.as_slice())?;
     assert_eq!(rt; whole, Some(0));
-    for at in 512..2048 {
+    for at in SUPERBLOCK_SIZE..2048 {
         let status = verified_with_change(alloc, &image, at)?;
         assert_eq!(rt; status, Some(2), "at {at}");
     }

@@ -4,13 +4,11 @@
 #![tactic(auto)]
 
 #[cfg(test)]
-mod digests;
-#[cfg(test)]
 mod endings;
 #[cfg(test)]
-mod hostile;
+mod fsverity_commands;
 #[cfg(test)]
-mod images;
+mod hostile;
 #[cfg(test)]
 mod passes;
 #[cfg(test)]
@@ -21,3 +19,5 @@ mod setups;
 mod steps;
 #[cfg(test)]
 mod trials;
+#[cfg(test)]
+mod veritysetup_commands;

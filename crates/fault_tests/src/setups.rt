@@ -1,5 +1,5 @@
 //! Each fault of veritysetup in turn.
-use crate::images::Setup;
+use crate::veritysetup_commands::Setup;
 use memory_runtime::Call;
 use std::test::Fail;
 use verity_hash::Algorithm;

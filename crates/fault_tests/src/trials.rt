@@ -2,7 +2,7 @@
 use crate::endings::{CALLS, Ending, STEADY, Trial};
 use crate::scene::{Program, Scene};
 use crate::steps::Files;
-use fixtures::{Narrow, Said};
+use fixtures::{LimitedWriter, RunOutput};
 use memory_runtime::{Call, Disk, Kind, MemoryRuntime};
 use std::alloc::{AllocError, Global};
 use std::io;
@@ -88,19 +88,19 @@ impl Scene {
     }
 
     /// Runs the program over a disk.
-    fn run(&self, disk: &Disk, trial: &Trial) -> Said {
+    fn run(&self, disk: &Disk, trial: &Trial) -> RunOutput {
         let runtime = MemoryRuntime::new(self.alloc, disk, self.words.as_str());
         let progress = ProgressLine::new(&runtime);
-        let mut out = Narrow::new(Vec::new(self.alloc), trial.room, 7);
+        let mut out = LimitedWriter::new(Vec::new(self.alloc), trial.room, 7);
         out.takes_nothing = trial.takes_nothing;
-        let mut msgs = Narrow::new(Vec::new(self.alloc), trial.message_room, 7);
+        let mut msgs = LimitedWriter::new(Vec::new(self.alloc), trial.message_room, 7);
         let status = match self.program {
             Program::Veritysetup => {
                 veritysetup::run_program(&runtime, &progress, &mut out, &mut msgs)
             }
             Program::Fsverity => fsverity::run_program(&runtime, &progress, &mut out, &mut msgs),
         };
-        Said {
+        RunOutput {
             status,
             out: out.bytes,
             msgs: msgs.bytes,
@@ -114,7 +114,7 @@ impl Scene {
         let (call, number) = trial.failing;
         disk.fail(call, number)?;
         let found = Ending {
-            said: self.run(&disk, trial),
+            output: self.run(&disk, trial),
             files: files_on(self.alloc, &disk, &whole.files)?,
             calls: calls_on(&disk)?,
         };
@@ -132,12 +132,12 @@ impl Scene {
         for (call, made) in CALLS.iter().zip(whole.calls.iter()) {
             fail_in_turn(&mut trials, *call, made.saturating_add(1))?;
         }
-        let length = whole.said.out.len();
+        let length = whole.output.out.len();
         end_in_turn(&mut trials, length, false)?;
         end_in_turn(&mut trials, length, true)?;
         let mut trial = STEADY;
         trial.failing = (first, 1);
-        for room in 0..=self.ending(&trial)?.said.msgs.len() {
+        for room in 0..=self.ending(&trial)?.output.msgs.len() {
             trial.message_room = room;
             trials.push(trial)?;
         }

@@ -8,13 +8,13 @@ use Rattle.verity_io.specs.Reading.{HasRead}
 use Rattle.verity_tree.specs.Levels.{data_blocks, root, root_of_file}
 use Rattle.verity_tree.specs.Reading.{EndsWithin, FailsWithin}
 use Rattle.verity_tree.specs.TreeWriting.{tree_on_device}
-use Rattle.verity_plan.specs.Plans.{Planned, plan_of_file}
+use Rattle.verity_plan.specs.Plans.{PlanFields, plan_of_file}
 use Rattle.verity_hash.proofs.HashLemmas.{length-salted_hash}
-use Rattle.verity_plan.specs.Settings.{Settings, digest_len, hash}
+use Rattle.verity_plan.specs.Settings.{TreeSettingsFields, digest_len, hash}
 use Rattle.fsverity.specs.Runs.FileDigest.{with_tree}
 
 -- a source that ended within block i holds so many blocks, and not all that is wanted
-pub ends_short : (p : Planned) (i : ℕ) (before after : List ℕ) → EndsWithin p i before after →
+pub ends_short : (p : PlanFields) (i : ℕ) (before after : List ℕ) → EndsWithin p i before after →
     (length before < p.wanted) × (i ≡ length before / p.settings.data_block) × (after ≡ [])
 ends_short p i before after ends =
     let short : length before < p.wanted = omega (arith, ends.short) in
@@ -23,30 +23,30 @@ ends_short p i before after ends =
     (short, sym (div-eq_of_lt-le p.settings.data_block from to), ends.rest)
 
 -- a source that failed within block i was read so far, and less than all that is wanted
-pub fails_within : (p : Planned) (i : ℕ) (before after : List ℕ) → FailsWithin p i before after →
+pub fails_within : (p : PlanFields) (i : ℕ) (before after : List ℕ) → FailsWithin p i before after →
     (count : ℕ) × (i * p.settings.data_block ≤ count) × (count < min ((i + 1) * p.settings.data_block) p.wanted)
     × HasRead count before after
 fails_within p i before after fails = (fails.count, omega (arith, fails.from, fails.to), fails.to, fails.read)
 
 -- a file that isn't empty has the root hash of its tree, and its device holds the tree
-pub root_of_some : (s : Settings) (size : ℕ) (bytes : List ℕ) → 0 < size
+pub root_of_some : (s : TreeSettingsFields) (size : ℕ) (bytes : List ℕ) → 0 < size
     → root s (data_blocks (plan_of_file s size) bytes) ≡ root_of_file s size bytes
 root_of_some s size bytes some = grind arith
 
-pub tree_of_some : (s : Settings) (size : ℕ) (bytes device : List ℕ) → 0 < size
+pub tree_of_some : (s : TreeSettingsFields) (size : ℕ) (bytes device : List ℕ) → 0 < size
     → tree_on_device (plan_of_file s size) (data_blocks (plan_of_file s size) bytes) device ≡ with_tree s size bytes device
 tree_of_some s size bytes device some = grind arith
 
 -- a root hash is as long as a digest, and so is that of an empty file
-length-root : (s : Settings) (blocks : List (List ℕ)) → length (root s blocks) ≡ digest_len s
+length-root : (s : TreeSettingsFields) (blocks : List (List ℕ)) → length (root s blocks) ≡ digest_len s
 unfolding root hash
 length-root s blocks = length-salted_hash s.algorithm s.rule s.salt _
 
-length-root_or_zeros : (s : Settings) (empty : Bool) (root : List ℕ) → length root ≡ digest_len s
+length-root_or_zeros : (s : TreeSettingsFields) (empty : Bool) (root : List ℕ) → length root ≡ digest_len s
     → length (if empty then replicate (digest_len s) 0 else root) ≡ digest_len s
 length-root_or_zeros s true root long = length-replicate (digest_len s) 0
 length-root_or_zeros s false root long = long
 
-pub length-root_of_file : (s : Settings) (size : ℕ) (bytes : List ℕ)
+pub length-root_of_file : (s : TreeSettingsFields) (size : ℕ) (bytes : List ℕ)
     → length (root_of_file s size bytes) ≡ digest_len s
 length-root_of_file s size bytes = length-root_or_zeros s (size == 0) _ (length-root s _)

@@ -11,7 +11,7 @@ use Rattle.verity_hash.specs.declared.algorithm.Algorithm.TheVariants.{Sha256, S
 use Rattle.verity_hash.specs.declared.salting.SaltRule.TheVariants.{PaddedBefore}
 use Rattle.verity_hash.proofs.HashLemmas.{length-hash_of}
 use Rattle.verity_plan.specs.Plans.{block_count, plan_of_file}
-use Rattle.verity_plan.specs.Settings.{IsValid, Settings, is_of_fsverity}
+use Rattle.verity_plan.specs.Settings.{IsValid, TreeSettingsFields, is_of_fsverity}
 use Rattle.verity_plan.proofs.CountLemmas.{le-div_ceil}
 use Rattle.verity_plan.proofs.FanLemmas.{fan-two, some_data}
 use Rattle.verity_format.specs.Descriptors.{DescriptorFields, descriptor_bytes, digest_of_file}
@@ -46,7 +46,7 @@ same-empty x y none nothing =
     sym (take_all 0 x (omega (arith, none))) ∙ take_all 0 y (omega (arith, nothing))
 
 -- files of one size and one root hash are one, or their trees show a collision
-files-bound : (s : Settings) (x y : List ℕ) → IsValid s → length x ≡ length y
+files-bound : (s : TreeSettingsFields) (x y : List ℕ) → IsValid s → length x ≡ length y
     → root_of_file s (length x) x ≡ root_of_file s (length y) y
     → (x ≡ y) ⊎ TreesCollide s (blocks_of_file s x) (blocks_of_file s y)
 files-bound s x y valid same one =
@@ -71,7 +71,7 @@ files-bound s x y valid same one =
     ]
 
 -- one file digest: one file with one settings, or a collision
-pub files-bound-by : (s t : Settings) (x y : List ℕ) → IsValid s → IsValid t → s.rule ≡ PaddedBefore
+pub files-bound-by : (s t : TreeSettingsFields) (x y : List ℕ) → IsValid s → IsValid t → s.rule ≡ PaddedBefore
     → t.rule ≡ PaddedBefore → length x < 2 ^ 64 → length y < 2 ^ 64
     → digest_of_file (descriptor_of_file s x) ≡ digest_of_file (descriptor_of_file t y)
     → ((s ≡ t) × (x ≡ y)) ⊎ FilesCollide s t x y
@@ -102,7 +102,7 @@ files-bound-by s t x y valid other of_s of_t small less digests =
         let sizes : length x ≡ length y = ap (λ (u : DescriptorFields). u.size) both in
         let roots : root_of_file s (length x) x ≡ root_of_file s (length y) y =
         ap (λ (u : DescriptorFields). u.root) both
-        ∙ ap (λ (u : Settings). root_of_file u (length y) y) (sym trees) in
+        ∙ ap (λ (u : TreeSettingsFields). root_of_file u (length y) y) (sym trees) in
         elim (files-bound s x y valid sizes roots) [
           | inl file ↦ inl (trees, file)
           | inr collide ↦ inr (inr collide)

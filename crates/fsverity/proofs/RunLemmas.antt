@@ -2,18 +2,23 @@
 use Rattle.std.proofs.Common.{◌≡◌, ◌≢◌, ℕ, zero, suc, ◌+◌, ◌<◌, ◌≤◌, List, [], ◌∷◌, ◌++◌, length, take, Bool, true}
 use Rattle.std.proofs.Common.{false, inl, inr, Option, Some, None, Result, Ok, Err, refl, ap, sym, subst, ◌∙◌, not}
 use Rattle.std.proofs.Common.{add-one, append-nil, arith}
-use Rattle.std.specs.Prelude.{◌↔◌, IsErr, IsErrAnd, slice_get}
+use Rattle.std.specs.Prelude.{◌↔◌, ◌⊎◌, IfErr, IfSome, IsErr, IsErrAnd, IsOk, OnOk, slice_get}
 use Rattle.std.proofs.lemmas.Option.{get_or_from_slice_get}
 use Rattle.std.specs.List.{prefix_len}
 use Rattle.std.specs.Io.KnownBytes.{Appends, Keeps}
-use Rattle.verity_format.proofs.KnownLemmas.{appends_twice}
-use Rattle.verity_plan.specs.Settings.{Settings}
+use Rattle.command_line.specs.Writing.{AppendsPrefix}
+use Rattle.verity_io.proofs.KnownLemmas.{appends_twice}
+use Rattle.verity_plan.specs.Settings.{TreeSettingsFields}
 use Rattle.fsverity.proofs.FormLemmas.{Keeps-same}
+use Rattle.fsverity.specs.Faults.{message_of, result_status, status_failed, status_of}
 use Rattle.fsverity.specs.Texts.Lines.{line}
+use Rattle.fsverity.specs.Texts.Messages.{run_fault_message}
 use Rattle.fsverity.specs.Openers.Opening.{OpenerChange}
-use Rattle.fsverity.specs.Runs.Digest.{HasReason, IsLargeAt, IsPartOfLine, first_without_digest, has_digest}
+use Rattle.fsverity.specs.Runs.Digest.{EndsAt, HasReason, IsLargeAt, IsPartOfLine, first_without_digest, has_digest}
 use Rattle.fsverity.specs.Runs.Digested.{AreLines, DigestInput, IsDigestAt, line_at}
-use Rattle.fsverity.specs.Runs.DigestSteps.{HasDigestAt, StopsStep, WritesStep}
+use Rattle.fsverity.specs.Runs.DigestSteps.{HasDigestAt, StopsRun, StopsStep, WritesStep}
+use Rattle.fsverity.specs.declared.fault.Fault.{Fault}
+use Rattle.fsverity.specs.declared.fault.Fault.TheVariants as ending
 use Rattle.fsverity.specs.declared.runs.digest_fault.DigestFault.TheVariants.{TooLarge, SourceShort, SourceFailed}
 use Rattle.fsverity.specs.declared.runs.digest_fault.DigestFault.TheVariants.{DeviceFailed, Memory}
 use Rattle.fsverity.specs.declared.runs.run_fault.RunFault.{RunFault}
@@ -56,7 +61,7 @@ appends_kept (Some xs) None kept = absurd kept
 appends_kept (Some xs) (Some ys) kept = kept ∙ sym (append-nil xs)
 
 -- a step that stopped before its line was made
-pub wrote_nothing : (s : Settings) (line_of : List ℕ → List ℕ) (told : Type 0) (files : List (Option (List ℕ))) (i : ℕ)
+pub wrote_nothing : (s : TreeSettingsFields) (line_of : List ℕ → List ℕ) (told : Type 0) (files : List (Option (List ℕ))) (i : ℕ)
     (fault : RunFault) (result : Result (Unit {0}) RunFault) (held : Option (List ℕ)) → fault ≢ NotWritten →
     IsErr result → IsErrAnd result (λ f. f ≡ fault) → WritesStep s line_of told files i result held held
 wrote_nothing s line_of told files i fault (Ok done) held other err same = cc
@@ -65,7 +70,7 @@ wrote_nothing s line_of told files i fault (Err (Digest cause)) held other err s
 wrote_nothing s line_of told files i fault (Err NotWritten) held other err same = absurd (other (sym same))
 
 -- a digest at an index of the same files, which are still told if they were at first
-same_digest : (s : Settings) (told told' : Type 0) (files files' : List (Option (List ℕ))) (i i' : ℕ) (digest : List ℕ)
+same_digest : (s : TreeSettingsFields) (told told' : Type 0) (files files' : List (Option (List ℕ))) (i i' : ℕ) (digest : List ℕ)
     → (told → told') → files' ≡ files → i' ≡ i → IsDigestAt s told' files' i' digest → IsDigestAt s told files i digest
 same_digest s told told' files files' i i' digest still same index is = record {
   size = is.size;
@@ -126,14 +131,14 @@ part_of_line run told told' files files' i i' name NotWritten mid new named stil
     (take step.2 (line_at run i step.0), (step.0, digest, step.2, fewer, refl), added)
 
 -- a file that has a digest is before the first that has none, if no file before it is absent or too large
-before_first_without_digest : (s : Settings) (files : List (Option (List ℕ))) (f : ℕ) → HasDigestAt s files f → f ≤ first_without_digest s files →
+before_first_without_digest : (s : TreeSettingsFields) (files : List (Option (List ℕ))) (f : ℕ) → HasDigestAt s files f → f ≤ first_without_digest s files →
     f < first_without_digest s files
 before_first_without_digest s files f one within =
     let more : f + 1 ≤ first_without_digest s files = passes_more (has_digest s) files f (Some one.0) one.1 one.2 within in
     omega (arith, more)
 
 -- a step that stops ends the run, if no file before its own is absent or too large
-pub stops_run : (s : Settings) (run step : OpenerChange) (f : ℕ) (fault : RunFault) →
+pub stops_run : (s : TreeSettingsFields) (run step : OpenerChange) (f : ℕ) (fault : RunFault) →
     (run.told ↔ step.told) → step.files ≡ run.files → step.next_before ≡ f → (run.told → f ≤ first_without_digest s run.files) →
     run.failures_before ≤ step.failures_before → run.failures_after ≡ step.failures_after →
     StopsStep s step fault → HasReason s run f fault
@@ -154,3 +159,34 @@ stops_run s run step f (Digest Memory) told same index within le after one =
     λ t. before_first_without_digest s run.files f (rw (same, index) at (one (told.0 t))) (within t)
 stops_run s run step f NotWritten told same index within le after one =
     λ t. before_first_without_digest s run.files f (rw (same, index) at (one (told.0 t))) (within t)
+
+-- what holds of a run that is done
+pub of_done : {P : Type 0} (outcome : Result (Unit {0}) Fault) → IsOk outcome → OnOk outcome P → P
+of_done (Ok unit) ok holds = holds
+of_done (Err fault) ok holds = cc
+
+-- a run whose faults are failures is done or failed
+pub status_either : (outcome : Result (Unit {0}) Fault) → IfErr outcome (λ fault. status_of fault ≡ status_failed) →
+    (result_status outcome ≡ 0) ⊎ (result_status outcome ≡ 1)
+status_either (Ok unit) fails = inl refl
+status_either (Err fault) fails = inr fails
+
+-- a run that ended early did so at a file, with the message of its fault
+pub ended_with : (run : DigestInput) (opener : OpenerChange) (out out' msgs msgs' : Option (List ℕ))
+    (outcome : Result (Unit {0}) Fault) (status : ℕ) → status ≡ result_status outcome → status ≡ 1 →
+    IfErr outcome (StopsRun run opener out out') →
+    IfErr outcome (λ fault. IfSome (message_of fault) (λ text. AppendsPrefix text msgs msgs')) →
+    EndsAt run opener out out' msgs msgs'
+ended_with run opener out out' msgs msgs' (Ok unit) status is one stops message =
+    let none : status ≡ 0 = is in
+    absurd (omega (arith, none, one))
+ended_with run opener out out' msgs msgs' (Err (ending.Words cause)) status is one stops message = absurd stops
+ended_with run opener out out' msgs msgs' (Err (ending.Line cause)) status is one stops message = absurd stops
+ended_with run opener out out' msgs msgs' (Err (ending.Option cause)) status is one stops message = absurd stops
+ended_with run opener out out' msgs msgs' (Err (ending.File cause name)) status is one stops message = record {
+  f = stops.0;
+  fault = cause;
+  fails = stops.2;
+  message = subst (λ (n : List ℕ). AppendsPrefix (run_fault_message cause n) msgs msgs') stops.1 message;
+}
+ended_with run opener out out' msgs msgs' (Err (ending.Outputs cause name)) status is one stops message = absurd stops

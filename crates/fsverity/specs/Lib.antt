@@ -3,4 +3,5 @@ pub mod Options
 pub mod Openers
 pub mod Runs
 pub mod Texts
+pub mod Faults
 pub mod Program

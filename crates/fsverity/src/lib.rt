@@ -2,6 +2,7 @@
 //! the runs over files, and the program.
 #![tactic(auto)]
 
+mod fault;
 pub mod laws;
 mod openers;
 mod options;

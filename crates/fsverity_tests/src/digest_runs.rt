@@ -1,6 +1,6 @@
 //! A run of digest over files in memory that fail: the line before the fault, and the message of each.
 use crate::stating_opener::StatingOpener;
-use fixtures::{Said, data};
+use fixtures::{RunOutput, data};
 use fsverity::{
     DigestFault, DigestOptions, Form, FusedOpener, digest_message, digest_settings, run_digest,
 };
@@ -55,8 +55,8 @@ fn each_fault_of_a_file_has_its_message(rt: HostRuntime) -> Result<(), Fail> {
             &mut out,
             &mut msgs,
         );
-        let said = Said { status, out, msgs };
-        let differs = said.differs(1, EMPTY_LINE.as_bytes(), text.as_bytes());
+        let output = RunOutput { status, out, msgs };
+        let differs = output.differs(1, EMPTY_LINE.as_bytes(), text.as_bytes());
         assert_eq!(rt; differs, None, "at {text}");
     }
     let fault = DigestFault::SourceFailed(u64::MAX);

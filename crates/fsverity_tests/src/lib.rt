@@ -5,7 +5,11 @@
 #![tactic(auto)]
 
 #[cfg(test)]
+mod digest_openings;
+#[cfg(test)]
 mod digest_program;
+#[cfg(test)]
+mod digest_refusals;
 #[cfg(test)]
 mod digest_runs;
 #[cfg(test)]

@@ -40,8 +40,8 @@ fn as_many_files_are_digested_as_there_are(rt: HostRuntime) -> Result<(), Fail> 
     let empty = format!(in alloc; "sha256:{EMPTY} e\n")?;
     let last = line_of(alloc, "f")?;
     let lines = format!(in alloc; "{}{last}", empty.as_str().repeat(alloc, 1001)?)?;
-    let said = run(alloc, &disk, words.as_str());
-    assert_eq!(rt; said.differs(0, lines.as_bytes(), b""), None);
+    let output = run(alloc, &disk, words.as_str());
+    assert_eq!(rt; output.differs(0, lines.as_bytes(), b""), None);
     Ok(())
 }
 
@@ -57,8 +57,8 @@ fn files_of_long_names_are_digested(rt: HostRuntime) -> Result<(), Fail> {
     let words = format!(in alloc;
         "fsverity digest --out-merkle-tree {tree} --out-descriptor {made} {name}"
     )?;
-    let said = run(alloc, &disk, words.as_str());
-    let differs = said.differs(0, line.as_bytes(), b"");
+    let output = run(alloc, &disk, words.as_str());
+    let differs = output.differs(0, line.as_bytes(), b"");
     let made = (
         disk.has(tree.as_str())?,
         disk.bytes_of(made.as_str())?.len(),
@@ -99,8 +99,8 @@ fn long_words_are_refused_with_their_messages(rt: HostRuntime) -> Result<(), Fai
     for &(before, after, status, message) in &REFUSED {
         let words = format!(in alloc; "{before}{long}{after}")?;
         let message = message.replace(alloc, "*", long.as_str())?;
-        let said = run(alloc, &disk, words.as_str());
-        let differs = said.differs(status, b"", message.as_bytes());
+        let output = run(alloc, &disk, words.as_str());
+        let differs = output.differs(status, b"", message.as_bytes());
         assert_eq!(rt; differs, None, "at {before}");
     }
     Ok(())
@@ -122,11 +122,11 @@ fn a_long_name_stands_in_each_form(rt: HostRuntime) -> Result<(), Fail> {
     let end = format!(in alloc; " {name}\n")?;
     for &(form, is_named) in &FORMS {
         let words = format!(in alloc; "fsverity digest {form}{name}")?;
-        let said = run(alloc, &disk, words.as_str());
+        let output = run(alloc, &disk, words.as_str());
         let found = (
-            said.status,
-            said.out.ends_with(end.as_bytes()),
-            said.msgs.len(),
+            output.status,
+            output.out.ends_with(end.as_bytes()),
+            output.msgs.len(),
         );
         assert_eq!(rt; found, (0, is_named, 0), "at {form}");
     }
@@ -165,7 +165,7 @@ fn long_values_are_taken(rt: HostRuntime) -> Result<(), Fail> {
     let zeros = "0".repeat(alloc, 1100)?;
     let words = format!(in alloc; "fsverity digest --block-size {zeros}4096 f")?;
     let line = line_of(alloc, "f")?;
-    let said = run(alloc, &disk, words.as_str());
-    assert_eq!(rt; said.differs(0, line.as_bytes(), b""), None);
+    let output = run(alloc, &disk, words.as_str());
+    assert_eq!(rt; output.differs(0, line.as_bytes(), b""), None);
     Ok(())
 }

@@ -88,7 +88,7 @@ impl Write for Refusing {
     }
 }
 
-/// The end of a file, a refused offset, and the answer to a read from there: nothing if the file ends before it or at
+/// The end of a file, a refused offset, and the result to a read from there: nothing if the file ends before it or at
 /// it, and otherwise a failure.
 const REFUSED: [(u64, u64, Result<usize, Failed>); 12] = [
     (0, 0, Ok(0)),
@@ -107,10 +107,10 @@ const REFUSED: [(u64, u64, Result<usize, Failed>); 12] = [
 
 #[test]
 fn a_refused_offset_is_past_the_end_or_a_failure(rt: HostRuntime) {
-    for &(end, at, answer) in &REFUSED {
+    for &(end, at, result) in &REFUSED {
         let mut device = FileDevice::new(Refusing { end });
         let found = device.read_at(at, &mut [7; 1]);
-        assert_eq!(rt; found, answer, "at {end}, {at}");
+        assert_eq!(rt; found, result, "at {end}, {at}");
     }
 }
 
@@ -119,7 +119,7 @@ fn a_refused_offset_is_past_the_end_or_a_failure(rt: HostRuntime) {
 fn an_empty_file_gives_nothing_from_any_offset(rt: HostRuntime) {
     for &at in &[0, 1, 1 << 41, MOST_BYTES - 1, MOST_BYTES, u64::MAX] {
         let mut device = FileDevice::new(Sparse::new(0, Vec::new(rt.alloc()), usize::MAX, 0));
-        let answer = device.read_at(at, &mut [7; 4096]);
-        assert_eq!(rt; answer, Ok(0), "at {at}");
+        let result = device.read_at(at, &mut [7; 4096]);
+        assert_eq!(rt; result, Ok(0), "at {at}");
     }
 }

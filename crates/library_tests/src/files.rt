@@ -139,11 +139,11 @@ fn long_blocks_stand_at_far_offsets(rt: HostRuntime) -> Result<(), Fail> {
     ];
     for &piece in &[usize::MAX, 1_000] {
         let mut device = FileDevice::new(Sparse::new(FAR, Vec::new(alloc), piece, 0));
-        let answers = [
+        let results = [
             device.write_at(FAR + 100, block.as_slice()),
             device.write_at(100, b"a"),
         ];
-        let found = (answers, differs(&mut device, &mut buf, &reads));
+        let found = (results, differs(&mut device, &mut buf, &reads));
         assert_eq!(rt; found, ([Ok(()), Err(Failed)], None), "at {piece}");
     }
     Ok(())
@@ -223,9 +223,9 @@ fn an_interrupted_writer_is_tried_again(rt: HostRuntime) -> Result<(), Fail> {
     let alloc = rt.alloc();
     let text = data(alloc, 65_536)?;
     let mut writer = Sparse::new(0, Vec::new(alloc), 10_000, INTERRUPTS);
-    let answer = put_all(&mut writer, text.as_slice());
+    let result = put_all(&mut writer, text.as_slice());
     assert_eq!(rt;
-        (answer, writer.bytes.as_slice()),
+        (result, writer.bytes.as_slice()),
         (Ok(()), text.as_slice())
     );
     Ok(())

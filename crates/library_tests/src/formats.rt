@@ -1,5 +1,9 @@
 //! Superblocks, descriptors, formatted digests and whole writes.
-use fixtures::{Field, Narrow, Shape, UUID, block, descriptor, lay, one_block};
+use fixtures::{
+    ALGORITHM_AT, DATA_BLOCK_SIZE_AT, DATA_BLOCKS_AT, DESCRIPTOR_SIZE, Field, HASH_BLOCK_SIZE_AT,
+    HASH_TYPE_AT, LimitedWriter, SALT_AT, SALT_SIZE_AT, SIGNATURE_AT, SUPERBLOCK_SIZE, Shape, UUID,
+    UUID_AT, VERSION_AT, block, descriptor, lay, one_block,
+};
 use sha2::{Digest as Hasher, Sha512};
 use std::test::Fail;
 use verity_format::{
@@ -14,17 +18,17 @@ fn a_superblock_is_written_and_read(rt: HostRuntime) -> Result<(), Fail> {
     let salt = b"\xab\xcd\xef";
     let tree = TreeSettings::verity(Algorithm::Sha512, HashType::Current, salt, 512, 1024)?;
     let superblock = Superblock::new(&tree, UUID, 0x0001_0203_0405_0607).ok_or("many blocks")?;
-    let expected: [u8; 512] = block(&[
-        (0, b"verity"),
-        (8, &[1]),
-        (12, &[1]),
-        (16, &UUID),
-        (32, b"sha512"),
-        (64, &[0x00, 0x02]),
-        (68, &[0x00, 0x04]),
-        (72, &[7, 6, 5, 4, 3, 2, 1]),
-        (80, &[3]),
-        (88, salt),
+    let expected: [u8; SUPERBLOCK_SIZE] = block(&[
+        (SIGNATURE_AT, b"verity"),
+        (VERSION_AT, &[1]),
+        (HASH_TYPE_AT, &[1]),
+        (UUID_AT, &UUID),
+        (ALGORITHM_AT, b"sha512"),
+        (DATA_BLOCK_SIZE_AT, &[0x00, 0x02]),
+        (HASH_BLOCK_SIZE_AT, &[0x00, 0x04]),
+        (DATA_BLOCKS_AT, &[7, 6, 5, 4, 3, 2, 1]),
+        (SALT_SIZE_AT, &[3]),
+        (SALT_AT, salt),
     ]);
     let found = (write_superblock(&superblock), read_superblock(&expected));
     assert_eq!(rt; found, (expected, Ok(superblock)));
@@ -34,11 +38,18 @@ fn a_superblock_is_written_and_read(rt: HostRuntime) -> Result<(), Fail> {
 /// What differs from the superblock of one block, and the first fault.
 const REFUSED: [(&[Field<'static>], SuperFault); 2] = [
     (
-        &[(8, &[2]), (12, &[2]), (64, &[0x00, 0x03])],
+        &[
+            (VERSION_AT, &[2]),
+            (HASH_TYPE_AT, &[2]),
+            (DATA_BLOCK_SIZE_AT, &[0x00, 0x03]),
+        ],
         SuperFault::Version(2),
     ),
     (
-        &[(64, &[0x00, 0x02]), (72, &[0, 0, 0, 0, 0, 0, 0x40, 0])],
+        &[
+            (DATA_BLOCK_SIZE_AT, &[0x00, 0x02]),
+            (DATA_BLOCKS_AT, &[0, 0, 0, 0, 0, 0, 0x40, 0]),
+        ],
         SuperFault::TooLarge,
     ),
 ];
@@ -55,7 +66,7 @@ fn superblocks_are_refused(rt: HostRuntime) {
 #[test]
 fn a_short_superblock_is_refused(rt: HostRuntime) -> Result<(), Fail> {
     let bytes = one_block();
-    let short = bytes.get(..511).ok_or("511 bytes")?;
+    let short = bytes.get(..SUPERBLOCK_SIZE - 1).ok_or("511 bytes")?;
     assert_eq!(rt; read_superblock(short), Err(SuperFault::Short));
     Ok(())
 }
@@ -67,7 +78,11 @@ const DESCRIPTORS: [(Algorithm, &[u8], u32, u64, [u8; 4]); 2] = [
 ];
 
 /// The bytes of a descriptor and the file digest.
-fn described(tree: &TreeSettings, size: u64, root: &[u8]) -> Option<([u8; 256], Digest)> {
+fn described(
+    tree: &TreeSettings,
+    size: u64,
+    root: &[u8],
+) -> Option<([u8; DESCRIPTOR_SIZE], Digest)> {
     let descriptor = Descriptor::of(tree, size, &Digest::from_bytes(root)?)?;
     Some((write_descriptor(&descriptor), file_digest(&descriptor)))
 }
@@ -101,24 +116,24 @@ fn a_digest_is_formatted(rt: HostRuntime) -> Result<(), Fail> {
 #[test]
 fn texts_are_put_one_after_another(rt: HostRuntime) {
     let mut out = Vec::new(rt.alloc());
-    let answers = [
+    let results = [
         put_all(&mut out, b"root "),
         put_all(&mut out, b""),
         put_all(&mut out, b"hash"),
     ];
-    let found = (answers, out.as_slice());
+    let found = (results, out.as_slice());
     assert_eq!(rt; found, ([Ok(()); 3], b"root hash".as_slice()));
 }
 
 #[test]
 fn a_text_is_put_as_far_as_there_is_room(rt: HostRuntime) {
-    for &(room, answer) in &[(8, Ok(())), (7, Err(PutFault(7))), (0, Err(PutFault(0)))] {
-        let mut narrow = Narrow::new(Vec::new(rt.alloc()), room, 3);
+    for &(room, result) in &[(8, Ok(())), (7, Err(PutFault(7))), (0, Err(PutFault(0)))] {
+        let mut limited = LimitedWriter::new(Vec::new(rt.alloc()), room, 3);
         let found = (
-            put_all(&mut narrow, b"8 bytes."),
-            Some(narrow.bytes.as_slice()),
+            put_all(&mut limited, b"8 bytes."),
+            Some(limited.bytes.as_slice()),
         );
-        assert_eq!(rt; found, (answer, b"8 bytes.".get(..room)));
+        assert_eq!(rt; found, (result, b"8 bytes.".get(..room)));
     }
 }
 
@@ -126,6 +141,6 @@ fn a_text_is_put_as_far_as_there_is_room(rt: HostRuntime) {
 #[test]
 fn a_slice_is_filled(rt: HostRuntime) {
     let mut place = [0; 5];
-    let answer = put_all(&mut place.as_mut_slice(), b"8 bytes.");
-    assert_eq!(rt; (answer, place), (Err(PutFault(5)), *b"8 byt"));
+    let result = put_all(&mut place.as_mut_slice(), b"8 bytes.");
+    assert_eq!(rt; (result, place), (Err(PutFault(5)), *b"8 byt"));
 }

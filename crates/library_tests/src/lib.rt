@@ -12,8 +12,8 @@ mod files;
 #[cfg(test)]
 mod formats;
 #[cfg(test)]
+mod given_words;
+#[cfg(test)]
 mod printing;
 #[cfg(test)]
 mod syncs;
-#[cfg(test)]
-mod words;

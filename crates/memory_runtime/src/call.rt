@@ -33,7 +33,7 @@ impl Calls {
         self.made.get(call as usize).copied().unwrap_or(0)
     }
 
-    /// Counts a call. The answer is whether it fails.
+    /// Counts a call. The result is whether it fails.
     pub fn fails(&mut self, call: Call) -> bool {
         if let Some(made) = self.made.get_mut(call as usize) {
             *made = made.saturating_add(1);

@@ -139,7 +139,7 @@ impl Contents {
         Ok(())
     }
 
-    /// Makes a file. The answer is its number.
+    /// Makes a file. The result is its number.
     pub fn make(&mut self, alloc: Global, name: &str, stored: Stored) -> Result<usize, AllocError> {
         let number = self.files.len();
         self.files.push(stored)?;
@@ -188,7 +188,7 @@ impl Contents {
         self.opened.push('\n')
     }
 
-    /// Opens a name: finds its file, or makes it if that is asked for, and empties it if that is. The answer is its
+    /// Opens a name: finds its file, or makes it if that is asked for, and empties it if that is. The result is its
     /// number.
     pub fn open(&mut self, alloc: Global, how: &OpenOptions, name: &str) -> io::Result<usize> {
         self.write_down(alloc, how, name)?;

@@ -192,7 +192,7 @@ impl Disk {
         Ok(())
     }
 
-    /// Opens a name. The answer is the number of its file.
+    /// Opens a name. The result is the number of its file.
     pub(crate) fn open(&self, how: &OpenOptions, name: &str) -> io::Result<usize> {
         let mut contents = self.contents()?;
         let number = contents.open(self.alloc, how, name)?;

@@ -70,7 +70,7 @@ impl Read for MemoryFile<'_> {
     }
 }
 
-/// Writes at an offset into some bytes, with zeros in a gap. The answer is how many were written.
+/// Writes at an offset into some bytes, with zeros in a gap. The result is how many were written.
 fn put(bytes: &mut Vec<u8>, at: u64, buf: &[u8]) -> io::Result<usize>
     ensures { IfOk result (λ count. count ≤ length buf.now) }
 {

@@ -3,10 +3,8 @@
 #![tactic(auto)]
 
 #[cfg(test)]
-mod digests;
+mod fsverity_runs;
 #[cfg(test)]
-mod images;
+mod run_result;
 #[cfg(test)]
-mod outcome;
-#[cfg(test)]
-mod zeros;
+mod veritysetup_runs;

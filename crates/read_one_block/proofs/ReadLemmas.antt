@@ -7,13 +7,13 @@ use Rattle.std.proofs.Math.Nat.{mul-le-mul_right}
 use Rattle.std.specs.Fork.{slice_chunk}
 use borrow.Rule.Slice.PartMut.{put_mid}
 use Rattle.verity_hash.specs.Hashing.{with_zeros}
-use Rattle.verity_plan.specs.Plans.{Planned, start_byte_of}
+use Rattle.verity_plan.specs.Plans.{PlanFields, start_byte_of}
 use Rattle.verity_plan.specs.Settings.{fan}
 use Rattle.verity_tree.proofs.OpenBlockSteps.{chunk-other, chunk-same}
 use Rattle.read_one_block.specs.Reading.{stored_above}
 
 -- the bytes that were read are those stored above the data block
-pub read-stored : (p : Planned) (i l at n j : ℕ) (device before : List ℕ) → n ≡ p.settings.hash_block
+pub read-stored : (p : PlanFields) (i l at n j : ℕ) (device before : List ℕ) → n ≡ p.settings.hash_block
     → at ≡ start_byte_of p l j → j ≡ i / fan p.settings ^ (l + 1)
     → before ≡ device → with_zeros n (take n (drop at before)) ≡ stored_above p i device l
 read-stored p i l at n j device before size place index same =
@@ -39,7 +39,7 @@ length-run path l size within =
     (omega (arith, wide, length-drop (l * size) path, within)) ∙ wide
 
 -- one more level of a path is read
-pub path-more : (p : Planned) (i l size : ℕ) (path block device : List ℕ) → size ≡ p.settings.hash_block
+pub path-more : (p : PlanFields) (i l size : ℕ) (path block device : List ℕ) → size ≡ p.settings.hash_block
     → length block ≡ size → l * size + size ≤ length path
     → block ≡ stored_above p i device l
     → ((m : ℕ) → m < l → slice_chunk path p.settings.hash_block m ≡ stored_above p i device m)

@@ -1,11 +1,10 @@
 //! An image with a trusted root hash, of which single blocks are read.
-ghost use Rattle.std.specs.Prelude.{◌≡◌, ◌*◌, ◌<◌, ℕ, List, length, take, drop, IfErr, OnOk};
-ghost use Rattle.verity_io.specs.Counting.{Counts, CountsFailure};
+ghost use Rattle.std.specs.Prelude.{◌≡◌, ◌*◌, ◌<◌, ℕ, List, length, take, drop, IfErr, OnOk, Some};
+ghost use Rattle.verity_io.specs.Counting.{Counts, CountsFailure, TheDevice, TheSource, failed_at};
 ghost use Rattle.verity_plan.specs.PlanCounts.{level_count_of};
 ghost use Rattle.verity_hash.specs.Hashing.{with_zeros};
 ghost use Rattle.verity_tree.specs.Levels.{block_at, data_blocks, root};
-ghost use Rattle.read_one_block.specs.Reading.{Answers, IsPathOn, IsRight, WasRead, data_failed, is_failure};
-ghost use Rattle.read_one_block.specs.Reading.{tree_failed};
+ghost use Rattle.read_one_block.specs.Reading.{Answers, IsPathOn, IsRight, WasRead, side_of};
 
 use std::fmt;
 use verity_hash::Digest;
@@ -86,8 +85,8 @@ impl<A: Device, B: Device> Image<A, B> {
             (block.new ≡ block_at self.old.plan.settings.data_block (A.content self.old.data) i) }
         ensures tree { B.tells self.old.tree → i < self.old.plan.blocks → WasRead result
             (IsPathOn self.old.plan i (B.content self.old.tree) path.new) }
-        ensures data_count { Counts (data_failed result) (A.failures self.old.data) (A.failures self.new.data) }
-        ensures tree_count { Counts (tree_failed result) (B.failures self.old.tree) (B.failures self.new.tree) }
+        ensures data_count { Counts (failed_at side_of TheSource result) (A.failures self.old.data) (A.failures self.new.data) }
+        ensures tree_count { Counts (failed_at side_of TheDevice result) (B.failures self.old.tree) (B.failures self.new.tree) }
     {
         if i >= self.plan.blocks() {
             return Err(ReadFault::Refused(PathFault::Index));
@@ -127,7 +126,7 @@ pub fn read_path<D: Device>(
     requires path { length path.old ≡ level_count_of plan.now * plan.now.settings.hash_block }
     ensures told { D.tells device.old → D.tells device.new }
     ensures same { D.tells device.old → D.content device.new ≡ D.content device.old }
-    ensures count { Counts (is_failure result) (D.failures device.old) (D.failures device.new) }
+    ensures count { Counts (failed_at (λ _. Some TheDevice) TheDevice result) (D.failures device.old) (D.failures device.new) }
     ensures level { IfErr result (λ level. level < level_count_of plan.now) }
     ensures read { D.tells device.old → OnOk result (IsPathOn plan.now i (D.content device.old) path.new) }
 {

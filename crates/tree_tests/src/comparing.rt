@@ -63,7 +63,7 @@ impl Given {
     }
 }
 
-/// The answer, and how many bytes remain in the source.
+/// The result, and how many bytes remain in the source.
 type Verdict = (Result<(), CompareFault>, usize);
 
 fn verdict(alloc: Global, change: Change) -> Result<Verdict, Fail> {
@@ -80,8 +80,8 @@ fn verdict(alloc: Global, change: Change) -> Result<Verdict, Fail> {
     } = given;
     let mut source = Fused::new(MemorySource::new(data.as_slice()), source_fails);
     let mut device = Fused::new(MemoryDevice::new(image), device_fails);
-    let answer = compare(&plan, &mut store, &mut source, &mut device, &root);
-    Ok((answer, source.inner().rest().len()))
+    let result = compare(&plan, &mut store, &mut source, &mut device, &root);
+    Ok((result, source.inner().rest().len()))
 }
 
 /// A hash block that differs, and where.
@@ -119,10 +119,10 @@ fn the_first_difference_is_named(rt: HostRuntime) -> Result<(), Fail> {
         ),
         (Change::DeviceFails(2), Err(failed), 0),
     ];
-    for &(change, answer, rest) in &cases {
+    for &(change, result, rest) in &cases {
         assert_eq!(rt;
             verdict(rt.alloc(), change)?,
-            (answer, rest),
+            (result, rest),
             "at {change:?}"
         );
     }

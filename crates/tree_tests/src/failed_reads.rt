@@ -24,23 +24,23 @@ const ORDER: [(usize, u64, usize); 11] = [
 /// The tree above nine data blocks.
 const NINE: Row = (FILE, SHA256, b"salt", (64, 64), (2, 32), (576, 4));
 
-/// The answer if this read fails, how many bytes of the data are left, and how many reads were made.
+/// The result if this read fails, how many bytes of the data are left, and how many reads were made.
 type Ending = (Result<(), CompareFault>, usize, u64);
 
 fn ending(alloc: Global, case: &Case, failing: u64) -> Result<Ending, Fail> {
     let mut store = Store::new(alloc, &case.plan)?;
     let mut source = MemorySource::new(case.data.as_slice());
     let mut device = Fused::new(MemoryDevice::new(case.tree.on_device(alloc, 64)?), failing);
-    let answer = compare(&case.plan, &mut store, &mut source, &mut device, &case.root);
-    Ok((answer, source.rest().len(), device.calls()))
+    let result = compare(&case.plan, &mut store, &mut source, &mut device, &case.root);
+    Ok((result, source.rest().len(), device.calls()))
 }
 
 /// The first read whose failure isn't answered with its block, at once, with as much data read as it should be.
 fn first_wrong(alloc: Global, case: &Case) -> Result<Option<u64>, Fail> {
     for (before, &(level, block, rest)) in ORDER.iter().enumerate() {
         let failing = (before as u64).saturating_add(1);
-        let answer = Err(CompareFault::DeviceFailed { level, block });
-        if ending(alloc, case, failing)? != (answer, rest, failing) {
+        let result = Err(CompareFault::DeviceFailed { level, block });
+        if ending(alloc, case, failing)? != (result, rest, failing) {
             return Ok(Some(failing));
         }
     }

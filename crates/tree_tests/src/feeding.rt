@@ -67,7 +67,7 @@ fn feed(builder: &mut TreeBuilder, memory: &mut [u8], piece: &[u8]) -> Result<Fe
     Ok(builder.feed(memory, piece)?)
 }
 
-/// What a builder answers at the end, with memory of the right length.
+/// The root hash that a builder gives at the end, with memory of the right length.
 fn end(builder: &TreeBuilder, memory: &mut [u8]) -> Result<Digest, Fail> {
     if memory.len() != TreeBuilder::memory_length(&builder.plan) {
         return Err("another length".into());
@@ -148,8 +148,8 @@ fn trees_are_built_in_pieces(rt: HostRuntime) -> Result<(), Fail> {
     Ok(())
 }
 
-/// What a builder of the tree above 17 blocks of 512 bytes answers to one piece of so many bytes, and then at the end.
-fn answers(alloc: Global, count: usize) -> Result<(Option<FeedFault>, Option<FeedFault>), Fail> {
+/// The faults of a builder of the tree above 17 blocks of 512 bytes: for one piece of so many bytes, and then at the end.
+fn faults(alloc: Global, count: usize) -> Result<(Option<FeedFault>, Option<FeedFault>), Fail> {
     let plan = Plan::for_blocks(&small()?, 17, 1)?;
     let mut memory = vec![in alloc; 0u8; TreeBuilder::memory_length(&plan)]?;
     let piece = vec![in alloc; 7u8; count]?;
@@ -175,7 +175,7 @@ fn too_few_and_too_many_bytes_are_refused(rt: HostRuntime) -> Result<(), Fail> {
         (8192, (None, short(16))),
     ];
     for &(count, expected) in &cases {
-        assert_eq!(rt; answers(rt.alloc(), count)?, expected, "at {count}");
+        assert_eq!(rt; faults(rt.alloc(), count)?, expected, "at {count}");
     }
     Ok(())
 }

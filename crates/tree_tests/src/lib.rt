@@ -28,6 +28,8 @@ mod salting;
 #[cfg(test)]
 mod side_by_side;
 #[cfg(test)]
+mod sweep;
+#[cfg(test)]
 mod trees;
 #[cfg(test)]
 mod windows;

@@ -144,7 +144,7 @@ fn are_right(alloc: Global, salt: &[u8], bytes: &[u8]) -> Result<bool, AllocErro
 }
 
 /// Each salt with each border, as the length of the bytes and as that of whole messages, with one salt or two, after
-/// 512 bytes. The answer is the first lengths of a salt and of bytes with another digest.
+/// 512 bytes. The result is the first lengths of a salt and of bytes with another digest.
 fn wrong_length(alloc: Global) -> Result<Option<(usize, usize)>, Fail> {
     let (salts, all) = (data(alloc, 269)?, data(alloc, 1550)?);
     for &salt_len in &SALTS {

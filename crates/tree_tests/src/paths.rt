@@ -1,8 +1,7 @@
 //! Data blocks that are checked by their paths: 257 data blocks. All blocks have 512 bytes, so level 2 stands at byte
 //! 512 of the image, level 1 at 1024 and level 0 at 2048. Expected images are made with `sha2`.
 use crate::trees::{small, small_tree};
-use fixtures::{data, flip, with_zeros};
-use sha2::{Digest as Hasher, Sha256};
+use fixtures::{Shape, data, flip, with_zeros};
 use std::alloc::{AllocError, Global};
 use std::test::Fail;
 use verity_hash::{Algorithm, Digest};
@@ -73,8 +72,8 @@ impl Given {
     }
 }
 
-/// The answer for data block `asked`, if it is given data block `i` with its path and a change.
-fn answer(
+/// The result for data block `asked`, if it is given data block `i` with its path and a change.
+fn judged(
     alloc: Global,
     i: usize,
     change: Change,
@@ -87,7 +86,7 @@ fn answer(
     Ok(check_block(&plan, asked, block, path, &given.root))
 }
 
-/// The number of a data block, what is changed, the number that is asked for, and the answer.
+/// The number of a data block, what is changed, the number that is asked for, and the result.
 const CASES: [(usize, Change, u64, Result<(), PathFault>); 24] = [
     (0, Change::Nothing, 0, Ok(())),
     (15, Change::Nothing, 15, Ok(())),
@@ -119,40 +118,29 @@ const CASES: [(usize, Change, u64, Result<(), PathFault>); 24] = [
 #[test]
 fn paths_are_judged(rt: HostRuntime) -> Result<(), Fail> {
     for &(i, change, asked, expected) in &CASES {
-        let answer = answer(rt.alloc(), i, change, asked)?;
-        assert_eq!(rt; answer, expected, "at {change:?}, {i} for {asked}");
+        let result = judged(rt.alloc(), i, change, asked)?;
+        assert_eq!(rt; result, expected, "at {change:?}, {i} for {asked}");
     }
     Ok(())
 }
 
-/// The hash block above two blocks.
-fn above(alloc: Global, first: &[u8], last: &[u8]) -> Result<Vec<u8>, AllocError> {
-    with_zeros(
-        alloc,
-        &[&Sha256::digest(first), &Sha256::digest(last)],
-        4096,
-    )
-}
-
-/// The answer if these bytes are given for the last block of a file of 4097 bytes. The first 4096 are zeros, and `last`
-/// is the last byte with zeros up to a whole block.
-fn answer_for_last(
-    alloc: Global,
-    last: &[u8],
-    given: &[u8],
-) -> Result<Result<(), PathFault>, Fail> {
+/// The result if these bytes are given for the last block of a file of a block of 4096 zeros and an `a`.
+fn judged_last(alloc: Global, given: &[u8]) -> Result<Result<(), PathFault>, Fail> {
     let page = TreeSettings::fsverity(Algorithm::Sha256, &[], 4096)?;
     let plan = Plan::for_bytes(&page, 4097, 0)?;
-    let path = above(alloc, &[0; 4096], last)?;
-    let root = Digest::from_bytes(&Sha256::digest(path.as_slice())).ok_or("a root hash")?;
-    Ok(check_block(&plan, 1, given, path.as_slice(), &root))
+    let shape = Shape::new(alloc, Algorithm::Sha256, (4096, 4096), (128, 32));
+    let file = with_zeros(alloc, &[&[0; 4096], b"a"], 0)?;
+    let tree = shape.tree(alloc, file.as_slice(), 1)?;
+    let root = Digest::from_bytes(tree.root.as_slice()).ok_or("a root hash")?;
+    Ok(check_block(&plan, 1, given, tree.block(0, 0, 4096), &root))
 }
 
+/// The block is the `a` with zeros up to a whole block.
 #[test]
 fn the_last_block_of_a_file_comes_filled(rt: HostRuntime) -> Result<(), Fail> {
     let last = with_zeros(rt.alloc(), &[b"a"], 4096)?;
-    let whole = answer_for_last(rt.alloc(), last.as_slice(), last.as_slice())?;
-    let cut = answer_for_last(rt.alloc(), last.as_slice(), b"a")?;
+    let whole = judged_last(rt.alloc(), last.as_slice())?;
+    let cut = judged_last(rt.alloc(), b"a")?;
     assert_eq!(rt; (whole, cut), (Ok(()), Err(PathFault::Length)));
     Ok(())
 }

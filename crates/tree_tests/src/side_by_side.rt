@@ -135,7 +135,7 @@ fn all_are_the_same(alloc: Global, salt: &[u8], len: usize, count: usize) -> Res
 }
 
 /// Each salt with each border, as the length of the parts and as that of whole messages after 256 bytes. The number of
-/// messages is another one with each, from one to eight. The answer is the first salt, number and length of messages
+/// messages is another one with each, from one to eight. The result is the first salt, number and length of messages
 /// with another digest.
 fn wrong_length(alloc: Global) -> Result<Option<(usize, usize, usize)>, Fail> {
     let salts = data(alloc, 269)?;

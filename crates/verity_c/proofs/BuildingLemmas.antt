@@ -6,10 +6,10 @@ use Rattle.std.proofs.lemmas.List.{length-replicate}
 use Rattle.std.specs.Prelude.{◌==◌}
 use Rattle.verity_format.specs.Descriptors.{digest_of_file}
 use Rattle.verity_hash.specs.declared.algorithm.Algorithm.{Algorithm as HashFunction}
-use Rattle.verity_plan.specs.Plans.{Planned}
+use Rattle.verity_plan.specs.Plans.{PlanFields}
 use Rattle.verity_plan.specs.PlanCounts.{level_count_of}
 use Rattle.verity_plan.proofs.CountLemmas.{mul_le}
-use Rattle.verity_plan.specs.Settings.{Settings, digest_len}
+use Rattle.verity_plan.specs.Settings.{TreeSettingsFields, digest_len}
 use Rattle.verity_tree.proofs.OpenBlockLemmas.{length-hash}
 use Rattle.verity_tree.specs.Feeding.{Feeds, IsFed, IsFedFile, Takes}
 use Rattle.verity_tree.specs.Levels.{root, root_of_file}
@@ -28,26 +28,26 @@ use Rattle.verity_c.specs.declared.parameters.FsverityParams.{FsverityParams}
 use Rattle.verity_c.specs.declared.parameters.VerityParams.{VerityParams}
 
 -- a builder of a plan is that of the plan and its two numbers
-pub builder_of-parts : (p : Planned) (b : TreeBuilder) → b.plan ≡ p
+pub builder_of-parts : (p : PlanFields) (b : TreeBuilder) → b.plan ≡ p
     → b ≡ builder_of p (record { fed = b.fed; closed = b.closed })
-builder_of-parts p b is = ap (λ (q : Planned). builder_of q (record { fed = b.fed; closed = b.closed })) is
+builder_of-parts p b is = ap (λ (q : PlanFields). builder_of q (record { fed = b.fed; closed = b.closed })) is
 
-pub file_builder_of-parts : (s : Settings) (b : FileBuilder) → b.settings ≡ s → b ≡ file_builder_of s b.fed
-file_builder_of-parts s b is = ap (λ (t : Settings). file_builder_of t b.fed) is
+pub file_builder_of-parts : (s : TreeSettingsFields) (b : FileBuilder) → b.settings ≡ s → b ≡ file_builder_of s b.fed
+file_builder_of-parts s b is = ap (λ (t : TreeSettingsFields). file_builder_of t b.fed) is
 
 -- a result has one value
 one_value : {A : Type 0} → (r : Result A Fault) (x y : A) → r ≡ Ok x → r ≡ Ok y → x ≡ y
 one_value r x y is also = cc
 
 -- what was fed to the tree of parameters was fed to the builder of the plan that they make, and the other way round
-pub IsFedTo-at : (params : VerityParams) (p : Planned) (build : VerityBuild) (memory fed : List ℕ)
+pub IsFedTo-at : (params : VerityParams) (p : PlanFields) (build : VerityBuild) (memory fed : List ℕ)
     → plan_of params ≡ Ok p
     → IsFedTo params build memory fed → IsFed (builder_of p build) memory fed
 IsFedTo-at params p build memory fed made h =
     let same : h.plan ≡ p = one_value (plan_of params) h.plan p h.planned made in
-    subst (λ (q : Planned). IsFed (builder_of q build) memory fed) same h.is_fed
+    subst (λ (q : PlanFields). IsFed (builder_of q build) memory fed) same h.is_fed
 
-pub IsFedTo-of : (params : VerityParams) (p : Planned) (b : TreeBuilder) (memory fed : List ℕ)
+pub IsFedTo-of : (params : VerityParams) (p : PlanFields) (b : TreeBuilder) (memory fed : List ℕ)
     → plan_of params ≡ Ok p
     → b.plan ≡ p → IsFed b memory fed → IsFedTo params (record { fed = b.fed; closed = b.closed }) memory fed
 IsFedTo-of params p b memory fed made is h = record {
@@ -56,11 +56,11 @@ IsFedTo-of params p b memory fed made is h = record {
   is_fed = subst (λ (a : TreeBuilder). IsFed a memory fed) (builder_of-parts p b is) h;
 }
 
-pub IsFedFileTo-at : (params : FsverityParams) (s : Settings) (memory fed : List ℕ) → fsverity_tree_of params ≡ Ok s
+pub IsFedFileTo-at : (params : FsverityParams) (s : TreeSettingsFields) (memory fed : List ℕ) → fsverity_tree_of params ≡ Ok s
     → IsFedFileTo params memory fed → IsFedFile (file_builder_of s params.size) memory fed
 IsFedFileTo-at params s memory fed made h =
     let same : h.tree ≡ s = one_value (fsverity_tree_of params) h.tree s h.made made in
-    subst (λ (t : Settings). IsFedFile (file_builder_of t params.size) memory fed) same h.is_fed
+    subst (λ (t : TreeSettingsFields). IsFedFile (file_builder_of t params.size) memory fed) same h.is_fed
 
 -- a file's settings don't go by its size
 tree-sized : (function : Option HashFunction) (params : FsverityParams) (size : ℕ)
@@ -68,7 +68,7 @@ tree-sized : (function : Option HashFunction) (params : FsverityParams) (size : 
 tree-sized None params size = refl
 tree-sized (Some function) params size = refl
 
-pub IsFedFileTo-of : (params : FsverityParams) (s : Settings) (b : FileBuilder) (memory fed : List ℕ)
+pub IsFedFileTo-of : (params : FsverityParams) (s : TreeSettingsFields) (b : FileBuilder) (memory fed : List ℕ)
     → fsverity_tree_of params ≡ Ok s → b.settings ≡ s → IsFedFile b memory fed
     → IsFedFileTo (record params { size = b.fed }) memory fed
 IsFedFileTo-of params s b memory fed made is h = record {
@@ -78,7 +78,7 @@ IsFedFileTo-of params s b memory fed made is h = record {
 }
 
 -- how much of a piece was taken, in the numbers of the struct
-pub TakesPiece-by : (p : Planned) (before : VerityBuild) (after : TreeBuilder) (count taken : ℕ)
+pub TakesPiece-by : (p : PlanFields) (before : VerityBuild) (after : TreeBuilder) (count taken : ℕ)
     (closed : Option HashBlock) → 0 < p.settings.hash_block
     → Takes (builder_of p before) after count (record { taken = taken; hash_block = closed })
     → TakesPiece p before (record { fed = after.fed; closed = after.closed }) count
@@ -112,7 +112,7 @@ TakesPiece-by p before after count taken (Some block) some h =
     }
 
 -- the hash block that is handed out, in the numbers of the struct
-pub HandsOut-by : (p : Planned) (before : VerityBuild) (after : TreeBuilder) (fed more memory : List ℕ) (taken : ℕ)
+pub HandsOut-by : (p : PlanFields) (before : VerityBuild) (after : TreeBuilder) (fed more memory : List ℕ) (taken : ℕ)
     (closed : Option HashBlock) → 0 < p.settings.hash_block
     → Feeds (builder_of p before) after fed more memory closed
     → HandsOut p before (record { fed = after.fed; closed = after.closed }) (fed ++ more) memory
@@ -130,22 +130,22 @@ fed_by-taken : (size taken : ℕ) (closed : Option HashBlock) → (fed_by size t
 fed_by-taken size taken None = refl
 fed_by-taken size taken (Some block) = refl
 
-pub taken_is : (p : Planned) (answer : Fed) (fed : VerityFed) → fed ≡ fed_of p answer → fed.taken ≡ answer.taken
+pub taken_is : (p : PlanFields) (answer : Fed) (fed : VerityFed) → fed ≡ fed_of p answer → fed.taken ≡ answer.taken
 taken_is p answer fed is =
     ap (λ (f : VerityFed). f.taken) is ∙ fed_by-taken p.settings.hash_block answer.taken answer.hash_block
 
 -- both, of the plan that parameters make
-pub TakesPiece-at : (params : VerityParams) (p : Planned) (before : VerityBuild) (after : TreeBuilder) (count : ℕ)
+pub TakesPiece-at : (params : VerityParams) (p : PlanFields) (before : VerityBuild) (after : TreeBuilder) (count : ℕ)
     (answer : Fed) (fed : VerityFed) → plan_of params ≡ Ok p → fed ≡ fed_of p answer → 0 < p.settings.hash_block
     → Takes (builder_of p before) after count answer
     → IfOk (plan_of params) (λ q. TakesPiece q before (record { fed = after.fed; closed = after.closed }) count fed)
 TakesPiece-at params p before after count answer fed made is some h =
     let last : VerityBuild = record { fed = after.fed; closed = after.closed } in
-    subst (λ (r : Result Planned Fault). IfOk r (λ q. TakesPiece q before last count fed)) (sym made)
+    subst (λ (r : Result PlanFields Fault). IfOk r (λ q. TakesPiece q before last count fed)) (sym made)
     (subst (λ (f : VerityFed). TakesPiece p before last count f) (sym is)
     (TakesPiece-by p before after count answer.taken answer.hash_block some h))
 
-pub HandsOut-at : (params : VerityParams) (p : Planned) (before : VerityBuild) (after : TreeBuilder)
+pub HandsOut-at : (params : VerityParams) (p : PlanFields) (before : VerityBuild) (after : TreeBuilder)
     (bytes piece memory : List ℕ) (answer : Fed) (fed : VerityFed) → plan_of params ≡ Ok p → fed ≡ fed_of p answer
     → 0 < p.settings.hash_block → Feeds (builder_of p before) after bytes (take answer.taken piece) memory answer.hash_block
     → IfOk (plan_of params)
@@ -160,15 +160,15 @@ HandsOut-at params p before after bytes piece memory answer fed made is some h =
     let there : HandsOut p before last (bytes ++ take numbers.taken piece) memory numbers =
     subst (λ (n : ℕ). HandsOut p before last (bytes ++ take n piece) memory numbers) (sym taken) here in
     let all : List ℕ = bytes ++ take fed.taken piece in
-    subst (λ (r : Result Planned Fault). IfOk r (λ q. HandsOut q before last all memory fed)) (sym made)
+    subst (λ (r : Result PlanFields Fault). IfOk r (λ q. HandsOut q before last all memory fed)) (sym made)
     (subst (λ (f : VerityFed). HandsOut p before last (bytes ++ take f.taken piece) memory f) (sym is) there)
 
 -- a root hash is as long as its digests, and so is that of an empty file
-pub length-root : (s : Settings) (blocks : List (List ℕ)) → length (root s blocks) ≡ digest_len s
+pub length-root : (s : TreeSettingsFields) (blocks : List (List ℕ)) → length (root s blocks) ≡ digest_len s
 unfolding root
 length-root s blocks = length-hash s _
 
-pub length-root_of_file : (s : Settings) (bytes : List ℕ) → length (root_of_file s (length bytes) bytes) ≡ digest_len s
+pub length-root_of_file : (s : TreeSettingsFields) (bytes : List ℕ) → length (root_of_file s (length bytes) bytes) ≡ digest_len s
 length-root_of_file s bytes = by_test (length bytes == 0) _ (length-root s _)
   where
     by_test : (none : Bool) (made : List ℕ) → length made ≡ digest_len s
@@ -177,7 +177,7 @@ length-root_of_file s bytes = by_test (length bytes == 0) _ (length-root s _)
     by_test false made long = long
 
 -- a file digest, when there is room for just it
-pub file_digest_in-ok : (made : Result Settings Fault) (s : Settings) (size : ℕ) (hash : List ℕ) (room : ℕ)
+pub file_digest_in-ok : (made : Result TreeSettingsFields Fault) (s : TreeSettingsFields) (size : ℕ) (hash : List ℕ) (room : ℕ)
     → made ≡ Ok s → length hash ≡ digest_len s → room ≡ digest_len s
     → file_digest_in made size hash room ≡ Ok (digest_of_file (record { tree = s; size = size; root = hash }))
 file_digest_in-ok made s size hash room is long fits =
@@ -186,7 +186,7 @@ file_digest_in-ok made s size hash room is long fits =
     rw (is, is_long, is_room) refl
 
 -- the root hash of a file's bytes, when there is room for just it
-pub file_root-put : (params : FsverityParams) (s : Settings) (memory fed answer before after : List ℕ)
+pub file_root-put : (params : FsverityParams) (s : TreeSettingsFields) (memory fed answer before after : List ℕ)
     → fsverity_tree_of params ≡ Ok s → IsFedFileTo params memory fed
     → ((bytes : List ℕ) → IsFedFile (file_builder_of s params.size) memory bytes → answer ≡ root_of_file s (length bytes) bytes)
     → length before ≡ digest_len s → (length answer ≡ length before → after ≡ answer)

@@ -1,7 +1,7 @@
 -- Each level has a first block.
 use Rattle.std.proofs.Common.{ℕ, ◌+◌, ◌^◌, ◌<◌, subst}
 use Rattle.std.proofs.Math.Nat.{zero-div}
-use Rattle.verity_plan.specs.Plans.{HasBlock, IsPlanned, Planned}
+use Rattle.verity_plan.specs.Plans.{HasBlock, IsPlan, PlanFields}
 use Rattle.verity_plan.specs.PlanCounts.{level_count_of}
 use Rattle.verity_plan.specs.Settings.{fan}
 use Rattle.verity_plan.proofs.FitLemmas.{fan-pos}
@@ -9,7 +9,7 @@ use Rattle.verity_plan.proofs.IndexLemmas.{HasBlock-above}
 use Rattle.verity_tree.proofs.DataBlockLemmas.{blocks-some}
 
 -- the first block of a level is the one above data block 0
-pub HasBlock-first : (p : Planned) (l : ℕ) → IsPlanned p → l < level_count_of p → HasBlock p l 0
+pub HasBlock-first : (p : PlanFields) (l : ℕ) → IsPlan p → l < level_count_of p → HasBlock p l 0
 HasBlock-first p l h low =
     subst (HasBlock p l) (zero-div (fan p.settings ^ (l + 1)))
     (HasBlock-above p 0 l (fan-pos p.settings h.valid) (blocks-some p h) low)

@@ -8,10 +8,11 @@ use Rattle.verity_hash.specs.Hashing.{with_zeros}
 use Rattle.verity_hash.specs.declared.algorithm.Algorithm.{Algorithm as HashFunction}
 use Rattle.verity_hash.specs.declared.algorithm.Algorithm.TheVariants.{Sha256, Sha512, Sha1, Sha224, Sha384}
 use Rattle.verity_format.specs.Superblocks.{IsValidSuperblock, SuperblockFields}
+use Rattle.verity_format.proofs.NameLemmas.{numbered-back}
 use Rattle.verity_format.proofs.ReadLemmas.{verity_settings-ok}
 use Rattle.verity_plan.specs.Plans.{plan_at, superblock_size}
-use Rattle.verity_plan.specs.Settings.{IsValid, Settings, rule_of, type_number}
-use Rattle.verity_plan.specs.CheckedSettings.{type_of_number, verity_settings}
+use Rattle.verity_plan.specs.Settings.{IsValid, TreeSettingsFields, rule_of}
+use Rattle.verity_plan.specs.CheckedSettings.{verity_settings}
 use Rattle.verity_hash.specs.declared.salting.SaltRule.{SaltRule}
 use Rattle.verity_hash.specs.declared.salting.SaltRule.TheVariants.{Before, After}
 use Rattle.verity_plan.specs.declared.setting_fault.SettingFault.{SettingFault}
@@ -27,12 +28,7 @@ algorithm_of-number_of Sha1 = refl
 algorithm_of-number_of Sha224 = refl
 algorithm_of-number_of Sha384 = refl
 
--- and so is a hash type's
-type_of_number-type_number : (hash_type : HashType) → type_of_number (type_number hash_type) ≡ Some hash_type
-type_of_number-type_number Original = refl
-type_of_number-type_number Current = refl
-
-abbrev settings_with : Settings → SaltRule → Result Settings SettingFault
+abbrev settings_with : TreeSettingsFields → SaltRule → Result TreeSettingsFields SettingFault
 settings_with tree rule = Ok (record {
   algorithm = tree.algorithm;
   rule = rule;
@@ -42,12 +38,12 @@ settings_with tree rule = Ok (record {
 })
 
 -- settings with their own rule
-with-rule : (tree : Settings) (rule : SaltRule) → rule ≡ tree.rule
+with-rule : (tree : TreeSettingsFields) (rule : SaltRule) → rule ≡ tree.rule
     → settings_with tree rule ≡ Ok tree
 with-rule tree rule is = ap (settings_with tree) is
 
 -- valid settings of a hash type are those of their parts
-settings-of_parts : (tree : Settings) (hash_type : HashType) → IsValid tree → tree.rule ≡ rule_of hash_type
+settings-of_parts : (tree : TreeSettingsFields) (hash_type : HashType) → IsValid tree → tree.rule ≡ rule_of hash_type
     → verity_settings tree.algorithm hash_type tree.salt tree.data_block tree.hash_block ≡ Ok tree
 settings-of_parts tree Original valid of_type =
     verity_settings-ok tree.algorithm Original tree.salt tree.data_block tree.hash_block (rw of_type at valid.data_size)
@@ -71,7 +67,7 @@ filled salt front same =
 salt-read : (salt : List ℕ) → take (length salt) (with_zeros 256 salt) ≡ salt
 salt-read salt = take_at salt (replicate (256 - length salt) 0) (length salt) refl
 
-salt-short : (tree : Settings) (hash_type : HashType) → IsValid tree → tree.rule ≡ rule_of hash_type
+salt-short : (tree : TreeSettingsFields) (hash_type : HashType) → IsValid tree → tree.rule ≡ rule_of hash_type
     → length tree.salt ≤ 256
 salt-short tree Original valid of_type = rw of_type at valid.salt_most
 salt-short tree Current valid of_type = rw of_type at valid.salt_most
@@ -84,7 +80,7 @@ tree-read v offset valid =
     let fits : nat_le (length t.salt) 256 ≡ true = grind (arith, nat_tests, short) in
     rw (
       algorithm_of-number_of t.algorithm,
-      type_of_number-type_number v.hash_type,
+      numbered-back v.hash_type,
       salt-read t.salt,
       settings-of_parts t v.hash_type valid.tree valid.of_type,
       fits,

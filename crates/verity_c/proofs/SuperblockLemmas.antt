@@ -9,8 +9,8 @@ use Rattle.verity_format.proofs.ReadLemmas.{superblock_of-none}
 use Rattle.verity_format.specs.Superblocks.{IsValidSuperblock, SuperblockFields, superblock_bytes}
 use Rattle.verity_format.specs.CheckedSuperblocks.{hash_type_of, superblock_of}
 use Rattle.verity_plan.proofs.PlanLemmas.{planned_is}
-use Rattle.verity_plan.specs.Plans.{IsPlanned, Planned, base_of, multiple_of, offset_unit, plan_at, plan_from}
-use Rattle.verity_plan.specs.Settings.{Settings, is_block_size, least_block, most_salt, rule_of}
+use Rattle.verity_plan.specs.Plans.{IsPlan, PlanFields, base_of, multiple_of, offset_unit, plan_at, plan_from}
+use Rattle.verity_plan.specs.Settings.{TreeSettingsFields, is_block_size, least_block, most_salt, rule_of}
 use Rattle.verity_plan.specs.CheckedSettings.{checked_settings, type_of_number}
 use Rattle.verity_plan.specs.declared.hash_type.HashType.{HashType}
 use Rattle.verity_plan.specs.declared.hash_type.HashType.TheVariants.{Current, Original}
@@ -28,7 +28,7 @@ use Rattle.verity_c.specs.declared.fault.Fault.TheVariants as fault
 use Rattle.verity_c.specs.declared.parameters.VerityParams.{VerityParams}
 
 -- settings that pass their tests are those that were asked for
-settings_are : (asked tree : Settings) → checked_settings asked ≡ Ok tree → tree ≡ asked
+settings_are : (asked tree : TreeSettingsFields) → checked_settings asked ≡ Ok tree → tree ≡ asked
 settings_are asked tree made =
     by_tests (not (is_block_size (least_block asked.rule (digest_len_of asked.algorithm)) asked.data_block))
     (not (is_block_size (least_block asked.rule (digest_len_of asked.algorithm)) asked.hash_block))
@@ -45,11 +45,11 @@ settings_are asked tree made =
     by_tests false false true e = absurd cc
     by_tests false false false e = cc
 
-abbrev checked : Settings → Result Settings SettingFault
+abbrev checked : TreeSettingsFields → Result TreeSettingsFields SettingFault
 checked tree = Ok tree
 
 -- and so are those whose salt fits
-if_salt_fits-ok : (made : Result Settings SettingFault) (size most : ℕ) (tree : Settings)
+if_salt_fits-ok : (made : Result TreeSettingsFields SettingFault) (size most : ℕ) (tree : TreeSettingsFields)
     → if_salt_fits made size most ≡ Ok tree → made ≡ Ok tree
 if_salt_fits-ok (Err fault) size most tree e = absurd cc
 if_salt_fits-ok (Ok asked) size most tree e = ap checked (by_test (nat_le size most) e)
@@ -59,19 +59,19 @@ if_salt_fits-ok (Ok asked) size most tree e = ap checked (by_test (nat_le size m
     by_test false is = absurd cc
 
 -- the settings of dm-verity's parameters are of a hash type
-tree_by-rule : (function : Option HashFunction) (hash_type : Option HashType) (params : VerityParams) (tree : Settings)
+tree_by-rule : (function : Option HashFunction) (hash_type : Option HashType) (params : VerityParams) (tree : TreeSettingsFields)
     → tree_by function hash_type params ≡ Ok tree → (of_type : HashType) × (tree.rule ≡ rule_of of_type)
 tree_by-rule None hash_type params tree made = absurd cc
 tree_by-rule (Some function) None params tree made = absurd cc
 tree_by-rule (Some function) (Some hash_type) params tree made =
-    (hash_type, ap (λ (s : Settings). s.rule) (settings_are _ tree (if_salt_fits-ok _ _ _ tree made)))
+    (hash_type, ap (λ (s : TreeSettingsFields). s.rule) (settings_are _ tree (if_salt_fits-ok _ _ _ tree made)))
 
 -- a plan's settings and blocks are those that it was made of
-plan_from-parts : (tree : Settings) (blocks : ℕ) (base : Option ℕ) (p : Planned) → plan_from tree blocks base ≡ Ok p
+plan_from-parts : (tree : TreeSettingsFields) (blocks : ℕ) (base : Option ℕ) (p : PlanFields) → plan_from tree blocks base ≡ Ok p
     → (p.settings ≡ tree) × (p.blocks ≡ blocks)
 plan_from-parts tree blocks (Some base) p made =
     let same = planned_is _ p (sym made) in
-    (ap (λ (q : Planned). q.settings) same, ap (λ (q : Planned). q.blocks) same)
+    (ap (λ (q : PlanFields). q.settings) same, ap (λ (q : PlanFields). q.blocks) same)
 plan_from-parts tree blocks None p made = by_test (blocks == 0) made
   where
     by_test : (none : Bool) → (if none then Err NoData else Err TooLarge) ≡ Ok p
@@ -79,27 +79,27 @@ plan_from-parts tree blocks None p made = by_test (blocks == 0) made
     by_test true e = absurd cc
     by_test false e = absurd cc
 
-planned-ok : (made : Result Planned PlanFault) (p : Planned) → planned made ≡ Ok p → made ≡ Ok p
+planned-ok : (made : Result PlanFields PlanFault) (p : PlanFields) → planned made ≡ Ok p → made ≡ Ok p
 planned-ok (Ok q) p e = cc
 planned-ok (Err fault) p e = absurd cc
 
-plan_if-parts : (offset : Option ℕ) (tree : Settings) (params : VerityParams) (p : Planned)
+plan_if-parts : (offset : Option ℕ) (tree : TreeSettingsFields) (params : VerityParams) (p : PlanFields)
     → plan_if offset tree params ≡ Ok p → (p.settings ≡ tree) × (p.blocks ≡ params.data_blocks)
 plan_if-parts None tree params p made = absurd cc
 plan_if-parts (Some offset) tree params p made =
     plan_from-parts tree params.data_blocks (base_of offset (params.no_superblock == 0) tree.hash_block) p
     (planned-ok (plan_at tree params.data_blocks offset (params.no_superblock == 0)) p made)
 
-plan_by-parts : (tree : Result Settings Fault) (params : VerityParams) (p : Planned) → plan_by tree params ≡ Ok p
+plan_by-parts : (tree : Result TreeSettingsFields Fault) (params : VerityParams) (p : PlanFields) → plan_by tree params ≡ Ok p
     → (tree ≡ Ok p.settings) × (p.blocks ≡ params.data_blocks)
 plan_by-parts (Err fault) params p made = absurd cc
 plan_by-parts (Ok tree) params p made =
     let offset = multiple_of (offset_unit (params.no_superblock == 0) tree.hash_block) params.hash_offset in
     let parts = plan_if-parts offset tree params p made in
-    (ap (λ (s : Settings). Ok s) (sym parts.0), parts.1)
+    (ap (λ (s : TreeSettingsFields). Ok s) (sym parts.0), parts.1)
 
 -- so there is a superblock of them
-pub some_superblock : (params : VerityParams) (p : Planned) (uuid : List ℕ) → plan_of params ≡ Ok p → IsPlanned p
+pub some_superblock : (params : VerityParams) (p : PlanFields) (uuid : List ℕ) → plan_of params ≡ Ok p → IsPlan p
     → superblock_of p.settings uuid p.blocks ≢ None
 some_superblock params p uuid made h =
     λ none.
@@ -122,7 +122,7 @@ superblock_of-own v valid =
     rw (typed, some, within) refl
 
 -- parameters that are read of a superblock write it again
-pub written_again : (v : SuperblockFields) (offset : ℕ) (p : Planned) → IsValidSuperblock v
+pub written_again : (v : SuperblockFields) (offset : ℕ) (p : PlanFields) → IsValidSuperblock v
     → plan_of (parameters_of v offset) ≡ Ok p
     → superblock_in (plan_of (parameters_of v offset)) v.uuid 512 ≡ Ok (superblock_bytes v)
 written_again v offset p valid made =
@@ -130,10 +130,10 @@ written_again v offset p valid made =
     let parts = plan_by-parts (tree_of params) params p made in
     let read : tree_of params ≡ Ok v.tree = tree-read v offset valid in
     let tree : p.settings ≡ v.tree = same_tree (tree_of params) p.settings v.tree parts.0 read in
-    let bytes : (q : Planned) → q.settings ≡ v.tree → q.blocks ≡ v.blocks
+    let bytes : (q : PlanFields) → q.settings ≡ v.tree → q.blocks ≡ v.blocks
     → superblock_in (Ok q) v.uuid 512 ≡ Ok (superblock_bytes v) =
     λ q settings blocks. rw (settings, blocks, superblock_of-own v valid) refl in
     rw made (bytes p tree parts.1)
   where
-    same_tree : (r : Result Settings Fault) (s t : Settings) → r ≡ Ok s → r ≡ Ok t → s ≡ t
+    same_tree : (r : Result TreeSettingsFields Fault) (s t : TreeSettingsFields) → r ≡ Ok s → r ≡ Ok t → s ≡ t
     same_tree r s t is also = cc

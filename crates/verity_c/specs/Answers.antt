@@ -6,9 +6,9 @@ use Rattle.verity_format.specs.Descriptors.{DescriptorFields, descriptor_bytes, 
 use Rattle.verity_format.specs.Superblocks.{IsSuperblock, SuperblockFields, superblock_bytes}
 use Rattle.verity_format.specs.CheckedSuperblocks.{superblock_of}
 use Rattle.verity_format.specs.declared.super_fault.SuperFault.{SuperFault}
-use Rattle.verity_plan.specs.Plans.{Planned, start_byte_of, superblock_size}
+use Rattle.verity_plan.specs.Plans.{PlanFields, start_byte_of, superblock_size}
 use Rattle.verity_plan.specs.PlanCounts.{level_count_of, level_size_of}
-use Rattle.verity_plan.specs.Settings.{Settings, digest_len, fan}
+use Rattle.verity_plan.specs.Settings.{TreeSettingsFields, digest_len, fan}
 use Rattle.verity_tree.specs.Links.{checked_link, checked_top}
 use Rattle.verity_tree.specs.Paths.{ChecksBlock}
 use Rattle.verity_tree.specs.declared.path.PathFault.{PathFault}
@@ -25,48 +25,48 @@ value_or before (Ok value) = value
 value_or before (Err _) = before
 
 -- a number that a plan has
-abbrev pub number_in : Result Planned Fault → (Planned → ℕ) → Result ℕ Fault
+abbrev pub number_in : Result PlanFields Fault → (PlanFields → ℕ) → Result ℕ Fault
 number_in (Err fault) number = Err fault
 number_in (Ok p) number = Ok (number p)
 
 -- the plan, if it has this level
-abbrev pub with_level : Result Planned Fault → ℕ → Result Planned Fault
+abbrev pub with_level : Result PlanFields Fault → ℕ → Result PlanFields Fault
 with_level (Err fault) level = Err fault
 with_level (Ok p) level = if nat_le (level_count_of p) level then Err Level else Ok p
 
 -- the plan, if it has this data block and this level
-abbrev pub with_block : Result Planned Fault → ℕ → ℕ → Result Planned Fault
+abbrev pub with_block : Result PlanFields Fault → ℕ → ℕ → Result PlanFields Fault
 with_block (Err fault) i level = Err fault
 with_block (Ok p) i level = if nat_le p.blocks i then Err Index else with_level (Ok p) level
 
 -- the number of levels of a plan
-abbrev pub level_count_in : Result Planned Fault → Result ℕ Fault
+abbrev pub level_count_in : Result PlanFields Fault → Result ℕ Fault
 level_count_in plan = number_in plan level_count_of
 
 -- where a level begins, in bytes, and how many hash blocks it has
-abbrev pub level_start_in : Result Planned Fault → ℕ → Result ℕ Fault
+abbrev pub level_start_in : Result PlanFields Fault → ℕ → Result ℕ Fault
 level_start_in plan level = number_in (with_level plan level) (λ p. start_byte_of p level 0)
 
-abbrev pub level_blocks_in : Result Planned Fault → ℕ → Result ℕ Fault
+abbrev pub level_blocks_in : Result PlanFields Fault → ℕ → Result ℕ Fault
 level_blocks_in plan level = number_in (with_level plan level) (λ p. level_size_of p level)
 
 -- the byte at which the hash block of a level stands that is above data block i
-abbrev pub hash_block_start_in : Result Planned Fault → ℕ → ℕ → Result ℕ Fault
+abbrev pub hash_block_start_in : Result PlanFields Fault → ℕ → ℕ → Result ℕ Fault
 hash_block_start_in plan i level =
     number_in (with_block plan i level) (λ p. start_byte_of p level (i / fan p.settings ^ (level + 1)))
 
 -- the status of a block that is checked by the hash block above it
-abbrev pub link_status_in : Result Planned Fault → ℕ → ℕ → List ℕ → List ℕ → ℕ
+abbrev pub link_status_in : Result PlanFields Fault → ℕ → ℕ → List ℕ → List ℕ → ℕ
 link_status_in (Err fault) i level block above = code_of fault
 link_status_in (Ok p) i level block above = link_status (checked_link p i level block above)
 
 -- the plan, if the root hash is as long as its digests
-abbrev pub with_root : Result Planned Fault → List ℕ → Result Planned Fault
+abbrev pub with_root : Result PlanFields Fault → List ℕ → Result PlanFields Fault
 with_root (Err fault) root = Err fault
 with_root (Ok p) root = if length root == digest_len p.settings then Ok p else Err Root
 
 -- the status of a top block that is checked by the root hash
-abbrev pub top_status_in : Result Planned Fault → ℕ → List ℕ → List ℕ → ℕ
+abbrev pub top_status_in : Result PlanFields Fault → ℕ → List ℕ → List ℕ → ℕ
 top_status_in (Err fault) i block root = code_of fault
 top_status_in (Ok p) i block root = link_status (checked_top p i block root)
 
@@ -76,7 +76,7 @@ level_or before (Err (DiffersAt level)) = level
 level_or before _ = before
 
 -- the status of a data block that is checked by its path, and what the level becomes
-pub record AnswersPath (p : Planned) (i : ℕ) (block path root : List ℕ) (status before after : ℕ) : Type 0 where
+pub record AnswersPath (p : PlanFields) (i : ℕ) (block path root : List ℕ) (status before after : ℕ) : Type 0 where
   pub answer : Result Unit PathFault
   pub checked : ChecksBlock p i block path root answer
   pub status_is : status ≡ path_status answer
@@ -86,7 +86,7 @@ pub record AnswersFault (fault : Fault) (status before after : ℕ) : Type 0 whe
   pub status_is : status ≡ code_of fault
   pub level_is : after ≡ before
 
-abbrev pub AnswersBlock : Result Planned Fault → ℕ → List ℕ → List ℕ → List ℕ → ℕ → ℕ → ℕ → Type 0
+abbrev pub AnswersBlock : Result PlanFields Fault → ℕ → List ℕ → List ℕ → List ℕ → ℕ → ℕ → ℕ → Type 0
 AnswersBlock (Err fault) i block path root status before after = AnswersFault fault status before after
 AnswersBlock (Ok p) i block path root status before after = AnswersPath p i block path root status before after
 
@@ -111,13 +111,13 @@ written None = []
 written (Some superblock) = superblock_bytes superblock
 
 -- the bytes of the superblock of a plan's tree with this UUID, if there is room for just them
-abbrev pub superblock_in : Result Planned Fault → List ℕ → ℕ → Result (List ℕ) Fault
+abbrev pub superblock_in : Result PlanFields Fault → List ℕ → ℕ → Result (List ℕ) Fault
 superblock_in (Err fault) uuid room = Err fault
 superblock_in (Ok p) uuid room =
     if room == superblock_size then Ok (written (superblock_of p.settings uuid p.blocks)) else Err Length
 
 -- the descriptor of a file with these settings, this size and this root hash, if that is as long as its digests
-abbrev pub descriptor_in : Result Settings Fault → ℕ → List ℕ → Result DescriptorFields Fault
+abbrev pub descriptor_in : Result TreeSettingsFields Fault → ℕ → List ℕ → Result DescriptorFields Fault
 descriptor_in (Err fault) size root = Err fault
 descriptor_in (Ok tree) size root = if length root == digest_len tree
     then Ok (record { tree = tree; size = size; root = root }) else Err Root
@@ -128,7 +128,7 @@ descriptor_bytes_in (Err fault) room = Err fault
 descriptor_bytes_in (Ok descriptor) room = if room == 256 then Ok (descriptor_bytes descriptor) else Err Length
 
 -- the digest of a file with these settings, this size and this root hash, if there is room for just it
-abbrev pub file_digest_in : Result Settings Fault → ℕ → List ℕ → ℕ → Result (List ℕ) Fault
+abbrev pub file_digest_in : Result TreeSettingsFields Fault → ℕ → List ℕ → ℕ → Result (List ℕ) Fault
 file_digest_in (Err fault) size root room = Err fault
 file_digest_in (Ok tree) size root room = if not (length root == digest_len tree) then Err Root
     else (if not (room == digest_len tree) then Err Length

@@ -4,9 +4,9 @@
 use Rattle.std.specs.Prelude.{◌≡◌, ◌≢◌, ◌<◌, ◌≤◌, ◌⊎◌, ℕ, ◌+◌, ◌==◌, ◌&&◌, List, [], ◌∷◌, ◌++◌, length, Option, Some}
 use Rattle.std.specs.Prelude.{None, Result, Ok, Err, if◌then◌else◌}
 use Rattle.verity_format.specs.Descriptors.{digest_of_file}
-use Rattle.verity_plan.specs.Plans.{Planned}
+use Rattle.verity_plan.specs.Plans.{PlanFields}
 use Rattle.verity_plan.specs.PlanCounts.{level_count_of, most_level_count}
-use Rattle.verity_plan.specs.Settings.{Settings, digest_len}
+use Rattle.verity_plan.specs.Settings.{TreeSettingsFields, digest_len}
 use Rattle.verity_tree.specs.ClosingOrder.{BlockIndex, block_index, handed_out}
 use Rattle.verity_tree.specs.Feeding.{IsFed, IsFedFile, IsHandedOut, IsPlaced, end_fault, feed_fault, feeding_length}
 use Rattle.verity_tree.specs.Feeding.{file_fault}
@@ -27,21 +27,21 @@ use Rattle.verity_c.specs.declared.parameters.FsverityParams.{FsverityParams}
 use Rattle.verity_c.specs.declared.parameters.VerityParams.{VerityParams}
 
 -- the builder of a plan's tree that a struct says, and the builder of a file's tree with so many bytes fed
-abbrev pub builder_of : Planned → VerityBuild → TreeBuilder
+abbrev pub builder_of : PlanFields → VerityBuild → TreeBuilder
 builder_of p build = record { plan = p; fed = build.fed; closed = build.closed }
 
-abbrev pub file_builder_of : Settings → ℕ → FileBuilder
+abbrev pub file_builder_of : TreeSettingsFields → ℕ → FileBuilder
 file_builder_of tree size = record { settings = tree; fed = size }
 
 -- these bytes were fed to the tree of these parameters: struct and memory are as the calls that fed them left them
 pub record IsFedTo (params : VerityParams) (build : VerityBuild) (memory fed : List ℕ) : Type 0 where
-  pub plan : Planned
+  pub plan : PlanFields
   pub planned : plan_of params ≡ Ok plan
   pub is_fed : IsFed (builder_of plan build) memory fed
 
 -- the same of a file's tree: the size in the parameters counts the bytes
 pub record IsFedFileTo (params : FsverityParams) (memory fed : List ℕ) : Type 0 where
-  pub tree : Settings
+  pub tree : TreeSettingsFields
   pub made : fsverity_tree_of params ≡ Ok tree
   pub is_fed : IsFedFile (file_builder_of tree params.size) memory fed
 
@@ -51,24 +51,24 @@ unless None value = Ok value
 unless (Some fault) value = Err (fault_of_feed fault)
 
 -- the length of the memory that a plan's tree is built in
-abbrev pub memory_length_of : Planned → ℕ
+abbrev pub memory_length_of : PlanFields → ℕ
 memory_length_of p = feeding_length p.settings (level_count_of p)
 
-abbrev pub memory_length_in : Result Planned Fault → Result ℕ Fault
+abbrev pub memory_length_in : Result PlanFields Fault → Result ℕ Fault
 memory_length_in plan = number_in plan memory_length_of
 
 -- the plan, if the memory has its length
-abbrev pub with_memory : Result Planned Fault → ℕ → Result Planned Fault
+abbrev pub with_memory : Result PlanFields Fault → ℕ → Result PlanFields Fault
 with_memory (Err fault) room = Err fault
 with_memory (Ok p) room = if room == memory_length_of p then Ok p else Err Length
 
 -- the plan, if the builder takes a piece of this length
-abbrev pub with_piece : Result Planned Fault → VerityBuild → ℕ → Result Planned Fault
+abbrev pub with_piece : Result PlanFields Fault → VerityBuild → ℕ → Result PlanFields Fault
 with_piece (Err fault) build count = Err fault
 with_piece (Ok p) build count = unless (feed_fault (builder_of p build) count) p
 
 -- the plan, if there is room for just a root hash, all bytes were fed and all hash blocks handed out
-abbrev pub with_all_fed : Result Planned Fault → VerityBuild → ℕ → Result Planned Fault
+abbrev pub with_all_fed : Result PlanFields Fault → VerityBuild → ℕ → Result PlanFields Fault
 with_all_fed (Err fault) build room = Err fault
 with_all_fed (Ok p) build room =
     if room == digest_len p.settings then unless (end_fault (builder_of p build)) p else Err Length
@@ -91,7 +91,7 @@ block_of fed = record { level = fed.block_level; index = fed.block_index; byte =
 -- what an answer to a piece of a length says, whatever struct and memory were: all of the piece is taken, or a hash block,
 -- which is within the memory, is handed out before its end, or after the last byte of all; and after that byte none is left
 -- when none is handed out
-pub record TakesPiece (p : Planned) (before after : VerityBuild) (count : ℕ) (fed : VerityFed) : Type 0 where
+pub record TakesPiece (p : PlanFields) (before after : VerityBuild) (count : ℕ) (fed : VerityFed) : Type 0 where
   pub fed_is : after.fed ≡ before.fed + fed.taken
   pub most : fed.taken ≤ count
   pub block_length : (fed.block_length ≡ 0) ⊎ (fed.block_length ≡ p.settings.hash_block)
@@ -109,46 +109,46 @@ given_by fed = if fed.block_length == 0 then [] else block_index fed.block_level
 
 -- with these bytes fed, a struct hands out the next hash block in closing order, or none: its bytes in the memory are
 -- the tree's, and its start is its place
-pub record HandsOut (p : Planned) (before after : VerityBuild) (bytes memory : List ℕ) (fed : VerityFed) : Type 0 where
+pub record HandsOut (p : PlanFields) (before after : VerityBuild) (bytes memory : List ℕ) (fed : VerityFed) : Type 0 where
   pub order : handed_out p after.fed after.closed ≡ handed_out p before.fed before.closed ++ given_by fed
   pub block : fed.block_length ≢ 0 → IsHandedOut p bytes memory (block_of fed)
 
 -- the root hash of a plan's tree above these bytes
-abbrev pub root_in : Result Planned Fault → List ℕ → Result (List ℕ) Fault
+abbrev pub root_in : Result PlanFields Fault → List ℕ → Result (List ℕ) Fault
 root_in (Err fault) bytes = Err fault
 root_in (Ok p) bytes = Ok (root p.settings (data_blocks p bytes))
 
 -- the length of the memory that a file's tree is built in
-abbrev pub file_memory_length_of : Settings → ℕ
+abbrev pub file_memory_length_of : TreeSettingsFields → ℕ
 file_memory_length_of tree = feeding_length tree (most_level_count tree)
 
-abbrev pub file_memory_length_in : Result Settings Fault → Result ℕ Fault
+abbrev pub file_memory_length_in : Result TreeSettingsFields Fault → Result ℕ Fault
 file_memory_length_in (Err fault) = Err fault
 file_memory_length_in (Ok tree) = Ok (file_memory_length_of tree)
 
 -- the settings, if the memory has their length
-abbrev pub with_file_memory : Result Settings Fault → ℕ → Result Settings Fault
+abbrev pub with_file_memory : Result TreeSettingsFields Fault → ℕ → Result TreeSettingsFields Fault
 with_file_memory (Err fault) room = Err fault
 with_file_memory (Ok tree) room = if room == file_memory_length_of tree then Ok tree else Err Length
 
 -- the settings, if after so many bytes the builder takes a piece of this length
-abbrev pub with_file_piece : Result Settings Fault → ℕ → ℕ → Result Settings Fault
+abbrev pub with_file_piece : Result TreeSettingsFields Fault → ℕ → ℕ → Result TreeSettingsFields Fault
 with_file_piece (Err fault) size count = Err fault
 with_file_piece (Ok tree) size count = unless (file_fault (file_builder_of tree size) count) tree
 
 -- the settings, if there is room for just a root hash and a file digest, and a tree above so many bytes
-abbrev pub with_file_end : Result Settings Fault → ℕ → ℕ → ℕ → Result Settings Fault
+abbrev pub with_file_end : Result TreeSettingsFields Fault → ℕ → ℕ → ℕ → Result TreeSettingsFields Fault
 with_file_end (Err fault) size root_room digest_room = Err fault
 with_file_end (Ok tree) size root_room digest_room =
     if (root_room == digest_len tree) && (digest_room == digest_len tree)
     then unless (file_fault (file_builder_of tree size) 0) tree else Err Length
 
 -- the root hash and the digest of the file that these bytes are
-abbrev pub file_root_in : Result Settings Fault → List ℕ → Result (List ℕ) Fault
+abbrev pub file_root_in : Result TreeSettingsFields Fault → List ℕ → Result (List ℕ) Fault
 file_root_in (Err fault) bytes = Err fault
 file_root_in (Ok tree) bytes = Ok (root_of_file tree (length bytes) bytes)
 
-abbrev pub digest_of_fed : Result Settings Fault → List ℕ → Result (List ℕ) Fault
+abbrev pub digest_of_fed : Result TreeSettingsFields Fault → List ℕ → Result (List ℕ) Fault
 digest_of_fed (Err fault) bytes = Err fault
 digest_of_fed (Ok tree) bytes =
     Ok (digest_of_file (record { tree = tree; size = length bytes; root = root_of_file tree (length bytes) bytes }))
@@ -165,5 +165,5 @@ fed_by size taken (Some block) = record {
   block_level = block.level;
 }
 
-abbrev pub fed_of : Planned → Fed → VerityFed
+abbrev pub fed_of : PlanFields → Fed → VerityFed
 fed_of p answer = fed_by p.settings.hash_block answer.taken answer.hash_block

@@ -6,8 +6,8 @@ use Rattle.verity_hash.specs.Hashing.{with_zeros}
 use Rattle.verity_hash.specs.declared.algorithm.Algorithm.TheVariants as algorithm
 use Rattle.verity_hash.specs.declared.algorithm.Algorithm.{Algorithm as HashFunction}
 use Rattle.verity_format.specs.Superblocks.{SuperblockFields}
-use Rattle.verity_plan.specs.Plans.{Planned, multiple_of, offset_unit, plan_at, plan_for_bytes}
-use Rattle.verity_plan.specs.Settings.{Settings, most_verity_salt, type_number, most_salt}
+use Rattle.verity_plan.specs.Plans.{PlanFields, multiple_of, offset_unit, plan_at, plan_for_bytes}
+use Rattle.verity_plan.specs.Settings.{TreeSettingsFields, most_verity_salt, type_number, most_salt}
 use Rattle.verity_plan.specs.CheckedSettings.{fsverity_settings, type_of_number, verity_settings}
 use Rattle.verity_plan.specs.declared.hash_type.HashType.{HashType as TypeOfHash}
 use Rattle.verity_plan.specs.declared.plan_fault.PlanFault.{PlanFault}
@@ -35,12 +35,12 @@ algorithm_of number = if number == 1 then Some algorithm.Sha256
     else (if number == 5 then Some algorithm.Sha384 else None))))
 
 -- the settings, if no more bytes of the salt are to count than there can be
-abbrev pub if_salt_fits : Result Settings SettingFault → ℕ → ℕ → Result Settings Fault
+abbrev pub if_salt_fits : Result TreeSettingsFields SettingFault → ℕ → ℕ → Result TreeSettingsFields Fault
 if_salt_fits (Err fault) size most = Err (fault_of_setting fault)
 if_salt_fits (Ok tree) size most = if nat_le size most then Ok tree else Err SaltSize
 
 -- the settings of dm-verity that parameters make, or the first fault
-abbrev pub tree_by : Option HashFunction → Option TypeOfHash → VerityParams → Result Settings Fault
+abbrev pub tree_by : Option HashFunction → Option TypeOfHash → VerityParams → Result TreeSettingsFields Fault
 tree_by None hash_type params = Err Algorithm
 tree_by (Some function) None params = Err HashType
 tree_by (Some function) (Some hash_type) params = if_salt_fits
@@ -48,45 +48,45 @@ tree_by (Some function) (Some hash_type) params = if_salt_fits
     params.hash_block_size)
     params.salt_size most_verity_salt
 
-abbrev pub tree_of : VerityParams → Result Settings Fault
+abbrev pub tree_of : VerityParams → Result TreeSettingsFields Fault
 tree_of params = tree_by (algorithm_of params.hash_algorithm) (type_of_number params.hash_type) params
 
 -- a plan, or its fault
-abbrev pub planned : Result Planned PlanFault → Result Planned Fault
+abbrev pub planned : Result PlanFields PlanFault → Result PlanFields Fault
 planned (Ok plan) = Ok plan
 planned (Err fault) = Err (fault_of_plan fault)
 
 -- the plan of a tree at the hash offset, if that is a multiple of its unit
-abbrev pub plan_if : Option ℕ → Settings → VerityParams → Result Planned Fault
+abbrev pub plan_if : Option ℕ → TreeSettingsFields → VerityParams → Result PlanFields Fault
 plan_if None tree params = Err HashOffset
 plan_if (Some offset) tree params =
     planned (plan_at tree params.data_blocks offset (params.no_superblock == 0))
 
-abbrev pub plan_by : Result Settings Fault → VerityParams → Result Planned Fault
+abbrev pub plan_by : Result TreeSettingsFields Fault → VerityParams → Result PlanFields Fault
 plan_by (Err fault) params = Err fault
 plan_by (Ok tree) params =
     plan_if (multiple_of (offset_unit (params.no_superblock == 0) tree.hash_block) params.hash_offset) tree params
 
 -- the plan of dm-verity that parameters make, or the first fault
-abbrev pub plan_of : VerityParams → Result Planned Fault
+abbrev pub plan_of : VerityParams → Result PlanFields Fault
 plan_of params = plan_by (tree_of params) params
 
 -- the settings of fs-verity that parameters make, or the first fault
-abbrev pub fsverity_tree_by : Option HashFunction → FsverityParams → Result Settings Fault
+abbrev pub fsverity_tree_by : Option HashFunction → FsverityParams → Result TreeSettingsFields Fault
 fsverity_tree_by None params = Err Algorithm
 fsverity_tree_by (Some function) params = if_salt_fits
     (fsverity_settings function (take params.salt_size params.salt) params.block_size)
     params.salt_size (most_salt PaddedBefore)
 
-abbrev pub fsverity_tree_of : FsverityParams → Result Settings Fault
+abbrev pub fsverity_tree_of : FsverityParams → Result TreeSettingsFields Fault
 fsverity_tree_of params = fsverity_tree_by (algorithm_of params.hash_algorithm) params
 
 -- the plan of fs-verity that parameters make, or the first fault
-abbrev pub fsverity_plan_by : Result Settings Fault → ℕ → Result Planned Fault
+abbrev pub fsverity_plan_by : Result TreeSettingsFields Fault → ℕ → Result PlanFields Fault
 fsverity_plan_by (Err fault) size = Err fault
 fsverity_plan_by (Ok tree) size = planned (plan_for_bytes tree size 0)
 
-abbrev pub fsverity_plan_of : FsverityParams → Result Planned Fault
+abbrev pub fsverity_plan_of : FsverityParams → Result PlanFields Fault
 fsverity_plan_of params = fsverity_plan_by (fsverity_tree_of params) params.size
 
 -- the parameters that a superblock at this hash offset says

@@ -8,10 +8,10 @@ use Rattle.byteorder.specs.Numbers.{little_number-reads_back}
 use Rattle.verity_hash.specs.Hashing.{digest_len_of, with_zeros}
 use Rattle.verity_hash.specs.declared.algorithm.Algorithm.{Algorithm}
 use Rattle.verity_hash.specs.declared.algorithm.Algorithm.TheVariants.{Sha256, Sha512, Sha1, Sha224, Sha384}
-use Rattle.verity_hash.specs.declared.salting.SaltRule.{SaltRule}
-use Rattle.verity_plan.specs.Settings.{Settings, is_of_fsverity, log2}
+use Rattle.verity_plan.specs.Settings.{TreeSettingsFields, is_of_fsverity, log2}
 use Rattle.verity_plan.proofs.FanLemmas.{block_power, digest_len_of-most, log2-is, some_data}
 use Rattle.verity_plan.proofs.FitLemmas.{power_of_two-is}
+use Rattle.verity_format.proofs.LawLemmas.{tree-same}
 use Rattle.verity_format.specs.Descriptors.{DescriptorFields, IsValidDescriptor, algorithm_number, descriptor_bytes}
 
 -- what stands before the size
@@ -75,20 +75,6 @@ power-log2 n some power =
     let high : n < 2 * 2 ^ p.0 = omega (arith, p.1, some) in
     p.1 ∙ ap (λ (k : ℕ). 2 ^ k) (sym (log2-is n p.0 low high))
 
--- settings by their parts
-settings_from : Algorithm → SaltRule → List ℕ → ℕ → ℕ → Settings
-settings_from a r salt d h = record { algorithm = a; rule = r; salt = salt; data_block = d; hash_block = h }
-
-settings-same : (s t : Settings) → s.algorithm ≡ t.algorithm → s.rule ≡ t.rule → s.salt ≡ t.salt
-    → s.data_block ≡ t.data_block → s.hash_block ≡ t.hash_block → s ≡ t
-unfolding settings_from
-settings-same s t a r salt d h =
-    ap (λ (x : Algorithm). settings_from x s.rule s.salt s.data_block s.hash_block) a
-    ∙ ap (λ (x : SaltRule). settings_from t.algorithm x s.salt s.data_block s.hash_block) r
-    ∙ ap (λ (x : List ℕ). settings_from t.algorithm t.rule x s.data_block s.hash_block) salt
-    ∙ ap (λ (x : ℕ). settings_from t.algorithm t.rule t.salt x s.hash_block) d
-    ∙ ap (λ (x : ℕ). settings_from t.algorithm t.rule t.salt t.data_block x) h
-
 -- an algorithm of fs-verity by its number
 algorithm-same : (a b : Algorithm) → is_of_fsverity a ≡ true → is_of_fsverity b ≡ true
     → algorithm_number a ≡ algorithm_number b → a ≡ b
@@ -107,13 +93,13 @@ algorithm-same Sha224 b of_a of_b e = cc
 algorithm-same Sha384 b of_a of_b e = cc
 
 -- fields by their parts
-fields_from : Settings → ℕ → List ℕ → DescriptorFields
+fields_from : TreeSettingsFields → ℕ → List ℕ → DescriptorFields
 fields_from tree size root = record { tree = tree; size = size; root = root }
 
 fields-same : (v w : DescriptorFields) → v.tree ≡ w.tree → v.size ≡ w.size → v.root ≡ w.root → v ≡ w
 unfolding fields_from
 fields-same v w tree size root =
-    ap (λ (x : Settings). fields_from x v.size v.root) tree
+    ap (λ (x : TreeSettingsFields). fields_from x v.size v.root) tree
     ∙ ap (λ (x : ℕ). fields_from w.tree x v.root) size
     ∙ ap (λ (x : List ℕ). fields_from w.tree w.size x) root
 
@@ -138,7 +124,7 @@ one-descriptor v w of_v of_w same =
     ∙ sym (power-log2 w.tree.data_block (some_data w.tree of_w.tree)
     (block_power _ w.tree.data_block of_w.tree.data_size)) in
     fields-same v w
-    (settings-same v.tree w.tree one (of_v.described.0 ∙ sym of_w.described.0)
+    (tree-same v.tree w.tree one (of_v.described.0 ∙ sym of_w.described.0)
     (sym said.salt ∙ ap (λ (n : ℕ). take n (drop 80 (descriptor_bytes v))) salts ∙ read.salt) block
     (sym (of_v.tree.one_size of_v.described.0) ∙ block ∙ of_w.tree.one_size of_w.described.0))
     (sym said.size ∙ read.size)

@@ -5,27 +5,27 @@ use Rattle.std.proofs.Math.Seq.{take-add}
 use Rattle.std.proofs.lemmas.List.{drop-replicate, drop_at, length-replicate, length-take-le}
 use Rattle.std.proofs.lemmas.List.{replicate-append-replicate, take-replicate, take_at}
 use borrow.Rule.Slice.PartMut.{put_mid}
-use Rattle.verity_hash.specs.Hashing.{with_zeros, IsHeld}
+use Rattle.verity_hash.specs.Hashing.{with_zeros, IsPadded}
 
 -- there are as many bytes of fields as were put
-front_long : (n at : ℕ) (block : List ℕ) → IsHeld n block at → length (take at block) ≡ at
+front_long : (n at : ℕ) (block : List ℕ) → IsPadded n block at → length (take at block) ≡ at
 front_long n at block held = length-take-le at block (omega (arith, held.whole, held.most))
 
 -- bytes that fit after the fields fit after their offset
-pub room_after : (n at count : ℕ) (block fields : List ℕ) → IsHeld n block at → take at block ≡ fields
+pub room_after : (n at count : ℕ) (block fields : List ℕ) → IsPadded n block at → take at block ≡ fields
     → length fields + count ≤ n
     → at + count ≤ n
 room_after n at count block fields held same room = omega (arith, front_long n at block held, ap length same, room)
 
 -- zeros stand after the fields
-zeros_after : (n at : ℕ) (block : List ℕ) → IsHeld n block at → drop at block ≡ replicate (n - at) 0
+zeros_after : (n at : ℕ) (block : List ℕ) → IsPadded n block at → drop at block ≡ replicate (n - at) 0
 zeros_after n at block held =
     let long = front_long n at block held in
     ap (drop at) held.zeros ∙ drop_at (take at block) (replicate (n - length (take at block)) 0) at long
     ∙ ap (λ m. replicate (n - m) 0) long
 
 -- the block, with bytes put after its fields
-put_mid-with_zeros : (n at k : ℕ) (block xs : List ℕ) → IsHeld n block at → k ≡ length xs
+put_mid-with_zeros : (n at k : ℕ) (block xs : List ℕ) → IsPadded n block at → k ≡ length xs
     → put_mid at k block xs ≡ with_zeros n (take at block ++ xs)
 put_mid-with_zeros n at k block xs held same =
     let front = take at block in
@@ -36,7 +36,7 @@ put_mid-with_zeros n at k block xs held same =
     ap (λ (r : List ℕ). front ++ (xs ++ r)) zeros ∙ sym (append_assoc front xs (replicate (n - length (front ++ xs)) 0))
 
 -- the fields are what stood there and the bytes
-pub take-put_mid : (n at k end : ℕ) (block xs : List ℕ) → IsHeld n block at → end ≡ at + length xs → k ≡ length xs
+pub take-put_mid : (n at k end : ℕ) (block xs : List ℕ) → IsPadded n block at → end ≡ at + length xs → k ≡ length xs
     → take end (put_mid at k block xs) ≡ take at block ++ xs
 take-put_mid n at k end block xs held ends same =
     let long = front_long n at block held in
@@ -46,7 +46,7 @@ take-put_mid n at k end block xs held ends same =
 
 -- a field writer may hold a block of some first bytes and then zeros
 held_from : (n end : ℕ) (block front : List ℕ) → block ≡ with_zeros n front → take end block ≡ front → length front ≤ n
-    → end ≤ n → IsHeld n block end
+    → end ≤ n → IsPadded n block end
 held_from n end block front whole taken short most = record {
   whole = ap length whole
       ∙ omega (
@@ -59,16 +59,16 @@ held_from n end block front whole taken short most = record {
 }
 
 -- the rest of the block is still zeros
-pub IsHeld-put_mid : (n at k end : ℕ) (block xs : List ℕ) → IsHeld n block at → end ≡ at + length xs → k ≡ length xs
+pub IsPadded-put_mid : (n at k end : ℕ) (block xs : List ℕ) → IsPadded n block at → end ≡ at + length xs → k ≡ length xs
     → end ≤ n
-    → IsHeld n (put_mid at k block xs) end
-IsHeld-put_mid n at k end block xs held ends same room =
+    → IsPadded n (put_mid at k block xs) end
+IsPadded-put_mid n at k end block xs held ends same room =
     let long = front_long n at block held in
     held_from n end (put_mid at k block xs) (take at block ++ xs) (put_mid-with_zeros n at k block xs held same)
     (take-put_mid n at k end block xs held ends same) (omega (arith, length-append (take at block) xs, long)) room
 
 -- the zeros to be put stand there already
-pub take-zeros : (n at count : ℕ) (block : List ℕ) → IsHeld n block at → at + count ≤ n
+pub take-zeros : (n at count : ℕ) (block : List ℕ) → IsPadded n block at → at + count ≤ n
     → take (at + count) block ≡ take at block ++ replicate count 0
 take-zeros n at count block held room =
     let less : count ≤ n - at = omega arith in
@@ -76,8 +76,8 @@ take-zeros n at count block held room =
     ap (take count) (zeros_after n at block held) ∙ take-replicate count (n - at) 0 less in
     take-add at count block ∙ ap (λ (r : List ℕ). take at block ++ r) zeros
 
-pub IsHeld-zeros : (n at count : ℕ) (block : List ℕ) → IsHeld n block at → at + count ≤ n → IsHeld n block (at + count)
-IsHeld-zeros n at count block held room =
+pub IsPadded-zeros : (n at count : ℕ) (block : List ℕ) → IsPadded n block at → at + count ≤ n → IsPadded n block (at + count)
+IsPadded-zeros n at count block held room =
     let front = take at block in
     let put = replicate count 0 in
     let rest = n - length (front ++ put) in

@@ -9,7 +9,7 @@ use Rattle.verity_hash.specs.Hashing.{algorithm_named}
 use Rattle.verity_hash.specs.declared.algorithm.Algorithm.{Algorithm}
 use Rattle.verity_hash.specs.declared.salting.SaltRule.{SaltRule}
 use Rattle.verity_io.specs.Writing.{most_bytes}
-use Rattle.verity_plan.specs.Settings.{Settings, IsValid, digest_len, least_block, most_salt, rule_of}
+use Rattle.verity_plan.specs.Settings.{TreeSettingsFields, IsValid, digest_len, least_block, rule_of}
 use Rattle.verity_plan.specs.CheckedSettings.{is_verity_block_size, type_of_number}
 use Rattle.verity_plan.specs.declared.hash_type.HashType.{HashType}
 use Rattle.verity_plan.specs.declared.hash_type.HashType.TheVariants.{Original, Current}
@@ -19,6 +19,7 @@ use Rattle.verity_format.specs.declared.super_fault.SuperFault.{SuperFault}
 use Rattle.verity_format.proofs.NameLemmas.{name_of-same, named-back, named-is, numbered-back, numbered-is}
 use Rattle.verity_format.proofs.NameLemmas.{type_number-same}
 use Rattle.verity_format.proofs.ReadLemmas.{IsValid-verity}
+use Rattle.verity_format.proofs.TextLemmas.{salt_most}
 
 -- every test is passed
 abbrev AllPass : List (Bool × SuperFault) → Type 0
@@ -52,7 +53,7 @@ fault_none-says s none =
     let held : length salt ≡ number_at 80 2 s =
     length-take-le (number_at 80 2 s) (drop 88 s) (omega (arith, length-drop 88 s)) in
     let sixteen : length (field 16 16 s) ≡ 16 = length-take-le 16 (drop 16 s) (omega (arith, length-drop 16 s)) in
-    let tree : Settings = record {
+    let tree : TreeSettingsFields = record {
       algorithm = known.0;
       rule = rule_of typed.0;
       salt = salt;
@@ -82,10 +83,6 @@ least_512 : (hash_type : HashType) (digest_len : ℕ) → least_block (rule_of h
 least_512 Original digest_len = refl
 least_512 Current digest_len = refl
 
-most_256 : (hash_type : HashType) → most_salt (rule_of hash_type) ≡ 256
-most_256 Original = refl
-most_256 Current = refl
-
 -- bytes that say a superblock pass every test
 pub says-fault_none : (s : List ℕ) (v : SuperblockFields) → IsSuperblock s v → superblock_fault s ≡ None
 says-fault_none s v a =
@@ -93,12 +90,11 @@ says-fault_none s v a =
     let limits = a.valid.tree in
     let least : least_block v.tree.rule (digest_len v.tree) ≡ 512 =
     ap (λ r. least_block r (digest_len v.tree)) rule ∙ least_512 v.hash_type (digest_len v.tree) in
-    let most : most_salt v.tree.rule ≡ 256 = ap most_salt rule ∙ most_256 v.hash_type in
     let sized : is_verity_block_size v.tree.data_block ≡ true = rw least at limits.data_size in
     let hash_sized : is_verity_block_size v.tree.hash_block ≡ true = rw least at limits.hash_size in
     let long : nat_le 512 (length s) ≡ true = le-leb 512 (length s) a.long in
     let short : nat_le (length v.tree.salt) 256 ≡ true =
-    le-leb (length v.tree.salt) 256 (omega (arith, most, limits.salt_most)) in
+    le-leb (length v.tree.salt) 256 (omega (arith, salt_most v.tree.rule, limits.salt_most)) in
     let some : nat_lt 0 v.blocks ≡ true = (let h = a.valid.some in grind (arith, nat_tests, h)) in
     let within : nat_le (v.blocks * v.tree.data_block) most_bytes ≡ true =
     le-leb (v.blocks * v.tree.data_block) most_bytes a.valid.within in
@@ -122,11 +118,11 @@ says-fault_none s v a =
     ) refl
 
 -- settings by their parts
-tree_from : Algorithm → SaltRule → List ℕ → ℕ → ℕ → Settings
+tree_from : Algorithm → SaltRule → List ℕ → ℕ → ℕ → TreeSettingsFields
 tree_from algorithm rule salt data_block hash_block =
     record { algorithm = algorithm; rule = rule; salt = salt; data_block = data_block; hash_block = hash_block }
 
-tree-same : (s t : Settings) → s.algorithm ≡ t.algorithm → s.rule ≡ t.rule → s.salt ≡ t.salt
+pub tree-same : (s t : TreeSettingsFields) → s.algorithm ≡ t.algorithm → s.rule ≡ t.rule → s.salt ≡ t.salt
     → s.data_block ≡ t.data_block → s.hash_block ≡ t.hash_block → s ≡ t
 unfolding tree_from
 tree-same s t algorithm rule salt data_block hash_block =
@@ -137,7 +133,7 @@ tree-same s t algorithm rule salt data_block hash_block =
     ∙ ap (λ (x : ℕ). tree_from t.algorithm t.rule t.salt t.data_block x) hash_block
 
 -- a superblock by its parts
-superblock_from : HashType → Settings → List ℕ → ℕ → SuperblockFields
+superblock_from : HashType → TreeSettingsFields → List ℕ → ℕ → SuperblockFields
 superblock_from hash_type tree uuid blocks =
     record { hash_type = hash_type; tree = tree; uuid = uuid; blocks = blocks }
 
@@ -146,7 +142,7 @@ superblock-same : (v w : SuperblockFields) → v.hash_type ≡ w.hash_type → v
 unfolding superblock_from
 superblock-same v w hash_type tree uuid blocks =
     ap (λ (x : HashType). superblock_from x v.tree v.uuid v.blocks) hash_type
-    ∙ ap (λ (x : Settings). superblock_from w.hash_type x v.uuid v.blocks) tree
+    ∙ ap (λ (x : TreeSettingsFields). superblock_from w.hash_type x v.uuid v.blocks) tree
     ∙ ap (λ (x : List ℕ). superblock_from w.hash_type w.tree x v.blocks) uuid
     ∙ ap (λ (x : ℕ). superblock_from w.hash_type w.tree w.uuid x) blocks
 

@@ -1,5 +1,4 @@
 pub mod FieldLemmas
-pub mod KnownLemmas
 pub mod NameLemmas
 pub mod ReadLemmas
 pub mod TextLemmas

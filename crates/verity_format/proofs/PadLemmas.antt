@@ -10,12 +10,10 @@ use Rattle.std.proofs.lemmas.List.Sums.{fails_before_first, passes_at_first, pos
 use Rattle.std.specs.Prelude.{◌==◌, not, unwrap_or}
 use Rattle.std.specs.List.{position_or_len}
 use Rattle.byteorder.specs.Endian.{little_from}
-use Rattle.verity_plan.specs.Settings.{most_salt, rule_of}
-use Rattle.verity_plan.specs.declared.hash_type.HashType.{HashType}
-use Rattle.verity_plan.specs.declared.hash_type.HashType.TheVariants.{Original, Current}
 use Rattle.verity_format.specs.Pads.{AgreeOutsidePads, SameBetween}
 use Rattle.verity_format.specs.Superblocks.{field, number_at, until_zero, SuperblockFields, IsSuperblock}
 use Rattle.verity_format.specs.CheckedSuperblocks.{superblock_fault}
+use Rattle.verity_format.proofs.TextLemmas.{salt_most}
 
 -- the same bytes are the same number
 little_from-same : (i n : ℕ) (xs ys : List ℕ)
@@ -168,15 +166,10 @@ turned s t r = record {
   salt = λ n most size. sym (r.salt n most (r.salt_size ∙ size));
 }
 
-most_256 : (hash_type : HashType) → most_salt (rule_of hash_type) ≡ 256
-most_256 Original = refl
-most_256 Current = refl
-
 -- what the one says, the other says
 said-same : (s t : List ℕ) (v : SuperblockFields) → ReadsSame s t → IsSuperblock s v → IsSuperblock t v
 said-same s t v r a =
-    let most : most_salt v.tree.rule ≡ 256 = ap most_salt a.valid.of_type ∙ most_256 v.hash_type in
-    let short : length v.tree.salt ≤ 256 = omega (arith, most, a.valid.tree.salt_most) in
+    let short : length v.tree.salt ≤ 256 = omega (arith, salt_most v.tree.rule, a.valid.tree.salt_most) in
     record {
       long = r.other_whole;
       signed = sym r.signed ∙ a.signed;

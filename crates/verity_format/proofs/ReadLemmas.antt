@@ -4,7 +4,7 @@ use Rattle.std.proofs.Common.{None, Ok, if◌then◌else◌, nat_le, nat_lt, tak
 use Rattle.std.proofs.lemmas.Bool.Decides.{nat_tests}
 use Rattle.verity_hash.specs.declared.algorithm.Algorithm.{Algorithm}
 use Rattle.verity_io.specs.Writing.{most_bytes}
-use Rattle.verity_plan.specs.Settings.{Settings, IsValid, rule_of}
+use Rattle.verity_plan.specs.Settings.{TreeSettingsFields, IsValid, rule_of}
 use Rattle.verity_plan.specs.CheckedSettings.{is_verity_block_size, verity_settings, type_of_number}
 use Rattle.verity_plan.specs.declared.hash_type.HashType.{HashType}
 use Rattle.verity_plan.specs.declared.hash_type.HashType.TheVariants.{Original, Current}
@@ -90,13 +90,13 @@ choice-none : {A : Type 0} (test : Bool) (x : A) → (if test then Some x else N
 choice-none true x h = cc
 choice-none false x h = refl
 
-typed : (hash_type : HashType) (tree : Settings) (uuid : List ℕ) (blocks : ℕ) → tree.rule ≡ rule_of hash_type
+typed : (hash_type : HashType) (tree : TreeSettingsFields) (uuid : List ℕ) (blocks : ℕ) → tree.rule ≡ rule_of hash_type
     → superblock_of tree uuid blocks ≡ superblock_of_type (Some hash_type) tree uuid blocks
 typed hash_type tree uuid blocks rule =
     ap (λ (t : Option HashType). superblock_of_type t tree uuid blocks) (ap hash_type_of rule ∙ hash_type_of-rule_of hash_type)
 
 -- what a new superblock is
-pub superblock_of-some : (hash_type : HashType) (tree : Settings) (uuid : List ℕ) (blocks : ℕ) (v : SuperblockFields)
+pub superblock_of-some : (hash_type : HashType) (tree : TreeSettingsFields) (uuid : List ℕ) (blocks : ℕ) (v : SuperblockFields)
     → tree.rule ≡ rule_of hash_type → superblock_of tree uuid blocks ≡ Some v
     → (record { hash_type = hash_type; tree = tree; uuid = uuid; blocks = blocks } ≡ v) × (0 < blocks)
     × (blocks * tree.data_block ≤ most_bytes)
@@ -107,7 +107,7 @@ superblock_of-some hash_type tree uuid blocks v rule made =
     (both.1, grind (arith, nat_tests, test), grind (arith, nat_tests, test))
 
 -- bytes whose parts make a superblock say it
-pub IsSuperblock-made : (s : List ℕ) (hash_type : HashType) (tree : Settings) (uuid : List ℕ) (blocks : ℕ)
+pub IsSuperblock-made : (s : List ℕ) (hash_type : HashType) (tree : TreeSettingsFields) (uuid : List ℕ) (blocks : ℕ)
     (v : SuperblockFields)
     → IsValid tree → tree.rule ≡ rule_of hash_type → length uuid ≡ 16 → superblock_of tree uuid blocks ≡ Some v
     → 512 ≤ length s → take 8 s ≡ signature → number_at 8 4 s ≡ 1 → type_of_number (number_at 12 4 s) ≡ Some hash_type
@@ -132,7 +132,7 @@ IsSuperblock-made s hash_type tree uuid blocks v valid rule sixteen made long si
     })
 
 -- settings with a type and some blocks make no superblock: there is too much data
-pub superblock_of-none : (hash_type : HashType) (tree : Settings) (uuid : List ℕ) (blocks : ℕ)
+pub superblock_of-none : (hash_type : HashType) (tree : TreeSettingsFields) (uuid : List ℕ) (blocks : ℕ)
     → tree.rule ≡ rule_of hash_type → 0 < blocks → superblock_of tree uuid blocks ≡ None
     → nat_le (blocks * tree.data_block) most_bytes ≡ false
 superblock_of-none hash_type tree uuid blocks rule some made =

@@ -76,7 +76,8 @@ type_small : (hash_type : HashType) → type_number hash_type < 256
 type_small Original = omega arith
 type_small Current = omega arith
 
-salt_most : (rule : SaltRule) → most_salt rule ≤ 256
+-- a salt has at most 256 bytes
+pub salt_most : (rule : SaltRule) → most_salt rule ≤ 256
 salt_most Before = omega arith
 salt_most After = omega arith
 salt_most PaddedBefore = omega arith

@@ -7,7 +7,7 @@ use Rattle.verity_hash.specs.Hashing.{algorithm_named}
 use Rattle.verity_hash.specs.declared.salting.SaltRule.{SaltRule}
 use Rattle.verity_hash.specs.declared.salting.SaltRule.TheVariants.{Before, After, PaddedBefore}
 use Rattle.verity_io.specs.Writing.{most_bytes}
-use Rattle.verity_plan.specs.Settings.{Settings, most_salt}
+use Rattle.verity_plan.specs.Settings.{TreeSettingsFields, most_salt}
 use Rattle.verity_plan.specs.CheckedSettings.{is_verity_block_size, type_of_number}
 use Rattle.verity_plan.specs.Plans.{superblock_size}
 use Rattle.verity_plan.specs.declared.hash_type.HashType.{HashType}
@@ -24,13 +24,13 @@ hash_type_of After = Some Original
 hash_type_of PaddedBefore = None
 
 -- the superblock of a tree over this many data blocks, if there is one
-abbrev pub superblock_of_type : Option HashType → Settings → List ℕ → ℕ → Option SuperblockFields
+abbrev pub superblock_of_type : Option HashType → TreeSettingsFields → List ℕ → ℕ → Option SuperblockFields
 superblock_of_type None tree uuid blocks = None
 superblock_of_type (Some hash_type) tree uuid blocks =
     if nat_lt 0 blocks && nat_le (blocks * tree.data_block) most_bytes
     then Some (record { hash_type = hash_type; tree = tree; uuid = uuid; blocks = blocks }) else None
 
-abbrev pub superblock_of : Settings → List ℕ → ℕ → Option SuperblockFields
+abbrev pub superblock_of : TreeSettingsFields → List ℕ → ℕ → Option SuperblockFields
 superblock_of tree uuid blocks = superblock_of_type (hash_type_of tree.rule) tree uuid blocks
 
 -- the tests of a superblock in the order in which they are made, each with the fault of bytes that fail it

@@ -7,16 +7,16 @@ use Rattle.verity_hash.specs.Hashing.{hash_of, with_zeros}
 use Rattle.verity_hash.specs.declared.algorithm.Algorithm.{Algorithm}
 use Rattle.verity_hash.specs.declared.algorithm.Algorithm.TheVariants.{Sha256, Sha512, Sha1, Sha224, Sha384}
 use Rattle.verity_hash.specs.declared.salting.SaltRule.TheVariants.{PaddedBefore}
-use Rattle.verity_plan.specs.Settings.{log2, Settings, IsValid, digest_len}
+use Rattle.verity_plan.specs.Settings.{log2, TreeSettingsFields, IsValid, digest_len}
 
 -- how the tree is made, the file's size in bytes, and the root hash
 pub record DescriptorFields : Type 0 where
-  pub tree : Settings
+  pub tree : TreeSettingsFields
   pub size : ℕ
   pub root : List ℕ
 
 -- settings of fs-verity, and a digest of their algorithm
-abbrev pub IsDescribed : Settings → List ℕ → Type 0
+abbrev pub IsDescribed : TreeSettingsFields → List ℕ → Type 0
 IsDescribed tree root = (tree.rule ≡ PaddedBefore) × (length root ≡ digest_len tree)
 
 pub record IsValidDescriptor (v : DescriptorFields) : Type 0 where

@@ -3,4 +3,3 @@ pub mod CheckedSuperblocks
 pub mod SuperblockSteps
 pub mod Pads
 pub mod Descriptors
-pub mod Putting

@@ -2,13 +2,13 @@
 -- For the private steps; not needed to read a public contract.
 use Rattle.std.specs.Prelude.{ℕ, ◌≡◌, Bool, List, length, take, drop, Some}
 use Rattle.verity_hash.specs.Hashing.{algorithm_named}
-use Rattle.verity_plan.specs.Settings.{Settings}
+use Rattle.verity_plan.specs.Settings.{TreeSettingsFields}
 use Rattle.verity_format.specs.Superblocks.{field, number_at, until_zero}
 use Rattle.verity_format.specs.CheckedSuperblocks.{superblock_tests}
 use Rattle.verity_format.specs.declared.super_fault.SuperFault.{SuperFault}
 
 -- the bytes say these settings
-pub record AreSettings (s : List ℕ) (tree : Settings) : Type 0 where
+pub record AreSettings (s : List ℕ) (tree : TreeSettingsFields) : Type 0 where
   pub name : algorithm_named (until_zero (field 32 32 s)) ≡ Some tree.algorithm
   pub data_block : number_at 64 4 s ≡ tree.data_block
   pub hash_block : number_at 68 4 s ≡ tree.hash_block

@@ -18,7 +18,7 @@ use Rattle.std.specs.Prelude.{replicate, codes}
 use Rattle.byteorder.specs.Endian.{little_number, little_bytes}
 use Rattle.verity_hash.specs.Hashing.{name_of, with_zeros}
 use Rattle.verity_io.specs.Writing.{most_bytes}
-use Rattle.verity_plan.specs.Settings.{Settings, IsValid, rule_of, type_number}
+use Rattle.verity_plan.specs.Settings.{TreeSettingsFields, IsValid, rule_of, type_number}
 use Rattle.verity_plan.specs.Plans.{superblock_size}
 use Rattle.verity_plan.specs.declared.hash_type.HashType.{HashType}
 
@@ -37,7 +37,7 @@ until_zero bytes = take (unwrap_or (position (λ byte. byte == 0) bytes) (length
 -- the hash type, how the tree is made, the UUID's 16 bytes, and the number of data blocks
 pub record SuperblockFields : Type 0 where
   pub hash_type : HashType
-  pub tree : Settings
+  pub tree : TreeSettingsFields
   pub uuid : List ℕ
   pub blocks : ℕ
 

@@ -16,13 +16,13 @@ pub(crate) struct FieldWriter<const N: usize> {
 
 impl<const N: usize> Model for FieldWriter<N> {
     ghost use Rattle.std.specs.Prelude.{ℕ, List, take};
-    ghost use Rattle.verity_hash.specs.Hashing.{IsHeld};
+    ghost use Rattle.verity_hash.specs.Hashing.{IsPadded};
 
     ghost Value = { List ℕ };
 
     ghost view = { λ fields. take fields.at fields.bytes };
 
-    ghost invariant = { λ fields. IsHeld N fields.bytes fields.at };
+    ghost invariant = { λ fields. IsPadded N fields.bytes fields.at };
 }
 
 impl<const N: usize> FieldWriter<N> {

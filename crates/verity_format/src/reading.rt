@@ -8,6 +8,10 @@ ghost use Rattle.verity_format.specs.Superblocks.{IsSuperblock, number_at, until
 ghost use Rattle.verity_format.specs.SuperblockSteps.{AreSettings, settings_tests};
 ghost use Rattle.verity_format.specs.CheckedSuperblocks.{superblock_fault, first_failed};
 
+use crate::layout::{
+    ALGORITHM_AT, BLOCKS_AT, DATA_BLOCK_AT, HASH_BLOCK_AT, HASH_TYPE_AT, SALT_AT, SALT_SIZE_AT,
+    UUID_AT, VERSION_AT,
+};
 use crate::writing::VERSION;
 use crate::{SuperFault, Superblock};
 use byteorder::{ByteOrder, LittleEndian};
@@ -24,24 +28,24 @@ pub fn read_superblock(bytes: &[u8]) -> Result<Superblock, SuperFault>
     if bytes.len() < SUPERBLOCK_SIZE {
         return Err(SuperFault::Short);
     }
-    if &bytes[..8] != b"verity\0\0".as_slice() {
+    if &bytes[..VERSION_AT] != b"verity\0\0".as_slice() {
         return Err(SuperFault::Signature);
     }
-    let version = u32_at(bytes, 8);
+    let version = u32_at(bytes, VERSION_AT);
     if version != VERSION {
         return Err(SuperFault::Version(version));
     }
-    let number = u32_at(bytes, 12);
+    let number = u32_at(bytes, HASH_TYPE_AT);
     let Some(hash_type) = HashType::from_number(u64::from(number)) else {
         return Err(SuperFault::HashType(number));
     };
     let tree = read_settings(bytes, hash_type)?;
-    let blocks = u64_at(bytes, 72);
+    let blocks = u64_at(bytes, BLOCKS_AT);
     if blocks == 0 {
         return Err(SuperFault::NoData);
     }
     let mut uuid = [0; 16];
-    uuid.copy_from_slice(&bytes[16..32]);
+    uuid.copy_from_slice(&bytes[UUID_AT..ALGORITHM_AT]);
     match Superblock::new(&tree, uuid, blocks) {
         Some(superblock) => Ok(superblock),
         None => Err(SuperFault::TooLarge),
@@ -57,22 +61,23 @@ fn read_settings(bytes: &[u8], hash_type: HashType) -> Result<TreeSettings, Supe
     ensures passed { IfOk result (λ _. first_failed (settings_tests bytes.now) ≡ None) }
     ensures fault { IfErr result (λ fault. first_failed (settings_tests bytes.now) ≡ Some fault) }
 {
-    let data_block = u32_at(bytes, 64);
+    let data_block = u32_at(bytes, DATA_BLOCK_AT);
     if !is_verity_block_size(u64::from(data_block)) {
         return Err(SuperFault::DataBlockSize(data_block));
     }
-    let hash_block = u32_at(bytes, 68);
+    let hash_block = u32_at(bytes, HASH_BLOCK_AT);
     if !is_verity_block_size(u64::from(hash_block)) {
         return Err(SuperFault::HashBlockSize(hash_block));
     }
-    let Some(algorithm) = Algorithm::from_name(until_zero(&bytes[32..64])) else {
+    let Some(algorithm) = Algorithm::from_name(until_zero(&bytes[ALGORITHM_AT..DATA_BLOCK_AT]))
+    else {
         return Err(SuperFault::Algorithm);
     };
-    let salt_size = u16_at(bytes, 80);
+    let salt_size = u16_at(bytes, SALT_SIZE_AT);
     if salt_size as usize > MOST_SALT {
         return Err(SuperFault::SaltSize(salt_size));
     }
-    let salt = &bytes[88..88 + salt_size as usize];
+    let salt = &bytes[SALT_AT..SALT_AT + salt_size as usize];
     Ok(settings_within_limits(algorithm, hash_type, salt, data_block, hash_block))
 }
 

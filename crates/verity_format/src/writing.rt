@@ -4,6 +4,7 @@ ghost use Rattle.verity_format.specs.Superblocks.{superblock_bytes};
 
 use crate::Superblock;
 use crate::field_writer::FieldWriter;
+use crate::layout::{ALGORITHM_AT, DATA_BLOCK_AT};
 use verity_plan::SUPERBLOCK_SIZE;
 
 /// The only version that is written and read.
@@ -21,7 +22,10 @@ pub fn write_superblock(superblock: &Superblock) -> [u8; SUPERBLOCK_SIZE]
     fields.put_u32(VERSION);
     fields.put_u32(superblock.hash_type().number());
     fields.put(&superblock.uuid());
-    fields.put_with_zeros(32, tree.algorithm().name().as_bytes());
+    fields.put_with_zeros(
+        DATA_BLOCK_AT - ALGORITHM_AT,
+        tree.algorithm().name().as_bytes(),
+    );
     fields.put_u32(tree.data_block());
     fields.put_u32(tree.hash_block());
     fields.put_u64(superblock.blocks());

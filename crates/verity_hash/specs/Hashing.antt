@@ -58,7 +58,7 @@ abbrev pub with_zeros : ℕ → List ℕ → List ℕ
 with_zeros n bytes = bytes ++ replicate (n - length bytes) 0
 
 -- a buffer of this size, of which the first len bytes count and the others are zeros
-pub record IsHeld (size : ℕ) (bytes : List ℕ) (len : ℕ) : Type 0 where
+pub record IsPadded (size : ℕ) (bytes : List ℕ) (len : ℕ) : Type 0 where
   pub whole : length bytes ≡ size
   pub most : len ≤ size
   pub zeros : bytes ≡ with_zeros size (take len bytes)

@@ -1,6 +1,7 @@
 -- Counts of failures, this project's own: each source and each device keeps one, which stops at the last value of a
 -- u64. And what contracts see of a source or a device before and after a call.
-use Rattle.std.specs.Prelude.{◌≡◌, ℕ, ◌+◌, ◌-◌, ◌^◌, ◌≤◌, min, Bool, true, false, List, Result, MatchResult}
+use Rattle.std.specs.Prelude.{◌≡◌, ℕ, ◌+◌, ◌-◌, ◌^◌, ◌≤◌, min, Bool, true, false, List, Result, Ok, Err, MatchResult}
+use Rattle.std.specs.Prelude.{Option, Some, None}
 use Rattle.verity_io.specs.declared.failed.Failed.{Failed}
 
 -- the last value of a count
@@ -8,8 +9,8 @@ abbrev pub last_count : ℕ
 last_count = 2 ^ 64 - 1
 
 -- the count is greater, or stands at its last value
-abbrev pub Rose : ℕ → ℕ → Type 0
-Rose before after = min (before + 1) last_count ≤ after
+abbrev pub CountRose : ℕ → ℕ → Type 0
+CountRose before after = min (before + 1) last_count ≤ after
 
 -- the count rises by one if a call failed, up to its last value, and stays otherwise
 abbrev pub Counts : Bool → ℕ → ℕ → Type 0
@@ -20,6 +21,29 @@ Counts false before after = after ≡ before
 abbrev pub CountsFailure : {X : Type 0} → ℕ → ℕ → Result X Failed → Type 0
 CountsFailure before after result =
     (before ≤ after) × MatchResult result (λ _. Counts false before after) (λ _. Counts true before after)
+
+-- whose call failed, by which a fault came about
+pub data Side : Type 0 where
+  TheSource : Side
+  TheDevice : Side
+  TheOpener : Side
+
+-- the two sides are one
+abbrev pub same_side : Side → Side → Bool
+same_side TheSource TheSource = true
+same_side TheDevice TheDevice = true
+same_side TheOpener TheOpener = true
+same_side a b = false
+
+-- the fault is a failed call of this side
+abbrev pub is_call_of : Side → Option Side → Bool
+is_call_of side None = false
+is_call_of side (Some failed) = same_side side failed
+
+-- the result is a failed call of this side, by whose call each fault is
+abbrev pub failed_at : {X F : Type 0} → (F → Option Side) → Side → Result X F → Bool
+failed_at side_of side (Ok x) = false
+failed_at side_of side (Err fault) = is_call_of side (side_of fault)
 
 -- a source or a device before and after some calls: whether it tells its bytes; its bytes, which of a source are those
 -- that remain; and its count of failures

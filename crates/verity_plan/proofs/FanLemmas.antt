@@ -12,7 +12,7 @@ use Rattle.verity_hash.specs.declared.algorithm.Algorithm.{Algorithm}
 use Rattle.verity_hash.specs.declared.algorithm.Algorithm.TheVariants.{Sha256, Sha512, Sha1, Sha224, Sha384}
 use Rattle.verity_hash.specs.declared.salting.SaltRule.{SaltRule}
 use Rattle.verity_hash.specs.declared.salting.SaltRule.TheVariants.{Before, After, PaddedBefore}
-use Rattle.verity_plan.specs.Settings.{Settings, IsValid, fan, digest_len, is_block_size, least_block, slot_count}
+use Rattle.verity_plan.specs.Settings.{TreeSettingsFields, IsValid, fan, digest_len, is_block_size, least_block, slot_count}
 use Rattle.verity_plan.specs.Settings.{least_power, log2}
 use Rattle.verity_plan.proofs.LeastLemmas.{IsLeast, IsLeast-same, IsLeast-least_from}
 use Rattle.verity_plan.proofs.CountLemmas.{lt-pow_self}
@@ -168,36 +168,36 @@ slot_count-below len size some =
     omega (arith, mul-le-mul_right len high, div-add-mod' size len, mod_below size len some)
 
 -- a hash block has room for two digests
-pub two_slots : (s : Settings) → IsValid s → 2 * digest_len s ≤ s.hash_block
+pub two_slots : (s : TreeSettingsFields) → IsValid s → 2 * digest_len s ≤ s.hash_block
 two_slots s valid = two_slots_by s.rule s.algorithm s.hash_block valid.hash_size
 
 -- and so has a data block
-pub two_digests : (s : Settings) → IsValid s → 2 * digest_len s ≤ s.data_block
+pub two_digests : (s : TreeSettingsFields) → IsValid s → 2 * digest_len s ≤ s.data_block
 two_digests s valid = two_slots_by s.rule s.algorithm s.data_block valid.data_size
 
 -- a data block has a byte
-pub some_data : (s : Settings) → IsValid s → 0 < s.data_block
+pub some_data : (s : TreeSettingsFields) → IsValid s → 0 < s.data_block
 some_data s valid = some_block s.rule s.algorithm s.data_block valid.data_size
 
 -- blocks have at most 2 ^ 19 bytes
-pub data_most : (s : Settings) → IsValid s → s.data_block ≤ 524288
+pub data_most : (s : TreeSettingsFields) → IsValid s → s.data_block ≤ 524288
 data_most s valid = block_most (least_block s.rule (digest_len s)) s.data_block valid.data_size
 
-pub hash_most : (s : Settings) → IsValid s → s.hash_block ≤ 524288
+pub hash_most : (s : TreeSettingsFields) → IsValid s → s.hash_block ≤ 524288
 hash_most s valid = block_most (least_block s.rule (digest_len s)) s.hash_block valid.hash_size
 
-pub fan-two : (s : Settings) → IsValid s → 2 ≤ fan s
+pub fan-two : (s : TreeSettingsFields) → IsValid s → 2 ≤ fan s
 unfolding fan
 fan-two s valid = slot_count-two (digest_len s) s.hash_block (digest_len_of-pos s.algorithm) (two_slots s valid)
 
 -- a fan-out is a power of two
-pub fan-power : (s : Settings) → (k : ℕ) × (fan s ≡ 2 ^ k)
+pub fan-power : (s : TreeSettingsFields) → (k : ℕ) × (fan s ≡ 2 ^ k)
 unfolding fan slot_count
 fan-power s = (log2 (s.hash_block / digest_len s), refl)
 
-pub fan-some : (s : Settings) → 0 < fan s
+pub fan-some : (s : TreeSettingsFields) → 0 < fan s
 fan-some s = let power = fan-power s in omega (arith, power.1, pow_pos power.0)
 
-pub fan-greatest : (s : Settings) → s.hash_block < 2 * fan s * digest_len s
+pub fan-greatest : (s : TreeSettingsFields) → s.hash_block < 2 * fan s * digest_len s
 unfolding fan
 fan-greatest s = slot_count-below (digest_len s) s.hash_block (digest_len_of-pos s.algorithm)

@@ -9,7 +9,7 @@ use Rattle.std.specs.Prelude.{nat_le, count_ones}
 use Rattle.std.specs.Int.{is_power_of_two}
 use Rattle.verity_hash.specs.declared.salting.SaltRule.{SaltRule}
 use Rattle.verity_hash.specs.declared.salting.SaltRule.TheVariants.{Before, After, PaddedBefore}
-use Rattle.verity_plan.specs.Settings.{Settings, IsValid, fan, digest_len, least_block, slot_width, width_by}
+use Rattle.verity_plan.specs.Settings.{TreeSettingsFields, IsValid, fan, digest_len, least_block, slot_width, width_by}
 use Rattle.verity_plan.specs.Settings.{least_up_to, slot_count, least_power}
 use Rattle.verity_plan.proofs.LeastLemmas.{IsLeast, IsLeast-least_from}
 use Rattle.verity_plan.proofs.CountLemmas.{lt-pow_self, mul_le}
@@ -99,45 +99,45 @@ width_above After len = omega arith
 width_above PaddedBefore len = omega arith
 
 -- a digest fits into its slot
-pub digest-slot : (s : Settings) → digest_len s ≤ slot_width s
+pub digest-slot : (s : TreeSettingsFields) → digest_len s ≤ slot_width s
 unfolding slot_width
 digest-slot s = width_above s.rule (digest_len s)
 
 -- as many slots as the fan-out fit
-pub fan-fits : (s : Settings) → IsValid s → fan s * slot_width s ≤ s.hash_block
+pub fan-fits : (s : TreeSettingsFields) → IsValid s → fan s * slot_width s ≤ s.hash_block
 unfolding fan slot_width
 fan-fits s valid =
     width_fits s.rule (digest_len s) s.hash_block (digest_len_of-pos s.algorithm) (omega (arith, two_slots s valid))
     (block_power (least_block s.rule (digest_len s)) s.hash_block valid.hash_size)
 
-pub fan-pos : (s : Settings) → IsValid s → 0 < fan s
+pub fan-pos : (s : TreeSettingsFields) → IsValid s → 0 < fan s
 fan-pos s valid = omega (arith, fan-two s valid)
 
 -- a hash block with slots has a byte
-pub hash_block-some : (s : Settings) → 2 ≤ fan s → fan s * slot_width s ≤ s.hash_block → 0 < s.hash_block
+pub hash_block-some : (s : TreeSettingsFields) → 2 ≤ fan s → fan s * slot_width s ≤ s.hash_block → 0 < s.hash_block
 hash_block-some s two fits =
     let wide : 1 ≤ slot_width s = omega (arith, digest-slot s, digest_len_of-pos s.algorithm) in
     omega (arith, mul-le-mul_left (fan s) wide, two, fits)
 
 -- as many digests as the fan-out fit, if one does
-pub fan-digests : (s : Settings) → digest_len s ≤ s.hash_block → fan s * digest_len s ≤ s.hash_block
+pub fan-digests : (s : TreeSettingsFields) → digest_len s ≤ s.hash_block → fan s * digest_len s ≤ s.hash_block
 unfolding fan
 fan-digests s one = slot_count-fits (digest_len s) s.hash_block (digest_len_of-pos s.algorithm) one
 
 -- dm-verity's slots: the least power of two that is not below the digest
-pub slot-power : (s : Settings) → s.rule ≡ Before → (k : ℕ) × (slot_width s ≡ 2 ^ k)
+pub slot-power : (s : TreeSettingsFields) → s.rule ≡ Before → (k : ℕ) × (slot_width s ≡ 2 ^ k)
 unfolding slot_width least_power
 slot-power s before = rw before (least_up_to (digest_len s) (λ k. nat_le (digest_len s) (2 ^ k)), refl)
 
-pub slot-least : (s : Settings) → s.rule ≡ Before → slot_width s < 2 * digest_len s
+pub slot-least : (s : TreeSettingsFields) → s.rule ≡ Before → slot_width s < 2 * digest_len s
 unfolding slot_width
 slot-least s before = rw before (least_power-half (digest_len s) (digest_len_of-pos s.algorithm))
 
 -- slots of hash type 0, and of fs-verity
-pub slot-after : (s : Settings) → s.rule ≡ After → slot_width s ≡ digest_len s
+pub slot-after : (s : TreeSettingsFields) → s.rule ≡ After → slot_width s ≡ digest_len s
 unfolding slot_width
 slot-after s after = rw after refl
 
-pub slot-same : (s : Settings) → s.rule ≡ PaddedBefore → slot_width s ≡ digest_len s
+pub slot-same : (s : TreeSettingsFields) → s.rule ≡ PaddedBefore → slot_width s ≡ digest_len s
 unfolding slot_width
 slot-same s padded = rw padded refl

@@ -4,7 +4,7 @@ use Rattle.std.proofs.lemmas.Bool.{cases_lt}
 use Rattle.std.proofs.lemmas.Nat.{div-add-mod'}
 use Rattle.std.proofs.Math.Nat.{div-div-eq-div-mul, one-le-pow, pow-suc}
 use Rattle.std.specs.Int.{div_ceil}
-use Rattle.verity_plan.specs.Plans.{HasBlock, Planned}
+use Rattle.verity_plan.specs.Plans.{HasBlock, PlanFields}
 use Rattle.verity_plan.specs.PlanCounts.{level_count_of}
 use Rattle.verity_plan.specs.Settings.{fan}
 use Rattle.verity_plan.proofs.CountLemmas.{le-div_ceil}
@@ -24,7 +24,7 @@ quotient-below i n w some below =
     ]
 
 -- the tree has the hash block of each level above a data block
-pub HasBlock-above : (p : Planned) (i l : ℕ) → 0 < fan p.settings → i < p.blocks → l < level_count_of p
+pub HasBlock-above : (p : PlanFields) (i l : ℕ) → 0 < fan p.settings → i < p.blocks → l < level_count_of p
     → HasBlock p l (i / fan p.settings ^ (l + 1))
 HasBlock-above p i l some below low = record {
   level_below = low;

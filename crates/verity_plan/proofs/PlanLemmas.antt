@@ -9,7 +9,7 @@ use Rattle.std.proofs.lemmas.Bool.Decides.{nat_tests}
 use Rattle.std.proofs.lemmas.Nat.{div-add-mod', mod_below}
 use Rattle.std.specs.Prelude.{◌==◌, Bool, nat_le, nat_eq, true, false, Ok, Err}
 use Rattle.verity_io.specs.Writing.{most_bytes}
-use Rattle.verity_plan.specs.Plans.{checked_plan, Planned, IsPlanned, HasBlock, start_byte_of, end_place_of, has_room}
+use Rattle.verity_plan.specs.Plans.{checked_plan, PlanFields, IsPlan, HasBlock, start_byte_of, end_place_of, has_room}
 use Rattle.verity_plan.specs.Plans.{level_count, level_size}
 use Rattle.verity_plan.specs.PlanCounts.{place_of, level_count_of, store_length_of, most_level_count}
 use Rattle.verity_plan.specs.declared.plan_fault.PlanFault.TheVariants.{NoData, TooLarge}
@@ -67,7 +67,7 @@ levels-all fan n k size two is one =
     ]
 
 -- the data blocks of a plan are at most as many as their bytes
-pub blocks_few : (p : Planned) → IsPlanned p → p.blocks ≤ most_bytes
+pub blocks_few : (p : PlanFields) → IsPlan p → p.blocks ≤ most_bytes
 blocks_few p h =
     let some : 1 ≤ p.settings.data_block = omega (arith, some_data p.settings h.valid) in
     omega (arith, mul-le-mul_left p.blocks some, h.data_most)
@@ -82,7 +82,7 @@ level_count-few f n two few =
     ]
 
 -- a plan has at most 63 levels
-pub levels_few : (p : Planned) → IsPlanned p → level_count_of p ≤ 63
+pub levels_few : (p : PlanFields) → IsPlan p → level_count_of p ≤ 63
 levels_few p h = level_count-few (fan p.settings) p.blocks (fan-two p.settings h.valid) (blocks_few p h)
 
 -- more data blocks have no fewer levels
@@ -105,33 +105,33 @@ pub within-quotient : (m d n : ℕ) → n ≤ m / d → n * d ≤ m
 within-quotient m d n within = omega (arith, mul-le-mul_right d within, div-mul-le_self m d)
 
 -- the place after all blocks is not before the first
-pub base-le-end : (p : Planned) → p.base ≤ end_place_of p
+pub base-le-end : (p : PlanFields) → p.base ≤ end_place_of p
 base-le-end p = omega arith
 
 -- no plan for areas past the limit
-pub checked_plan-large : (p : Planned) → 0 < p.blocks → has_room p ≡ false → checked_plan p ≡ Err TooLarge
+pub checked_plan-large : (p : PlanFields) → 0 < p.blocks → has_room p ≡ false → checked_plan p ≡ Err TooLarge
 checked_plan-large p some none =
     let tested : nat_eq p.blocks 0 ≡ false = grind (arith, nat_tests, some) in
     rw (tested, none) refl
 
-pub has_room-data : (p : Planned) → most_bytes < p.blocks * p.settings.data_block → has_room p ≡ false
+pub has_room-data : (p : PlanFields) → most_bytes < p.blocks * p.settings.data_block → has_room p ≡ false
 has_room-data p past = grind (arith, nat_tests, past)
 
-pub has_room-hash : (p : Planned) → most_bytes < end_place_of p * p.settings.hash_block → has_room p ≡ false
+pub has_room-hash : (p : PlanFields) → most_bytes < end_place_of p * p.settings.hash_block → has_room p ≡ false
 has_room-hash p past =
     let tested : nat_le (end_place_of p * p.settings.hash_block) most_bytes ≡ false = grind (arith, nat_tests, past) in
     rw tested (and-false _)
 
 -- a hash block has a byte
-pub some_hash : (p : Planned) → IsPlanned p → 1 ≤ p.settings.hash_block
+pub some_hash : (p : PlanFields) → IsPlan p → 1 ≤ p.settings.hash_block
 some_hash p h = omega (arith, two_slots p.settings h.valid, digest_len_of-pos p.settings.algorithm)
 
 -- the end fits a number of 63 bits
-pub end_few : (p : Planned) → IsPlanned p → end_place_of p ≤ most_bytes
+pub end_few : (p : PlanFields) → IsPlan p → end_place_of p ≤ most_bytes
 end_few p h = omega (arith, mul-le-mul_left (end_place_of p) (some_hash p h), h.hash_most)
 
 -- a store's length is a small number
-pub store_few : (p : Planned) → IsPlanned p → store_length_of p ≤ 2 ^ 26
+pub store_few : (p : PlanFields) → IsPlan p → store_length_of p ≤ 2 ^ 26
 store_few p h =
     omega (
       arith,
@@ -146,7 +146,7 @@ some_wanted zero size blocks is some = absurd (omega (arith, is, zero-div size))
 some_wanted (suc wanted) size blocks is some = omega arith
 
 -- a hash block is within the limit
-pub byte-room : (p : Planned) → IsPlanned p → (l j : ℕ) → HasBlock p l j
+pub byte-room : (p : PlanFields) → IsPlan p → (l j : ℕ) → HasBlock p l j
     → start_byte_of p l j + p.settings.hash_block ≤ most_bytes
 byte-room p h l j here =
     let within = (PlacesAreOnce-all (fan p.settings) p.blocks p.base).within l j here in
@@ -154,7 +154,7 @@ byte-room p h l j here =
     omega (arith, mul-le-mul_right p.settings.hash_block step, h.hash_most)
 
 -- a plan that is made is the one that was asked for
-pub planned_is : (asked plan : Planned) → Ok plan ≡ checked_plan asked → plan ≡ asked
+pub planned_is : (asked plan : PlanFields) → Ok plan ≡ checked_plan asked → plan ≡ asked
 planned_is asked plan is = by_tests (asked.blocks == 0) (has_room asked) is
   where
     by_tests : (none room : Bool) → Ok plan ≡ cond none (Err NoData) (cond room (Ok asked) (Err TooLarge))
@@ -164,7 +164,7 @@ planned_is asked plan is = by_tests (asked.blocks == 0) (has_room asked) is
     by_tests false false e = absurd cc
 
 -- no plan has more levels than the largest tree of its settings
-pub levels_most : (p : Planned) → IsPlanned p → level_count_of p ≤ most_level_count p.settings
+pub levels_most : (p : PlanFields) → IsPlan p → level_count_of p ≤ most_level_count p.settings
 levels_most p h =
     let some : 0 < p.settings.data_block = some_data p.settings h.valid in
     let few : p.blocks ≤ most_bytes / p.settings.data_block =

@@ -9,7 +9,7 @@ use Rattle.verity_plan.specs.declared.hash_type.HashType.TheVariants.{Original, 
 use Rattle.verity_plan.specs.declared.setting_fault.SettingFault.{SettingFault}
 use Rattle.verity_plan.specs.declared.setting_fault.SettingFault.TheVariants.{Algorithm as OtherAlgorithm}
 use Rattle.verity_plan.specs.declared.setting_fault.SettingFault.TheVariants.{DataBlockSize, HashBlockSize, SaltSize}
-use Rattle.verity_plan.specs.Settings.{Settings, least_verity_block, most_salt, least_block, is_block_size}
+use Rattle.verity_plan.specs.Settings.{TreeSettingsFields, least_verity_block, most_salt, least_block, is_block_size}
 use Rattle.verity_plan.specs.Settings.{is_of_fsverity, rule_of}
 
 -- a block size of dm-verity
@@ -24,14 +24,14 @@ type_of_number number = if number == 0 then Some Original else (if number == 1 t
 -- 256 bytes; cryptsetup's on-disk format page) and of fs-verity (block sizes are powers of two that hold at least two
 -- digests, fsverity(1), `--block-size`, and Linux kernel, fs-verity page, "FS_IOC_ENABLE_VERITY"; salts of up to 32
 -- bytes, the same page). That fs-verity's blocks have at most 524288 bytes is this project's own limit.
-abbrev pub checked_settings : Settings → Result Settings SettingFault
+abbrev pub checked_settings : TreeSettingsFields → Result TreeSettingsFields SettingFault
 checked_settings s =
     if not (is_block_size (least_block s.rule (digest_len_of s.algorithm)) s.data_block) then Err DataBlockSize
     else (if not (is_block_size (least_block s.rule (digest_len_of s.algorithm)) s.hash_block) then Err HashBlockSize
     else (if nat_lt (most_salt s.rule) (length s.salt) then Err SaltSize else Ok s))
 
 -- settings of dm-verity
-abbrev pub verity_settings : Algorithm → HashType → List ℕ → ℕ → ℕ → Result Settings SettingFault
+abbrev pub verity_settings : Algorithm → HashType → List ℕ → ℕ → ℕ → Result TreeSettingsFields SettingFault
 verity_settings algorithm hash_type salt data_block hash_block = checked_settings (record {
   algorithm = algorithm;
   rule = rule_of hash_type;
@@ -41,7 +41,7 @@ verity_settings algorithm hash_type salt data_block hash_block = checked_setting
 })
 
 -- settings of fs-verity: data and tree blocks have one size, and the algorithm is one that fs-verity knows
-abbrev pub fsverity_settings : Algorithm → List ℕ → ℕ → Result Settings SettingFault
+abbrev pub fsverity_settings : Algorithm → List ℕ → ℕ → Result TreeSettingsFields SettingFault
 fsverity_settings algorithm salt block =
     if not (is_of_fsverity algorithm) then Err OtherAlgorithm
     else (checked_settings

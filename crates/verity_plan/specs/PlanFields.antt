@@ -1,27 +1,27 @@
 -- A plan's fields come back from its value: the number of levels and the end are computed once.
 -- For the private steps; not needed to read a public contract.
 use Rattle.std.proofs.Common.{◌≡◌, ℕ, sym, ap, ◌∙◌}
-use Rattle.verity_plan.specs.Plans.{Planned, IsPlanned, end_place_of}
+use Rattle.verity_plan.specs.Plans.{PlanFields, IsPlan, end_place_of}
 use Rattle.verity_plan.specs.PlanCounts.{level_count_of}
 use Rattle.verity_plan.specs.declared.plan.Plan.TheInside.{Inside}
 
 -- what the fields say
-abbrev pub planned_of : Inside → Planned
+abbrev pub planned_of : Inside → PlanFields
 planned_of p = record { settings = p.settings; blocks = p.blocks; wanted = p.wanted; base = p.base }
 
 -- levels and end are those of the plan
 pub record IsComputed (p : Inside) : Type 0 where
-  pub planned : IsPlanned (planned_of p)
+  pub planned : IsPlan (planned_of p)
   pub levels_are : p.levels ≡ level_count_of (planned_of p)
   pub end_is : p.end ≡ end_place_of (planned_of p)
 
 -- fields with these levels and this end
-abbrev pub fields_from : Planned → ℕ → ℕ → Inside
+abbrev pub fields_from : PlanFields → ℕ → ℕ → Inside
 fields_from p levels end =
     record { settings = p.settings; blocks = p.blocks; wanted = p.wanted; base = p.base; levels = levels; end = end }
 
 -- the inverse of the view
-abbrev pub fields_of : Planned → Inside
+abbrev pub fields_of : PlanFields → Inside
 fields_of p = fields_from p (level_count_of p) (end_place_of p)
 
 -- the view forgets nothing

@@ -8,7 +8,7 @@ use Rattle.std.specs.Prelude.{◌<◌, ◌≤◌, ℕ, ◌+◌, ◌^◌, nat_le,
 use Rattle.std.specs.Prelude.{Option, Some, None, Result, Ok, Err, if◌then◌else◌}
 use Rattle.std.specs.List.{range_with_len, sum_by}
 use Rattle.std.specs.Int.{div_ceil}
-use Rattle.verity_plan.specs.Settings.{least_up_to, Settings, fan, IsValid}
+use Rattle.verity_plan.specs.Settings.{least_up_to, TreeSettingsFields, fan, IsValid}
 use Rattle.verity_io.specs.Writing.{most_bytes}
 use Rattle.verity_plan.specs.declared.plan_fault.PlanFault.{PlanFault}
 use Rattle.verity_plan.specs.declared.plan_fault.PlanFault.TheVariants.{NoData, TooLarge}
@@ -39,22 +39,34 @@ abbrev pub end_place : ℕ → ℕ → ℕ → ℕ
 end_place fan n base = base + blocks_from fan n 0 (level_count fan n)
 
 -- the byte at which a block of a level stands
-abbrev pub start_byte : Settings → ℕ → ℕ → ℕ → ℕ → ℕ
+abbrev pub start_byte : TreeSettingsFields → ℕ → ℕ → ℕ → ℕ → ℕ
 start_byte s n base level block = place (fan s) n base level block * s.hash_block
 
 -- the settings, the number of data blocks, how many bytes are read for them, and where the tree begins, in hash blocks
-pub record Planned : Type 0 where
-  pub settings : Settings
+pub record PlanFields : Type 0 where
+  pub settings : TreeSettingsFields
   pub blocks : ℕ
   pub wanted : ℕ
   pub base : ℕ
 
+-- of a plan, the place after all blocks
+abbrev pub end_place_of : PlanFields → ℕ
+end_place_of p = end_place (fan p.settings) p.blocks p.base
+
+-- the byte at which a block of a plan's level stands
+abbrev pub start_byte_of : PlanFields → ℕ → ℕ → ℕ
+start_byte_of p level block = start_byte p.settings p.blocks p.base level block
+
+-- the tree has this block of this level
+abbrev pub HasBlock : PlanFields → ℕ → ℕ → Type 0
+HasBlock p level block = IsTreeBlock (fan p.settings) p.blocks level block
+
 -- the number of data blocks of a size in bytes
-abbrev pub block_count : Settings → ℕ → ℕ
+abbrev pub block_count : TreeSettingsFields → ℕ → ℕ
 block_count s size = div_ceil size s.data_block
 
 -- the plan of a file's tree, which has its device to itself
-abbrev pub plan_of_file : Settings → ℕ → Planned
+abbrev pub plan_of_file : TreeSettingsFields → ℕ → PlanFields
 plan_of_file s size = record { settings = s; blocks = block_count s size; wanted = size; base = 0 }
 
 -- the length of a superblock in bytes
@@ -80,25 +92,13 @@ offset_unit false hash_block = hash_block
 abbrev pub multiple_of : ℕ → ℕ → Option ℕ
 multiple_of unit bytes = if bytes % unit == 0 then Some bytes else None
 
--- of a plan, the place after all blocks
-abbrev pub end_place_of : Planned → ℕ
-end_place_of p = end_place (fan p.settings) p.blocks p.base
-
--- the byte at which a block of a plan's level stands
-abbrev pub start_byte_of : Planned → ℕ → ℕ → ℕ
-start_byte_of p level block = start_byte p.settings p.blocks p.base level block
-
--- the tree has this block of this level
-abbrev pub HasBlock : Planned → ℕ → ℕ → Type 0
-HasBlock p level block = IsTreeBlock (fan p.settings) p.blocks level block
-
 -- the data area, and the hash device up to the tree's end, are within the limit
-abbrev pub has_room : Planned → Bool
+abbrev pub has_room : PlanFields → Bool
 has_room p = nat_le (p.blocks * p.settings.data_block) most_bytes
     && nat_le (end_place_of p * p.settings.hash_block) most_bytes
 
 -- a plan that can be carried out
-pub record IsPlanned (p : Planned) : Type 0 where
+pub record IsPlan (p : PlanFields) : Type 0 where
   pub valid : IsValid p.settings
   pub some : 0 < p.wanted
   pub blocks_are : p.blocks ≡ block_count p.settings p.wanted
@@ -106,25 +106,25 @@ pub record IsPlanned (p : Planned) : Type 0 where
   pub hash_most : end_place_of p * p.settings.hash_block ≤ most_bytes
 
 -- the plan, or why there is none
-abbrev pub checked_plan : Planned → Result Planned PlanFault
+abbrev pub checked_plan : PlanFields → Result PlanFields PlanFault
 checked_plan p = if p.blocks == 0 then Err NoData else (if has_room p then Ok p else Err TooLarge)
 
 -- a plan for whole data blocks
-abbrev pub plan_for_blocks : Settings → ℕ → ℕ → Result Planned PlanFault
+abbrev pub plan_for_blocks : TreeSettingsFields → ℕ → ℕ → Result PlanFields PlanFault
 plan_for_blocks s blocks base =
     checked_plan (record { settings = s; blocks = blocks; wanted = blocks * s.data_block; base = base })
 
 -- a plan for a size in bytes, the last block perhaps not whole
-abbrev pub plan_for_bytes : Settings → ℕ → ℕ → Result Planned PlanFault
+abbrev pub plan_for_bytes : TreeSettingsFields → ℕ → ℕ → Result PlanFields PlanFault
 plan_for_bytes s size base = checked_plan
     (record { settings = s; blocks = block_count s size; wanted = size; base = base })
 
 -- the plan for this number of data blocks if the tree begins at this hash block; without one there is no data, or else
 -- the hash area is too large
-abbrev pub plan_from : Settings → ℕ → Option ℕ → Result Planned PlanFault
+abbrev pub plan_from : TreeSettingsFields → ℕ → Option ℕ → Result PlanFields PlanFault
 plan_from tree blocks (Some base) = plan_for_blocks tree blocks base
 plan_from tree blocks None = if blocks == 0 then Err NoData else Err TooLarge
 
 -- the plan for this number of data blocks with this hash offset, after a superblock if there is one
-abbrev pub plan_at : Settings → ℕ → ℕ → Bool → Result Planned PlanFault
+abbrev pub plan_at : TreeSettingsFields → ℕ → ℕ → Bool → Result PlanFields PlanFault
 plan_at tree blocks offset superblock = plan_from tree blocks (base_of offset superblock tree.hash_block)

@@ -13,7 +13,7 @@ use Rattle.verity_plan.specs.declared.hash_type.HashType.{HashType}
 use Rattle.verity_plan.specs.declared.hash_type.HashType.TheVariants.{Original, Current}
 
 -- block sizes are in bytes
-pub record Settings : Type 0 where
+pub record TreeSettingsFields : Type 0 where
   pub algorithm : Algorithm
   pub rule : SaltRule
   pub salt : List ℕ
@@ -21,11 +21,11 @@ pub record Settings : Type 0 where
   pub hash_block : ℕ
 
 -- the salted hash of a block
-unfoldable pub hash : Settings → List ℕ → List ℕ
+unfoldable pub hash : TreeSettingsFields → List ℕ → List ℕ
 hash s block = salted_hash s.algorithm s.rule s.salt block
 
 -- the length of a digest
-abbrev pub digest_len : Settings → ℕ
+abbrev pub digest_len : TreeSettingsFields → ℕ
 digest_len s = digest_len_of s.algorithm
 
 -- the first of least, least + 1, .. that passes a test; least + fuel if none before it does
@@ -55,15 +55,15 @@ width_by Before digest_len = least_power digest_len
 width_by After digest_len = digest_len
 width_by PaddedBefore digest_len = digest_len
 
-unfoldable pub slot_width : Settings → ℕ
+unfoldable pub slot_width : TreeSettingsFields → ℕ
 slot_width s = width_by s.rule (digest_len s)
 
 -- a digest in its slot: the digest, and zeros
-abbrev pub slot : Settings → List ℕ → List ℕ
+abbrev pub slot : TreeSettingsFields → List ℕ → List ℕ
 slot s digest = with_zeros (slot_width s) digest
 
 -- the number of slots of a hash block
-unfoldable pub fan : Settings → ℕ
+unfoldable pub fan : TreeSettingsFields → ℕ
 fan s = slot_count (digest_len s) s.hash_block
 
 -- the largest block size (of dm-verity, and for fs-verity this project's own); of dm-verity the smallest block size and
@@ -99,7 +99,7 @@ is_of_fsverity Sha512 = true
 is_of_fsverity _ = false
 
 -- settings that a tree can be made by
-pub record IsValid (s : Settings) : Type 0 where
+pub record IsValid (s : TreeSettingsFields) : Type 0 where
   pub data_size : is_block_size (least_block s.rule (digest_len s)) s.data_block ≡ true
   pub hash_size : is_block_size (least_block s.rule (digest_len s)) s.hash_block ≡ true
   pub salt_most : length s.salt ≤ most_salt s.rule

@@ -1,16 +1,14 @@
 //! What is read, and where each hash block goes.
-ghost use Rattle.std.specs.Prelude.{◌≡◌, ℕ, ◌+◌, ◌-◌, ◌*◌, ◌/◌, ◌^◌, ◌≤◌, ◌<◌, [], length, slice_index_or};
-ghost use Rattle.std.specs.Fork.{slice_chunk};
+ghost use Rattle.std.specs.Prelude.{◌≡◌, ℕ, ◌+◌, ◌-◌, ◌*◌, ◌/◌, ◌^◌, ◌≤◌, ◌<◌};
 ghost use Rattle.verity_io.specs.Writing.{most_bytes};
-ghost use Rattle.verity_plan.specs.Plans.{Planned, IsPlanned, start_byte_of, end_place_of, HasBlock, checked_plan};
+ghost use Rattle.verity_plan.specs.Plans.{PlanFields, IsPlan, start_byte_of, end_place_of, HasBlock, checked_plan};
 ghost use Rattle.verity_plan.specs.Plans.{plan_for_blocks, plan_for_bytes, level_count, blocks_from};
 ghost use Rattle.verity_plan.specs.PlanCounts.{level_count_of, level_size_of, place_of, store_length_of, size_under};
 ghost use Rattle.verity_plan.specs.PlanCounts.{most_level_count};
-ghost use Rattle.verity_plan.specs.Settings.{digest_len, fan, hash, slot_width};
+ghost use Rattle.verity_plan.specs.Settings.{digest_len, fan, slot_width};
 
 use crate::{PlanFault, TreeSettings};
 use std::marker::Model;
-use verity_hash::Digest;
 use verity_io::MOST_BYTES;
 
 /// A plan for the tree above some data: how many blocks there are, how many bytes are read for them, and where each
@@ -26,11 +24,11 @@ pub struct Plan {
 }
 
 impl Model for Plan {
-    ghost use Rattle.verity_plan.specs.Plans.{Planned, IsPlanned, start_byte_of, end_place_of};
+    ghost use Rattle.verity_plan.specs.Plans.{PlanFields, IsPlan, start_byte_of, end_place_of};
     ghost use Rattle.verity_plan.specs.PlanCounts.{level_count_of};
     ghost use Rattle.std.specs.Prelude.{◌≡◌};
 
-    ghost Value = { Planned };
+    ghost Value = { PlanFields };
 
     ghost view = { λ p. record { settings = p.settings; blocks = p.blocks; wanted = p.wanted; base = p.base } };
 
@@ -90,8 +88,8 @@ impl Plan {
         if blocks > most_blocks || base > most_end {
             return Err(PlanFault::TooLarge);
         }
-        let above = levels_above(settings.fan() as u64, blocks);
-        let end = base + above.blocks;
+        let tree = levels_above(settings.fan() as u64, blocks);
+        let end = base + tree.blocks;
         if end > most_end {
             return Err(PlanFault::TooLarge);
         }
@@ -100,7 +98,7 @@ impl Plan {
             blocks,
             wanted,
             base,
-            levels: above.levels,
+            levels: tree.levels,
             end,
         })
     }
@@ -132,7 +130,7 @@ impl Plan {
     /// The number of data blocks, at least 1.
     pub fn blocks(&self) -> u64
         ensures value { result ≡ self.now.blocks }
-        ensures planned { IsPlanned self.now }
+        ensures planned { IsPlan self.now }
     {
         self.blocks
     }
@@ -140,7 +138,7 @@ impl Plan {
     /// The number of bytes to be read.
     pub fn wanted(&self) -> u64
         ensures value { result ≡ self.now.wanted }
-        ensures planned { IsPlanned self.now }
+        ensures planned { IsPlan self.now }
     {
         self.wanted
     }
@@ -195,13 +193,6 @@ impl Plan {
         self.byte(level, self.index_above(i, level + 1))
     }
 
-    /// The width of a slot, in bytes.
-    pub fn slot_width(&self) -> usize
-        ensures { result ≡ slot_width self.now.settings }
-    {
-        self.settings.slot_width()
-    }
-
     /// The length of a digest, in bytes.
     pub fn digest_len(&self) -> usize
         ensures { result ≡ digest_len self.now.settings }
@@ -221,25 +212,6 @@ impl Plan {
         ensures { result ≡ self.now.settings.hash_block }
     {
         self.settings.hash_block() as usize
-    }
-
-    /// The salted hash of a block.
-    pub fn hash(&self, block: &[u8]) -> Digest
-        ensures { result ≡ hash self.now.settings block.now }
-    {
-        self.settings.hash(block)
-    }
-
-    /// The salted hashes of `count` blocks of `size` bytes each, one to eight, which stand one after another in
-    /// `rows`. The digests after theirs count for nothing.
-    pub fn hash_rows(&self, rows: &[u8], size: usize, count: usize) -> [Digest; 8]
-        requires whole { length rows.now ≡ count * size }
-        requires some { 0 < count }
-        requires most { count ≤ 8 }
-        ensures { (r : ℕ) → r < count
-            → slice_index_or result r [] ≡ hash self.now.settings (slice_chunk rows.now size r) }
-    {
-        self.settings.hash_rows(rows, size, count)
     }
 
     /// The place after the last hash block, counted in hash blocks.
@@ -296,15 +268,17 @@ impl Plan {
     }
 }
 
-/// The levels above some data blocks: how many, and how many hash blocks in all.
+/// The size of the tree above some data blocks.
 #[derive(Clone, Copy)]
-struct Above {
+struct TreeSize {
+    /// The number of levels.
     levels: usize,
+    /// The number of hash blocks of all levels.
     blocks: u64,
 }
 
 /// How many levels there are above some data blocks, and how many hash blocks in all.
-fn levels_above(fan: u64, blocks: u64) -> Above
+fn levels_above(fan: u64, blocks: u64) -> TreeSize
     requires two { 2 ≤ fan }
     requires some { 0 < blocks }
     requires most { blocks ≤ 2 ^ 58 - 1 }
@@ -313,14 +287,14 @@ fn levels_above(fan: u64, blocks: u64) -> Above
     ensures most { result.blocks ≤ 2 * blocks }
 {
     let mut size = blocks;
-    let mut above = Above {
+    let mut tree = TreeSize {
         levels: 0,
         blocks: 0,
     };
     'levels: while size > 1 {
         size = size.div_ceil(fan);
-        above.levels += 1;
-        above.blocks += size;
+        tree.levels += 1;
+        tree.blocks += size;
     }
-    above
+    tree
 }

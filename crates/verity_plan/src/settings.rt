@@ -1,7 +1,7 @@
 //! What a tree is made by.
 ghost use Rattle.std.specs.Prelude.{true, ◌≡◌, ℕ, ◌*◌, ◌≤◌, ◌<◌, [], length, slice_index_or};
 ghost use Rattle.std.specs.Fork.{slice_chunk};
-ghost use Rattle.verity_plan.specs.Settings.{Settings, IsValid, hash, fan, slot_width, digest_len, least_block};
+ghost use Rattle.verity_plan.specs.Settings.{TreeSettingsFields, IsValid, hash, fan, slot_width, digest_len, least_block};
 ghost use Rattle.verity_plan.specs.Settings.{is_block_size, is_of_fsverity, most_block, most_salt, least_power};
 ghost use Rattle.verity_plan.specs.Settings.{rule_of};
 ghost use Rattle.verity_plan.specs.CheckedSettings.{is_verity_block_size, checked_settings, verity_settings};
@@ -23,9 +23,9 @@ pub struct TreeSettings {
 }
 
 impl Model for TreeSettings {
-    ghost use Rattle.verity_plan.specs.Settings.{Settings, IsValid};
+    ghost use Rattle.verity_plan.specs.Settings.{TreeSettingsFields, IsValid};
 
-    ghost Value = { Settings };
+    ghost Value = { TreeSettingsFields };
 
     ghost view = { λ t. record {
       algorithm = t.algorithm;

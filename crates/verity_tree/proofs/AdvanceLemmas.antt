@@ -10,7 +10,7 @@ use Rattle.std.proofs.lemmas.List.FromFn.{get_or-map-range_with_len}
 use Rattle.std.proofs.Math.Nat.{div-eq_of_lt, pow-zero}
 use Rattle.std.specs.Fork.{slice_chunk}
 use Rattle.verity_hash.specs.Hashing.{with_zeros}
-use Rattle.verity_plan.specs.Plans.{IsPlanned, Planned, block_count, level_count}
+use Rattle.verity_plan.specs.Plans.{IsPlan, PlanFields, block_count, level_count}
 use Rattle.verity_plan.specs.PlanCounts.{level_count_of}
 use Rattle.verity_plan.specs.Settings.{fan, hash}
 use Rattle.verity_plan.proofs.CountLemmas.{IsLevelCount-level_count, le-div_ceil}
@@ -68,7 +68,7 @@ partial-quotient n w wide ends = elim ends [
 ]
 
 -- when a data block ends it does so whichever hash blocks above it were handed out
-pub Stands-ends : (p : Planned) (levels closed : ℕ) (fed opened current : List ℕ) → IsPlanned p → 0 < length fed
+pub Stands-ends : (p : PlanFields) (levels closed : ℕ) (fed opened current : List ℕ) → IsPlan p → 0 < length fed
     → length fed ≤ p.wanted
     → (0 < closed) ⊎ ((length fed % p.settings.data_block ≡ 0) ⊎ (length fed ≡ p.wanted))
     → Stands p levels fed closed opened current → EndsDataBlock p (length fed)
@@ -86,18 +86,18 @@ Stands-ends p levels zero fed opened current planned some most ends h = record {
 Stands-ends p levels (suc level) fed opened current planned some most ends h = h.ends
 
 -- before any hash block was handed out above the last byte
-handed_out-none : (p : Planned) (count : ℕ)
+handed_out-none : (p : PlanFields) (count : ℕ)
     → handed_out p count 0 ≡ closed_after (fan p.settings) p.blocks (blocks_before p.settings count)
 handed_out-none p count = append-nil (closed_after (fan p.settings) p.blocks (blocks_before p.settings count))
 
 -- bytes may come: the whole data blocks have come to the open blocks, and all that closed with them was handed out
-pub record TakesMore (p : Planned) (levels : ℕ) (fed : List ℕ) (closed : ℕ) (opened current : List ℕ) : Type 0 where
+pub record TakesMore (p : PlanFields) (levels : ℕ) (fed : List ℕ) (closed : ℕ) (opened current : List ℕ) : Type 0 where
   pub settled : IsSettled p.settings levels fed opened current
   pub order : closed_after (fan p.settings) p.blocks (length fed / p.settings.data_block)
       ≡ handed_out p (length fed) closed
 
 -- the data block that the last byte is in isn't whole
-partial-settled : (p : Planned) (levels : ℕ) (fed opened current : List ℕ) → IsPlanned p
+partial-settled : (p : PlanFields) (levels : ℕ) (fed opened current : List ℕ) → IsPlan p
     → (length fed ≡ 0) ⊎ (0 < length fed % p.settings.data_block)
     → HasFed p.settings levels fed opened current → TakesMore p levels fed 0 opened current
 partial-settled p levels fed opened current planned part h =
@@ -126,7 +126,7 @@ partial-settled p levels fed opened current planned part h =
     }
 
 -- nothing was carried up, since no data block has ended
-pub Stands-settled : (p : Planned) (levels closed : ℕ) (fed opened current : List ℕ) → IsPlanned p
+pub Stands-settled : (p : PlanFields) (levels closed : ℕ) (fed opened current : List ℕ) → IsPlan p
     → (length fed ≡ 0) ⊎ ((closed ≡ 0) × (0 < length fed % p.settings.data_block))
     → Stands p levels fed closed opened current → TakesMore p levels fed closed opened current
 Stands-settled p levels zero fed opened current planned part h =
@@ -141,7 +141,7 @@ Stands-settled p levels (suc level) fed opened current planned part h = elim par
 ]
 
 -- a digest was carried up and no hash block has closed
-pub Climbs-settled : (p : Planned) (levels closed : ℕ) (fed opened current : List ℕ) → IsPlanned p
+pub Climbs-settled : (p : PlanFields) (levels closed : ℕ) (fed opened current : List ℕ) → IsPlan p
     → length fed ≤ p.wanted → Climbs p levels fed closed false opened → TakesMore p levels fed closed opened current
 Climbs-settled p levels closed fed opened current planned most h =
     let s = p.settings in
@@ -169,7 +169,7 @@ Climbs-settled p levels closed fed opened current planned most h =
     no_bytes (x ∷ xs) current none = absurd (omega (arith, none))
 
 -- a hash block has closed
-pub FeedsOn-climbs : (p : Planned) (levels closed new_closed : ℕ) (fed opened current : List ℕ)
+pub FeedsOn-climbs : (p : PlanFields) (levels closed new_closed : ℕ) (fed opened current : List ℕ)
     → new_closed ≡ closed + 1 → Climbs p levels fed closed true opened
     → FeedsOn p levels fed closed [] true new_closed opened current
 FeedsOn-climbs p levels closed new_closed fed opened current next h =
@@ -188,7 +188,7 @@ FeedsOn-climbs p levels closed new_closed fed opened current next h =
     }
 
 -- bytes were taken
-pub FeedsOn-takes : (p : Planned) (levels closed taken : ℕ) (fed more before held opened current : List ℕ)
+pub FeedsOn-takes : (p : PlanFields) (levels closed taken : ℕ) (fed more before held opened current : List ℕ)
     → length more ≡ taken → 0 < taken → TakesMore p levels fed closed before held
     → closed_after (fan p.settings) p.blocks (blocks_before p.settings (length fed + taken))
     ≡ closed_after (fan p.settings) p.blocks (length fed / p.settings.data_block)
@@ -205,7 +205,7 @@ FeedsOn-takes p levels closed taken fed more before held opened current many som
     }
 
 -- bytes were fed and no hash block has closed, and then more
-pub FeedsOn-more : (p : Planned) (levels closed middle new_closed : ℕ) (fed more further before held opened current : List ℕ)
+pub FeedsOn-more : (p : PlanFields) (levels closed middle new_closed : ℕ) (fed more further before held opened current : List ℕ)
     (closes : Bool) → FeedsOn p levels fed closed more false middle before held
     → FeedsOn p levels (fed ++ more) middle further closes new_closed opened current
     → FeedsOn p levels fed closed (more ++ further) closes new_closed opened current
@@ -218,21 +218,11 @@ FeedsOn-more p levels closed middle new_closed fed more further before held open
           closes first.order second.order);
     }
   where
-    hands-more : (p : Planned) (a c b d e f : ℕ) (closes : Bool) → Hands p a c b d false → Hands p b d e f closes
+    hands-more : (p : PlanFields) (a c b d e f : ℕ) (closes : Bool) → Hands p a c b d false → Hands p b d e f closes
         → Hands p a c e f closes
     hands-more p a c b d e f true one two =
         two ∙ ap (λ (xs : List BlockIndex). xs ++ handed_at p e (f - 1) ∷ []) one
     hands-more p a c b d e f false one two = two ∙ one
-
--- no byte was fed
-pub FeedsOn-none : (p : Planned) (levels closed : ℕ) (fed opened current : List ℕ)
-    → Stands p levels fed closed opened current → FeedsOn p levels fed closed [] false closed opened current
-FeedsOn-none p levels closed fed opened current h =
-    let same : fed ++ [] ≡ fed = append-nil fed in
-    record {
-      stands = subst (λ (xs : List ℕ). Stands p levels xs closed opened current) (sym same) h;
-      order = ap (λ (xs : List ℕ). handed_out p (length xs) closed) same;
-    }
 
 -- the bytes of a piece up to a place, and those of its rest up to another
 pub take-rest : (n m : ℕ) (piece : List ℕ)
@@ -252,18 +242,18 @@ length-fed fed piece count taken all many most is =
     omega (arith, length-append fed (take taken piece), length-take-le taken piece most, many, is)
 
 -- a tree's levels by its data blocks
-height-is : (p : Planned) (fed : List ℕ) → height p.settings (data_blocks p fed) ≡ level_count_of p
+height-is : (p : PlanFields) (fed : List ℕ) → height p.settings (data_blocks p fed) ≡ level_count_of p
 height-is p fed =
     let s = p.settings in
     height-level_count s (data_blocks p fed) (fan-some s)
     ∙ ap (level_count (fan s)) (length-cut s p.blocks p.wanted fed)
 
 -- the data blocks of a plan are no more than its levels have room for
-blocks-most : (p : Planned) → IsPlanned p → p.blocks ≤ fan p.settings ^ level_count_of p
+blocks-most : (p : PlanFields) → IsPlan p → p.blocks ≤ fan p.settings ^ level_count_of p
 blocks-most p planned = (IsLevelCount-level_count (fan p.settings) p.blocks (fan-two p.settings planned.valid)).enough
 
 -- without levels there is one data block
-single-most : (p : Planned) → IsPlanned p → level_count_of p ≡ 0 → p.wanted ≤ p.settings.data_block
+single-most : (p : PlanFields) → IsPlan p → level_count_of p ≡ 0 → p.wanted ≤ p.settings.data_block
 single-most p planned none =
     let s = p.settings in
     let one : p.blocks ≤ 1 =
@@ -273,7 +263,7 @@ single-most p planned none =
       le-div_ceil p.wanted s.data_block 1 (some_data s planned.valid) (omega (arith, one, planned.blocks_are)),
     )
 
-pub single-current : (p : Planned) (fed : List ℕ) → IsPlanned p → level_count_of p ≡ 0 → length fed ≡ p.wanted
+pub single-current : (p : PlanFields) (fed : List ℕ) → IsPlan p → level_count_of p ≡ 0 → length fed ≡ p.wanted
     → current_bytes p.settings fed ≡ fed
 single-current p fed planned none all =
     let size = p.settings.data_block in
@@ -282,12 +272,12 @@ single-current p fed planned none all =
     omega (arith, ap (λ (n : ℕ). n * size) (div-eq_of_lt less)) in
     ap (λ (n : ℕ). drop n fed) first
 
-pub single-within : (p : Planned) (fed : List ℕ) → IsPlanned p → level_count_of p ≡ 0 → length fed ≡ p.wanted
+pub single-within : (p : PlanFields) (fed : List ℕ) → IsPlan p → level_count_of p ≡ 0 → length fed ≡ p.wanted
     → length fed ≤ p.settings.data_block
 single-within p fed planned none all = omega (arith, single-most p planned none, all)
 
 -- its digest is the root
-pub single-root : (p : Planned) (fed : List ℕ) → IsPlanned p → level_count_of p ≡ 0 → length fed ≡ p.wanted
+pub single-root : (p : PlanFields) (fed : List ℕ) → IsPlan p → level_count_of p ≡ 0 → length fed ≡ p.wanted
     → hash p.settings (with_zeros p.settings.data_block fed) ≡ root p.settings (data_blocks p fed)
 unfolding root blocks_up cut
 single-root p fed planned none all =
@@ -307,7 +297,7 @@ single-root p fed planned none all =
     ∙ ap (hash s) first)
 
 -- the hash block of the top level that closed above the last byte gives the root
-pub top-root : (p : Planned) (levels level : ℕ) (fed opened : List ℕ) → IsPlanned p → level_count_of p ≡ level + 1
+pub top-root : (p : PlanFields) (levels level : ℕ) (fed opened : List ℕ) → IsPlan p → level_count_of p ≡ level + 1
     → length fed ≡ p.wanted → IsHandingOut p levels level fed opened
     → hash p.settings (slice_chunk opened p.settings.hash_block level) ≡ root p.settings (data_blocks p fed)
 unfolding root

@@ -7,8 +7,8 @@ use Rattle.std.proofs.lemmas.List.{get_or-drop, get_or-take}
 use Rattle.std.proofs.lemmas.Nat.{div-add-mod', mod_below}
 use Rattle.std.proofs.Math.Nat.{mul-le-mul_right}
 use Rattle.verity_io.specs.Writing.{put}
-use Rattle.verity_plan.specs.Plans.{HasBlock, IsPlanned, IsTreeBlock, Planned, end_place_of, start_byte, start_byte_of}
-use Rattle.verity_plan.specs.Settings.{Settings, fan}
+use Rattle.verity_plan.specs.Plans.{HasBlock, IsPlan, IsTreeBlock, PlanFields, end_place_of, start_byte, start_byte_of}
+use Rattle.verity_plan.specs.Settings.{TreeSettingsFields, fan}
 use Rattle.verity_plan.proofs.FanLemmas.{fan-some}
 use Rattle.verity_plan.proofs.FitLemmas.{fan-fits}
 use Rattle.verity_plan.proofs.PlaceLemmas.{PlacesAreOnce-all}
@@ -25,7 +25,7 @@ use Rattle.verity_tree.proofs.StandingLemmas.{length-put, length-tree_block, put
 -- ---- blocks that are put one after another
 
 -- a byte outside each of them stays
-bytes-outside : (s : Settings) (blocks : List (List ℕ)) (base i : ℕ) (all : List BlockIndex) (device : List ℕ)
+bytes-outside : (s : TreeSettingsFields) (blocks : List (List ℕ)) (base i : ℕ) (all : List BlockIndex) (device : List ℕ)
     → ((m k : ℕ) → 0 < times m k all → (i < start_byte s (length blocks) base m k)
     ⊎ (start_byte s (length blocks) base m k + length (tree_block s blocks m k) ≤ i))
     → get_or (device_with s blocks base all device) i 0 ≡ get_or device i 0
@@ -39,7 +39,7 @@ bytes-outside s blocks base i (next ∷ rest) device outside =
     ∙ put-byte device at bytes i (outside next.level next.index (times-first next rest))
 
 -- the device gets no shorter
-grows : (s : Settings) (blocks : List (List ℕ)) (base : ℕ) (all : List BlockIndex) (device : List ℕ)
+grows : (s : TreeSettingsFields) (blocks : List (List ℕ)) (base : ℕ) (all : List BlockIndex) (device : List ℕ)
     → length device ≤ length (device_with s blocks base all device)
 unfolding device_with
 grows s blocks base [] device = omega arith
@@ -49,7 +49,7 @@ grows s blocks base (next ∷ rest) device =
     omega (arith, grows s blocks base rest (put device at bytes), length-put device at bytes)
 
 -- nor longer than they need
-grows_to : (s : Settings) (blocks : List (List ℕ)) (base i : ℕ) (all : List BlockIndex) (device : List ℕ)
+grows_to : (s : TreeSettingsFields) (blocks : List (List ℕ)) (base i : ℕ) (all : List BlockIndex) (device : List ℕ)
     → length device ≤ i
     → ((m k : ℕ) → 0 < times m k all → start_byte s (length blocks) base m k + length (tree_block s blocks m k) ≤ i)
     → length (device_with s blocks base all device) ≤ i
@@ -65,7 +65,7 @@ grows_to s blocks base i (next ∷ rest) device most each =
 -- ---- the blocks of a tree
 
 -- a block stands within the tree's range
-pub block-within : (p : Planned) (l j : ℕ) → HasBlock p l j
+pub block-within : (p : PlanFields) (l j : ℕ) → HasBlock p l j
     → (p.base * p.settings.hash_block ≤ start_byte_of p l j)
     × (start_byte_of p l j + p.settings.hash_block ≤ end_place_of p * p.settings.hash_block)
 block-within p l j here =
@@ -75,7 +75,7 @@ block-within p l j here =
     omega (arith, mul-le-mul_right p.settings.hash_block within.1) in (first, last)
 
 -- each block that is put is one of the tree, and has a hash block's length
-put-within : (p : Planned) (bytes : List ℕ) → IsPlanned p → (m k : ℕ)
+put-within : (p : PlanFields) (bytes : List ℕ) → IsPlan p → (m k : ℕ)
     → 0 < times m k (closed_after (fan p.settings) p.blocks p.blocks)
     → HasBlock p m k × (length (tree_block p.settings (data_blocks p bytes) m k) ≡ p.settings.hash_block)
 put-within p bytes planned m k some =
@@ -87,7 +87,7 @@ put-within p bytes planned m k some =
     (here, length-tree_block s blocks m k (fan-fits s planned.valid) there)
 
 -- a byte outside the tree's range stays
-pub tree-byte : (p : Planned) (bytes device : List ℕ) (i : ℕ) → IsPlanned p
+pub tree-byte : (p : PlanFields) (bytes device : List ℕ) (i : ℕ) → IsPlan p
     → (i < p.base * p.settings.hash_block) ⊎ (end_place_of p * p.settings.hash_block ≤ i)
     → get_or (tree_on_device p (data_blocks p bytes) device) i 0 ≡ get_or device i 0
 tree-byte p bytes device i planned beside =
@@ -105,12 +105,12 @@ tree-byte p bytes device i planned beside =
     subst (λ (n : ℕ). (i < start_byte s n p.base m k)
     ⊎ (start_byte s n p.base m k + length (tree_block s blocks m k) ≤ i)) (sym many) outside)
 
-pub tree-no_shorter : (p : Planned) (blocks : List (List ℕ)) (device : List ℕ)
+pub tree-no_shorter : (p : PlanFields) (blocks : List (List ℕ)) (device : List ℕ)
     → length device ≤ length (tree_on_device p blocks device)
 tree-no_shorter p blocks device =
     grows p.settings blocks p.base (closed_after (fan p.settings) p.blocks p.blocks) device
 
-pub tree-no_longer : (p : Planned) (bytes device : List ℕ) (i : ℕ) → IsPlanned p → length device ≤ i
+pub tree-no_longer : (p : PlanFields) (bytes device : List ℕ) (i : ℕ) → IsPlan p → length device ≤ i
     → ((l j : ℕ) → HasBlock p l j → start_byte_of p l j + p.settings.hash_block ≤ i)
     → length (tree_on_device p (data_blocks p bytes) device) ≤ i
 tree-no_longer p bytes device i planned most each =
@@ -126,7 +126,7 @@ tree-no_longer p bytes device i planned most each =
 -- ---- two devices that hold one tree
 
 -- the block that a byte is in
-in-block : (p : Planned) (k : ℕ) → IsPlanned p → p.base * p.settings.hash_block ≤ k
+in-block : (p : PlanFields) (k : ℕ) → IsPlan p → p.base * p.settings.hash_block ≤ k
     → k < end_place_of p * p.settings.hash_block
     → (l : ℕ) × (j : ℕ) × HasBlock p l j × (start_byte_of p l j ≤ k) × (k < start_byte_of p l j + p.settings.hash_block)
 in-block p k planned from to =
@@ -148,7 +148,7 @@ in-block p k planned from to =
     (all.0, all.1, all.2, omega (arith, start, low), omega (arith, start, high))
 
 -- a byte of the tree's range is the same in both
-pub tree-bytes : (p : Planned) (bytes a b digest : List ℕ) (k : ℕ) → IsPlanned p
+pub tree-bytes : (p : PlanFields) (bytes a b digest : List ℕ) (k : ℕ) → IsPlan p
     → HoldsTree p a bytes digest → HoldsTree p b bytes digest
     → p.base * p.settings.hash_block ≤ k → k < end_place_of p * p.settings.hash_block
     → (k < length a) × (get_or a k 0 ≡ get_or b k 0)

@@ -15,10 +15,11 @@ use Rattle.verity_hash.specs.Hashing.{input_block_of, salted_input, with_zeros}
 use Rattle.verity_hash.specs.declared.algorithm.Algorithm.{Algorithm}
 use Rattle.verity_hash.specs.declared.salting.SaltRule.{SaltRule}
 use Rattle.verity_hash.specs.declared.salting.SaltRule.TheVariants.{Before, After, PaddedBefore}
-use Rattle.verity_plan.specs.Plans.{IsPlanned, Planned, level_count}
+use Rattle.verity_plan.specs.Plans.{IsPlan, PlanFields, level_count}
 use Rattle.verity_plan.specs.PlanCounts.{level_count_of}
-use Rattle.verity_plan.specs.Settings.{Settings, fan, hash}
-use Rattle.verity_plan.proofs.CountLemmas.{div_ceil-pos, le-div_ceil, mul_le}
+use Rattle.verity_plan.specs.Settings.{TreeSettingsFields, fan, hash}
+use Rattle.verity_plan.proofs.CountLemmas.{le-div_ceil, mul_le}
+use Rattle.verity_tree.proofs.DataBlockLemmas.{blocks-some}
 use Rattle.verity_plan.proofs.FanLemmas.{fan-two, some_data}
 use Rattle.verity_plan.proofs.FitLemmas.{digest-slot, fan-fits, fan-pos}
 use Rattle.verity_tree.specs.Collisions.{Collide, TreesCollide, hashed_above, hashed_last, with_salt}
@@ -41,7 +42,7 @@ salted_input-block algorithm PaddedBefore salt x y e =
 
 -- two true chains with one hash at a level, by whether the same is hashed there: they have one data block, or a
 -- collision at that level or below
-chains-collide-by : (s : Settings) (xs ys : List (List ℕ)) (i : ℕ) → 2 ≤ fan s → length xs ≡ length ys
+chains-collide-by : (s : TreeSettingsFields) (xs ys : List (List ℕ)) (i : ℕ) → 2 ≤ fan s → length xs ≡ length ys
     → i < length xs → (l : ℕ) → l ≤ level_count (fan s) (length xs)
     → hash s (true_chain s xs i l) ≡ hash s (true_chain s ys i l)
     → (b : Bool) → bytes_eq (hashed_above s xs i l) (hashed_above s ys i l) ≡ b
@@ -71,7 +72,7 @@ chains-collide-by s xs ys i two same below (suc l) most one true equal =
     (bytes_eq (hashed_above s xs i l) (hashed_above s ys i l)) refl
 
 -- one data block
-block-bound : (s : Settings) (xs ys : List (List ℕ)) (i : ℕ) → 2 ≤ fan s → length xs ≡ length ys → i < length xs
+block-bound : (s : TreeSettingsFields) (xs ys : List (List ℕ)) (i : ℕ) → 2 ≤ fan s → length xs ≡ length ys → i < length xs
     → root s xs ≡ root s ys → (get_or xs i [] ≡ get_or ys i []) ⊎ TreesCollide s xs ys
 block-bound s xs ys i two same below one =
     let levels = level_count (fan s) (length xs) in
@@ -82,7 +83,7 @@ block-bound s xs ys i two same below one =
     (bytes_eq (hashed_above s xs i levels) (hashed_above s ys i levels)) refl
 
 -- the first k data blocks
-blocks-bound-below : (s : Settings) (xs ys : List (List ℕ)) → 2 ≤ fan s → length xs ≡ length ys
+blocks-bound-below : (s : TreeSettingsFields) (xs ys : List (List ℕ)) → 2 ≤ fan s → length xs ≡ length ys
     → root s xs ≡ root s ys → (k : ℕ) → k ≤ length xs
     → ((i : ℕ) → i < k → get_or xs i [] ≡ get_or ys i []) ⊎ TreesCollide s xs ys
 blocks-bound-below s xs ys two same one zero most = inl (λ i low. absurd (omega (arith, low)))
@@ -101,7 +102,7 @@ blocks-bound-below s xs ys two same one (suc k) most =
     ]
 
 -- all data blocks
-pub blocks-bound : (s : Settings) (xs ys : List (List ℕ)) → 2 ≤ fan s → length xs ≡ length ys
+pub blocks-bound : (s : TreeSettingsFields) (xs ys : List (List ℕ)) → 2 ≤ fan s → length xs ≡ length ys
     → root s xs ≡ root s ys → (xs ≡ ys) ⊎ TreesCollide s xs ys
 blocks-bound s xs ys two same one =
     elim (blocks-bound-below s xs ys two same one (length xs) (omega arith)) [
@@ -110,7 +111,7 @@ blocks-bound s xs ys two same one =
     ]
 
 -- a byte is found in its data block
-byte-cut : (s : Settings) (n wanted : ℕ) (bytes : List ℕ) (k : ℕ) → 0 < s.data_block → wanted ≤ n * s.data_block
+byte-cut : (s : TreeSettingsFields) (n wanted : ℕ) (bytes : List ℕ) (k : ℕ) → 0 < s.data_block → wanted ≤ n * s.data_block
     → wanted ≤ length bytes → k < wanted
     → get_or (get_or (cut s n wanted bytes) (k / s.data_block) []) (k % s.data_block) 0 ≡ get_or (take wanted bytes) k 0
 unfolding cut
@@ -136,7 +137,7 @@ byte-cut s n wanted bytes k some room enough below =
     ∙ ap (λ (n : ℕ). get_or all n 0) split
 
 -- the covered bytes are those of the data blocks
-pub bytes-cut : (s : Settings) (n wanted : ℕ) (x y : List ℕ) → 0 < s.data_block → wanted ≤ n * s.data_block
+pub bytes-cut : (s : TreeSettingsFields) (n wanted : ℕ) (x y : List ℕ) → 0 < s.data_block → wanted ≤ n * s.data_block
     → wanted ≤ length x → wanted ≤ length y → cut s n wanted x ≡ cut s n wanted y → take wanted x ≡ take wanted y
 bytes-cut s n wanted x y some room of_x of_y same =
     let long_x : length (take wanted x) ≡ wanted = length-take-le wanted x of_x in
@@ -149,7 +150,7 @@ bytes-cut s n wanted x y some room of_x of_y same =
     ∙ byte-cut s n wanted y k some room of_y below)
 
 -- all covered bytes
-pub bytes-bound : (s : Settings) (n wanted : ℕ) (x y : List ℕ) → 2 ≤ fan s → 0 < s.data_block
+pub bytes-bound : (s : TreeSettingsFields) (n wanted : ℕ) (x y : List ℕ) → 2 ≤ fan s → 0 < s.data_block
     → wanted ≤ n * s.data_block → wanted ≤ length x → wanted ≤ length y
     → root s (cut s n wanted x) ≡ root s (cut s n wanted y)
     → (take wanted x ≡ take wanted y) ⊎ TreesCollide s (cut s n wanted x) (cut s n wanted y)
@@ -161,7 +162,7 @@ bytes-bound s n wanted x y two some room of_x of_y one =
     ]
 
 -- of a plan
-pub data-bound : (p : Planned) (x y : List ℕ) → IsPlanned p → p.wanted ≤ length x → p.wanted ≤ length y
+pub data-bound : (p : PlanFields) (x y : List ℕ) → IsPlan p → p.wanted ≤ length x → p.wanted ≤ length y
     → root p.settings (data_blocks p x) ≡ root p.settings (data_blocks p y)
     → (take p.wanted x ≡ take p.wanted y) ⊎ TreesCollide p.settings (data_blocks p x) (data_blocks p y)
 data-bound p x y planned of_x of_y one =
@@ -172,11 +173,6 @@ data-bound p x y planned of_x of_y one =
     (le-div_ceil p.wanted s.data_block p.blocks some most) of_x of_y one
 
 -- ---- the salt
-
-some_blocks : (p : Planned) → IsPlanned p → 0 < p.blocks
-some_blocks p planned =
-    let some = div_ceil-pos p.wanted p.settings.data_block (some_data p.settings planned.valid) planned.some in
-    omega (arith, planned.blocks_are, some)
 
 -- bytes of one length that are joined to two salts
 salted_input-salt : (algorithm : Algorithm) (rule : SaltRule) (salt other x y : List ℕ) → rule ≢ PaddedBefore
@@ -190,19 +186,19 @@ salted_input-salt algorithm After salt other x y dm long e =
 salted_input-salt algorithm PaddedBefore salt other x y dm long e = absurd (dm refl)
 
 -- the length of a block above the first data block
-length-above : (p : Planned) (bytes : List ℕ) (l : ℕ) → IsPlanned p
+length-above : (p : PlanFields) (bytes : List ℕ) (l : ℕ) → IsPlan p
     → length (true_chain p.settings (data_blocks p bytes) 0 l) ≡ block_size_up p.settings l
 length-above p bytes zero planned =
-    length-data p.settings p.blocks p.wanted bytes 0 (some_blocks p planned)
+    length-data p.settings p.blocks p.wanted bytes 0 (blocks-some p planned)
 length-above p bytes (suc l) planned =
     let s = p.settings in
     let many : length (data_blocks p bytes) ≡ p.blocks = length-cut s p.blocks p.wanted bytes in
     length-true_chain s (data_blocks p bytes) 0 l (digest-slot s) (fan-pos s planned.valid)
-    (fan-fits s planned.valid) (omega (arith, many, some_blocks p planned))
+    (fan-fits s planned.valid) (omega (arith, many, blocks-some p planned))
     ∙ sym (size-up s l)
 
 -- the hash of what stands at the top
-hash-last : (p : Planned) (bytes : List ℕ) → IsPlanned p
+hash-last : (p : PlanFields) (bytes : List ℕ) → IsPlan p
     → hash p.settings (true_chain p.settings (data_blocks p bytes) 0 (level_count_of p))
     ≡ root p.settings (data_blocks p bytes)
 hash-last p bytes planned =
@@ -210,14 +206,14 @@ hash-last p bytes planned =
     let blocks = data_blocks p bytes in
     let many : length blocks ≡ p.blocks = length-cut s p.blocks p.wanted bytes in
     ap (λ (n : ℕ). hash s (true_chain s blocks 0 (level_count (fan s) n))) (sym many)
-    ∙ true_chain-root s blocks 0 (fan-two s planned.valid) (omega (arith, many, some_blocks p planned))
+    ∙ true_chain-root s blocks 0 (fan-two s planned.valid) (omega (arith, many, blocks-some p planned))
 
-same-levels : (p : Planned) (salt : List ℕ) → level_count_of (with_salt p salt) ≡ level_count_of p
+same-levels : (p : PlanFields) (salt : List ℕ) → level_count_of (with_salt p salt) ≡ level_count_of p
 unfolding fan
 same-levels p salt = refl
 
 -- plans that differ in the salt alone
-pub salt-bound : (p : Planned) (salt x y : List ℕ) → IsPlanned p → IsPlanned (with_salt p salt)
+pub salt-bound : (p : PlanFields) (salt x y : List ℕ) → IsPlan p → IsPlan (with_salt p salt)
     → p.settings.rule ≢ PaddedBefore
     → root p.settings (data_blocks p x) ≡ root (with_salt p salt).settings (data_blocks (with_salt p salt) y)
     → (p.settings.salt ≡ salt) ⊎ Collide p.settings.algorithm (hashed_last p x) (hashed_last (with_salt p salt) y)

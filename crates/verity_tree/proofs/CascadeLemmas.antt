@@ -1,13 +1,16 @@
 -- One level of the cascade, with the device.
 use Rattle.std.proofs.Common.{Bool, List, [], ap, arith, drop, eqb, false, get_or, inl, inr, length, refl, subst, suc}
+use Rattle.verity_tree.specs.declared.pass.closed_block.Task.{Task}
+use Rattle.verity_tree.specs.declared.pass.pass_fault.PassFault.{PassFault}
+use Rattle.verity_tree.specs.Steps.PassFaults.{StopsAtBlock, index_of, level_of}
 use Rattle.std.proofs.Common.{sym, take, true, zero, ℕ, ◌%◌, ◌*◌, ◌+◌, ◌-◌, ◌/◌, ◌<◌, ◌^◌, ◌∙◌, ◌∷◌, ◌≡◌, ◌≤◌, ◌⊎◌}
 use Rattle.std.proofs.lemmas.Bool.{cases_lt}
 use Rattle.std.proofs.lemmas.Bool.Decides.{eqb_tells}
 use Rattle.std.proofs.lemmas.Nat.{div-add-mod', div-mul-add}
 use Rattle.std.proofs.Math.Nat.{one-le-pow, pow-suc}
-use Rattle.verity_plan.specs.Settings.{Settings, hash, fan}
+use Rattle.verity_plan.specs.Settings.{TreeSettingsFields, hash, fan}
 use Rattle.verity_tree.specs.Levels.{blocks_up}
-use Rattle.verity_plan.specs.Plans.{level_count, level_size, place, start_byte, Planned}
+use Rattle.verity_plan.specs.Plans.{level_count, level_size, place, start_byte, PlanFields}
 use Rattle.verity_tree.specs.ClosingOrder.{closing_with, closes, BlockIndex, block_index, first_closing}
 use Rattle.verity_tree.specs.TreeOnDevice.{stored_block, tree_block}
 use Rattle.verity_tree.specs.TreeWriting.{device_with}
@@ -60,7 +63,7 @@ reached-down f i m l some h le =
     reached-down-by f i l (m - l) some (subst (λ (n : ℕ). IsReached f i n) e h)
 
 -- the digest on its way up is the next of its level
-pub level_digest-is_next : (s : Settings) (blocks : List (List ℕ)) (i m levels count index a k : ℕ)
+pub level_digest-is_next : (s : TreeSettingsFields) (blocks : List (List ℕ)) (i m levels count index a k : ℕ)
     (store block digest : List ℕ) → 2 ≤ fan s
     → i < count → m < levels → index ≡ i / fan s ^ m → a ≡ m * s.hash_block → k ≡ s.hash_block
     → block ≡ take k (drop a store) → count ≡ length blocks → IsCarrying s blocks (cascade_state i m levels) store digest
@@ -77,7 +80,7 @@ level_digest-is_next s blocks i m levels count index a k store block digest two 
     }
 
 -- the block that closes is the tree's
-pub closed-block : (s : Settings) (blocks : List (List ℕ)) (i m count index : ℕ) (last : Bool) → 0 < fan s
+pub closed-block : (s : TreeSettingsFields) (blocks : List (List ℕ)) (i m count index : ℕ) (last : Bool) → 0 < fan s
     → i < count → last ≡ eqb (i + 1) count → index ≡ i / fan s ^ m → count ≡ length blocks
     → (index % fan s + 1 ≡ fan s) ⊎ (last ≡ true)
     → open_block_with s (digests_under s blocks m) index ≡ tree_block s blocks m (i / fan s ^ (m + 1))
@@ -93,7 +96,7 @@ closed-block s blocks i m count index last some below l place many ends =
     ap (open_block_with s (digests_under s blocks m)) place ∙ sym (level_digest-next s blocks i m some less either)
 
 -- a block that closed is put at its place
-pub device-closed : (s : Settings) (blocks : List (List ℕ)) (base i m index target : ℕ) (start device new : List ℕ)
+pub device-closed : (s : TreeSettingsFields) (blocks : List (List ℕ)) (base i m index target : ℕ) (start device new : List ℕ)
     → open_block_with s (digests_under s blocks m) index ≡ tree_block s blocks m (i / fan s ^ (m + 1))
     → target ≡ start_byte s (length blocks) base m (i / fan s ^ (m + 1))
     → device ≡ device_with s blocks base (first_closing (fan s) i m) start
@@ -109,7 +112,7 @@ device-closed s blocks base i m index target start device new block to so_far pu
     ∙ sym (device_with-more s blocks base i m start)
 
 -- a level that stays open ends the data block's list
-pub closing-kept : (s : Settings) (blocks : List (List ℕ)) (i m levels count index : ℕ) (last : Bool)
+pub closing-kept : (s : TreeSettingsFields) (blocks : List (List ℕ)) (i m levels count index : ℕ) (last : Bool)
     (block after store digest : List ℕ) → 2 ≤ fan s
     → i < count → m < levels → levels ≡ level_count (fan s) count → last ≡ eqb (i + 1) count → index ≡ i / fan s ^ m
     → count ≡ length blocks
@@ -135,7 +138,7 @@ closing-kept s blocks i m levels count index last block after store digest two b
     (λ j high within. closes-none f n i m j some reached room more high)
 
 -- all levels close
-pub closing-done : (s : Settings) (blocks : List (List ℕ)) (i levels count : ℕ) (store digest : List ℕ) → 2 ≤ fan s
+pub closing-done : (s : TreeSettingsFields) (blocks : List (List ℕ)) (i levels count : ℕ) (store digest : List ℕ) → 2 ≤ fan s
     → i < count → levels ≡ level_count (fan s) count → count ≡ length blocks
     → IsCarrying s blocks (cascade_state i levels levels) store digest
     → closing_with (fan s) count i ≡ first_closing (fan s) i levels
@@ -158,7 +161,7 @@ closing-place f i m index g index_is g_is = ap (λ (n : ℕ). n / g) index_is �
     ∙ sym (quotient-next f i m)
 
 -- the block that could not be written is one that closes
-pub closes-stopped : (s : Settings) (blocks : List (List ℕ)) (i m levels count index : ℕ) (last : Bool)
+pub closes-stopped : (s : TreeSettingsFields) (blocks : List (List ℕ)) (i m levels count index : ℕ) (last : Bool)
     (store digest : List ℕ) → 0 < fan s → i < count
     → last ≡ eqb (i + 1) count → index ≡ i / fan s ^ m → count ≡ length blocks
     → (index % fan s + 1 ≡ fan s) ⊎ (last ≡ true)
@@ -181,7 +184,7 @@ closes-stopped s blocks i m levels count index last store digest some below l pl
     ]
 
 -- and so do the levels below it
-pub closes-stopped_all : (s : Settings) (blocks : List (List ℕ)) (i m levels count index : ℕ) (last : Bool)
+pub closes-stopped_all : (s : TreeSettingsFields) (blocks : List (List ℕ)) (i m levels count index : ℕ) (last : Bool)
     (store digest : List ℕ) → 0 < fan s → i < count
     → last ≡ eqb (i + 1) count → index ≡ i / fan s ^ m → count ≡ length blocks
     → (index % fan s + 1 ≡ fan s) ⊎ (last ≡ true)
@@ -202,7 +205,7 @@ closes-stopped_all s blocks i m levels count index last store digest some below 
     ]
 
 -- one block more that stands there
-pub none-differs-more : (p : Planned) (blocks : List (List ℕ)) (i m : ℕ) (device : List ℕ)
+pub none-differs-more : (p : PlanFields) (blocks : List (List ℕ)) (i m : ℕ) (device : List ℕ)
     → NoneDiffers p blocks device (first_closing (fan p.settings) i m)
     → stored_block p device m (i / fan p.settings ^ (m + 1)) ≡ tree_block p.settings blocks m
     (i / fan p.settings ^ (m + 1))
@@ -233,3 +236,9 @@ ends-here f n i m index last place l before ends =
             | inr is ↦ inr (same_last i n (sym l ∙ is))
           ]
     ]
+
+-- what holds of a hash block holds of the one that its fault names
+pub at-block : (P : ℕ → ℕ → Type 0) (task : Task) (l j : ℕ) (fault : PassFault) → StopsAtBlock task l j fault → P l j
+    → P (level_of fault) (index_of fault)
+at-block P task l j fault at h =
+    subst (λ (k : ℕ). P k (index_of fault)) (sym at.level_is) (subst (P l) (sym at.index_is) h)

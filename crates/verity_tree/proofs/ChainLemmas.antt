@@ -17,7 +17,7 @@ use Rattle.verity_plan.specs.Plans.{level_count}
 use Rattle.verity_tree.specs.Levels.{block_at, cut, hash_block_of, blocks_up, root}
 use Rattle.verity_tree.specs.Steps.OpenBlocks.{digests_under}
 use Rattle.verity_tree.specs.Paths.{true_chain}
-use Rattle.verity_plan.specs.Settings.{Settings, digest_len, fan, hash, slot, slot_width}
+use Rattle.verity_plan.specs.Settings.{TreeSettingsFields, digest_len, fan, hash, slot, slot_width}
 use Rattle.verity_tree.specs.Verdicts.{digest_in}
 use Rattle.verity_plan.proofs.CountLemmas.{IsLevelCount-level_count}
 use Rattle.verity_tree.proofs.PathSteps.{div-pow-zero}
@@ -27,7 +27,7 @@ use Rattle.verity_plan.proofs.IndexLemmas.{quotient-below, quotient-next}
 use Rattle.verity_tree.proofs.TreeLemmas.{height-level_count}
 
 -- the true chain, by levels up
-pub true_chain-blocks_up : (s : Settings) (blocks : List (List ℕ)) (i l : ℕ)
+pub true_chain-blocks_up : (s : TreeSettingsFields) (blocks : List (List ℕ)) (i l : ℕ)
     → true_chain s blocks i l ≡ get_or (blocks_up s blocks l) (i / fan s ^ l) []
 unfolding blocks_up
 true_chain-blocks_up s blocks i zero = ap (λ (n : ℕ). get_or blocks n []) (div-pow-zero (fan s) i)
@@ -35,7 +35,7 @@ true_chain-blocks_up s blocks i (suc l) =
     let e : l + 1 ≡ suc l = omega arith in ap (λ (k : ℕ). get_or (blocks_up s blocks k) (i / fan s ^ k) []) e
 
 -- a digest is found in its slot
-pub digest_in-slots : (s : Settings) (xs : List (List ℕ)) (t : ℕ) → digest_len s ≤ slot_width s → t < length xs
+pub digest_in-slots : (s : TreeSettingsFields) (xs : List (List ℕ)) (t : ℕ) → digest_len s ≤ slot_width s → t < length xs
     → digest_in s (hash_block_of s (map (hash s) xs)) t ≡ hash s (get_or xs t [])
 digest_in-slots s xs t fits below =
     let w = slot_width s in
@@ -65,7 +65,7 @@ digest_in-slots s xs t fits below =
     map-append f (x ∷ xs) ys = ap (λ (zs : List (List ℕ)). f x ∷ zs) (map-append f xs ys)
 
 -- the digest of block q is in its slot of the block above
-pub digest-up : (s : Settings) (blocks : List (List ℕ)) (l q : ℕ) → digest_len s ≤ slot_width s → 0 < fan s
+pub digest-up : (s : TreeSettingsFields) (blocks : List (List ℕ)) (l q : ℕ) → digest_len s ≤ slot_width s → 0 < fan s
     → q < length (blocks_up s blocks l)
     → digest_in s (get_or (blocks_up s blocks (l + 1)) (q / fan s) []) (q % fan s) ≡ hash s
     (get_or (blocks_up s blocks l) q [])
@@ -87,7 +87,7 @@ digest-up s blocks l q fits some below =
     ∙ ap (λ (n : ℕ). get_or xs n []) split)
 
 -- the true chain holds at each level
-pub true_chain-up : (s : Settings) (blocks : List (List ℕ)) (i l : ℕ) → digest_len s ≤ slot_width s → 0 < fan s
+pub true_chain-up : (s : TreeSettingsFields) (blocks : List (List ℕ)) (i l : ℕ) → digest_len s ≤ slot_width s → 0 < fan s
     → i < length blocks
     → hash s (true_chain s blocks i l) ≡ digest_in s (true_chain s blocks i (suc l)) (i / fan s ^ l % fan s)
 true_chain-up s blocks i l fits some below =
@@ -100,7 +100,7 @@ true_chain-up s blocks i l fits some below =
     (sym (quotient-next (fan s) i l))
 
 -- and at the top
-pub true_chain-root : (s : Settings) (blocks : List (List ℕ)) (i : ℕ) → 2 ≤ fan s → i < length blocks
+pub true_chain-root : (s : TreeSettingsFields) (blocks : List (List ℕ)) (i : ℕ) → 2 ≤ fan s → i < length blocks
     → hash s (true_chain s blocks i (level_count (fan s) (length blocks))) ≡ root s blocks
 unfolding root
 true_chain-root s blocks i two below =
@@ -118,7 +118,7 @@ length-with_zeros n bytes most =
     omega (arith, length-append bytes (replicate (n - length bytes) 0), length-replicate {A = ℕ} (n - length bytes) 0)
 
 -- a block of the tree on the way up has a hash block's length
-pub length-true_chain : (s : Settings) (blocks : List (List ℕ)) (i l : ℕ) → digest_len s ≤ slot_width s → 0 < fan s
+pub length-true_chain : (s : TreeSettingsFields) (blocks : List (List ℕ)) (i l : ℕ) → digest_len s ≤ slot_width s → 0 < fan s
     → fan s * slot_width s ≤ s.hash_block
     → i < length blocks → length (true_chain s blocks i (suc l)) ≡ s.hash_block
 length-true_chain s blocks i l fits some room below =
@@ -136,7 +136,7 @@ length-true_chain s blocks i l fits some room below =
     (omega (arith, length-slots s run fits, mul-le-mul_right (slot_width s) few, room))
 
 -- a data block has its length
-pub length-data : (s : Settings) (n wanted : ℕ) (bytes : List ℕ) (i : ℕ) → i < n
+pub length-data : (s : TreeSettingsFields) (n wanted : ℕ) (bytes : List ℕ) (i : ℕ) → i < n
     → length (get_or (cut s n wanted bytes) i []) ≡ s.data_block
 unfolding cut
 length-data s n wanted bytes i below =

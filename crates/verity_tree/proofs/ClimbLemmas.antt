@@ -7,9 +7,9 @@ use Rattle.std.proofs.lemmas.Nat.{div-add-mod', mod_below}
 use Rattle.std.proofs.Math.Nat.{mul-add-mod_self_right, mul-le-mul_right}
 use Rattle.std.specs.Int.{div_ceil}
 use Rattle.verity_hash.specs.Hashing.{with_zeros}
-use Rattle.verity_plan.specs.Plans.{IsPlanned, Planned}
+use Rattle.verity_plan.specs.Plans.{IsPlan, PlanFields}
 use Rattle.verity_plan.specs.PlanCounts.{level_count_of}
-use Rattle.verity_plan.specs.Settings.{Settings, fan, hash}
+use Rattle.verity_plan.specs.Settings.{TreeSettingsFields, fan, hash}
 use Rattle.verity_plan.proofs.CountLemmas.{IsLevelCount-level_count, div_ceil-le, le-div_ceil}
 use Rattle.verity_plan.proofs.FanLemmas.{fan-some, fan-two, some_data}
 use Rattle.verity_plan.proofs.IndexLemmas.{quotient-below}
@@ -36,12 +36,12 @@ last-place count size wide some =
     (omega (arith, split, some), omega (arith, split, low))
 
 -- how many bytes there are of the last byte's data block
-pub length-current : (s : Settings) (fed : List ℕ)
+pub length-current : (s : TreeSettingsFields) (fed : List ℕ)
     → length (current_bytes s fed) ≡ length fed - blocks_before s (length fed) * s.data_block
 length-current s fed = length-drop (blocks_before s (length fed) * s.data_block) fed
 
 -- and their number is that of all bytes, but for whole data blocks
-pub current-place : (s : Settings) (fed : List ℕ) → 0 < s.data_block → 0 < length fed
+pub current-place : (s : TreeSettingsFields) (fed : List ℕ) → 0 < s.data_block → 0 < length fed
     → length (current_bytes s fed) % s.data_block ≡ length fed % s.data_block
 current-place s fed wide some =
     let size = s.data_block in
@@ -53,7 +53,7 @@ current-place s fed wide some =
     ∙ ap (λ (n : ℕ). n % size) split
 
 -- the last byte's data block is one of the plan's
-pub last-below : (p : Planned) (count : ℕ) → IsPlanned p → 0 < count → count ≤ p.wanted
+pub last-below : (p : PlanFields) (count : ℕ) → IsPlan p → 0 < count → count ≤ p.wanted
     → blocks_before p.settings count < p.blocks
 last-below p count planned some most =
     let wide = some_data p.settings planned.valid in
@@ -64,7 +64,7 @@ last-below p count planned some most =
     )
 
 -- the last byte's data block comes to level 0
-pub carrying-current : (p : Planned) (levels : ℕ) (fed opened current digest : List ℕ) → IsPlanned p
+pub carrying-current : (p : PlanFields) (levels : ℕ) (fed opened current digest : List ℕ) → IsPlan p
     → EndsDataBlock p (length fed) → HasFed p.settings levels fed opened current
     → digest ≡ hash p.settings (with_zeros p.settings.data_block (current_bytes p.settings fed))
     → IsCarrying p.settings (data_blocks p fed) (cascade_state (blocks_before p.settings (length fed)) 0 levels) opened
@@ -85,7 +85,7 @@ carrying-current p levels fed opened current digest planned ends h is =
     (first_blocks-plan p i levels fed opened planned (omega (arith, place.0)) ends.most h.stands)
 
 -- a hash block was handed out
-pub handing-out : (p : Planned) (levels level : ℕ) (fed opened current : List ℕ) → 0 < level
+pub handing-out : (p : PlanFields) (levels level : ℕ) (fed opened current : List ℕ) → 0 < level
     → Stands p levels fed level opened current → IsHandingOut p levels (level - 1) fed opened
 handing-out p levels zero fed opened current some h = absurd (omega (arith, some))
 handing-out p levels (suc m) fed opened current some h =
@@ -93,13 +93,13 @@ handing-out p levels (suc m) fed opened current some h =
     subst (λ (n : ℕ). IsHandingOut p levels n fed opened) e h
 
 -- nothing was handed out
-pub nothing-out : (p : Planned) (levels level : ℕ) (fed opened current : List ℕ) → level ≡ 0
+pub nothing-out : (p : PlanFields) (levels level : ℕ) (fed opened current : List ℕ) → level ≡ 0
     → Stands p levels fed level opened current → HasFed p.settings levels fed opened current
 nothing-out p levels level fed opened current none h =
     subst (λ (n : ℕ). Stands p levels fed n opened current) none h
 
 -- more data blocks come after the last byte's only if that is whole
-pub whole-count : (p : Planned) (count : ℕ) → IsPlanned p → EndsDataBlock p count
+pub whole-count : (p : PlanFields) (count : ℕ) → IsPlan p → EndsDataBlock p count
     → blocks_before p.settings count + 1 < p.blocks
     → count ≡ (blocks_before p.settings count + 1) * p.settings.data_block
 whole-count p count planned ends more =
@@ -116,7 +116,7 @@ whole-count p count planned ends more =
     ]
 
 -- the last byte is the last of all if its data block is
-pub all-count : (p : Planned) (count : ℕ) → IsPlanned p → EndsDataBlock p count
+pub all-count : (p : PlanFields) (count : ℕ) → IsPlan p → EndsDataBlock p count
     → blocks_before p.settings count + 1 ≡ p.blocks → count ≡ p.wanted
 all-count p count planned ends last =
     let s = p.settings in
@@ -131,7 +131,7 @@ all-count p count planned ends last =
     ]
 
 -- the hash block of a level has closed, and is handed out next
-pub climbs-closed : (p : Planned) (levels level : ℕ) (fed opened : List ℕ) → EndsDataBlock p (length fed)
+pub climbs-closed : (p : PlanFields) (levels level : ℕ) (fed opened : List ℕ) → EndsDataBlock p (length fed)
     → level < level_count_of p
     → HasClosed p.settings (data_blocks p fed) (blocks_before p.settings (length fed)) level levels opened
     → Climbs p levels fed level true opened
@@ -144,7 +144,7 @@ climbs-closed p levels level fed opened ends below closed =
     )
 
 -- the level's open block has room for more, and all data blocks that are whole have come to the open blocks
-pub climbs-kept : (p : Planned) (levels level : ℕ) (fed before digest opened : List ℕ) → IsPlanned p
+pub climbs-kept : (p : PlanFields) (levels level : ℕ) (fed before digest opened : List ℕ) → IsPlan p
     → EndsDataBlock p (length fed) → level ≤ level_count_of p
     → IsCarrying p.settings (data_blocks p fed) (cascade_state (blocks_before p.settings (length fed)) level levels)
     before digest
@@ -170,7 +170,7 @@ climbs-kept p levels level fed before digest opened planned ends within h room m
     )
 
 -- past all levels no digest comes but with the last byte of all
-pub climbs-past : (p : Planned) (levels level : ℕ) (fed before digest : List ℕ) → IsPlanned p
+pub climbs-past : (p : PlanFields) (levels level : ℕ) (fed before digest : List ℕ) → IsPlan p
     → EndsDataBlock p (length fed) → level_count_of p ≤ level → level ≤ level_count_of p
     → (length fed ≡ p.wanted → level < level_count_of p)
     → IsCarrying p.settings (data_blocks p fed) (cascade_state (blocks_before p.settings (length fed)) level levels)
@@ -199,7 +199,7 @@ climbs-past p levels level fed before digest planned ends past within more h =
     ]
 
 -- the last byte of all is in the last data block
-pub last-block : (p : Planned) → IsPlanned p → blocks_before p.settings p.wanted + 1 ≡ p.blocks
+pub last-block : (p : PlanFields) → IsPlan p → blocks_before p.settings p.wanted + 1 ≡ p.blocks
 last-block p planned =
     let size = p.settings.data_block in
     let e : p.wanted - 1 + 1 ≡ p.wanted = omega (arith, planned.some) in

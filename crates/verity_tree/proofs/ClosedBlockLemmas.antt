@@ -3,11 +3,10 @@ use Rattle.std.proofs.Common.{◌≡◌, ℕ, ◌+◌, ◌-◌, ◌<◌, ◌≤�
 use Rattle.std.proofs.Common.{arith, sym, ◌∙◌, ap, subst, refl, append_assoc, length-drop, Ok, Err}
 use Rattle.std.proofs.lemmas.List.{append-nil, length-take, take-append-drop, drop-drop}
 use Rattle.verity_tree.specs.Steps.ClosedBlocks.{WritesOrCompares, IsHashBlockFault, closed_block}
-use Rattle.verity_plan.specs.Plans.{Planned, start_byte_of}
+use Rattle.verity_plan.specs.Plans.{PlanFields, start_byte_of}
 use Rattle.verity_tree.specs.TreeOnDevice.{stored_block}
 use Rattle.verity_io.specs.Writing.{put, Spoiled}
-use Rattle.verity_tree.specs.declared.pass.closed_block.HashBlockFault.{HashBlockFault}
-use Rattle.verity_tree.specs.declared.pass.closed_block.HashBlockFault.TheVariants.{Failed, Differs}
+use Rattle.verity_tree.specs.declared.pass.pass_fault.PassFault.{PassFault}
 use Rattle.verity_tree.specs.declared.pass.closed_block.Task.{Task}
 use Rattle.verity_tree.specs.declared.pass.closed_block.Task.TheVariants.{Write, Compare}
 
@@ -37,7 +36,7 @@ pub Spoiled-none : (device : List ℕ) (at c : ℕ) → Spoiled device at c devi
 Spoiled-none device at c = record { no_shorter = omega arith; no_longer = omega arith; outside = λ i h. refl }
 
 -- a block that is closed is put at its place, or stands there
-pub WritesOrCompares-put : (p : Planned) (task : Task) (l j : ℕ) (bytes before after : List ℕ) (done : Unit {0})
+pub WritesOrCompares-put : (p : PlanFields) (task : Task) (l j : ℕ) (bytes before after : List ℕ) (done : Unit {0})
     → 0 < p.settings.hash_block → length bytes ≡ p.settings.hash_block
     → WritesOrCompares p task (closed_block l j bytes) (Ok done) before after → after
     ≡ put before (start_byte_of p l j) bytes
@@ -46,28 +45,25 @@ WritesOrCompares-put p Compare l j bytes before after done some size h =
     h.0 ∙ put-same before bytes (start_byte_of p l j) p.settings.hash_block some size h.1
 
 -- a block that stops a pass spoils its range at most
-pub WritesOrCompares-spoiled : (p : Planned) (task : Task) (l j : ℕ) (bytes before after : List ℕ) (fault : HashBlockFault)
+pub WritesOrCompares-spoiled : (p : PlanFields) (task : Task) (l j : ℕ) (bytes before after : List ℕ) (fault : PassFault)
     → WritesOrCompares p task (closed_block l j bytes) (Err fault) before after
     → Spoiled before (start_byte_of p l j) p.settings.hash_block after
 WritesOrCompares-spoiled p Write l j bytes before after fault h = h
-WritesOrCompares-spoiled p Compare l j bytes before after Failed h =
-    subst (Spoiled before (start_byte_of p l j) p.settings.hash_block)
-    (sym h) (Spoiled-none before (start_byte_of p l j) p.settings.hash_block)
-WritesOrCompares-spoiled p Compare l j bytes before after (Differs part) h =
+WritesOrCompares-spoiled p Compare l j bytes before after fault h =
     subst (Spoiled before (start_byte_of p l j) p.settings.hash_block) (sym h.0)
     (Spoiled-none before (start_byte_of p l j) p.settings.hash_block)
 
 -- a block that is compared and stands there
-pub WritesOrCompares-same : (p : Planned) (task : Task) (l j : ℕ) (bytes before after : List ℕ) (done : Unit {0}) → task ≡ Compare
+pub WritesOrCompares-same : (p : PlanFields) (task : Task) (l j : ℕ) (bytes before after : List ℕ) (done : Unit {0}) → task ≡ Compare
     → WritesOrCompares p task (closed_block l j bytes) (Ok done) before after → (after ≡ before)
     × (stored_block p before l j ≡ bytes)
 WritesOrCompares-same p Write l j bytes before after done compare h = cc
 WritesOrCompares-same p Compare l j bytes before after done compare h = h
 
 -- a block that is compared and stops the pass
-pub WritesOrCompares-fault : (p : Planned) (task : Task) (l j : ℕ) (bytes before after : List ℕ) (fault : HashBlockFault) → task ≡ Compare
+pub WritesOrCompares-fault : (p : PlanFields) (task : Task) (l j : ℕ) (bytes before after : List ℕ) (fault : PassFault)
+    → task ≡ Compare
     → WritesOrCompares p task (closed_block l j bytes) (Err fault) before after
     → (after ≡ before) × IsHashBlockFault p (closed_block l j bytes) before fault
 WritesOrCompares-fault p Write l j bytes before after fault compare h = cc
-WritesOrCompares-fault p Compare l j bytes before after Failed compare h = (h, tt)
-WritesOrCompares-fault p Compare l j bytes before after (Differs part) compare h = h
+WritesOrCompares-fault p Compare l j bytes before after fault compare h = h

@@ -10,7 +10,7 @@ use Rattle.std.proofs.Math.Nat.{one-le-pow, pow-suc, pow-zero}
 use borrow.Rule.Slice.PartMut.{put_mid}
 use Rattle.std.specs.Fork.{slice_chunk}
 use Rattle.verity_plan.specs.Plans.{level_count}
-use Rattle.verity_plan.specs.Settings.{Settings, hash, fan, slot_width}
+use Rattle.verity_plan.specs.Settings.{TreeSettingsFields, hash, fan, slot_width}
 use Rattle.verity_plan.proofs.CountLemmas.{IsLevelCount-level_count, mul_le}
 use Rattle.verity_tree.specs.Levels.{hash_block_of, blocks_up}
 use Rattle.verity_tree.specs.Steps.Feeding.{Adds, HasClosed}
@@ -57,7 +57,7 @@ full-first f i h =
     omega (arith, h.whole, e, div-add-mod' i f)
 
 -- the block that a digest is put into
-pub put-is_with : (s : Settings) (blocks : List (List ℕ)) (i m levels index f w a k : ℕ) (store after digest : List ℕ)
+pub put-is_with : (s : TreeSettingsFields) (blocks : List (List ℕ)) (i m levels index f w a k : ℕ) (store after digest : List ℕ)
     → f ≡ fan s → w ≡ slot_width s → 2 ≤ f → fan s * slot_width s ≤ s.hash_block → i < length blocks → m < levels
     → index ≡ i / fan s ^ m → a ≡ m * s.hash_block → k ≡ s.hash_block
     → after ≡ take (index % f * w) (take k (drop a store)) ++ digest
@@ -77,7 +77,7 @@ length-part size m a k store from wide room =
     length-take-le k (drop a store) (omega (arith, length-drop a store, from, wide, room)) ∙ wide
 
 -- a block that has closed stands
-pub HasClosed-put : (s : Settings) (blocks : List (List ℕ)) (i m levels a k : ℕ) (store block digest : List ℕ)
+pub HasClosed-put : (s : TreeSettingsFields) (blocks : List (List ℕ)) (i m levels a k : ℕ) (store block digest : List ℕ)
     → 0 < fan s → i < length blocks → m < levels
     → (i / fan s ^ m % fan s + 1 ≡ fan s) ⊎ (i + 1 ≡ length blocks) → levels * s.hash_block ≤ length store
     → a ≡ m * s.hash_block → k ≡ s.hash_block → length block ≡ s.hash_block
@@ -103,7 +103,7 @@ HasClosed-put s blocks i m levels a k store block digest some below inside ends 
     }
 
 -- a block that closed gives its digest one level up, and leaves zeros
-pub IsCarrying-up : (s : Settings) (blocks : List (List ℕ)) (i m levels a k : ℕ) (store zeros digest : List ℕ)
+pub IsCarrying-up : (s : TreeSettingsFields) (blocks : List (List ℕ)) (i m levels a k : ℕ) (store zeros digest : List ℕ)
     → 0 < fan s → m < levels → levels * s.hash_block ≤ length store → a ≡ m * s.hash_block → k ≡ s.hash_block
     → zeros ≡ replicate s.hash_block 0 → digest ≡ hash s (slice_chunk store s.hash_block m)
     → HasClosed s blocks i m levels store
@@ -138,7 +138,7 @@ IsCarrying-up s blocks i m levels a k store zeros digest some inside room from w
     }
 
 -- the last slot is filled, so the block has closed
-pub Adds-full : (s : Settings) (blocks : List (List ℕ)) (i m levels a k : ℕ) (closed : Bool)
+pub Adds-full : (s : TreeSettingsFields) (blocks : List (List ℕ)) (i m levels a k : ℕ) (closed : Bool)
     (store block digest : List ℕ) → 0 < fan s → i < length blocks → m < levels → closed ≡ true
     → i / fan s ^ m % fan s + 1 ≡ fan s → levels * s.hash_block ≤ length store
     → a ≡ m * s.hash_block → k ≡ s.hash_block → length block ≡ s.hash_block
@@ -150,7 +150,7 @@ Adds-full s blocks i m levels a k closed store block digest some below inside is
     (HasClosed-put s blocks i m levels a k store block digest some below inside (inl full) room from wide len is h)
 
 -- a slot before the last is filled, so the block has closed only with the last data block
-pub Adds-room : (s : Settings) (blocks : List (List ℕ)) (i m levels count a k : ℕ) (store block digest : List ℕ)
+pub Adds-room : (s : TreeSettingsFields) (blocks : List (List ℕ)) (i m levels count a k : ℕ) (store block digest : List ℕ)
     → 0 < fan s → i < length blocks → m < levels → count ≡ length blocks
     → i / fan s ^ m % fan s + 1 < fan s → levels * s.hash_block ≤ length store
     → a ≡ m * s.hash_block → k ≡ s.hash_block → length block ≡ s.hash_block
@@ -178,7 +178,7 @@ Adds-room s blocks i m levels count a k store block digest some below inside man
     ]
 
 -- a digest that fills no block of level 0 leaves the open blocks of one data block more
-pub HasOpenBlocks-added : (s : Settings) (blocks : List (List ℕ)) (i levels : ℕ) (closed : Bool) (opened : List ℕ)
+pub HasOpenBlocks-added : (s : TreeSettingsFields) (blocks : List (List ℕ)) (i levels : ℕ) (closed : Bool) (opened : List ℕ)
     → i + 1 < length blocks → (i % fan s + 1 ≡ fan s → ⊥)
     → Adds closed s blocks i 0 levels opened → HasOpenBlocks s blocks 0 levels (i + 1) opened
 HasOpenBlocks-added s blocks i levels true opened more apart h = absurd (apart (full-first (fan s) i (h.reached more)))

@@ -15,8 +15,8 @@ use Rattle.verity_tree.specs.Steps.DataBlocks.{HoldsBlock, StopsWithin}
 use Rattle.verity_tree.specs.Levels.{block_at, cut, blocks_up, data_blocks, whole_blocks}
 use Rattle.verity_tree.specs.Steps.PlainRoots.{digest_of_block}
 use Rattle.verity_tree.specs.Steps.OpenBlocks.{level_digest}
-use Rattle.verity_plan.specs.Plans.{IsPlanned, Planned}
-use Rattle.verity_plan.specs.Settings.{Settings, hash, fan}
+use Rattle.verity_plan.specs.Plans.{IsPlan, PlanFields}
+use Rattle.verity_plan.specs.Settings.{TreeSettingsFields, hash, fan}
 use Rattle.std.specs.Int.{div_ceil}
 use Rattle.verity_plan.proofs.CountLemmas.{mul-lt_div_ceil, div_ceil-pos, le-div_ceil}
 use Rattle.verity_plan.proofs.FanLemmas.{some_data}
@@ -46,12 +46,12 @@ block-next bytes b size i data_len here w =
     ∙ ap (λ (k : ℕ). take b (drop (i * b) (take k bytes))) split)
 
 -- the bytes so far and one more block
-record NextBlock (s : Settings) (size i : ℕ) (bytes after block : List ℕ) : Type 0 where
+record NextBlock (s : TreeSettingsFields) (size i : ℕ) (bytes after block : List ℕ) : Type 0 where
   pub enough : min ((i + 1) * s.data_block) size ≤ length bytes
   pub rest : after ≡ drop (min ((i + 1) * s.data_block) size) bytes
   pub digest : hash s block ≡ digest_of_block s size bytes i
 
-NextBlock-read : (s : Settings) (size i data_len b : ℕ) (bytes rest after block : List ℕ) → b ≡ s.data_block
+NextBlock-read : (s : TreeSettingsFields) (size i data_len b : ℕ) (bytes rest after block : List ℕ) → b ≡ s.data_block
     → i * s.data_block < size
     → data_len ≡ min b (size - i * b) → min (i * s.data_block) size ≤ length bytes
     → rest ≡ drop (min (i * s.data_block) size) bytes
@@ -72,7 +72,7 @@ NextBlock-read s size i data_len b bytes rest after block e here w have goes h =
     }
 
 -- the digest of data block i is what comes to level 0
-pub level_digest-data : (s : Settings) (n wanted i : ℕ) (bytes digest : List ℕ) → i < n
+pub level_digest-data : (s : TreeSettingsFields) (n wanted i : ℕ) (bytes digest : List ℕ) → i < n
     → digest ≡ digest_of_block s wanted bytes i
     → digest ≡ level_digest s (cut s n wanted bytes) i 0
 unfolding cut blocks_up
@@ -84,7 +84,7 @@ level_digest-data s n wanted i bytes digest below is =
     (place-first i (fan s))
 
 -- the next data block is read, and hashed where it stands
-pub data-next : (p : Planned) → IsPlanned p → (i data_len b a : ℕ) (bytes rest after store new digest : List ℕ)
+pub data-next : (p : PlanFields) → IsPlan p → (i data_len b a : ℕ) (bytes rest after store new digest : List ℕ)
     → b ≡ p.settings.data_block → i < p.blocks
     → data_len ≡ min b (p.wanted - i * b) → a + b ≤ length store → length new ≡ length (take (a + b - a) (drop a store))
     → HasRead (bytes_of p i) bytes rest → HoldsBlock data_len (length (take (a + b - a) (drop a store))) rest after new
@@ -111,13 +111,13 @@ data-next p planned i data_len b a bytes rest after store new digest e below w r
     )
 
 -- nothing was read of the source
-pub HasRead-none : (p : Planned) (bytes : List ℕ) → HasRead (bytes_of p 0) bytes bytes
+pub HasRead-none : (p : PlanFields) (bytes : List ℕ) → HasRead (bytes_of p 0) bytes bytes
 HasRead-none p bytes =
     let none : min (0 * p.settings.data_block) p.wanted ≡ 0 = omega arith in
     record { enough = omega (arith, none); rest = ap (λ (k : ℕ). drop k bytes) (sym none) }
 
 -- all data blocks have all bytes that are wanted
-pub bytes_of-all : (p : Planned) → IsPlanned p → bytes_of p p.blocks ≡ p.wanted
+pub bytes_of-all : (p : PlanFields) → IsPlan p → bytes_of p p.blocks ≡ p.wanted
 bytes_of-all p planned =
     let size = p.settings.data_block in
     let most : div_ceil p.wanted size ≤ p.blocks = omega (arith, planned.blocks_are) in
@@ -133,7 +133,7 @@ le-div i n a some h = elim (cases_lt (n / a) i) [
 ]
 
 -- a plan has a data block
-pub blocks-some : (p : Planned) → IsPlanned p → 0 < p.blocks
+pub blocks-some : (p : PlanFields) → IsPlan p → 0 < p.blocks
 blocks-some p planned =
     omega (
       arith,
@@ -142,12 +142,12 @@ blocks-some p planned =
     )
 
 -- bytes that hold all that is wanted hold all blocks
-pub whole_blocks-all : (p : Planned) (bytes : List ℕ) → p.wanted ≤ length bytes → whole_blocks p bytes ≡ p.blocks
+pub whole_blocks-all : (p : PlanFields) (bytes : List ℕ) → p.wanted ≤ length bytes → whole_blocks p bytes ≡ p.blocks
 whole_blocks-all p bytes enough =
     let tested : nat_le p.wanted (length bytes) ≡ true = grind (arith, nat_tests, enough) in rw tested refl
 
 -- bytes that end within block i hold i blocks
-pub whole-short : (p : Planned) (i : ℕ) (bytes : List ℕ) → bytes_of p i ≤ length bytes
+pub whole-short : (p : PlanFields) (i : ℕ) (bytes : List ℕ) → bytes_of p i ≤ length bytes
     → length bytes < bytes_of p (i + 1) → whole_blocks p bytes ≡ i
 whole-short p i bytes enough short =
     let less : length bytes < p.wanted = omega (arith, short) in
@@ -157,7 +157,7 @@ whole-short p i bytes enough short =
     rw tested (div-eq_of_lt-le p.settings.data_block from to)
 
 -- bytes of which i blocks were read hold at least i blocks
-pub whole_blocks-above : (p : Planned) → IsPlanned p → (i : ℕ) (bytes : List ℕ) → i ≤ p.blocks
+pub whole_blocks-above : (p : PlanFields) → IsPlan p → (i : ℕ) (bytes : List ℕ) → i ≤ p.blocks
     → bytes_of p i ≤ length bytes
     → i ≤ whole_blocks p bytes
 whole_blocks-above p planned i bytes within enough = elim (cases_lt (length bytes) p.wanted) [
@@ -169,7 +169,7 @@ whole_blocks-above p planned i bytes within enough = elim (cases_lt (length byte
 ]
 
 -- the source ends within block i
-pub short-within : (p : Planned) → IsPlanned p → (i data_len b : ℕ) (bytes rest after : List ℕ)
+pub short-within : (p : PlanFields) → IsPlan p → (i data_len b : ℕ) (bytes rest after : List ℕ)
     → b ≡ p.settings.data_block
     → i < p.blocks
     → data_len ≡ min b (p.wanted - i * b) → HasRead (bytes_of p i) bytes rest → length rest < data_len → after ≡ []
@@ -193,7 +193,7 @@ short-within p planned i data_len b bytes rest after e below w read_before short
     }
 
 -- the source failed within block i
-pub failed-within : (p : Planned) → IsPlanned p → (i data_len b : ℕ) (bytes rest after : List ℕ)
+pub failed-within : (p : PlanFields) → IsPlan p → (i data_len b : ℕ) (bytes rest after : List ℕ)
     → b ≡ p.settings.data_block
     → i < p.blocks
     → data_len ≡ min b (p.wanted - i * b) → HasRead (bytes_of p i) bytes rest → StopsWithin data_len rest after

@@ -5,7 +5,7 @@ use Rattle.std.proofs.Common.{◌≡◌, ◌≤◌, cond}
 use Rattle.std.proofs.lemmas.List.{append-nil, take-append-le, drop-append-le, take-replicate}
 use Rattle.std.proofs.Math.Nat.{zero-div}
 use Rattle.std.proofs.Math.Seq.{drop-append_seam, drop-nil, take-append_seam}
-use Rattle.verity_plan.specs.Plans.{IsPlanned, Planned, block_count, checked_plan, has_room, plan_for_bytes}
+use Rattle.verity_plan.specs.Plans.{IsPlan, PlanFields, block_count, checked_plan, has_room, plan_for_bytes}
 use Rattle.verity_plan.specs.Plans.{start_byte_of}
 use Rattle.verity_plan.specs.PlanCounts.{level_count_of, most_level_count}
 use Rattle.verity_plan.specs.declared.plan_fault.PlanFault.TheVariants.{NoData, TooLarge as NoRoom}
@@ -13,7 +13,7 @@ use Rattle.verity_io.specs.Writing.{most_bytes}
 use Rattle.std.proofs.lemmas.Bool.{cases_lt}
 use Rattle.std.proofs.lemmas.Bool.Decides.{nat_tests}
 use Rattle.std.specs.Prelude.{◌==◌, Err, Ok, nat_eq}
-use Rattle.verity_plan.specs.Settings.{IsValid, Settings, fan}
+use Rattle.verity_plan.specs.Settings.{IsValid, TreeSettingsFields, fan}
 use Rattle.verity_plan.proofs.CountLemmas.{div_ceil-pos, le-div_ceil, mul_le}
 use Rattle.verity_plan.proofs.FanLemmas.{fan-some, some_data}
 use Rattle.verity_plan.proofs.PlanLemmas.{checked_plan-large, has_room-data, levels_most, planned_is}
@@ -31,12 +31,12 @@ use Rattle.verity_tree.specs.declared.tree_builder.TreeBuilder.{TreeBuilder}
 use Rattle.verity_tree.proofs.OnePassLemmas.{HasOpenBlocks-zeros}
 
 -- no bytes are held anywhere
-HoldsCurrent-none : (s : Settings) (bytes current : List ℕ) → 0 < s.data_block → bytes ≡ [] → HoldsCurrent s bytes current
+HoldsCurrent-none : (s : TreeSettingsFields) (bytes current : List ℕ) → 0 < s.data_block → bytes ≡ [] → HoldsCurrent s bytes current
 HoldsCurrent-none s bytes current some none = subst (λ (xs : List ℕ). HoldsCurrent s xs current) (sym none)
     (record { partial = λ _. refl; whole = λ full. absurd (omega (arith, full, some)) })
 
 -- memory of zeros, to which nothing was fed
-pub HasFed-none : (s : Settings) (levels n : ℕ) (memory : List ℕ) → 0 < s.data_block → levels * s.hash_block ≤ n
+pub HasFed-none : (s : TreeSettingsFields) (levels n : ℕ) (memory : List ℕ) → 0 < s.data_block → levels * s.hash_block ≤ n
     → memory ≡ replicate n 0
     → HasFed s levels [] (open_blocks s levels memory) (after_open_blocks s levels memory)
 HasFed-none s levels n memory some room zeros =
@@ -95,8 +95,8 @@ block-joined size level opened current room =
     ∙ take-append-le size (drop (level * size) opened) current (omega (arith, length-drop (level * size) opened, room))
 
 -- the hash block that closed last stands in the joined memory
-pub IsHandedOut-joined : (p : Planned) (levels : ℕ) (fed opened current : List ℕ) (block : HashBlock)
-    → IsPlanned p → level_count_of p ≤ levels → levels * p.settings.hash_block ≤ length opened
+pub IsHandedOut-joined : (p : PlanFields) (levels : ℕ) (fed opened current : List ℕ) (block : HashBlock)
+    → IsPlan p → level_count_of p ≤ levels → levels * p.settings.hash_block ≤ length opened
     → IsHandingOut p levels block.level fed opened
     → block.index ≡ blocks_before p.settings (length fed) / fan p.settings ^ (block.level + 1)
     → block.byte ≡ start_byte_of p block.level block.index → block.at ≡ block.level * p.settings.hash_block
@@ -143,7 +143,7 @@ Feeds-none before count closed fed more opened current had has size h =
 
 -- and after one with it
 pub Feeds-some : (before : TreeBuilder) (count closed : ℕ) (fed more opened current : List ℕ) (block : HashBlock)
-    → IsPlanned before.plan
+    → IsPlan before.plan
     → length fed ≡ before.fed → length (fed ++ more) ≡ count
     → length opened ≡ level_count_of before.plan * before.plan.settings.hash_block
     → FeedsOn before.plan (level_count_of before.plan) fed before.closed more true closed opened current
@@ -182,29 +182,29 @@ Feeds-some before count closed fed more opened current block planned had has siz
     }
 
 -- the plan that a file of so many bytes asks for
-abbrev file_plan : Settings → ℕ → Planned
+abbrev file_plan : TreeSettingsFields → ℕ → PlanFields
 file_plan s size = record { settings = s; blocks = block_count s size; wanted = size; base = 0 }
 
 -- a file's plan has the builder's settings, and its open blocks are among the builder's
-pub FilePlan-is : (plan : Planned) (s : Settings) (size : ℕ) → Ok plan ≡ plan_for_bytes s size 0
+pub FilePlan-is : (plan : PlanFields) (s : TreeSettingsFields) (size : ℕ) → Ok plan ≡ plan_for_bytes s size 0
     → plan ≡ file_plan s size
 FilePlan-is plan s size is = planned_is (file_plan s size) plan is
 
-pub file_levels : (plan : Planned) (s : Settings) (size : ℕ) → IsPlanned plan → Ok plan ≡ plan_for_bytes s size 0
+pub file_levels : (plan : PlanFields) (s : TreeSettingsFields) (size : ℕ) → IsPlan plan → Ok plan ≡ plan_for_bytes s size 0
     → level_count_of plan ≤ most_level_count s
 file_levels plan s size planned is =
-    subst (λ (t : Settings). level_count_of plan ≤ most_level_count t)
-    (ap (λ (p : Planned). p.settings) (FilePlan-is plan s size is)) (levels_most plan planned)
+    subst (λ (t : TreeSettingsFields). level_count_of plan ≤ most_level_count t)
+    (ap (λ (p : PlanFields). p.settings) (FilePlan-is plan s size is)) (levels_most plan planned)
 
-pub file_room : (plan : Planned) (s : Settings) (size levels n : ℕ) → Ok plan ≡ plan_for_bytes s size 0
+pub file_room : (plan : PlanFields) (s : TreeSettingsFields) (size levels n : ℕ) → Ok plan ≡ plan_for_bytes s size 0
     → n ≡ levels * s.hash_block → levels * plan.settings.hash_block ≤ n
 file_room plan s size levels n is room =
     let same : plan.settings.hash_block ≡ s.hash_block =
-    ap (λ (p : Planned). p.settings.hash_block) (FilePlan-is plan s size is) in
+    ap (λ (p : PlanFields). p.settings.hash_block) (FilePlan-is plan s size is) in
     omega (arith, room, ap (λ (w : ℕ). levels * w) same)
 
 -- a file of more bytes than areas have is too large
-pub FilePlan-large : (s : Settings) (size : ℕ) → IsValid s → most_bytes < size → plan_for_bytes s size 0 ≡ Err NoRoom
+pub FilePlan-large : (s : TreeSettingsFields) (size : ℕ) → IsValid s → most_bytes < size → plan_for_bytes s size 0 ≡ Err NoRoom
 FilePlan-large s size valid past =
     let some : 0 < s.data_block = some_data s valid in
     let more : 0 < size = omega (arith, past) in
@@ -214,7 +214,7 @@ FilePlan-large s size valid past =
     (has_room-data (file_plan s size) (omega (arith, wide, past)))
 
 -- a plan that isn't made for want of data has no data blocks
-no_blocks : (asked : Planned) → Err NoData ≡ checked_plan asked → asked.blocks ≡ 0
+no_blocks : (asked : PlanFields) → Err NoData ≡ checked_plan asked → asked.blocks ≡ 0
 no_blocks asked is =
     elim (cases_lt 0 asked.blocks) [
       | inl some ↦ by_tests (asked.blocks == 0) (has_room asked) (let e : nat_eq asked.blocks 0 ≡ false = grind (arith, nat_tests, some) in e) is
@@ -228,7 +228,7 @@ no_blocks asked is =
     by_tests false false e is = absurd cc
 
 -- a file without data blocks has no bytes
-pub FilePlan-none : (s : Settings) (size : ℕ) → IsValid s → Err NoData ≡ plan_for_bytes s size 0 → size ≡ 0
+pub FilePlan-none : (s : TreeSettingsFields) (size : ℕ) → IsValid s → Err NoData ≡ plan_for_bytes s size 0 → size ≡ 0
 FilePlan-none s size valid is =
     elim (cases_lt 0 size) [
       | inl more ↦ absurd (omega (

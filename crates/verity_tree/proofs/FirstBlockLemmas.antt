@@ -10,8 +10,8 @@ use Rattle.std.proofs.Math.Nat.{pow-zero, pow-suc, one-le-pow, mul-le-mul_right,
 use Rattle.std.specs.Fork.{slice_chunk}
 use Rattle.std.specs.Int.{div_ceil}
 use Rattle.verity_hash.specs.Hashing.{with_zeros}
-use Rattle.verity_plan.specs.Plans.{IsPlanned, Planned}
-use Rattle.verity_plan.specs.Settings.{Settings, hash, fan}
+use Rattle.verity_plan.specs.Plans.{IsPlan, PlanFields}
+use Rattle.verity_plan.specs.Settings.{TreeSettingsFields, hash, fan}
 use Rattle.verity_plan.proofs.CountLemmas.{le-div_ceil}
 use Rattle.verity_plan.proofs.FanLemmas.{fan-some, some_data}
 use Rattle.verity_tree.specs.Levels.{block_at, blocks_up, cut, data_blocks, hash_block_of}
@@ -54,13 +54,13 @@ run-same xs ys count at left right each =
     ∙ sym (get_or-take count (drop at ys) m [] below ∙ get_or-drop at ys m []))
 
 -- a level has as many blocks as are full above the data
-full-count : (s : Settings) (xs : List (List ℕ)) (l k : ℕ) → 0 < fan s → k * fan s ^ l ≤ length xs
+full-count : (s : TreeSettingsFields) (xs : List (List ℕ)) (l k : ℕ) → 0 < fan s → k * fan s ^ l ≤ length xs
     → k ≤ length (blocks_up s xs l)
 full-count s xs l k some within =
     omega (arith, length-blocks_up s xs l some, div_ceil-most (length xs) (fan s ^ l) k (one-le-pow l (fan s) some) within)
 
 -- a hash block below which all data blocks are among the first i is the same
-blocks_up-full : (s : Settings) (xs ys : List (List ℕ)) (i l j : ℕ) → 0 < fan s → i ≤ length xs → i ≤ length ys
+blocks_up-full : (s : TreeSettingsFields) (xs ys : List (List ℕ)) (i l j : ℕ) → 0 < fan s → i ≤ length xs → i ≤ length ys
     → ((k : ℕ) → k < i → get_or xs k [] ≡ get_or ys k []) → (j + 1) * fan s ^ l ≤ i
     → get_or (blocks_up s xs l) j [] ≡ get_or (blocks_up s ys l) j []
 unfolding blocks_up
@@ -96,7 +96,7 @@ blocks_up-full s xs ys i (suc l) j some left right each full =
     ∙ sym (get_or-pack s (map (hash s) after) j there)
 
 -- open blocks above data blocks that begin with the same blocks
-pub HasOpenBlocks-prefix : (s : Settings) (xs ys : List (List ℕ)) (i levels : ℕ) (store : List ℕ) → 0 < fan s
+pub HasOpenBlocks-prefix : (s : TreeSettingsFields) (xs ys : List (List ℕ)) (i levels : ℕ) (store : List ℕ) → 0 < fan s
     → i ≤ length xs → i ≤ length ys → ((k : ℕ) → k < i → get_or xs k [] ≡ get_or ys k [])
     → HasOpenBlocks s xs 0 levels i store → HasOpenBlocks s ys 0 levels i store
 HasOpenBlocks-prefix s xs ys i levels store some left right each h = λ l from to.
@@ -131,7 +131,7 @@ with_zeros-whole size bytes whole =
     ap (λ (n : ℕ). bytes ++ replicate n 0) none ∙ append-nil bytes
 
 -- a data block that is whole
-pub cut-block : (s : Settings) (n wanted k : ℕ) (bytes : List ℕ) → k < n → k * s.data_block + s.data_block ≤ wanted
+pub cut-block : (s : TreeSettingsFields) (n wanted k : ℕ) (bytes : List ℕ) → k < n → k * s.data_block + s.data_block ≤ wanted
     → k * s.data_block + s.data_block ≤ length bytes
     → get_or (cut s n wanted bytes) k [] ≡ slice_chunk bytes s.data_block k
 unfolding cut
@@ -156,7 +156,7 @@ chunk-front xs ys size k within =
     ∙ drop-take (k * size) size xs
 
 -- the first n data blocks and those of a plan begin with the same
-first-same : (p : Planned) (n k : ℕ) (fed : List ℕ) → n * p.settings.data_block ≤ length fed → length fed ≤ p.wanted
+first-same : (p : PlanFields) (n k : ℕ) (fed : List ℕ) → n * p.settings.data_block ≤ length fed → length fed ≤ p.wanted
     → n ≤ p.blocks → k < n
     → get_or (first_blocks p.settings n fed) k [] ≡ get_or (data_blocks p fed) k []
 first-same p n k fed enough most few below =
@@ -169,7 +169,7 @@ first-same p n k fed enough most few below =
     (omega (arith, room, enough)))
 
 -- so many data blocks are among those of a plan
-blocks-within : (p : Planned) (n : ℕ) (fed : List ℕ) → IsPlanned p → n * p.settings.data_block ≤ length fed
+blocks-within : (p : PlanFields) (n : ℕ) (fed : List ℕ) → IsPlan p → n * p.settings.data_block ≤ length fed
     → length fed ≤ p.wanted → n ≤ p.blocks
 blocks-within p n fed planned enough most =
     omega (
@@ -179,7 +179,7 @@ blocks-within p n fed planned enough most =
     )
 
 -- bytes that come after n data blocks leave these
-pub first_blocks-more : (s : Settings) (n levels : ℕ) (fed more store : List ℕ) → 0 < fan s → n * s.data_block ≤ length fed
+pub first_blocks-more : (s : TreeSettingsFields) (n levels : ℕ) (fed more store : List ℕ) → 0 < fan s → n * s.data_block ≤ length fed
     → HasOpenBlocks s (first_blocks s n fed) 0 levels n store
     → HasOpenBlocks s (first_blocks s n (fed ++ more)) 0 levels n store
 first_blocks-more s n levels fed more store some enough h =
@@ -196,7 +196,7 @@ first_blocks-more s n levels fed more store some enough h =
     h
 
 -- the first n data blocks among those of a plan
-pub first_blocks-plan : (p : Planned) (n levels : ℕ) (fed store : List ℕ) → IsPlanned p
+pub first_blocks-plan : (p : PlanFields) (n levels : ℕ) (fed store : List ℕ) → IsPlan p
     → n * p.settings.data_block ≤ length fed → length fed ≤ p.wanted
     → HasOpenBlocks p.settings (first_blocks p.settings n fed) 0 levels n store
     → HasOpenBlocks p.settings (data_blocks p fed) 0 levels n store
@@ -207,7 +207,7 @@ first_blocks-plan p n levels fed store planned enough most h =
     (omega (arith, length-cut s n (n * s.data_block) fed)) (omega (arith, few, length-cut s p.blocks p.wanted fed))
     (λ k below. first-same p n k fed enough most few below) h
 
-pub plan-first_blocks : (p : Planned) (n levels : ℕ) (fed store : List ℕ) → IsPlanned p
+pub plan-first_blocks : (p : PlanFields) (n levels : ℕ) (fed store : List ℕ) → IsPlan p
     → n * p.settings.data_block ≤ length fed → length fed ≤ p.wanted
     → HasOpenBlocks p.settings (data_blocks p fed) 0 levels n store
     → HasOpenBlocks p.settings (first_blocks p.settings n fed) 0 levels n store

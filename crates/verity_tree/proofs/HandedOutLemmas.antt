@@ -9,7 +9,7 @@ use Rattle.std.proofs.Math.Nat.{mul-le-mul_right, one-le-pow, zero-div}
 use Rattle.std.specs.List.{flat_map}
 use Rattle.std.specs.Int.{div_ceil}
 use Rattle.verity_io.specs.Writing.{put}
-use Rattle.verity_plan.specs.Plans.{IsPlanned, Planned, start_byte}
+use Rattle.verity_plan.specs.Plans.{IsPlan, PlanFields, start_byte}
 use Rattle.verity_plan.specs.PlanCounts.{level_count_of}
 use Rattle.verity_plan.specs.Settings.{fan}
 use Rattle.verity_plan.proofs.FanLemmas.{fan-some}
@@ -31,7 +31,7 @@ use Rattle.verity_tree.proofs.OrderSplit.{closed_after-more, closes-last, closin
 use Rattle.verity_tree.proofs.PrefixLemmas.{blocks_up-prefix}
 
 -- the data blocks of some bytes, as far as these are whole blocks, are those of bytes that go on
-whole-same : (p : Planned) (n k : ℕ) (fed more : List ℕ) → n * p.settings.data_block ≤ length fed
+whole-same : (p : PlanFields) (n k : ℕ) (fed more : List ℕ) → n * p.settings.data_block ≤ length fed
     → length fed ≤ p.wanted → n ≤ p.blocks → k < n
     → get_or (data_blocks p fed) k [] ≡ get_or (data_blocks p (fed ++ more)) k []
 whole-same p n k fed more enough most few below =
@@ -49,7 +49,7 @@ no-more fed [] wanted all most = refl
 no-more fed (x ∷ xs) wanted all most = absurd (omega (arith, all, most, length-append fed (x ∷ xs)))
 
 -- the hash block that is handed out is the tree's whatever bytes come after
-pub handed-out-stays : (p : Planned) (levels level : ℕ) (fed more opened : List ℕ) → IsPlanned p
+pub handed-out-stays : (p : PlanFields) (levels level : ℕ) (fed more opened : List ℕ) → IsPlan p
     → IsHandingOut p levels level fed opened → length (fed ++ more) ≤ p.wanted
     → tree_block p.settings (data_blocks p fed) level
     (blocks_before p.settings (length fed) / fan p.settings ^ (level + 1))
@@ -103,7 +103,7 @@ pieces-joined b after memory room fed (piece ∷ rest) h calls =
     (pieces-joined next after mid room (fed ++ piece) rest step calls.3)
 
 -- what one call hands out, written, is the next of the tree's blocks put at its place
-written-given : (p : Planned) (closed : Option HashBlock) (memory fed more all device : List ℕ)
+written-given : (p : PlanFields) (closed : Option HashBlock) (memory fed more all device : List ℕ)
     → ((block : HashBlock) → closed ≡ Some block → IsHandedOut p fed memory block) → all ≡ fed ++ more
     → length all ≤ p.wanted
     → written p closed memory device ≡ device_with p.settings (data_blocks p all) p.base (given closed) device
@@ -120,7 +120,7 @@ written-given p (Some block) memory fed more all device handed is most =
     (bytes ∙ ap (λ (xs : List ℕ). tree_block s (data_blocks p xs) block.level block.index) (sym is))
 
 -- calls are made one after another
-pub record AreCalled (p : Planned) (calls : List FeedCall) (b after : TreeBuilder) (room fed all device : List ℕ) : Type 0 where
+pub record AreCalled (p : PlanFields) (calls : List FeedCall) (b after : TreeBuilder) (room fed all device : List ℕ) : Type 0 where
   pub plan_is : after.plan ≡ p
   pub fed_is : IsFed after room (fed ++ flat_map (λ call. call.taken) calls)
   pub order : handed_out p after.fed after.closed
@@ -129,7 +129,7 @@ pub record AreCalled (p : Planned) (calls : List FeedCall) (b after : TreeBuilde
       → written_all p calls device
       ≡ device_with p.settings (data_blocks p all) p.base (flat_map (λ call. given call.hash_block) calls) device
 
-pub calls-joined : (p : Planned) (calls : List FeedCall) (b after : TreeBuilder) (memory room fed all device : List ℕ)
+pub calls-joined : (p : PlanFields) (calls : List FeedCall) (b after : TreeBuilder) (memory room fed all device : List ℕ)
     → b.plan ≡ p → IsFed b memory fed → FeedsCalls b memory calls after room
     → AreCalled p calls b after room fed all device
 unfolding FeedsCalls written_all device_with
@@ -160,7 +160,7 @@ calls-joined p (call ∷ rest) b after memory room fed all device plan h calls =
       fed_is = subst (λ (bytes : List ℕ). IsFed after room bytes) whole goes_on.fed_is;
       order = goes_on.order
           ∙ ap (λ (xs : List BlockIndex). xs ++ blocks)
-          (subst (λ (q : Planned). handed_out q next.fed next.closed ≡ handed_out q b.fed b.closed ++ given call.hash_block)
+          (subst (λ (q : PlanFields). handed_out q next.fed next.closed ≡ handed_out q b.fed b.closed ++ given call.hash_block)
           plan step.order)
           ∙ append_assoc (handed_out p b.fed b.closed) (given call.hash_block) blocks
           ∙ ap (λ (xs : List BlockIndex). handed_out p b.fed b.closed ++ xs) (sym handed);
@@ -169,14 +169,14 @@ calls-joined p (call ∷ rest) b after memory room fed all device plan h calls =
           goes_on.stands is_all most
           ∙ ap (device_with p.settings (data_blocks p all) p.base blocks)
           (written-given p call.hash_block call.memory (fed ++ call.taken) taken all device
-          (subst (λ (q : Planned). (block : HashBlock) → call.hash_block ≡ Some block
+          (subst (λ (q : PlanFields). (block : HashBlock) → call.hash_block ≡ Some block
           → IsHandedOut q (fed ++ call.taken) call.memory block) plan step.stands) is_all most)
           ∙ sym (device_with-append p.settings (data_blocks p all) p.base (given call.hash_block) blocks device)
           ∙ ap (λ (xs : List BlockIndex). device_with p.settings (data_blocks p all) p.base xs device) (sym handed);
     }
 
 -- when all bytes were fed and all levels have closed, all hash blocks were handed out
-pub all-handed-out : (p : Planned) → IsPlanned p
+pub all-handed-out : (p : PlanFields) → IsPlan p
     → handed_out p p.wanted (level_count_of p) ≡ closed_after (fan p.settings) p.blocks p.blocks
 all-handed-out p planned =
     let f = fan p.settings in
@@ -189,7 +189,7 @@ all-handed-out p planned =
     ∙ ap (closed_after f p.blocks) last
 
 -- nothing was handed out at the beginning
-pub none-handed-out : (p : Planned) → IsPlanned p → handed_out p 0 0 ≡ []
+pub none-handed-out : (p : PlanFields) → IsPlan p → handed_out p 0 0 ≡ []
 unfolding closed_after
 none-handed-out p planned =
     let size = p.settings.data_block in
@@ -197,12 +197,12 @@ none-handed-out p planned =
     ap (λ (n : ℕ). closed_after (fan p.settings) p.blocks n ++ first_closing (fan p.settings) n 0) zero_place
 
 -- before the first byte nothing was handed out
-first-closed : (p : Planned) (levels closed : ℕ) (opened current : List ℕ) → Stands p levels [] closed opened current
+first-closed : (p : PlanFields) (levels closed : ℕ) (opened current : List ℕ) → Stands p levels [] closed opened current
     → closed ≡ 0
 first-closed p levels zero opened current h = refl
 first-closed p levels (suc m) opened current h = absurd (omega (arith, h.ends.some))
 
-pub calls-build : (b after : TreeBuilder) (memory room device : List ℕ) (calls : List FeedCall) → IsPlanned b.plan
+pub calls-build : (b after : TreeBuilder) (memory room device : List ℕ) (calls : List FeedCall) → IsPlan b.plan
     → IsFed b memory [] → FeedsCalls b memory calls after room → after.fed ≡ b.plan.wanted
     → after.closed ≡ level_count_of b.plan
     → IsFed after room (flat_map (λ call. call.taken) calls)

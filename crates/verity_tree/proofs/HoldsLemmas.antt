@@ -10,7 +10,7 @@ use Rattle.std.proofs.lemmas.Option.{none-some}
 use Rattle.std.proofs.lemmas.Slice.Eq.{bytes_eq-Decides}
 use Rattle.std.specs.Prelude.{if◌then◌else◌, find, not, nat_lt, nat_le, Some, None, Option, Result, ◌==◌, ◌&&◌, ◌⊎◌}
 use Rattle.std.specs.Str.{bytes_eq}
-use Rattle.verity_plan.specs.Plans.{Planned, IsPlanned}
+use Rattle.verity_plan.specs.Plans.{PlanFields, IsPlan}
 use Rattle.verity_plan.specs.Settings.{fan}
 use Rattle.verity_plan.proofs.CountLemmas.{le-div_ceil}
 use Rattle.verity_plan.proofs.FanLemmas.{fan-some, some_data}
@@ -82,7 +82,7 @@ times-first at hash_blocks =
     omega (arith, count)
 
 -- blocks that all stand there, each that is counted
-stands-counted : (p : Planned) (blocks : List (List ℕ)) (device : List ℕ) (hash_blocks : List BlockIndex)
+stands-counted : (p : PlanFields) (blocks : List (List ℕ)) (device : List ℕ) (hash_blocks : List BlockIndex)
     → ((l j : ℕ) → 0 < times l j hash_blocks → HoldsBlockAt p blocks device (block_index l j))
     → NoneDiffers p blocks device hash_blocks
 stands-counted p blocks device [] each = All-nil (HoldsBlockAt p blocks device)
@@ -92,7 +92,7 @@ stands-counted p blocks device (at ∷ hash_blocks) each =
     (λ l j some. each l j (omega (arith, some, times-more l j at hash_blocks))))
 
 -- data of which no block is short holds all that is wanted
-whole-enough : (p : Planned) → IsPlanned p → (bytes : List ℕ) → p.blocks ≤ whole_blocks p bytes → p.wanted ≤ length bytes
+whole-enough : (p : PlanFields) → IsPlan p → (bytes : List ℕ) → p.blocks ≤ whole_blocks p bytes → p.wanted ≤ length bytes
 whole-enough p planned bytes all = elim (cases_lt (length bytes) p.wanted) [
   | inl less ↦
       let tested : nat_le p.wanted (length bytes) ≡ false = grind (arith, nat_tests, less) in
@@ -109,7 +109,7 @@ whole-enough p planned bytes all = elim (cases_lt (length bytes) p.wanted) [
 ]
 
 -- a device that holds the tree has this verdict
-pub holds-right : (p : Planned) (device bytes digest : List ℕ) → HoldsTree p device bytes digest
+pub holds-right : (p : PlanFields) (device bytes digest : List ℕ) → HoldsTree p device bytes digest
     → verdict p device bytes digest ≡ Ok tt
 holds-right p device bytes digest holds =
     let once = ClosesOnce-all (fan p.settings) p.blocks (fan-some p.settings) in
@@ -127,7 +127,7 @@ tests-right false true x y right = (refl, refl)
 tests-right false false x y right = cc
 
 -- a verdict that all is right: nothing differs, no block is missing, and the root hash is the tree's
-all-right : (p : Planned) (device bytes digest : List ℕ) (met : Option BlockIndex)
+all-right : (p : PlanFields) (device bytes digest : List ℕ) (met : Option BlockIndex)
     → verdict_by p device bytes met digest ≡ Ok tt
     → (met ≡ None) × (p.blocks ≤ whole_blocks p bytes) × (root p.settings (data_blocks p bytes) ≡ digest)
 all-right p device bytes digest (Some at) right = cc
@@ -145,7 +145,7 @@ not-false true e = refl
 not-false false e = cc
 
 -- a block that doesn't differ stands there
-same-stands : (p : Planned) (blocks : List (List ℕ)) (device : List ℕ) (at : BlockIndex)
+same-stands : (p : PlanFields) (blocks : List (List ℕ)) (device : List ℕ) (at : BlockIndex)
     → differs p blocks device at ≡ false
     → HoldsBlockAt p blocks device at
 same-stands p blocks device at same =
@@ -153,7 +153,7 @@ same-stands p blocks device at same =
     (not-false _ same)
 
 -- a device with this verdict holds the tree, if the data is long enough
-pub right-holds_enough : (p : Planned) (device bytes digest : List ℕ) → p.wanted ≤ length bytes
+pub right-holds_enough : (p : PlanFields) (device bytes digest : List ℕ) → p.wanted ≤ length bytes
     → verdict p device bytes digest ≡ Ok tt
     → HoldsTree p device bytes digest
 right-holds_enough p device bytes digest enough right =
@@ -175,7 +175,7 @@ right-holds_enough p device bytes digest enough right =
     }
 
 -- it is, if all is right
-pub right-holds : (p : Planned) (device bytes digest : List ℕ) → IsPlanned p → verdict p device bytes digest ≡ Ok tt
+pub right-holds : (p : PlanFields) (device bytes digest : List ℕ) → IsPlan p → verdict p device bytes digest ≡ Ok tt
     → HoldsTree p device bytes digest
 right-holds p device bytes digest planned right =
     let met =

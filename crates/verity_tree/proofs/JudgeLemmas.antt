@@ -10,24 +10,23 @@ use Rattle.std.specs.Str.{bytes_eq}
 use Rattle.verity_tree.specs.Reading.{EndsWithin}
 use Rattle.verity_tree.specs.ClosingOrder.{BlockIndex, block_index, closed_after}
 use Rattle.verity_tree.specs.TreeOnDevice.{tree_block, stored_block}
-use Rattle.verity_tree.specs.Comparing.{ComesTo, Judges}
-use Rattle.verity_tree.specs.Steps.OnePass.{fault_by, fault_of, StopsFor}
+use Rattle.verity_tree.specs.Comparing.{ComesTo}
+use Rattle.verity_tree.specs.Steps.OnePass.{StopsFor}
+use Rattle.verity_tree.specs.Steps.PassFaults.{index_of, level_of}
 use Rattle.verity_tree.specs.Levels.{root, data_blocks, whole_blocks}
-use Rattle.verity_plan.specs.Plans.{Planned, IsPlanned}
+use Rattle.verity_plan.specs.Plans.{PlanFields, IsPlan}
 use Rattle.verity_plan.specs.Settings.{fan}
-use Rattle.verity_tree.specs.Verdicts.{NoneDiffers, HoldsBlockAt, differs, verdict_by, part_of, verdict}
-use Rattle.verity_tree.specs.declared.pass.cascade.Stop.{Stop}
+use Rattle.verity_tree.specs.Verdicts.{NoneDiffers, HoldsBlockAt, differs, verdict_by, verdict}
+use Rattle.verity_tree.specs.declared.pass.pass_fault.PassFault.{PassFault}
+use Rattle.verity_tree.specs.declared.pass.pass_fault.PassFault.TheVariants as P
 use Rattle.verity_tree.specs.declared.comparing.CompareFault.TheVariants.{SourceShort, RootDiffers}
 use Rattle.verity_tree.specs.declared.comparing.CompareFault.TheVariants as F
-use Rattle.verity_tree.specs.declared.pass.closed_block.HashBlockFault.{HashBlockFault}
-use Rattle.verity_tree.specs.declared.pass.closed_block.HashBlockFault.TheVariants.{Failed, Differs}
-use Rattle.verity_tree.specs.Steps.ClosedBlocks.{IsHashBlockFault, closed_block}
 use Rattle.verity_tree.specs.declared.part.Part.{Part}
 use Rattle.verity_tree.proofs.OrderSplit.{closed_after-prefix}
 use Rattle.verity_tree.proofs.DataBlockLemmas.{whole_blocks-above, whole_blocks-all}
 
 -- a block that stands there does not differ
-stands-same : (p : Planned) (blocks : List (List ℕ)) (device : List ℕ) (at : BlockIndex)
+stands-same : (p : PlanFields) (blocks : List (List ℕ)) (device : List ℕ) (at : BlockIndex)
     → HoldsBlockAt p blocks device at
     → differs p blocks device at ≡ false
 stands-same p blocks device at h =
@@ -36,7 +35,7 @@ stands-same p blocks device at h =
     ap not same
 
 -- no first one that differs among blocks that stand there
-find-none : (p : Planned) (blocks : List (List ℕ)) (device : List ℕ) (hash_blocks : List BlockIndex)
+find-none : (p : PlanFields) (blocks : List (List ℕ)) (device : List ℕ) (hash_blocks : List BlockIndex)
     → NoneDiffers p blocks device hash_blocks
     → find (differs p blocks device) hash_blocks ≡ None
 find-none p blocks device [] h = refl
@@ -45,7 +44,7 @@ find-none p blocks device (at ∷ hash_blocks) h =
     rw stands (find-none p blocks device hash_blocks (All-tail (HoldsBlockAt p blocks device) at hash_blocks h))
 
 -- the first one that differs comes after blocks that stand there
-find-first : (p : Planned) (blocks : List (List ℕ)) (device : List ℕ) (front rest : List BlockIndex) (at : BlockIndex)
+find-first : (p : PlanFields) (blocks : List (List ℕ)) (device : List ℕ) (front rest : List BlockIndex) (at : BlockIndex)
     → NoneDiffers p blocks device front
     → differs p blocks device at ≡ true → find (differs p blocks device) (front ++ (at ∷ rest)) ≡ Some at
 find-first p blocks device [] rest at h here = rw here refl
@@ -62,7 +61,7 @@ bytes-differ xs ys other = go (bytes_eq xs ys) (bytes_eq-Decides xs ys).0
     go false same = refl
 
 -- all stands there, and the data is whole
-verdict_by-whole : (p : Planned) (device bytes digest : List ℕ) → p.wanted ≤ length bytes
+verdict_by-whole : (p : PlanFields) (device bytes digest : List ℕ) → p.wanted ≤ length bytes
     → NoneDiffers p (data_blocks p bytes) device (closed_after (fan p.settings) p.blocks p.blocks)
     → verdict p device bytes digest ≡ verdict_by p device bytes None digest
 verdict_by-whole p device bytes digest enough none =
@@ -74,7 +73,7 @@ verdict_by-whole p device bytes digest enough none =
     (find-none p blocks device (closed_after (fan p.settings) p.blocks p.blocks) none)
 
 -- if the root is the computed one, all is right
-pub judges-right : (p : Planned) (device bytes computed digest : List ℕ) → p.wanted ≤ length bytes
+pub judges-right : (p : PlanFields) (device bytes computed digest : List ℕ) → p.wanted ≤ length bytes
     → NoneDiffers p (data_blocks p bytes) device (closed_after (fan p.settings) p.blocks p.blocks)
     → computed ≡ root p.settings (data_blocks p bytes) → computed ≡ digest → verdict p device bytes digest ≡ Ok tt
 judges-right p device bytes computed digest enough none is same =
@@ -84,7 +83,7 @@ judges-right p device bytes computed digest enough none is same =
     verdict_by-whole p device bytes digest enough none ∙ rw (all, equal) refl
 
 -- if it is another, the computed one is named
-pub judges-root : (p : Planned) (device bytes computed digest : List ℕ) → p.wanted ≤ length bytes
+pub judges-root : (p : PlanFields) (device bytes computed digest : List ℕ) → p.wanted ≤ length bytes
     → NoneDiffers p (data_blocks p bytes) device (closed_after (fan p.settings) p.blocks p.blocks)
     → computed ≡ root p.settings (data_blocks p bytes) → computed ≢ digest
     → verdict p device bytes digest ≡ Err (RootDiffers computed)
@@ -98,7 +97,7 @@ judges-root p device bytes computed digest enough none is other =
     ∙ ap (λ (xs : List ℕ). Err (RootDiffers xs)) (sym is)
 
 -- if the data ends early, the block that it ends in is named
-pub judges-short : (p : Planned) (device bytes after digest : List ℕ) (i : ℕ) → EndsWithin p i bytes after
+pub judges-short : (p : PlanFields) (device bytes after digest : List ℕ) (i : ℕ) → EndsWithin p i bytes after
     → NoneDiffers p (data_blocks p bytes) device (closed_after (fan p.settings) p.blocks i)
     → verdict p device bytes digest ≡ Err (SourceShort i)
 judges-short p device bytes after digest i ends none =
@@ -115,13 +114,9 @@ judges-short p device bytes after digest i ends none =
     ∙ ap (λ (m : ℕ). Err (SourceShort m)) (sym ends.whole_is)
 
 -- the first block that differs is named
-judges-differs : (p : Planned) → IsPlanned p → (device bytes digest : List ℕ) (stop : Stop) (part : Part)
-    → StopsFor p bytes device stop
-    → stored_block p device stop.level stop.index ≢ tree_block p.settings (data_blocks p bytes) stop.level stop.index
-    → part ≡ part_of p stop.level stop.index (stored_block p device stop.level stop.index)
-    (tree_block p.settings (data_blocks p bytes) stop.level stop.index)
-    → verdict p device bytes digest ≡ Err (F.Differs stop.level stop.index part)
-judges-differs p planned device bytes digest stop part stops other is =
+pub judges-differs : (p : PlanFields) → IsPlan p → (device bytes digest : List ℕ) (l j : ℕ) (part : Part)
+    → StopsFor p bytes device (P.Differs l j part) → verdict p device bytes digest ≡ Err (F.Differs l j part)
+judges-differs p planned device bytes digest l j part stops =
     let blocks = data_blocks p bytes in
     let f = fan p.settings in
     let m = whole_blocks p bytes in
@@ -129,19 +124,20 @@ judges-differs p planned device bytes digest stop part stops other is =
     whole_blocks-above p planned (stops.i + 1) bytes (omega (arith, stops.below)) stops.enough in
     let after = closed_after-prefix f p.blocks (stops.i + 1) (m - (stops.i + 1)) in
     let e : m ≡ stops.i + 1 + (m - (stops.i + 1)) = omega arith in
-    let at : BlockIndex = block_index stop.level stop.index in
+    let at : BlockIndex = block_index l j in
     let split : closed_after f p.blocks m ≡ stops.done ++ (at ∷ (stops.next.rest ++ after.0)) =
     ap (closed_after f p.blocks) e ∙ after.1 ∙ ap (λ (ps : List BlockIndex). ps ++ after.0) stops.next.in_order
     ∙ simp append_assoc in
     ap (λ (ps : List BlockIndex). verdict_by p device bytes (find (differs p blocks device) ps) digest) split
     ∙ ap (λ (met : Option BlockIndex). verdict_by p device bytes met digest)
-    (find-first p blocks device stops.done (stops.next.rest ++ after.0) at stops.same (bytes-differ _ _ other))
-    ∙ ap (λ (q : Part). Err (F.Differs stop.level stop.index q)) (sym is)
+    (find-first p blocks device stops.done (stops.next.rest ++ after.0) at stops.same
+    (bytes-differ _ _ stops.fault_is.0))
+    ∙ ap (λ (q : Part). Err (F.Differs l j q)) (sym stops.fault_is.1)
 
 -- a failure at a block comes only if nothing before it differs
-comes-to : (p : Planned) (device bytes : List ℕ) (stop : Stop) → StopsFor p bytes device stop
-    → ComesTo p device bytes (block_index stop.level stop.index)
-comes-to p device bytes stop stops =
+pub comes-to : (p : PlanFields) (device bytes : List ℕ) (fault : PassFault) → StopsFor p bytes device fault
+    → ComesTo p device bytes (block_index (level_of fault) (index_of fault))
+comes-to p device bytes fault stops =
     let f = fan p.settings in
     let after = closed_after-prefix f p.blocks (stops.i + 1) (p.blocks - (stops.i + 1)) in
     let e : p.blocks ≡ stops.i + 1 + (p.blocks - (stops.i + 1)) = omega (arith, stops.below) in
@@ -155,16 +151,3 @@ comes-to p device bytes stop stops =
       };
       same = stops.same;
     }
-
--- what a comparison that stops at a block comes to
-pub judges-stop : (p : Planned) → IsPlanned p → (device bytes digest : List ℕ) (stop : Stop)
-    → StopsFor p bytes device stop
-    → Judges p device bytes digest (Err (fault_of stop))
-judges-stop p planned device bytes digest stop stops = go stop.fault refl stops.fault_is
-  where
-    go : (fault : HashBlockFault) → stop.fault ≡ fault
-        → IsHashBlockFault p (closed_block stop.level stop.index
-        (tree_block p.settings (data_blocks p bytes) stop.level stop.index)) device fault
-        → Judges p device bytes digest (Err (fault_by stop.level stop.index fault))
-    go Failed e h = comes-to p device bytes stop stops
-    go (Differs part) e h = judges-differs p planned device bytes digest stop part stops h.0 h.1

@@ -6,7 +6,7 @@ use Rattle.std.proofs.lemmas.List.FromFn.{map-range_with_len_more, length-map-ra
 use Rattle.std.specs.List.{range_with_len}
 use Rattle.std.specs.Fork.{slice_chunk}
 use Rattle.std.specs.Int.{div_ceil}
-use Rattle.verity_plan.specs.Settings.{Settings, hash, fan}
+use Rattle.verity_plan.specs.Settings.{TreeSettingsFields, hash, fan}
 use Rattle.verity_tree.specs.Levels.{pack, cut, block_at, hash_block_of}
 use Rattle.verity_tree.specs.Steps.PlainRoots.{digest_of_group, digest_of_block}
 
@@ -15,7 +15,7 @@ map-map : (f : List ℕ → List ℕ) (g : ℕ → List ℕ) (xs : List ℕ) →
 map-map f g [] = refl
 map-map f g (x ∷ xs) = ap (λ (ys : List (List ℕ)). f (g x) ∷ ys) (map-map f g xs)
 
-pub map-hash-pack : (s : Settings) (digests : List (List ℕ))
+pub map-hash-pack : (s : TreeSettingsFields) (digests : List (List ℕ))
     → map (hash s) (pack s digests)
     ≡ map (digest_of_group s digests) (range_with_len 0 (div_ceil (length digests) (fan s)))
 unfolding pack
@@ -34,7 +34,7 @@ take-run digests j size count all e m =
     run ∙ take_min size (drop (j * size) digests) ∙ ap (λ (n : ℕ). take n (drop (j * n) digests)) e
 
 -- one more run
-pub digests_more : (s : Settings) (digests above after : List (List ℕ)) (j : ℕ) (digest : List ℕ)
+pub digests_more : (s : TreeSettingsFields) (digests above after : List (List ℕ)) (j : ℕ) (digest : List ℕ)
     → after ≡ above ++ digest ∷ [] → above ≡ map (digest_of_group s digests) (range_with_len 0 j)
     → digest ≡ digest_of_group s digests j
     → after ≡ map (digest_of_group s digests) (range_with_len 0 (j + 1))
@@ -54,7 +54,7 @@ mapped_more f before after j x pushed so_far same =
     ∙ ap (λ (y : List ℕ). map f (range_with_len 0 j) ++ y ∷ []) same
     ∙ sym (map-range_with_len_more f 0 j j (omega arith))
 
-pub map-hash-cut : (s : Settings) (n wanted : ℕ) (bytes : List ℕ)
+pub map-hash-cut : (s : TreeSettingsFields) (n wanted : ℕ) (bytes : List ℕ)
     → map (hash s) (cut s n wanted bytes) ≡ map (digest_of_block s wanted bytes) (range_with_len 0 n)
 unfolding cut
 map-hash-cut s n wanted bytes = map-map (hash s) (block_at s.data_block (take wanted bytes)) (range_with_len 0 n)
@@ -68,6 +68,6 @@ take-bytes bytes j size count all e m =
     ap (λ (n : ℕ). take n (drop (j * size) bytes)) (omega (arith, m, length-drop (j * size) bytes)) in
     run ∙ take_min size (drop (j * size) bytes) ∙ ap (λ (n : ℕ). take n (drop (j * n) bytes)) e
 
-pub length-cut : (s : Settings) (n wanted : ℕ) (bytes : List ℕ) → length (cut s n wanted bytes) ≡ n
+pub length-cut : (s : TreeSettingsFields) (n wanted : ℕ) (bytes : List ℕ) → length (cut s n wanted bytes) ≡ n
 unfolding cut
 length-cut s n wanted bytes = length-map-range_with_len (block_at s.data_block (take wanted bytes)) 0 n

@@ -6,9 +6,9 @@ use Rattle.std.proofs.lemmas.Bool.Decides.{nat_tests}
 use Rattle.std.proofs.lemmas.Slice.Eq.{bytes_eq-Decides}
 use Rattle.std.specs.Prelude.{◌&&◌, ◌==◌, Result, Ok, Err, nat_le, not}
 use Rattle.std.specs.Str.{bytes_eq}
-use Rattle.verity_plan.specs.Plans.{Planned, IsPlanned, level_count}
+use Rattle.verity_plan.specs.Plans.{PlanFields, IsPlan, level_count}
 use Rattle.verity_plan.specs.PlanCounts.{level_count_of}
-use Rattle.verity_plan.specs.Settings.{Settings, fan, hash}
+use Rattle.verity_plan.specs.Settings.{TreeSettingsFields, fan, hash}
 use Rattle.verity_plan.proofs.FanLemmas.{fan-two}
 use Rattle.verity_plan.proofs.FitLemmas.{digest-slot, fan-pos}
 use Rattle.verity_tree.specs.Levels.{data_blocks, root}
@@ -23,7 +23,7 @@ use Rattle.verity_tree.proofs.PathSteps.{bytes_eq-false, digest_above-below, dig
 use Rattle.verity_tree.proofs.PieceLemmas.{length-pieces, piece}
 
 -- what an accepted block under a level is
-pub record IsLinked (p : Planned) (i l : ℕ) (block above : List ℕ) : Type 0 where
+pub record IsLinked (p : PlanFields) (i l : ℕ) (block above : List ℕ) : Type 0 where
   pub index : i < p.blocks
   pub level : l < level_count_of p
   pub of_block : length block ≡ block_size_up p.settings l
@@ -31,7 +31,7 @@ pub record IsLinked (p : Planned) (i l : ℕ) (block above : List ℕ) : Type 0 
   pub holds : hash p.settings block ≡ digest_in p.settings above (i / fan p.settings ^ l % fan p.settings)
 
 -- what an accepted top block is
-pub record IsTop (p : Planned) (i : ℕ) (block root : List ℕ) : Type 0 where
+pub record IsTop (p : PlanFields) (i : ℕ) (block root : List ℕ) : Type 0 where
   pub index : i < p.blocks
   pub of_block : length block ≡ block_size_up p.settings (level_count_of p)
   pub holds : hash p.settings block ≡ root
@@ -42,7 +42,7 @@ answer_by past high long same =
     cond past (Err Index) (cond high (Err Level) (cond (not long) (Err Length) (cond same (Ok tt) (Err Differs))))
 
 -- an accepted block passed each test
-pub IsLinked-ok : (p : Planned) (i l : ℕ) (block above : List ℕ) → checked_link p i l block above ≡ Ok tt
+pub IsLinked-ok : (p : PlanFields) (i l : ℕ) (block above : List ℕ) → checked_link p i l block above ≡ Ok tt
     → IsLinked p i l block above
 IsLinked-ok p i l block above ok =
     by_tests (nat_le p.blocks i) (nat_le (level_count_of p) l) (length block == block_size_up p.settings l)
@@ -71,7 +71,7 @@ IsLinked-ok p i l block above ok =
     }
 
 -- and passes each
-pub ok-IsLinked : (p : Planned) (i l : ℕ) (block above : List ℕ) → IsLinked p i l block above
+pub ok-IsLinked : (p : PlanFields) (i l : ℕ) (block above : List ℕ) → IsLinked p i l block above
     → checked_link p i l block above ≡ Ok tt
 ok-IsLinked p i l block above h =
     let in_data : nat_le p.blocks i ≡ false = grind (arith, nat_tests, h.index) in
@@ -82,7 +82,7 @@ ok-IsLinked p i l block above h =
     rw (in_data, in_tree, block_is, above_is, same_is) refl
 
 -- the same of the top block
-pub IsTop-ok : (p : Planned) (i : ℕ) (block digest : List ℕ) → checked_top p i block digest ≡ Ok tt
+pub IsTop-ok : (p : PlanFields) (i : ℕ) (block digest : List ℕ) → checked_top p i block digest ≡ Ok tt
     → IsTop p i block digest
 IsTop-ok p i block digest ok =
     by_tests (nat_le p.blocks i) (length block == block_size_up p.settings (level_count_of p))
@@ -102,7 +102,7 @@ IsTop-ok p i block digest ok =
       holds = (bytes_eq-Decides _ _).0 same_is;
     }
 
-pub ok-IsTop : (p : Planned) (i : ℕ) (block digest : List ℕ) → IsTop p i block digest
+pub ok-IsTop : (p : PlanFields) (i : ℕ) (block digest : List ℕ) → IsTop p i block digest
     → checked_top p i block digest ≡ Ok tt
 ok-IsTop p i block digest h =
     let in_data : nat_le p.blocks i ≡ false = grind (arith, nat_tests, h.index) in
@@ -112,11 +112,11 @@ ok-IsTop p i block digest h =
     rw (in_data, long_is, same_is) refl
 
 -- a hash block is as long as those that stand above the data
-pub size-up : (s : Settings) (l : ℕ) → block_size_up s (suc l) ≡ s.hash_block
+pub size-up : (s : TreeSettingsFields) (l : ℕ) → block_size_up s (suc l) ≡ s.hash_block
 size-up s l = let tested : (suc l == 0) ≡ false = grind (arith, nat_tests) in rw tested refl
 
 -- the chain over joined blocks is the blocks
-chain-joined : (p : Planned) (blocks : ℕ → List ℕ) (levels l : ℕ) → l ≤ levels
+chain-joined : (p : PlanFields) (blocks : ℕ → List ℕ) (levels l : ℕ) → l ≤ levels
     → ((m : ℕ) → m < levels → length (blocks (suc m)) ≡ p.settings.hash_block)
     → chain p.settings (blocks 0) (joined blocks levels) l ≡ blocks l
 chain-joined p blocks levels zero within each = refl
@@ -127,7 +127,7 @@ chain-joined p blocks levels (suc l) within each =
     ∙ ap (λ (m : ℕ). blocks (suc m)) here
 
 -- a path of joined blocks holds where the block's hash is the digest in the next one
-holds-joined : (p : Planned) (i : ℕ) (blocks : ℕ → List ℕ) (digest : List ℕ) (l : ℕ) → l < level_count_of p
+holds-joined : (p : PlanFields) (i : ℕ) (blocks : ℕ → List ℕ) (digest : List ℕ) (l : ℕ) → l < level_count_of p
     → ((m : ℕ) → m < level_count_of p → length (blocks (suc m)) ≡ p.settings.hash_block)
     → (HoldsAt p i (blocks 0) (joined blocks (level_count_of p)) digest l
     → hash p.settings (blocks l) ≡ digest_in p.settings (blocks (suc l)) (i / fan p.settings ^ l % fan p.settings))
@@ -146,7 +146,7 @@ holds-joined p i blocks digest l low each =
     )
 
 -- at the top where the top block's hash is the root hash
-top-joined : (p : Planned) (i : ℕ) (blocks : ℕ → List ℕ) (digest : List ℕ)
+top-joined : (p : PlanFields) (i : ℕ) (blocks : ℕ → List ℕ) (digest : List ℕ)
     → ((m : ℕ) → m < level_count_of p → length (blocks (suc m)) ≡ p.settings.hash_block)
     → (HoldsAt p i (blocks 0) (joined blocks (level_count_of p)) digest (level_count_of p)
     → hash p.settings (blocks (level_count_of p)) ≡ digest)
@@ -162,7 +162,7 @@ top-joined p i blocks digest each =
     )
 
 -- the length of each block, by its level
-length-up : (p : Planned) (blocks : ℕ → List ℕ) (l : ℕ) → l ≤ level_count_of p
+length-up : (p : PlanFields) (blocks : ℕ → List ℕ) (l : ℕ) → l ≤ level_count_of p
     → length (blocks 0) ≡ p.settings.data_block
     → ((m : ℕ) → m < level_count_of p → length (blocks (suc m)) ≡ p.settings.hash_block)
     → length (blocks l) ≡ block_size_up p.settings l
@@ -170,7 +170,7 @@ length-up p blocks zero within first each = first
 length-up p blocks (suc l) within first each = each l (omega (arith, within)) ∙ sym (size-up p.settings l)
 
 -- accepted one by one, or as a path
-pub linked-accepted : (p : Planned) (i : ℕ) (blocks : ℕ → List ℕ) (digest : List ℕ)
+pub linked-accepted : (p : PlanFields) (i : ℕ) (blocks : ℕ → List ℕ) (digest : List ℕ)
     → ((m : ℕ) → m < level_count_of p → length (blocks (suc m)) ≡ p.settings.hash_block)
     → AreLinked p i blocks digest → IsAccepted p i (blocks 0) (joined blocks (level_count_of p)) digest
 linked-accepted p i blocks digest each h =
@@ -202,7 +202,7 @@ linked-accepted p i blocks digest each h =
         let low : 0 < level_count_of p = omega (arith, some) in
         (IsLinked-ok p i 0 (blocks 0) (blocks (suc 0)) (h.links 0 low)).of_block
 
-pub accepted-linked : (p : Planned) (i : ℕ) (blocks : ℕ → List ℕ) (digest : List ℕ)
+pub accepted-linked : (p : PlanFields) (i : ℕ) (blocks : ℕ → List ℕ) (digest : List ℕ)
     → ((m : ℕ) → m < level_count_of p → length (blocks (suc m)) ≡ p.settings.hash_block)
     → IsAccepted p i (blocks 0) (joined blocks (level_count_of p)) digest → AreLinked p i blocks digest
 accepted-linked p i blocks digest each h =
@@ -224,7 +224,7 @@ accepted-linked p i blocks digest each h =
     }
 
 -- a block with another's hash is that one, or they collide
-same-or-collide : (s : Settings) (x y : List ℕ) → hash s x ≡ hash s y → (x ≡ y) ⊎ IsCollision s x y
+same-or-collide : (s : TreeSettingsFields) (x y : List ℕ) → hash s x ≡ hash s y → (x ≡ y) ⊎ IsCollision s x y
 same-or-collide s x y one = by_test (bytes_eq x y) refl
   where
     by_test : (b : Bool) → bytes_eq x y ≡ b → (x ≡ y) ⊎ IsCollision s x y
@@ -232,7 +232,7 @@ same-or-collide s x y one = by_test (bytes_eq x y) refl
     by_test false apart = inr (record { differ = bytes_eq-false x y apart; one_hash = one })
 
 -- what a block of the tree accepts is the tree's
-pub link-true : (p : Planned) (bytes : List ℕ) (i l : ℕ) (block : List ℕ) → IsPlanned p
+pub link-true : (p : PlanFields) (bytes : List ℕ) (i l : ℕ) (block : List ℕ) → IsPlan p
     → checked_link p i l block (true_chain p.settings (data_blocks p bytes) i (suc l)) ≡ Ok tt
     → (block ≡ true_chain p.settings (data_blocks p bytes) i l)
     ⊎ IsCollision p.settings block (true_chain p.settings (data_blocks p bytes) i l)
@@ -246,7 +246,7 @@ link-true p bytes i l block planned ok =
     (omega (arith, linked.index, many))))
 
 -- what the root hash accepts is the tree's
-pub top-true : (p : Planned) (bytes : List ℕ) (i : ℕ) (block : List ℕ) → IsPlanned p
+pub top-true : (p : PlanFields) (bytes : List ℕ) (i : ℕ) (block : List ℕ) → IsPlan p
     → checked_top p i block (root p.settings (data_blocks p bytes)) ≡ Ok tt
     → (block ≡ true_chain p.settings (data_blocks p bytes) i (level_count_of p))
     ⊎ IsCollision p.settings block (true_chain p.settings (data_blocks p bytes) i (level_count_of p))

@@ -14,16 +14,20 @@ use Rattle.std.specs.Int.{div_ceil}
 use Rattle.verity_plan.proofs.CountLemmas.{mul_le}
 use Rattle.verity_hash.specs.Hashing.{with_zeros}
 use Rattle.verity_hash.proofs.HashLemmas.{length-salted_hash}
-use Rattle.verity_plan.specs.Settings.{Settings, hash, fan, slot, slot_width, digest_len}
+use Rattle.verity_plan.specs.Settings.{TreeSettingsFields, hash, fan, slot, slot_width, digest_len}
 use Rattle.verity_tree.specs.Levels.{hash_block_of, blocks_up}
 use Rattle.verity_tree.specs.Steps.OpenBlocks.{digests_under, open_block}
 use Rattle.verity_tree.proofs.PrefixLemmas.{get_or-pack}
 
-pub length-hash : (s : Settings) (x : List ℕ) → length (hash s x) ≡ digest_len s
+pub length-hash : (s : TreeSettingsFields) (x : List ℕ) → length (hash s x) ≡ digest_len s
 unfolding hash
 length-hash s x = length-salted_hash s.algorithm s.rule s.salt x
 
-length-slot : (s : Settings) (x : List ℕ) → digest_len s ≤ slot_width s → length (slot s (hash s x)) ≡ slot_width s
+-- a hash by the settings that a plan names
+pub hash-by : (digest block : List ℕ) (s t : TreeSettingsFields) → s ≡ t → digest ≡ hash s block → digest ≡ hash t block
+hash-by digest block s t same is = is ∙ ap (λ (r : TreeSettingsFields). hash r block) same
+
+length-slot : (s : TreeSettingsFields) (x : List ℕ) → digest_len s ≤ slot_width s → length (slot s (hash s x)) ≡ slot_width s
 length-slot s x fits =
     omega (
       arith,
@@ -33,7 +37,7 @@ length-slot s x fits =
     )
 
 -- the slots of some digests
-pub length-slots : (s : Settings) (xs : List (List ℕ)) → digest_len s ≤ slot_width s
+pub length-slots : (s : TreeSettingsFields) (xs : List (List ℕ)) → digest_len s ≤ slot_width s
     → length (flat_map (slot s) (map (hash s) xs)) ≡ length xs * slot_width s
 length-slots s [] fits = let e : 0 ≡ 0 * slot_width s = omega arith in e
 length-slots s (x ∷ xs) fits =
@@ -77,7 +81,7 @@ block-more k w at slots digest len fits room =
     ∙ ap (λ (xs : List ℕ). xs ++ after) (append_assoc slots digest slot_zeros)
 
 -- one more digest of an open block
-pub open-push : (s : Settings) (xs : List (List ℕ)) (q : ℕ) (digest : List ℕ) (at : ℕ) → digest_len s ≤ slot_width s
+pub open-push : (s : TreeSettingsFields) (xs : List (List ℕ)) (q : ℕ) (digest : List ℕ) (at : ℕ) → digest_len s ≤ slot_width s
     → fan s * slot_width s ≤ s.hash_block
     → 0 < fan s → q < length xs → digest ≡ hash s (get_or xs q []) → at ≡ q % fan s * slot_width s
     → take at (open_block s (map (hash s) xs) q) ++ digest
@@ -118,7 +122,7 @@ open-push s xs q digest at fits room some below same place =
     block-more s.hash_block w at slots digest len size inside ∙ ap (with_zeros s.hash_block) (sym pushed)
 
 -- a block that is full, or the last, is the block of its run
-pub open-close : (s : Settings) (xs : List (List ℕ)) (q : ℕ) → 0 < fan s → (q % fan s + 1 ≡ fan s) ⊎ (q + 1 ≡ length xs)
+pub open-close : (s : TreeSettingsFields) (xs : List (List ℕ)) (q : ℕ) → 0 < fan s → (q % fan s + 1 ≡ fan s) ⊎ (q + 1 ≡ length xs)
     → hash_block_of s (take (q % fan s + 1) (drop (q / fan s * fan s) xs))
     ≡ hash_block_of s (slice_chunk xs (fan s) (q / fan s))
 open-close s xs q some ends =
@@ -135,7 +139,7 @@ open-close s xs q some ends =
     ]
 
 -- the block of a run stands one level up
-pub block-up : (s : Settings) (blocks : List (List ℕ)) (m j : ℕ) → j < div_ceil (length (blocks_up s blocks m)) (fan s)
+pub block-up : (s : TreeSettingsFields) (blocks : List (List ℕ)) (m j : ℕ) → j < div_ceil (length (blocks_up s blocks m)) (fan s)
     → get_or (blocks_up s blocks (m + 1)) j [] ≡ hash_block_of s (slice_chunk (digests_under s blocks m) (fan s) j)
 unfolding blocks_up
 block-up s blocks m j below =

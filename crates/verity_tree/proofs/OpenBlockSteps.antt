@@ -11,7 +11,7 @@ use borrow.Rule.Slice.PartMut.{put_mid}
 use Rattle.std.proofs.Math.Nat.{one-le-pow, pow-zero}
 use Rattle.std.specs.Fork.{slice_chunk}
 use Rattle.std.specs.Int.{div_ceil}
-use Rattle.verity_plan.specs.Settings.{Settings, hash, fan, slot_width, digest_len}
+use Rattle.verity_plan.specs.Settings.{TreeSettingsFields, hash, fan, slot_width, digest_len}
 use Rattle.verity_tree.specs.Levels.{hash_block_of, blocks_up, root}
 use Rattle.verity_plan.specs.Plans.{level_count}
 use Rattle.verity_tree.specs.Steps.OpenBlocks.{digests_under, open_block, open_block_with, HasOpenBlocks, level_digest}
@@ -60,7 +60,7 @@ chunk-same xs ys size m a k place len room =
     ∙ between-put_mid a k xs ys (m * size + size) (omega (arith, place, room)) (len ∙ e)
 
 -- the place that a digest comes to is in its level
-pub level_digest-below : (s : Settings) (blocks : List (List ℕ)) (i m : ℕ) → 0 < fan s → i < length blocks
+pub level_digest-below : (s : TreeSettingsFields) (blocks : List (List ℕ)) (i m : ℕ) → 0 < fan s → i < length blocks
     → i / fan s ^ m < length (blocks_up s blocks m)
 level_digest-below s blocks i m some below =
     omega (
@@ -70,7 +70,7 @@ level_digest-below s blocks i m some below =
     )
 
 -- at the last data block the place is the last of each level
-pub level_digest-last : (s : Settings) (blocks : List (List ℕ)) (i m : ℕ) → 0 < fan s → i + 1 ≡ length blocks
+pub level_digest-last : (s : TreeSettingsFields) (blocks : List (List ℕ)) (i m : ℕ) → 0 < fan s → i + 1 ≡ length blocks
     → i / fan s ^ m + 1 ≡ length (blocks_up s blocks m)
 level_digest-last s blocks i m some last =
     sym (div_ceil-last i (fan s ^ m) (one-le-pow m (fan s) some))
@@ -78,7 +78,7 @@ level_digest-last s blocks i m some last =
     ∙ sym (length-blocks_up s blocks m some)
 
 -- the block that closes gives the digest one level up
-pub level_digest-next : (s : Settings) (blocks : List (List ℕ)) (i m : ℕ) → 0 < fan s → i < length blocks
+pub level_digest-next : (s : TreeSettingsFields) (blocks : List (List ℕ)) (i m : ℕ) → 0 < fan s → i < length blocks
     → (i / fan s ^ m % fan s + 1 ≡ fan s) ⊎ (i + 1 ≡ length blocks)
     → get_or (blocks_up s blocks (m + 1)) (i / fan s ^ (m + 1)) [] ≡ open_block_with s (digests_under s blocks m)
     (i / fan s ^ m)
@@ -99,13 +99,13 @@ level_digest-next s blocks i m some below ends =
     ∙ sym (open-close s digests q some closes)
 
 -- an open block with no slot is all zeros
-pub hash_block_of-none : (s : Settings) (n : ℕ) (digests : List (List ℕ))
+pub hash_block_of-none : (s : TreeSettingsFields) (n : ℕ) (digests : List (List ℕ))
     → hash_block_of s (take 0 (drop n digests)) ≡ replicate s.hash_block 0
 hash_block_of-none s n digests =
     ap (λ (k : ℕ). replicate k 0) (let e : s.hash_block - 0 ≡ s.hash_block = omega arith in e)
 
 -- a level whose block closed goes on
-pub IsCarrying-closed : (s : Settings) (blocks : List (List ℕ)) (i m levels a k : ℕ) (store zeros digest next : List ℕ)
+pub IsCarrying-closed : (s : TreeSettingsFields) (blocks : List (List ℕ)) (i m levels a k : ℕ) (store zeros digest next : List ℕ)
     → 0 < fan s → i < length blocks → m < levels
     → (i / fan s ^ m % fan s + 1 ≡ fan s) ⊎ (i + 1 ≡ length blocks) → levels * s.hash_block ≤ length store
     → a ≡ m * s.hash_block → k ≡ s.hash_block → zeros ≡ replicate s.hash_block 0 → length zeros ≡ s.hash_block
@@ -146,7 +146,7 @@ IsCarrying-closed s blocks i m levels a k store zeros digest next some below ins
     }
 
 -- a level whose block stays stood ends the cascade
-pub HasOpenBlocks-kept : (s : Settings) (blocks : List (List ℕ)) (i m levels a k : ℕ) (store stood digest : List ℕ)
+pub HasOpenBlocks-kept : (s : TreeSettingsFields) (blocks : List (List ℕ)) (i m levels a k : ℕ) (store stood digest : List ℕ)
     → 0 < fan s → i + 1 < length blocks → m < levels
     → i / fan s ^ m % fan s + 1 < fan s → levels * s.hash_block ≤ length store
     → a ≡ m * s.hash_block → k ≡ s.hash_block → length stood ≡ s.hash_block
@@ -183,7 +183,7 @@ HasOpenBlocks-kept s blocks i m levels a k store stood digest some more inside l
     ]
 
 -- past all levels only the last data block comes, and its digest is the root
-pub level_digest-root : (s : Settings) (blocks : List (List ℕ)) (i levels : ℕ) (store digest : List ℕ) → 2 ≤ fan s
+pub level_digest-root : (s : TreeSettingsFields) (blocks : List (List ℕ)) (i levels : ℕ) (store digest : List ℕ) → 2 ≤ fan s
     → i < length blocks
     → levels ≡ level_count (fan s) (length blocks) → IsCarrying s blocks (cascade_state i levels levels) store digest
     → (i + 1 ≡ length blocks) × (digest ≡ root s blocks)
@@ -210,7 +210,7 @@ level_digest-root s blocks i levels store digest two below count h =
     )
 
 -- a slot is within its block
-pub slot-room : (s : Settings) (q f w len size : ℕ) → f ≡ fan s → w ≡ slot_width s → len ≡ digest_len s
+pub slot-room : (s : TreeSettingsFields) (q f w len size : ℕ) → f ≡ fan s → w ≡ slot_width s → len ≡ digest_len s
     → size ≡ s.hash_block → 2 ≤ f
     → fan s * slot_width s ≤ s.hash_block → q % f * w + len ≤ size
 slot-room s q f w len size ef ew el es two fits =
@@ -220,7 +220,7 @@ slot-room s q f w len size ef ew el es two fits =
     omega (arith, mul_le (q % f + 1) f w step, area, fits, digest-slot s)
 
 -- the digest in its slot is the block with one more
-pub open_block_with-put : (s : Settings) (below : List (List ℕ)) (q f w : ℕ) (before after digest : List ℕ) → f ≡ fan s
+pub open_block_with-put : (s : TreeSettingsFields) (below : List (List ℕ)) (q f w : ℕ) (before after digest : List ℕ) → f ≡ fan s
     → w ≡ slot_width s → 2 ≤ f
     → fan s * slot_width s ≤ s.hash_block
     → after ≡ take (q % f * w) before ++ digest ++ drop (q % f * w + length digest) before
@@ -234,14 +234,14 @@ open_block_with-put s below q f w before after digest ef ew two fits put next =
     ∙ open-push s below q digest (q % f * w) (omega (arith, digest-slot s)) fits some next.here next.digest_is place
 
 -- a slot that is not before the last is the last
-pub slots-all : (s : Settings) (q f : ℕ) → f ≡ fan s → 2 ≤ f → f ≤ q % f + 1 → q % fan s + 1 ≡ fan s
+pub slots-all : (s : TreeSettingsFields) (q f : ℕ) → f ≡ fan s → 2 ≤ f → f ≤ q % f + 1 → q % fan s + 1 ≡ fan s
 slots-all s q f e two all =
     let low : q % f < f = mod_below q f (omega arith) in
     let full : q % f + 1 ≡ f = omega arith in
     ap (λ (n : ℕ). q % n + 1) (sym e) ∙ full ∙ e
 
 -- the loop over the levels begins
-pub IsCarrying-first : (s : Settings) (blocks : List (List ℕ)) (i levels : ℕ) (store digest : List ℕ)
+pub IsCarrying-first : (s : TreeSettingsFields) (blocks : List (List ℕ)) (i levels : ℕ) (store digest : List ℕ)
     → digest ≡ level_digest s blocks i 0
     → HasOpenBlocks s blocks 0 levels i store → IsCarrying s blocks (cascade_state i 0 levels) store digest
 IsCarrying-first s blocks i levels store digest is stands = record {
@@ -252,7 +252,7 @@ IsCarrying-first s blocks i levels store digest is stands = record {
 }
 
 -- a level closes and the next one gets its digest
-pub carry-closed : (s : Settings) (blocks : List (List ℕ)) (i m levels count index a k : ℕ) (last : Bool)
+pub carry-closed : (s : TreeSettingsFields) (blocks : List (List ℕ)) (i m levels count index a k : ℕ) (last : Bool)
     (store block after digest above : List ℕ) → 2 ≤ fan s
     → i < count → m < levels → last ≡ eqb (i + 1) count → index ≡ i / fan s ^ m → levels * s.hash_block ≤ length store
     → a ≡ m * s.hash_block → k ≡ s.hash_block
@@ -284,7 +284,7 @@ carry-closed s blocks i m levels count index a k last store block after digest a
     ∙ ap (λ (n : ℕ). hash s (open_block_with s (digests_under s blocks m) n)) place) h
 
 -- a level stays open and the cascade ends
-pub carry-kept : (s : Settings) (blocks : List (List ℕ)) (i m levels count index a k : ℕ) (last : Bool)
+pub carry-kept : (s : TreeSettingsFields) (blocks : List (List ℕ)) (i m levels count index a k : ℕ) (last : Bool)
     (store block after digest : List ℕ) → 2 ≤ fan s
     → i < count → m < levels → last ≡ eqb (i + 1) count → index ≡ i / fan s ^ m → levels * s.hash_block ≤ length store
     → a ≡ m * s.hash_block → k ≡ s.hash_block
@@ -327,7 +327,7 @@ carry-kept s blocks i m levels count index a k last store block after digest two
     }
 
 -- past the last level
-pub carry-all : (s : Settings) (blocks : List (List ℕ)) (i levels : ℕ) (store digest : List ℕ) → 2 ≤ fan s
+pub carry-all : (s : TreeSettingsFields) (blocks : List (List ℕ)) (i levels : ℕ) (store digest : List ℕ) → 2 ≤ fan s
     → i < length blocks
     → levels ≡ level_count (fan s) (length blocks) → IsCarrying s blocks (cascade_state i levels levels) store digest
     → IsCarriedOn s blocks i levels store digest
@@ -339,7 +339,7 @@ carry-all s blocks i levels store digest two below many h =
     }
 
 -- a slot before the last
-pub slots-left : (s : Settings) (q f : ℕ) → f ≡ fan s → q % f + 1 < f → q % fan s + 1 < fan s
+pub slots-left : (s : TreeSettingsFields) (q f : ℕ) → f ≡ fan s → q % f + 1 < f → q % fan s + 1 < fan s
 slots-left s q f e room = subst (λ (n : ℕ). q % n + 1 < n) e room
 
 -- at level 0 the place is the data block's number

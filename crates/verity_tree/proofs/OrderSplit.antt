@@ -11,7 +11,7 @@ use Rattle.std.specs.Prelude.{◌==◌, ◌||◌, slice_index_or}
 use Rattle.verity_plan.specs.Plans.{level_count, start_byte}
 use Rattle.verity_tree.specs.ClosingOrder.{BlockIndex, block_index, closes, closing_with, closed_after, first_closing}
 use Rattle.verity_tree.specs.TreeWriting.{device_with}
-use Rattle.verity_plan.specs.Settings.{Settings, fan}
+use Rattle.verity_plan.specs.Settings.{TreeSettingsFields, fan}
 use Rattle.verity_tree.specs.Steps.OpenBlocks.{IsReached}
 use Rattle.verity_tree.specs.Levels.{blocks_up}
 use Rattle.verity_io.specs.Writing.{put}
@@ -84,7 +84,7 @@ first_closing-more f i m =
     map-range_with_len_more (λ level. block_index level (i / f ^ (level + 1))) 0 m m (omega arith)
 
 -- blocks after blocks
-pub device_with-append : (s : Settings) (blocks : List (List ℕ)) (base : ℕ) (ps qs : List BlockIndex) (device : List ℕ)
+pub device_with-append : (s : TreeSettingsFields) (blocks : List (List ℕ)) (base : ℕ) (ps qs : List BlockIndex) (device : List ℕ)
     → device_with s blocks base (ps ++ qs) device ≡ device_with s blocks base qs (device_with s blocks base ps device)
 unfolding device_with
 device_with-append s blocks base [] qs device = refl
@@ -93,7 +93,7 @@ device_with-append s blocks base (p ∷ ps) qs device =
     (put device (start_byte s (length blocks) base p.level p.index)
     (slice_index_or (blocks_up s blocks (p.level + 1)) p.index []))
 
-pub device_with-more : (s : Settings) (blocks : List (List ℕ)) (base i m : ℕ) (device : List ℕ)
+pub device_with-more : (s : TreeSettingsFields) (blocks : List (List ℕ)) (base i m : ℕ) (device : List ℕ)
     → device_with s blocks base (first_closing (fan s) i (m + 1)) device
     ≡ put (device_with s blocks base (first_closing (fan s) i m) device)
     (start_byte s (length blocks) base m (i / fan s ^ (m + 1)))
@@ -109,7 +109,7 @@ unfolding closed_after
 closed_after-more f n i = let one : i + 1 ≡ suc i = omega arith in ap (closed_after f n) one
 
 -- one data block more on the device
-pub device_with-closed_after : (s : Settings) (blocks : List (List ℕ)) (base n i : ℕ) (device : List ℕ)
+pub device_with-closed_after : (s : TreeSettingsFields) (blocks : List (List ℕ)) (base n i : ℕ) (device : List ℕ)
     → device_with s blocks base (closed_after (fan s) n (i + 1)) device
     ≡ device_with s blocks base (closing_with (fan s) n i)
     (device_with s blocks base (closed_after (fan s) n i) device)

@@ -5,7 +5,7 @@ use Rattle.std.proofs.lemmas.Bool.{cases_lt}
 use Rattle.std.proofs.lemmas.Slice.Eq.{bytes_eq-Decides}
 use Rattle.std.specs.Prelude.{Result, Ok, Err}
 use Rattle.std.specs.Str.{bytes_eq}
-use Rattle.verity_plan.specs.Plans.{level_count, Planned, IsPlanned}
+use Rattle.verity_plan.specs.Plans.{level_count, PlanFields, IsPlan}
 use Rattle.verity_plan.specs.PlanCounts.{level_count_of}
 use Rattle.verity_tree.specs.Levels.{data_blocks, root}
 use Rattle.verity_tree.specs.Paths.{ChecksBlock, HasCollision, HoldsAt, IsAccepted, chain, true_chain, true_path}
@@ -22,7 +22,7 @@ use Rattle.verity_tree.proofs.PieceLemmas.{length-pieces, piece}
 
 -- two chains with one hash at a level, by whether their blocks there are one: they have one block at the bottom, or a
 -- collision at that level or below
-collides-by : (p : Planned) (blocks : List (List ℕ)) (i : ℕ) (block path digest : List ℕ) → 2 ≤ fan p.settings
+collides-by : (p : PlanFields) (blocks : List (List ℕ)) (i : ℕ) (block path digest : List ℕ) → 2 ≤ fan p.settings
     → i < length blocks
     → ((m : ℕ) → m ≤ level_count_of p → HoldsAt p i block path digest m)
     → (l : ℕ) → l ≤ level_count_of p
@@ -46,7 +46,7 @@ collides-by p blocks i block path digest two below holds (suc l) within one true
     (bytes_eq (chain s block path l) (true_chain s blocks i l)) refl
 
 -- what is accepted is the data's, or there is a collision
-pub accepted-true : (p : Planned) (bytes : List ℕ) (i : ℕ) (block path : List ℕ) → IsPlanned p
+pub accepted-true : (p : PlanFields) (bytes : List ℕ) (i : ℕ) (block path : List ℕ) → IsPlan p
     → IsAccepted p i block path (root p.settings (data_blocks p bytes))
     → (block ≡ get_or (data_blocks p bytes) i []) ⊎ HasCollision p (data_blocks p bytes) i block path
 accepted-true p bytes i block path planned h =
@@ -62,7 +62,7 @@ accepted-true p bytes i block path planned h =
     ∙ ap (λ (n : ℕ). hash s (true_chain s blocks i (level_count (fan s) n))) many) _ refl
 
 -- a true chain is the chain of the true path
-chain-true : (p : Planned) (blocks : List (List ℕ)) (i l : ℕ) → IsValid p.settings → i < length blocks
+chain-true : (p : PlanFields) (blocks : List (List ℕ)) (i l : ℕ) → IsValid p.settings → i < length blocks
     → l ≤ level_count_of p
     → chain p.settings (get_or blocks i []) (true_path p.settings blocks i (level_count_of p)) l
     ≡ true_chain p.settings blocks i l
@@ -76,7 +76,7 @@ chain-true p blocks i (suc l) valid below within =
     ∙ ap (λ (m : ℕ). true_chain p.settings blocks i (suc m)) none
 
 -- the true path holds at each level
-holds-true : (p : Planned) (blocks : List (List ℕ)) (i : ℕ) → IsValid p.settings → length blocks ≡ p.blocks
+holds-true : (p : PlanFields) (blocks : List (List ℕ)) (i : ℕ) → IsValid p.settings → length blocks ≡ p.blocks
     → i < length blocks → (l : ℕ) → l ≤ level_count_of p
     → HoldsAt p i (get_or blocks i []) (true_path p.settings blocks i (level_count_of p)) (root p.settings blocks) l
 holds-true p blocks i valid many below l within =
@@ -97,7 +97,7 @@ holds-true p blocks i valid many below l within =
     ]
 
 -- the true path is accepted
-pub true-accepted : (p : Planned) (bytes : List ℕ) (i : ℕ) → IsPlanned p → i < p.blocks
+pub true-accepted : (p : PlanFields) (bytes : List ℕ) (i : ℕ) → IsPlan p → i < p.blocks
     → IsAccepted p i (get_or (data_blocks p bytes) i [])
     (true_path p.settings (data_blocks p bytes) i (level_count_of p))
     (root p.settings (data_blocks p bytes))
@@ -118,7 +118,7 @@ true-accepted p bytes i planned index =
     }
 
 -- at most one answer is right
-pub one-answer : (p : Planned) (i : ℕ) (block path root : List ℕ) (x y : Result Unit PathFault)
+pub one-answer : (p : PlanFields) (i : ℕ) (block path root : List ℕ) (x y : Result Unit PathFault)
     → ChecksBlock p i block path root x → ChecksBlock p i block path root y → x ≡ y
 one-answer p i block path root (Ok _) (Ok _) h g = refl
 one-answer p i block path root (Ok _) (Err Index) h g = absurd (omega (arith, h.index, g))

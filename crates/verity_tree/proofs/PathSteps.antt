@@ -10,14 +10,14 @@ use Rattle.std.specs.Fork.{slice_chunk}
 use Rattle.std.specs.Prelude.{nat_lt}
 use Rattle.std.specs.Str.{bytes_eq}
 use Rattle.verity_tree.specs.Paths.{HasLengths, chain, digest_above}
-use Rattle.verity_plan.specs.Plans.{Planned}
+use Rattle.verity_plan.specs.Plans.{PlanFields}
 use Rattle.verity_plan.specs.PlanCounts.{level_count_of}
-use Rattle.verity_plan.specs.Settings.{Settings, digest_len, fan, slot_width}
+use Rattle.verity_plan.specs.Settings.{TreeSettingsFields, digest_len, fan, slot_width}
 use Rattle.verity_tree.specs.Verdicts.{digest_in}
 use Rattle.verity_tree.proofs.VerdictLemmas.{digest-room}
 
 -- one block further up the chain
-pub chain-more : (s : Settings) (block path : List ℕ) (l : ℕ)
+pub chain-more : (s : TreeSettingsFields) (block path : List ℕ) (l : ℕ)
     → chain s block path (l + 1) ≡ slice_chunk path s.hash_block l
 chain-more s block path l = let e : l + 1 ≡ suc l = omega arith in ap (chain s block path) e
 
@@ -29,20 +29,20 @@ range-block path l size all e =
     ap (λ (n : ℕ). take n (drop (l * size) path)) same ∙ ap (λ (n : ℕ). slice_chunk path n l) e
 
 -- below the top a digest in its slot
-pub digest_above-below : (p : Planned) (i : ℕ) (path root : List ℕ) (l : ℕ) → l < level_count_of p
+pub digest_above-below : (p : PlanFields) (i : ℕ) (path root : List ℕ) (l : ℕ) → l < level_count_of p
     → digest_above p i path root l ≡ digest_in p.settings (slice_chunk path p.settings.hash_block l)
     (i / fan p.settings ^ l % fan p.settings)
 digest_above-below p i path root l below =
     let tested : nat_lt l (level_count_of p) ≡ true = grind (arith, nat_tests, below) in rw tested refl
 
 -- at the top the root
-pub digest_above-top : (p : Planned) (i : ℕ) (path root : List ℕ) (l : ℕ) → level_count_of p ≤ l
+pub digest_above-top : (p : PlanFields) (i : ℕ) (path root : List ℕ) (l : ℕ) → level_count_of p ≤ l
     → digest_above p i path root l ≡ root
 digest_above-top p i path root l top =
     let tested : nat_lt l (level_count_of p) ≡ false = grind (arith, nat_tests, top) in rw tested refl
 
 -- the digest that the code reads is the digest above
-pub read-is : (p : Planned) (i : ℕ) (path root above : List ℕ) (l slot index f : ℕ) → l < level_count_of p
+pub read-is : (p : PlanFields) (i : ℕ) (path root above : List ℕ) (l slot index f : ℕ) → l < level_count_of p
     → above ≡ slice_chunk path p.settings.hash_block l
     → f ≡ fan p.settings → index ≡ i / fan p.settings ^ l → slot ≡ index % f
     → digest_in p.settings above slot ≡ digest_above p i path root l
@@ -53,7 +53,7 @@ read-is p i path root above l slot index f below above_is f_is index_is slot_is 
     ∙ sym (digest_above-below p i path root l below)
 
 -- a level's block of a whole path has a digest's room in each slot
-pub slot-in-block : (p : Planned) (path above : List ℕ) (l index f : ℕ)
+pub slot-in-block : (p : PlanFields) (path above : List ℕ) (l index f : ℕ)
     → fan p.settings * slot_width p.settings ≤ p.settings.hash_block
     → l < level_count_of p → level_count_of p * p.settings.hash_block ≤ length path
     → above ≡ slice_chunk path p.settings.hash_block l
@@ -78,7 +78,7 @@ bytes_eq-false xs ys apart same = let equal = (bytes_eq-Decides xs ys).1 same in
     ∙ apart in cc
 
 -- the lengths that the code reads are the plan's
-pub HasLengths-read : (p : Planned) (block path : List ℕ) (wide levels size : ℕ) → wide ≡ p.settings.data_block
+pub HasLengths-read : (p : PlanFields) (block path : List ℕ) (wide levels size : ℕ) → wide ≡ p.settings.data_block
     → levels ≡ level_count_of p → size ≡ p.settings.hash_block
     → length block ≡ wide → length path ≡ levels * size → HasLengths p block path
 HasLengths-read p block path wide levels size wide_is levels_is size_is of_block of_path = record {

@@ -9,8 +9,8 @@ use Rattle.std.proofs.lemmas.Nat.{div-add-mod', div-mul-add, mod-mul-add, mod_be
 use Rattle.std.specs.Fork.{slice_chunk}
 use borrow.Rule.Slice.PartMut.{put_mid}
 use Rattle.verity_hash.specs.Hashing.{with_zeros}
-use Rattle.verity_plan.specs.Plans.{IsPlanned, Planned}
-use Rattle.verity_plan.specs.Settings.{Settings, digest_len, fan, hash}
+use Rattle.verity_plan.specs.Plans.{IsPlan, PlanFields}
+use Rattle.verity_plan.specs.Settings.{TreeSettingsFields, digest_len, fan, hash}
 use Rattle.verity_plan.proofs.CountLemmas.{mul_le}
 use Rattle.verity_plan.proofs.FanLemmas.{fan-some, some_data}
 use Rattle.verity_tree.specs.ClosingOrder.{BlockIndex, closed_after, closing_with}
@@ -68,7 +68,7 @@ with_zeros-filled size at bytes current zeros room here most holds are =
     ∙ ap (λ (xs : List ℕ). bytes ++ xs) (are ∙ ap (λ (n : ℕ). replicate n 0) many)
 
 -- the digest of a data block that is whole is what comes to level 0
-pub level_digest-block : (s : Settings) (n wanted k : ℕ) (bytes : List ℕ) → k < n
+pub level_digest-block : (s : TreeSettingsFields) (n wanted k : ℕ) (bytes : List ℕ) → k < n
     → k * s.data_block + s.data_block ≤ wanted → k * s.data_block + s.data_block ≤ length bytes
     → hash s (slice_chunk bytes s.data_block k) ≡ level_digest s (cut s n wanted bytes) k 0
 unfolding blocks_up
@@ -104,7 +104,7 @@ closed_after-none f n i (suc m) some within stays =
     ∙ closed_after-none f n i m some (omega (arith, within)) (λ k from to. stays k from (omega (arith, to)))
 
 -- the data blocks before the last of some that are whole
-pub blocks_before-whole : (s : Settings) (n : ℕ) → 0 < s.data_block
+pub blocks_before-whole : (s : TreeSettingsFields) (n : ℕ) → 0 < s.data_block
     → blocks_before s (n * s.data_block + s.data_block) ≡ n
 blocks_before-whole s n some =
     let size = s.data_block in
@@ -120,7 +120,7 @@ chunk-after size i r fed taken whole =
 
 -- whole data blocks after whole data blocks: the digest of the last is kept, and those before it come to the open
 -- blocks
-pub HasFed-rows : (p : Planned) → IsPlanned p → (levels i m : ℕ) (fed taken opened after current : List ℕ)
+pub HasFed-rows : (p : PlanFields) → IsPlan p → (levels i m : ℕ) (fed taken opened after current : List ℕ)
     (digests : List (List ℕ)) → i + (m + 1) ≤ p.blocks → length fed ≡ i * p.settings.data_block
     → length taken ≡ (m + 1) * p.settings.data_block → length fed + length taken ≤ p.wanted
     → ((r : ℕ) → r < m + 1 → get_or digests r [] ≡ hash p.settings (slice_chunk taken p.settings.data_block r))
@@ -165,7 +165,7 @@ HasFed-rows p planned levels i m fed taken opened after current digests below wh
     }
 
 -- bytes that come to a data block, up to its end at most: the last byte is in that block
-pub blocks_before-filled : (s : Settings) (count at more : ℕ) → at ≡ count % s.data_block → 0 < more
+pub blocks_before-filled : (s : TreeSettingsFields) (count at more : ℕ) → at ≡ count % s.data_block → 0 < more
     → at + more ≤ s.data_block → blocks_before s (count + more) ≡ count / s.data_block
 blocks_before-filled s count at more here some within =
     let size = s.data_block in
@@ -175,7 +175,7 @@ blocks_before-filled s count at more here some within =
     ap (λ (n : ℕ). n / size) long ∙ div-mul-add q size (at + more - 1) (omega (arith, some, within))
 
 -- bytes that come to a data block, of which there are `at`, up to its end at most
-pub HasFed-filled : (s : Settings) (levels at : ℕ) (fed more opened before current : List ℕ)
+pub HasFed-filled : (s : TreeSettingsFields) (levels at : ℕ) (fed more opened before current : List ℕ)
     → at ≡ length fed % s.data_block → 0 < length more → at + length more ≤ s.data_block
     → ((bytes : List ℕ) → length bytes ≡ at → take at before ≡ bytes → HoldsCurrent s (bytes ++ more) current)
     → IsSettled s levels fed opened before → HasFed s levels (fed ++ more) opened current

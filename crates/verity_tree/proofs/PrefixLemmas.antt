@@ -9,13 +9,13 @@ use Rattle.std.specs.Int.{div_ceil}
 use Rattle.verity_tree.specs.ClosingOrder.{closed_after, times}
 use Rattle.verity_tree.specs.TreeOnDevice.{tree_block}
 use Rattle.verity_tree.proofs.OrderLemmas.{closed_time}
-use Rattle.verity_plan.specs.Settings.{Settings, hash, fan}
+use Rattle.verity_plan.specs.Settings.{TreeSettingsFields, hash, fan}
 use Rattle.verity_tree.specs.Levels.{pack, hash_block_of, blocks_up}
 use Rattle.verity_plan.proofs.CountLemmas.{div_ceil-div_ceil}
 use Rattle.verity_tree.proofs.TreeLemmas.{length-blocks_up}
 
 -- the j-th block of digests that are packed
-pub get_or-pack : (s : Settings) (digests : List (List ℕ)) (j : ℕ) → j < div_ceil (length digests) (fan s)
+pub get_or-pack : (s : TreeSettingsFields) (digests : List (List ℕ)) (j : ℕ) → j < div_ceil (length digests) (fan s)
     → get_or (pack s digests) j [] ≡ hash_block_of s (slice_chunk digests (fan s) j)
 unfolding pack
 get_or-pack s digests j h =
@@ -45,7 +45,7 @@ slice_chunk-same xs ys size j same each =
     ∙ sym (get_or-take size (drop (j * size) ys) m [] below ∙ get_or-drop (j * size) ys m []))
 
 -- a block depends on the data blocks before its closing time alone
-pub blocks_up-prefix : (s : Settings) (xs ys : List (List ℕ)) (i l j : ℕ) → 0 < fan s → length xs ≡ length ys
+pub blocks_up-prefix : (s : TreeSettingsFields) (xs ys : List (List ℕ)) (i l j : ℕ) → 0 < fan s → length xs ≡ length ys
     → ((k : ℕ) → k < i → get_or xs k [] ≡ get_or ys k []) → j < div_ceil (length xs) (fan s ^ l)
     → min ((j + 1) * fan s ^ l) (length xs) ≤ i → get_or (blocks_up s xs l) j [] ≡ get_or (blocks_up s ys l) j []
 unfolding blocks_up
@@ -91,7 +91,7 @@ blocks_up-prefix s xs ys i (suc l) j pos same each below time =
     ∙ sym (get_or-pack s (map (hash s) after) j there)
 
 -- what has closed after i data blocks depends on these alone
-pub closed-prefix : (s : Settings) (xs ys : List (List ℕ)) (i l j : ℕ) → 0 < fan s → length xs ≡ length ys
+pub closed-prefix : (s : TreeSettingsFields) (xs ys : List (List ℕ)) (i l j : ℕ) → 0 < fan s → length xs ≡ length ys
     → i ≤ length xs
     → ((k : ℕ) → k < i → get_or xs k [] ≡ get_or ys k []) → 0 < times l j (closed_after (fan s) (length xs) i)
     → tree_block s xs l j ≡ tree_block s ys l j

@@ -11,15 +11,15 @@ use Rattle.std.proofs.lemmas.Slice.{take-put_mid_below}
 use Rattle.std.proofs.Math.Nat.{mul-le-mul_right}
 use borrow.Rule.Slice.PartMut.{put_mid}
 use Rattle.verity_hash.proofs.RowLemmas.{each-of-eight}
-use Rattle.verity_io.specs.Counting.{Counts}
+use Rattle.verity_io.specs.Counting.{Counts, TheSource, is_call_of}
 use Rattle.verity_io.specs.Reading.{HasRead}
-use Rattle.verity_plan.specs.Plans.{Planned}
+use Rattle.verity_plan.specs.Plans.{PlanFields}
 use Rattle.verity_plan.specs.Settings.{fan}
 use Rattle.verity_tree.specs.Reading.{bytes_of}
 use Rattle.verity_tree.specs.Steps.Cascade.{EndsBlock}
-use Rattle.verity_tree.specs.Steps.ReadingAhead.{IsAhead, IsWithinHashBlock, SourceStandsAt, stop_failed}
+use Rattle.verity_tree.specs.Steps.ReadingAhead.{IsAhead, IsWithinHashBlock, SourceStandsAt, side_if_any}
 use Rattle.verity_tree.specs.declared.pass.data_block.BlockFault.{BlockFault}
-use Rattle.verity_tree.specs.declared.pass.reading_ahead.Ahead.{Ahead}
+use Rattle.verity_tree.specs.declared.pass.reading_ahead.DigestsAhead.{DigestsAhead}
 
 -- a write further on leaves a row
 pub row-kept : (b r a k : ℕ) (rows new : List ℕ) → r * b + b ≤ a → a ≤ length rows
@@ -74,7 +74,7 @@ none-or None = inl refl
 none-or (Some fault) = inr (some-fault fault)
 
 -- when a hash block ends, nothing is read ahead
-pub settled : (p : Planned) (i : ℕ) (ahead : Ahead) → IsWithinHashBlock p (i + 1) ahead → EndsBlock (fan p.settings) p.blocks i
+pub settled : (p : PlanFields) (i : ℕ) (ahead : DigestsAhead) → IsWithinHashBlock p (i + 1) ahead → EndsBlock (fan p.settings) p.blocks i
     → (ahead.fault ≡ None) × (ahead.end ≡ i + 1)
 settled p i ahead within ends =
     let none = within.none_closes i (omega arith) in
@@ -89,7 +89,7 @@ settled p i ahead within ends =
     ]
 
 -- nor at the end of the data
-pub all-read : (p : Planned) (i : ℕ) (ahead : Ahead) → IsWithinHashBlock p i ahead → p.blocks ≤ i
+pub all-read : (p : PlanFields) (i : ℕ) (ahead : DigestsAhead) → IsWithinHashBlock p i ahead → p.blocks ≤ i
     → (ahead.fault ≡ None) × (ahead.end ≡ p.blocks)
 all-read p i ahead within done =
     let whole : ahead.end ≡ p.blocks = omega (arith, within.from, within.to, done) in
@@ -99,14 +99,14 @@ all-read p i ahead within done =
     ]
 
 -- then the blocks before it were read, and no more
-pub read-to : (p : Planned) (i n : ℕ) (bytes : List ℕ) (ahead : Ahead) (after : List ℕ) → ahead.fault ≡ None
+pub read-to : (p : PlanFields) (i n : ℕ) (bytes : List ℕ) (ahead : DigestsAhead) (after : List ℕ) → ahead.fault ≡ None
     → ahead.end ≡ n → IsAhead p i bytes ahead after → HasRead (bytes_of p n) bytes after
 read-to p i n bytes ahead after none end h =
     subst (λ (k : ℕ). HasRead (bytes_of p k) bytes after) end
     (subst (λ (fault : Option BlockFault). SourceStandsAt p ahead.end bytes fault after) none h.stands)
 
 -- and the source has not failed
-pub not-failed : (fault : Option BlockFault) (before after : ℕ) → fault ≡ None → Counts (stop_failed fault) before after
+pub not-failed : (fault : Option BlockFault) (before after : ℕ) → fault ≡ None → Counts (is_call_of TheSource (side_if_any fault)) before after
     → after ≡ before
 not-failed fault before after none h =
-    subst (λ (f : Option BlockFault). Counts (stop_failed f) before after) none h
+    subst (λ (f : Option BlockFault). Counts (is_call_of TheSource (side_if_any f)) before after) none h

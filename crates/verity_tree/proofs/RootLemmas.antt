@@ -7,7 +7,7 @@ use Rattle.std.proofs.Math.Nat.{pow-zero, pow-suc, one-le-pow}
 use Rattle.std.specs.Int.{div_ceil}
 use Rattle.verity_plan.specs.Plans.{level_count}
 use Rattle.verity_plan.specs.PlanLaws.{IsLevelCount}
-use Rattle.verity_plan.specs.Settings.{Settings, hash, fan}
+use Rattle.verity_plan.specs.Settings.{TreeSettingsFields, hash, fan}
 use Rattle.verity_tree.specs.Levels.{pack, blocks_up, root}
 use Rattle.verity_tree.specs.Steps.PlainRoots.{digests_up, root_of_digests}
 use Rattle.verity_plan.proofs.CountLemmas.{IsLevelCount-level_count, le-div_ceil, mul-lt_div_ceil, div_ceil-pos}
@@ -46,7 +46,7 @@ level_count-one fan two =
     (record { enough = omega (arith, pow-zero fan); least = λ m h. absurd (omega arith) })
 
 -- the levels of digests above one level up
-pub digests_up-up : (s : Settings) (digests : List (List ℕ)) (l : ℕ)
+pub digests_up-up : (s : TreeSettingsFields) (digests : List (List ℕ)) (l : ℕ)
     → digests_up s digests (suc l) ≡ digests_up s (map (hash s) (pack s digests)) l
 unfolding digests_up
 digests_up-up s digests zero = refl
@@ -54,7 +54,7 @@ digests_up-up s digests (suc l) =
     ap (λ (ds : List (List ℕ)). map (hash s) (pack s ds)) (digests_up-up s digests l)
 
 -- one level up leaves the same root
-pub root_of_digests-up : (s : Settings) (digests : List (List ℕ)) → 2 ≤ fan s → 1 < length digests
+pub root_of_digests-up : (s : TreeSettingsFields) (digests : List (List ℕ)) → 2 ≤ fan s → 1 < length digests
     → root_of_digests s (map (hash s) (pack s digests)) ≡ root_of_digests s digests
 unfolding root_of_digests
 root_of_digests-up s digests two more =
@@ -66,14 +66,14 @@ root_of_digests-up s digests two more =
     ∙ ap (λ (l : ℕ). get_or (digests_up s digests l) 0 []) (sym (level_count-suc (fan s) (length digests) two more))
 
 -- a single digest is the root
-pub root_of_digests-one : (s : Settings) (digests : List (List ℕ)) → 2 ≤ fan s → length digests ≡ 1
+pub root_of_digests-one : (s : TreeSettingsFields) (digests : List (List ℕ)) → 2 ≤ fan s → length digests ≡ 1
     → root_of_digests s digests ≡ get_or digests 0 []
 unfolding root_of_digests digests_up
 root_of_digests-one s digests two one =
     ap (λ (l : ℕ). get_or (digests_up s digests l) 0 []) (ap (level_count (fan s)) one ∙ level_count-one (fan s) two)
 
 -- the digests of the blocks of a level
-pub map-hash-blocks_up : (s : Settings) (blocks : List (List ℕ)) (l : ℕ)
+pub map-hash-blocks_up : (s : TreeSettingsFields) (blocks : List (List ℕ)) (l : ℕ)
     → map (hash s) (blocks_up s blocks l) ≡ digests_up s (map (hash s) blocks) l
 unfolding blocks_up digests_up
 map-hash-blocks_up s blocks zero = refl
@@ -81,7 +81,7 @@ map-hash-blocks_up s blocks (suc l) = ap (λ (ds : List (List ℕ)). map (hash s
     (map-hash-blocks_up s blocks l)
 
 -- the root above some blocks is the root above their digests
-pub root-digests : (s : Settings) (blocks : List (List ℕ)) → 2 ≤ fan s → 0 < length blocks
+pub root-digests : (s : TreeSettingsFields) (blocks : List (List ℕ)) → 2 ≤ fan s → 0 < length blocks
     → root s blocks ≡ root_of_digests s (map (hash s) blocks)
 unfolding root root_of_digests
 root-digests s blocks two some =
@@ -100,6 +100,6 @@ root-digests s blocks two some =
     (sym (length-map blocks (hash s)))
 
 -- how many digests are one level up
-pub length-above : (s : Settings) (digests above : List (List ℕ)) → above ≡ map (hash s) (pack s digests)
+pub length-above : (s : TreeSettingsFields) (digests above : List (List ℕ)) → above ≡ map (hash s) (pack s digests)
     → length above ≡ div_ceil (length digests) (fan s)
 length-above s digests above e = ap length e ∙ length-map (pack s digests) (hash s) ∙ length-pack s digests

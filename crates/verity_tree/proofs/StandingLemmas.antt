@@ -8,8 +8,8 @@ use Rattle.std.proofs.lemmas.List.{get_or_append_left, get_or_past, length-repli
 use Rattle.std.proofs.lemmas.List.{take_at}
 use Rattle.std.proofs.Math.Nat.{mul-div_cancel, mul-le-mul_right, one-le-pow}
 use Rattle.verity_io.specs.Writing.{put}
-use Rattle.verity_plan.specs.Plans.{IsPlanned, IsTreeBlock, Planned, place, start_byte, start_byte_of}
-use Rattle.verity_plan.specs.Settings.{Settings, fan, slot_width}
+use Rattle.verity_plan.specs.Plans.{IsPlan, IsTreeBlock, PlanFields, place, start_byte, start_byte_of}
+use Rattle.verity_plan.specs.Settings.{TreeSettingsFields, fan, slot_width}
 use Rattle.verity_plan.proofs.CountLemmas.{mul-lt_div_ceil}
 use Rattle.verity_plan.proofs.FanLemmas.{fan-some}
 use Rattle.verity_plan.proofs.FitLemmas.{digest-slot, fan-fits}
@@ -120,7 +120,7 @@ range-within device bytes a n some long here =
     omega (arith, ap length here, length-take n (drop a device), length-drop a device, long, some)
 
 -- blocks of the tree at two places don't overlap
-apart : (s : Settings) (n base l j m k : ℕ) → IsTreeBlock (fan s) n l j → IsTreeBlock (fan s) n m k
+apart : (s : TreeSettingsFields) (n base l j m k : ℕ) → IsTreeBlock (fan s) n l j → IsTreeBlock (fan s) n m k
     → ¬ ((l ≡ m) × (j ≡ k))
     → (start_byte s n base l j + s.hash_block ≤ start_byte s n base m k)
     ⊎ (start_byte s n base m k + s.hash_block ≤ start_byte s n base l j)
@@ -138,7 +138,7 @@ apart s n base l j m k here there other =
     ]
 
 -- a block of the tree has a hash block's length
-pub length-tree_block : (s : Settings) (blocks : List (List ℕ)) (l j : ℕ) → fan s * slot_width s ≤ s.hash_block
+pub length-tree_block : (s : TreeSettingsFields) (blocks : List (List ℕ)) (l j : ℕ) → fan s * slot_width s ≤ s.hash_block
     → IsTreeBlock (fan s) (length blocks) l j → length (tree_block s blocks l j) ≡ s.hash_block
 length-tree_block s blocks l j room here =
     let width = fan s ^ (l + 1) in
@@ -149,7 +149,7 @@ length-tree_block s blocks l j room here =
     ∙ length-true_chain s blocks (j * width) l (digest-slot s) (fan-some s) room first
 
 -- a block that isn't put again stays
-kept : (s : Settings) (blocks : List (List ℕ)) (base l j : ℕ) → fan s * slot_width s ≤ s.hash_block
+kept : (s : TreeSettingsFields) (blocks : List (List ℕ)) (base l j : ℕ) → fan s * slot_width s ≤ s.hash_block
     → IsTreeBlock (fan s) (length blocks) l j → (all : List BlockIndex) (device : List ℕ)
     → ((m k : ℕ) → 0 < times m k all → IsTreeBlock (fan s) (length blocks) m k) → times l j all ≡ 0
     → start_byte s (length blocks) base l j + s.hash_block ≤ length device
@@ -181,7 +181,7 @@ kept s blocks base l j room here (next ∷ rest) device tree none within =
     ∙ put-beside device at bytes start s.hash_block within beside
 
 -- a block that is put stands there
-stands : (s : Settings) (blocks : List (List ℕ)) (base l j : ℕ) → fan s * slot_width s ≤ s.hash_block
+stands : (s : TreeSettingsFields) (blocks : List (List ℕ)) (base l j : ℕ) → fan s * slot_width s ≤ s.hash_block
     → IsTreeBlock (fan s) (length blocks) l j → (all : List BlockIndex) (device : List ℕ)
     → ((m k : ℕ) → 0 < times m k all → IsTreeBlock (fan s) (length blocks) m k) → 0 < times l j all
     → take s.hash_block (drop (start_byte s (length blocks) base l j) (device_with s blocks base all device))
@@ -215,7 +215,7 @@ stands s blocks base l j room here (next ∷ rest) device tree some =
     ]
 
 -- a device with the whole tree put on it holds it
-pub put-holds : (p : Planned) (bytes device : List ℕ) → IsPlanned p → p.wanted ≤ length bytes
+pub put-holds : (p : PlanFields) (bytes device : List ℕ) → IsPlan p → p.wanted ≤ length bytes
     → HoldsTree p (tree_on_device p (data_blocks p bytes) device) bytes (root p.settings (data_blocks p bytes))
 put-holds p bytes device planned enough =
     let s = p.settings in
@@ -240,7 +240,7 @@ put-holds p bytes device planned enough =
     }
 
 -- what is put before the hash area leaves the tree there
-pub put-before : (p : Planned) (device bytes digest : List ℕ) (at : ℕ) (other : List ℕ) → IsPlanned p
+pub put-before : (p : PlanFields) (device bytes digest : List ℕ) (at : ℕ) (other : List ℕ) → IsPlan p
     → at + length other ≤ p.base * p.settings.hash_block
     → HoldsTree p device bytes digest → HoldsTree p (put device at other) bytes digest
 put-before p device bytes digest at other planned before holds =

@@ -5,22 +5,22 @@ use Rattle.std.proofs.lemmas.List.FromFn.{length-map-range_with_len}
 use Rattle.std.proofs.Math.Nat.{pow-zero, pow-suc, one-le-pow}
 use Rattle.std.specs.Int.{div_ceil}
 use Rattle.std.specs.Prelude.{nat_le}
-use Rattle.verity_plan.specs.Settings.{Settings, fan, hash}
+use Rattle.verity_plan.specs.Settings.{TreeSettingsFields, fan, hash}
 use Rattle.verity_tree.specs.Levels.{pack, up, blocks_up, height}
 use Rattle.verity_plan.specs.Plans.{level_count}
 use Rattle.verity_plan.proofs.LeastLemmas.{least_from-same}
 use Rattle.verity_plan.proofs.CountLemmas.{div_ceil-div_ceil, leb-div_ceil_one}
 
-pub length-pack : (s : Settings) (digests : List (List ℕ)) → length (pack s digests) ≡ div_ceil (length digests) (fan s)
+pub length-pack : (s : TreeSettingsFields) (digests : List (List ℕ)) → length (pack s digests) ≡ div_ceil (length digests) (fan s)
 unfolding pack
 length-pack s digests = length-map-range_with_len _ 0 (div_ceil (length digests) (fan s))
 
-pub length-up : (s : Settings) (blocks : List (List ℕ)) → length (up s blocks) ≡ div_ceil (length blocks) (fan s)
+pub length-up : (s : TreeSettingsFields) (blocks : List (List ℕ)) → length (up s blocks) ≡ div_ceil (length blocks) (fan s)
 length-up s blocks =
     length-pack s (map (hash s) blocks) ∙ ap (λ (n : ℕ). div_ceil n (fan s)) (length-map blocks (hash s))
 
 -- l levels up there are ceil(n / fan ^ l) blocks
-pub length-blocks_up : (s : Settings) (blocks : List (List ℕ)) (l : ℕ) → 0 < fan s
+pub length-blocks_up : (s : TreeSettingsFields) (blocks : List (List ℕ)) (l : ℕ) → 0 < fan s
     → length (blocks_up s blocks l) ≡ div_ceil (length blocks) (fan s ^ l)
 unfolding blocks_up
 length-blocks_up s blocks zero some =
@@ -33,7 +33,7 @@ length-blocks_up s blocks (suc l) some =
     ∙ ap (div_ceil (length blocks)) (sym (pow-suc (fan s) l))
 
 -- the height by lists is the number of levels by arithmetic
-pub height-level_count : (s : Settings) (blocks : List (List ℕ)) → 0 < fan s
+pub height-level_count : (s : TreeSettingsFields) (blocks : List (List ℕ)) → 0 < fan s
     → height s blocks ≡ level_count (fan s) (length blocks)
 unfolding height level_count
 height-level_count s blocks some = least_from-same _ _ 0 (length blocks) (λ l.

@@ -4,8 +4,8 @@
 use Rattle.std.specs.Prelude.{◌≡◌, ◌<◌, ℕ, zero, suc, ◌+◌, ◌-◌, ◌/◌, ◌%◌, ◌^◌, Bool, ◌||◌, ◌&&◌, ◌==◌, List, [], ◌∷◌, ◌++◌}
 use Rattle.std.specs.Prelude.{map, filter}
 use Rattle.std.specs.List.{range_with_len, count_by}
-use Rattle.verity_plan.specs.Plans.{level_count, IsTreeBlock, Planned}
-use Rattle.verity_plan.specs.Settings.{Settings, fan}
+use Rattle.verity_plan.specs.Plans.{level_count, IsTreeBlock, PlanFields}
+use Rattle.verity_plan.specs.Settings.{TreeSettingsFields, fan}
 
 -- a hash block of a tree, by its level and its index in the level
 pub record BlockIndex : Type 0 where
@@ -48,11 +48,11 @@ pub record ClosesOnce (fan n : ℕ) : Type 0 where
   pub only : (l j : ℕ) → 0 < times l j (closed_after fan n n) → IsTreeBlock fan n l j
 
 -- the number of data blocks before the one that the last of some bytes is in
-abbrev pub blocks_before : Settings → ℕ → ℕ
+abbrev pub blocks_before : TreeSettingsFields → ℕ → ℕ
 blocks_before s count = (count - 1) / s.data_block
 
 -- the hash blocks that were handed out, in closing order, when so many bytes were fed and the hash blocks of so many
 -- levels above the last of them were handed out
-abbrev pub handed_out : Planned → ℕ → ℕ → List BlockIndex
+abbrev pub handed_out : PlanFields → ℕ → ℕ → List BlockIndex
 handed_out p count closed = closed_after (fan p.settings) p.blocks (blocks_before p.settings count)
     ++ first_closing (fan p.settings) (blocks_before p.settings count) closed

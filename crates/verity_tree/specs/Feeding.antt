@@ -3,9 +3,9 @@
 -- bytes at the beginning, those before and those of the piece after feeding, and the answer at the end is of all.
 use Rattle.std.specs.Prelude.{◌≡◌, ◌⊎◌, ◌<◌, ◌≤◌, ℕ, ◌+◌, ◌*◌, ◌/◌, ◌^◌, Bool, true, false, List, [], ◌∷◌, ◌++◌, length}
 use Rattle.std.specs.Prelude.{take, drop, nat_lt, Option, Some, None, Result, Ok, Err, if◌then◌else◌}
-use Rattle.verity_plan.specs.Plans.{Planned, plan_for_bytes, start_byte_of}
+use Rattle.verity_plan.specs.Plans.{PlanFields, plan_for_bytes, start_byte_of}
 use Rattle.verity_plan.specs.PlanCounts.{level_count_of, most_level_count}
-use Rattle.verity_plan.specs.Settings.{Settings, fan}
+use Rattle.verity_plan.specs.Settings.{TreeSettingsFields, fan}
 use Rattle.verity_plan.specs.declared.plan_fault.PlanFault.{PlanFault}
 use Rattle.verity_plan.specs.declared.plan_fault.PlanFault.TheVariants.{NoData, TooLarge as NoRoom}
 use Rattle.std.specs.List.{flat_map}
@@ -23,14 +23,14 @@ use Rattle.verity_tree.specs.declared.tree_builder.HashBlock.{HashBlock}
 use Rattle.verity_tree.specs.declared.tree_builder.TreeBuilder.{TreeBuilder}
 
 -- the length of the memory in bytes: an open block for each of so many levels, and a data block
-abbrev pub feeding_length : Settings → ℕ → ℕ
+abbrev pub feeding_length : TreeSettingsFields → ℕ → ℕ
 feeding_length s levels = levels * s.hash_block + s.data_block
 
 -- its open blocks, and what comes after them
-abbrev pub open_blocks : Settings → ℕ → List ℕ → List ℕ
+abbrev pub open_blocks : TreeSettingsFields → ℕ → List ℕ → List ℕ
 open_blocks s levels memory = take (levels * s.hash_block) memory
 
-abbrev pub after_open_blocks : Settings → ℕ → List ℕ → List ℕ
+abbrev pub after_open_blocks : TreeSettingsFields → ℕ → List ℕ → List ℕ
 after_open_blocks s levels memory = drop (levels * s.hash_block) memory
 
 -- these bytes were fed to a builder of a tree
@@ -66,7 +66,7 @@ end_fault b = if nat_lt (level_count_of b.plan) b.closed then Some Level
 
 -- the hash block of the level that was handed out last, above the last of so many bytes: its number in its level, its place
 -- on the device, and where it stands in the memory
-pub record IsPlaced (p : Planned) (count closed : ℕ) (block : HashBlock) : Type 0 where
+pub record IsPlaced (p : PlanFields) (count closed : ℕ) (block : HashBlock) : Type 0 where
   pub level_is : closed ≡ block.level + 1
   pub level_below : block.level < level_count_of p
   pub index_is : block.index ≡ blocks_before p.settings count / fan p.settings ^ (block.level + 1)
@@ -92,7 +92,7 @@ given None = []
 given (Some block) = block_index block.level block.index ∷ []
 
 -- the hash block stands in the memory, the tree's above these bytes whatever comes after them, with its place on the device
-pub record IsHandedOut (p : Planned) (fed memory : List ℕ) (block : HashBlock) : Type 0 where
+pub record IsHandedOut (p : PlanFields) (fed memory : List ℕ) (block : HashBlock) : Type 0 where
   pub level_below : block.level < level_count_of p
   pub at_is : block.at ≡ block.level * p.settings.hash_block
   pub byte_is : block.byte ≡ start_byte_of p block.level block.index
@@ -108,7 +108,7 @@ pub record Feeds (before after : TreeBuilder) (fed more memory : List ℕ) (hash
   pub stands : (block : HashBlock) → hash_block ≡ Some block → IsHandedOut before.plan (fed ++ more) memory block
 
 -- a file of so many bytes is too large for a tree
-abbrev pub is_too_large : Result Planned PlanFault → Bool
+abbrev pub is_too_large : Result PlanFields PlanFault → Bool
 is_too_large (Err NoRoom) = true
 is_too_large (Err NoData) = false
 is_too_large (Ok p) = false
@@ -137,17 +137,17 @@ FeedsCalls b memory (call ∷ rest) after memory_after = (next : TreeBuilder) ×
     × FeedsCalls next call.memory rest after memory_after
 
 -- a device after the hash block that was handed out, if one was, is written at its place
-abbrev pub written : Planned → Option HashBlock → List ℕ → List ℕ → List ℕ
+abbrev pub written : PlanFields → Option HashBlock → List ℕ → List ℕ → List ℕ
 written p None memory device = device
 written p (Some block) memory device = put device block.byte (take p.settings.hash_block (drop block.at memory))
 
 -- a device after all hash blocks that were handed out in some calls are written at their places
-unfoldable pub written_all : Planned → List FeedCall → List ℕ → List ℕ
+unfoldable pub written_all : PlanFields → List FeedCall → List ℕ → List ℕ
 written_all p [] device = device
 written_all p (call ∷ rest) device = written_all p rest (written p call.hash_block call.memory device)
 
 -- the calls have done what building the tree above these bytes does: hash blocks were handed out in closing order, each
 -- once, and written at their places they leave the device as building does
-pub record BuildsInCalls (p : Planned) (bytes : List ℕ) (calls : List FeedCall) (device : List ℕ) : Type 0 where
+pub record BuildsInCalls (p : PlanFields) (bytes : List ℕ) (calls : List FeedCall) (device : List ℕ) : Type 0 where
   pub order : flat_map (λ call. given call.hash_block) calls ≡ closed_after (fan p.settings) p.blocks p.blocks
   pub stands : written_all p calls device ≡ tree_on_device p (data_blocks p bytes) device

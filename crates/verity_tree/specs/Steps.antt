@@ -1,6 +1,7 @@
 -- Definitions that contracts of private steps speak of. No public contract names one, and none is needed to read one.
 pub mod OpenBlocks
 pub mod DataBlocks
+pub mod PassFaults
 pub mod ClosedBlocks
 pub mod Cascade
 pub mod ReadingAhead

@@ -2,6 +2,6 @@
 use Rattle.std.specs.Prelude.{ℕ}
 
 -- its length in bytes, and for how many bytes it has memory
-pub record StoreSize : Type 0 where
+pub record StoreFields : Type 0 where
   pub length : ℕ
   pub room : ℕ

@@ -7,20 +7,20 @@ use Rattle.std.specs.Str.{bytes_eq}
 use Rattle.verity_tree.specs.ClosingOrder.{BlockIndex, closed_after}
 use Rattle.verity_tree.specs.TreeOnDevice.{tree_block, stored_block}
 use Rattle.verity_tree.specs.Levels.{root, data_blocks, whole_blocks}
-use Rattle.verity_plan.specs.Plans.{Planned}
+use Rattle.verity_plan.specs.Plans.{PlanFields}
 use Rattle.verity_plan.specs.PlanCounts.{size_under}
-use Rattle.verity_plan.specs.Settings.{Settings, digest_len, fan, slot_width}
+use Rattle.verity_plan.specs.Settings.{TreeSettingsFields, digest_len, fan, slot_width}
 use Rattle.verity_tree.specs.declared.comparing.CompareFault.{CompareFault}
 use Rattle.verity_tree.specs.declared.comparing.CompareFault.TheVariants.{SourceShort, Differs, RootDiffers}
 use Rattle.verity_tree.specs.declared.part.Part.{Part}
 use Rattle.verity_tree.specs.declared.part.Part.TheVariants.{Missing, Child, Spare}
 
 -- the digest in a slot of a hash block
-abbrev pub digest_in : Settings → List ℕ → ℕ → List ℕ
+abbrev pub digest_in : TreeSettingsFields → List ℕ → ℕ → List ℕ
 digest_in s bytes slot = take (digest_len s) (drop (slot * slot_width s) bytes)
 
 -- the first used slot whose digests differ in two hash blocks of this place
-abbrev pub first_slot : Planned → ℕ → ℕ → List ℕ → List ℕ → Option ℕ
+abbrev pub first_slot : PlanFields → ℕ → ℕ → List ℕ → List ℕ → Option ℕ
 first_slot p level block on_device computed =
     find (λ slot. not (bytes_eq (digest_in p.settings on_device slot) (digest_in p.settings computed slot)))
     (range_with_len 0 (min (fan p.settings) (size_under p level - block * fan p.settings)))
@@ -31,25 +31,25 @@ part_at first (Some slot) = Child (first + slot)
 part_at first None = Spare
 
 -- where the bytes that are stored for a block of a level differ from the tree's
-abbrev pub part_of : Planned → ℕ → ℕ → List ℕ → List ℕ → Part
+abbrev pub part_of : PlanFields → ℕ → ℕ → List ℕ → List ℕ → Part
 part_of p level block on_device computed = if nat_lt (length on_device) p.settings.hash_block then Missing
     else (part_at (block * fan p.settings) (first_slot p level block on_device computed))
 
 -- the block that a device holds is not the tree's
-abbrev pub differs : Planned → List (List ℕ) → List ℕ → BlockIndex → Bool
+abbrev pub differs : PlanFields → List (List ℕ) → List ℕ → BlockIndex → Bool
 differs p blocks device block =
     not (bytes_eq (stored_block p device block.level block.index)
     (tree_block p.settings blocks block.level block.index))
 
 -- the fault at the first block that differs
-abbrev pub difference : Planned → List (List ℕ) → List ℕ → BlockIndex → CompareFault
+abbrev pub difference : PlanFields → List (List ℕ) → List ℕ → BlockIndex → CompareFault
 difference p blocks device block =
     Differs block.level block.index
     (part_of p block.level block.index (stored_block p device block.level block.index)
     (tree_block p.settings blocks block.level block.index))
 
 -- without a difference: short data, another root, or all is right
-abbrev pub verdict_by : Planned → List ℕ → List ℕ → Option BlockIndex → List ℕ → Result Unit CompareFault
+abbrev pub verdict_by : PlanFields → List ℕ → List ℕ → Option BlockIndex → List ℕ → Result Unit CompareFault
 verdict_by p device bytes (Some block) digest = Err (difference p (data_blocks p bytes) device block)
 verdict_by p device bytes None digest =
     if nat_lt (whole_blocks p bytes) p.blocks then Err (SourceShort (whole_blocks p bytes))
@@ -58,17 +58,17 @@ verdict_by p device bytes None digest =
 
 -- the verdict on a device, some data and a root: the first difference in closing order among the blocks that close with
 -- the data blocks that are there, then short data, then the root
-abbrev pub verdict : Planned → List ℕ → List ℕ → List ℕ → Result Unit CompareFault
+abbrev pub verdict : PlanFields → List ℕ → List ℕ → List ℕ → Result Unit CompareFault
 verdict p device bytes digest =
     verdict_by p device bytes
     (find (differs p (data_blocks p bytes) device) (closed_after (fan p.settings) p.blocks (whole_blocks p bytes)))
     digest
 
 -- the device holds this block of the tree
-abbrev pub HoldsBlockAt : Planned → List (List ℕ) → List ℕ → BlockIndex → Type 0
+abbrev pub HoldsBlockAt : PlanFields → List (List ℕ) → List ℕ → BlockIndex → Type 0
 HoldsBlockAt p blocks device block =
     stored_block p device block.level block.index ≡ tree_block p.settings blocks block.level block.index
 
 -- the device holds these blocks of the tree
-abbrev pub NoneDiffers : Planned → List (List ℕ) → List ℕ → List BlockIndex → Type 0
+abbrev pub NoneDiffers : PlanFields → List (List ℕ) → List ℕ → List BlockIndex → Type 0
 NoneDiffers p blocks device hash_blocks = All (HoldsBlockAt p blocks device) hash_blocks

@@ -1,13 +1,14 @@
 //! A tree that is built in one pass, as its data blocks come.
 ghost use Rattle.std.specs.Prelude.{◌≡◌, length, IfErr, IfOk};
-ghost use Rattle.verity_io.specs.Counting.{Counts};
-ghost use Rattle.verity_tree.specs.Building.{Builds, BuildsOnDevice, IsOfSource, device_failed, source_failed};
+ghost use Rattle.verity_io.specs.Counting.{Counts, TheDevice, TheSource, failed_at};
+ghost use Rattle.verity_tree.specs.Building.{Builds, BuildsOnDevice, IsOfSource, side_of};
 ghost use Rattle.verity_tree.specs.Levels.{data_blocks};
 ghost use Rattle.verity_plan.specs.PlanCounts.{store_length_of};
 ghost use Rattle.verity_plan.specs.Settings.{digest_len};
 
 use crate::pass::closed_block::Task;
-use crate::pass::one_pass::{PassFault, pass};
+use crate::pass::one_pass::pass;
+use crate::pass::pass_fault::PassFault;
 use crate::store::Store;
 use verity_hash::Digest;
 use verity_io::{Device, Nowhere, Source};
@@ -50,8 +51,8 @@ pub fn build<S: Source, D: Device>(
     ensures device_told { D.tells device.old → D.tells device.new }
 
     // A failure is answered only if its count rose.
-    ensures source_count { Counts (source_failed result) (S.failures source.old) (S.failures source.new) }
-    ensures device_count { Counts (device_failed result) (D.failures device.old) (D.failures device.new) }
+    ensures source_count { Counts (failed_at side_of TheSource result) (S.failures source.old) (S.failures source.new) }
+    ensures device_count { Counts (failed_at side_of TheDevice result) (D.failures device.old) (D.failures device.new) }
 
     // The root is that of the levels over whole lists.
     ensures read { S.tells source.old → Builds plan.now result (S.remaining source.old) (S.remaining source.new) }
@@ -63,10 +64,11 @@ pub fn build<S: Source, D: Device>(
         Ok(root) => Ok(root),
         Err(PassFault::SourceShort(i)) => Err(BuildFault::SourceShort(i)),
         Err(PassFault::SourceFailed(i)) => Err(BuildFault::SourceFailed(i)),
-        Err(PassFault::Stopped(stop)) => Err(BuildFault::DeviceFailed {
-            level: stop.level,
-            block: stop.index,
-        }),
+        Err(PassFault::DeviceFailed { level, block }) => {
+            Err(BuildFault::DeviceFailed { level, block })
+        }
+        // Nothing is compared.
+        Err(PassFault::Differs { .. }) => unreachable!(),
     }
 }
 
@@ -81,7 +83,7 @@ pub fn root_only<S: Source>(
     ensures kept { store.new ≡ store.old }
     ensures size { IfOk result (λ root. length root ≡ digest_len plan.now.settings) }
     ensures told { S.tells source.old → S.tells source.new }
-    ensures count { Counts (source_failed result) (S.failures source.old) (S.failures source.new) }
+    ensures count { Counts (failed_at side_of TheSource result) (S.failures source.old) (S.failures source.new) }
     ensures fault { IfErr result IsOfSource }
     ensures read { S.tells source.old → Builds plan.now result (S.remaining source.old) (S.remaining source.new) }
 {

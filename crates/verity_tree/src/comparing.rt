@@ -3,9 +3,9 @@ ghost use Rattle.std.specs.Prelude.{◌≡◌, length};
 ghost use Rattle.verity_plan.specs.PlanCounts.{store_length_of};
 
 use crate::part::Part;
-use crate::pass::cascade::Stop;
-use crate::pass::closed_block::{HashBlockFault, Task};
-use crate::pass::one_pass::{PassFault, pass};
+use crate::pass::closed_block::Task;
+use crate::pass::one_pass::pass;
+use crate::pass::pass_fault::PassFault;
 use crate::store::Store;
 use verity_hash::Digest;
 use verity_io::{Device, Source};
@@ -38,9 +38,8 @@ pub enum CompareFault {
     RootDiffers(Digest),
 }
 
-ghost use Rattle.verity_io.specs.Counting.{Counts};
-ghost use Rattle.verity_tree.specs.Comparing.{Judges, CompareReads, device_failed, source_failed};
-ghost use Rattle.verity_tree.specs.Steps.OnePass.{fault_of};
+ghost use Rattle.verity_io.specs.Counting.{Counts, TheDevice, TheSource, failed_at};
+ghost use Rattle.verity_tree.specs.Comparing.{Judges, CompareReads, side_of};
 
 /// Compares a stored tree with the one above the data of a source, which is read once: every byte of every hash block,
 /// in closing order, and then the root hash (veritysetup(8), `verify`). It writes nothing and takes no memory. The
@@ -62,8 +61,8 @@ pub fn compare<S: Source, D: Device>(
     ensures device_told { D.tells device.old → D.tells device.new }
 
     // A failure is answered only if its count rose.
-    ensures source_count { Counts (source_failed result) (S.failures source.old) (S.failures source.new) }
-    ensures device_count { Counts (device_failed result) (D.failures device.old) (D.failures device.new) }
+    ensures source_count { Counts (failed_at side_of TheSource result) (S.failures source.old) (S.failures source.new) }
+    ensures device_count { Counts (failed_at side_of TheDevice result) (D.failures device.old) (D.failures device.new) }
 
     ensures read { S.tells source.old → CompareReads plan.now result (S.remaining source.old) (S.remaining source.new) }
     ensures verdict { S.tells source.old → D.tells device.old
@@ -79,21 +78,11 @@ pub fn compare<S: Source, D: Device>(
         }
         Err(PassFault::SourceShort(i)) => Err(CompareFault::SourceShort(i)),
         Err(PassFault::SourceFailed(i)) => Err(CompareFault::SourceFailed(i)),
-        Err(PassFault::Stopped(stop)) => Err(fault_of(stop)),
-    }
-}
-
-/// The fault if a hash block stops the pass.
-fn fault_of(stop: Stop) -> CompareFault
-    ensures { result ≡ fault_of stop }
-{
-    let Stop {
-        level,
-        index: block,
-        fault,
-    } = stop;
-    match fault {
-        HashBlockFault::Failed => CompareFault::DeviceFailed { level, block },
-        HashBlockFault::Differs(part) => CompareFault::Differs { level, block, part },
+        Err(PassFault::DeviceFailed { level, block }) => {
+            Err(CompareFault::DeviceFailed { level, block })
+        }
+        Err(PassFault::Differs { level, block, part }) => {
+            Err(CompareFault::Differs { level, block, part })
+        }
     }
 }

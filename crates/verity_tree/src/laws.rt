@@ -4,9 +4,9 @@ ghost use Rattle.std.specs.Prelude.{◌≡◌, ◌⊎◌, ◌↔◌, ℕ, ◌+�
 ghost use Rattle.std.specs.Prelude.{Result, Ok, slice_index, take, ◌*◌, ◌≢◌};
 ghost use Rattle.std.specs.Int.{div_ceil};
 ghost use Rattle.verity_hash.specs.declared.salting.SaltRule.TheVariants.{PaddedBefore};
-ghost use Rattle.verity_plan.specs.Plans.{end_place_of, level_count, level_size, Planned, IsPlanned};
+ghost use Rattle.verity_plan.specs.Plans.{end_place_of, level_count, level_size, PlanFields, IsPlan};
 ghost use Rattle.verity_plan.specs.PlanCounts.{level_count_of};
-ghost use Rattle.verity_plan.specs.Settings.{Settings, fan};
+ghost use Rattle.verity_plan.specs.Settings.{TreeSettingsFields, fan};
 ghost use Rattle.verity_tree.specs.ClosingOrder.{ClosesOnce, closed_after, times};
 ghost use Rattle.verity_tree.specs.Collisions.{Collide, TreesCollide, hashed_last, with_salt};
 ghost use Rattle.std.specs.List.{flat_map};
@@ -27,13 +27,13 @@ pub use verity_plan::laws::{
 
 /// Each level has as many blocks as the kernel's arithmetic says.
 pub fn levels_have_sizes()
-    ensures { (s : Settings) (blocks : List (List ℕ)) (l : ℕ)
+    ensures { (s : TreeSettingsFields) (blocks : List (List ℕ)) (l : ℕ)
         → length (level s blocks l) ≡ level_size (fan s) (length blocks) l }
 {}
 
 /// The number of levels by lists is the number by powers of the fan-out.
 pub fn level_counts_agree()
-    ensures { (s : Settings) (blocks : List (List ℕ)) → height s blocks ≡ level_count (fan s) (length blocks) }
+    ensures { (s : TreeSettingsFields) (blocks : List (List ℕ)) → height s blocks ≡ level_count (fan s) (length blocks) }
 {}
 
 /// The block of a level that closes with data block i is the last one above the first i + 1 data blocks.
@@ -48,7 +48,7 @@ pub fn closing_order_is_once()
 
 /// What has closed after some data blocks is the same for all data that begins with these.
 pub fn closed_blocks_stay()
-    ensures { (s : Settings) (xs ys : List (List ℕ)) (i l j : ℕ) → length xs ≡ length ys → i ≤ length xs
+    ensures { (s : TreeSettingsFields) (xs ys : List (List ℕ)) (i l j : ℕ) → length xs ≡ length ys → i ≤ length xs
         → ((k : ℕ) → k < i → slice_index_or xs k [] ≡ slice_index_or ys k [])
         → 0 < times l j (closed_after (fan s) (length xs) i)
         → tree_block s xs l j ≡ tree_block s ys l j }
@@ -56,7 +56,7 @@ pub fn closed_blocks_stay()
 
 /// The verdict is that all is right exactly if the device holds the whole tree and the root hash is the tree's.
 pub fn right_devices_hold_the_tree()
-    ensures { (p : Planned) (device bytes digest : List ℕ) → IsPlanned p
+    ensures { (p : PlanFields) (device bytes digest : List ℕ) → IsPlan p
         → (verdict p device bytes digest ≡ Ok tt → HoldsTree p device bytes digest)
         × (HoldsTree p device bytes digest → verdict p device bytes digest ≡ Ok tt) }
 {}
@@ -64,35 +64,35 @@ pub fn right_devices_hold_the_tree()
 /// A device on which each block of a tree is put at its place, whatever it held before, holds the whole tree. Every byte
 /// outside the tree's range is as before, or a zero past the old end.
 pub fn built_devices_hold_the_tree()
-    ensures holds { (p : Planned) (bytes device : List ℕ) → IsPlanned p → p.wanted ≤ length bytes
+    ensures holds { (p : PlanFields) (bytes device : List ℕ) → IsPlan p → p.wanted ≤ length bytes
         → HoldsTree p (tree_on_device p (data_blocks p bytes) device) bytes (root p.settings (data_blocks p bytes)) }
-    ensures beside { (p : Planned) (bytes device : List ℕ) (i : ℕ) → IsPlanned p
+    ensures beside { (p : PlanFields) (bytes device : List ℕ) (i : ℕ) → IsPlan p
         → (i < p.base * p.settings.hash_block) ⊎ (end_place_of p * p.settings.hash_block ≤ i)
         → slice_index (tree_on_device p (data_blocks p bytes) device) i ≡ slice_index device i }
 {}
 
 /// A data block and its path have one answer: accepted exactly if the path holds at every level, else the first fault.
 pub fn one_answer_is_right()
-    ensures { (p : Planned) (i : ℕ) (block path root : List ℕ) (x y : Result Unit PathFault)
+    ensures { (p : PlanFields) (i : ℕ) (block path root : List ℕ) (x y : Result Unit PathFault)
         → ChecksBlock p i block path root x → ChecksBlock p i block path root y → x ≡ y }
 {}
 
 /// A data block that is accepted against the root hash of some data is the data's; or a level is named at which two
 /// different blocks have one salted hash.
 pub fn accepted_blocks_are_true()
-    ensures { (p : Planned) (bytes : List ℕ) (i : ℕ) (block path : List ℕ) → IsPlanned p
+    ensures { (p : PlanFields) (bytes : List ℕ) (i : ℕ) (block path : List ℕ) → IsPlan p
         → IsAccepted p i block path (root p.settings (data_blocks p bytes))
         → (block ≡ slice_index_or (data_blocks p bytes) i []) ⊎ HasCollision p (data_blocks p bytes) i block path }
 {}
 
-/// Together with the plan a root hash binds the data: two data with one root hash by one plan have the same data blocks
-/// and, if each is long enough, the same covered bytes; or at one place of their two trees different messages are
-/// hashed, and have one hash.
+/// Together with the plan a root hash binds the data: if the trees above two pieces of data have one root hash by one
+/// plan, the two have the same data blocks and, if each is long enough, the same covered bytes; or at one place of the
+/// two trees different messages are hashed, and have one hash.
 pub fn root_hashes_bind_the_data()
-    ensures blocks { (p : Planned) (x y : List ℕ) → IsPlanned p
+    ensures blocks { (p : PlanFields) (x y : List ℕ) → IsPlan p
         → root p.settings (data_blocks p x) ≡ root p.settings (data_blocks p y)
         → (data_blocks p x ≡ data_blocks p y) ⊎ TreesCollide p.settings (data_blocks p x) (data_blocks p y) }
-    ensures bytes { (p : Planned) (x y : List ℕ) → IsPlanned p → p.wanted ≤ length x → p.wanted ≤ length y
+    ensures bytes { (p : PlanFields) (x y : List ℕ) → IsPlan p → p.wanted ≤ length x → p.wanted ≤ length y
         → root p.settings (data_blocks p x) ≡ root p.settings (data_blocks p y)
         → (take p.wanted x ≡ take p.wanted y) ⊎ TreesCollide p.settings (data_blocks p x) (data_blocks p y) }
 {}
@@ -100,7 +100,7 @@ pub fn root_hashes_bind_the_data()
 /// A root hash of dm-verity binds the salt too: if two plans that may differ in the salt alone have one root hash over
 /// some data each, their salts are the same; or what is hashed last are different messages with one hash.
 pub fn root_hashes_bind_the_salt()
-    ensures { (p : Planned) (salt x y : List ℕ) → IsPlanned p → IsPlanned (with_salt p salt)
+    ensures { (p : PlanFields) (salt x y : List ℕ) → IsPlan p → IsPlan (with_salt p salt)
         → p.settings.rule ≢ PaddedBefore
         → root p.settings (data_blocks p x) ≡ root (with_salt p salt).settings (data_blocks (with_salt p salt) y)
         → (p.settings.salt ≡ salt)
@@ -110,14 +110,14 @@ pub fn root_hashes_bind_the_salt()
 /// If the verdict on some data is that all is right, against the root hash of other data by the same plan, the two are
 /// the same in every covered byte; or their trees show a collision of the hash function.
 pub fn right_data_are_true()
-    ensures { (p : Planned) (device x y : List ℕ) → IsPlanned p → p.wanted ≤ length y
+    ensures { (p : PlanFields) (device x y : List ℕ) → IsPlan p → p.wanted ≤ length y
         → verdict p device x (root p.settings (data_blocks p y)) ≡ Ok tt
         → (take p.wanted x ≡ take p.wanted y) ⊎ TreesCollide p.settings (data_blocks p x) (data_blocks p y) }
 {}
 
 /// Each data block is accepted by its true path.
 pub fn true_paths_are_accepted()
-    ensures { (p : Planned) (bytes : List ℕ) (i : ℕ) → IsPlanned p → i < p.blocks
+    ensures { (p : PlanFields) (bytes : List ℕ) (i : ℕ) → IsPlan p → i < p.blocks
         → IsAccepted p i (slice_index_or (data_blocks p bytes) i [])
         (true_path p.settings (data_blocks p bytes) i (level_count_of p))
         (root p.settings (data_blocks p bytes)) }
@@ -126,7 +126,7 @@ pub fn true_paths_are_accepted()
 /// Blocks that are accepted one by one, each by the hash block above it and the top one by the root hash, are just what is
 /// accepted as a data block and its path.
 pub fn accepted_links_are_accepted_paths()
-    ensures { (p : Planned) (i : ℕ) (blocks : ℕ → List ℕ) (root : List ℕ)
+    ensures { (p : PlanFields) (i : ℕ) (blocks : ℕ → List ℕ) (root : List ℕ)
         → ((l : ℕ) → l < level_count_of p → length (blocks (l + 1)) ≡ p.settings.hash_block)
         → AreLinked p i blocks root ↔ IsAccepted p i (blocks 0) (joined blocks (level_count_of p)) root }
 {}
@@ -134,11 +134,11 @@ pub fn accepted_links_are_accepted_paths()
 /// A block that is accepted by a hash block of the tree, or by the root hash, is the tree's; or the two are different and
 /// have one salted hash.
 pub fn accepted_links_are_true()
-    ensures link { (p : Planned) (bytes : List ℕ) (i l : ℕ) (block : List ℕ) → IsPlanned p
+    ensures link { (p : PlanFields) (bytes : List ℕ) (i l : ℕ) (block : List ℕ) → IsPlan p
         → checked_link p i l block (true_chain p.settings (data_blocks p bytes) i (l + 1)) ≡ Ok tt
         → (block ≡ true_chain p.settings (data_blocks p bytes) i l)
         ⊎ IsCollision p.settings block (true_chain p.settings (data_blocks p bytes) i l) }
-    ensures top { (p : Planned) (bytes : List ℕ) (i : ℕ) (block : List ℕ) → IsPlanned p
+    ensures top { (p : PlanFields) (bytes : List ℕ) (i : ℕ) (block : List ℕ) → IsPlan p
         → checked_top p i block (root p.settings (data_blocks p bytes)) ≡ Ok tt
         → (block ≡ true_chain p.settings (data_blocks p bytes) i (level_count_of p))
         ⊎ IsCollision p.settings block (true_chain p.settings (data_blocks p bytes) i (level_count_of p)) }
@@ -155,7 +155,7 @@ pub fn any_pieces_are_the_file()
 /// and its hash blocks were handed out in closing order, each once. So `end` answers its root hash.
 pub fn any_calls_build_the_tree()
     ensures { (b after : TreeBuilder) (memory memory_after device : List ℕ) (calls : List FeedCall)
-        → IsPlanned b.plan → IsFed b memory [] → FeedsCalls b memory calls after memory_after
+        → IsPlan b.plan → IsFed b memory [] → FeedsCalls b memory calls after memory_after
         → after.fed ≡ b.plan.wanted → after.closed ≡ level_count_of b.plan
         → IsFed after memory_after (flat_map (λ call. call.taken) calls)
         × BuildsInCalls b.plan (flat_map (λ call. call.taken) calls) calls device }

@@ -43,7 +43,8 @@ pub fn check_link(
     if block.len() != block_size_up(plan, level) || above.len() != plan.hash_block() {
         return Err(LinkFault::Length);
     }
-    if has_digest(plan, above, slot_above(plan, i, level), &plan.hash(block)) {
+    let digest = plan.settings().hash(block);
+    if has_digest(plan, above, slot_above(plan, i, level), &digest) {
         Ok(())
     } else {
         Err(LinkFault::Differs)
@@ -64,7 +65,7 @@ pub fn check_top(plan: &Plan, i: u64, block: &[u8], root: &Digest) -> Result<(),
     if block.len() != block_size_up(plan, plan.levels()) {
         return Err(LinkFault::Length);
     }
-    if plan.hash(block).as_bytes() == root.as_bytes() {
+    if plan.settings().hash(block).as_bytes() == root.as_bytes() {
         Ok(())
     } else {
         Err(LinkFault::Differs)

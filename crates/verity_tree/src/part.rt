@@ -54,6 +54,6 @@ fn slot_differs(plan: &Plan, slot: usize, stored: &[u8], computed: &[u8]) -> boo
         ≡ not (bytes_eq (digest_in plan.now.settings stored.now slot) (digest_in plan.now.settings computed.now slot)) }
 {
     let len = plan.digest_len();
-    let from = slot * plan.slot_width();
+    let from = slot * plan.settings().slot_width();
     stored[from..from + len] != computed[from..from + len]
 }

@@ -43,14 +43,14 @@ pub fn check_block(
         return Err(PathFault::Length);
     }
     let fan = plan.fan() as u64;
-    let mut digest = plan.hash(block);
+    let mut digest = plan.settings().hash(block);
     let mut index = i;
     for level in 0..levels {
         let above = &path[level * size..level * size + size];
         if !has_digest(plan, above, (index % fan) as usize, &digest) {
             return Err(PathFault::DiffersAt(level));
         }
-        digest = plan.hash(above);
+        digest = plan.settings().hash(above);
         index /= fan;
     }
     if digest.as_bytes() == root.as_bytes() {
@@ -65,6 +65,6 @@ pub(crate) fn has_digest(plan: &Plan, block: &[u8], slot: usize, digest: &Digest
     requires { slot * slot_width plan.now.settings + digest_len plan.now.settings ≤ length block.now }
     ensures { result ≡ bytes_eq digest.now (digest_in plan.now.settings block.now slot) }
 {
-    let at = slot * plan.slot_width();
+    let at = slot * plan.settings().slot_width();
     digest.as_bytes() == &block[at..at + plan.digest_len()]
 }

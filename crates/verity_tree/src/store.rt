@@ -17,9 +17,9 @@ pub struct Store {
 
 impl Model for Store {
     ghost use Rattle.std.specs.Prelude.{length, vec_capacity};
-    ghost use Rattle.verity_tree.specs.Stores.{StoreSize};
+    ghost use Rattle.verity_tree.specs.Stores.{StoreFields};
 
-    ghost Value = { StoreSize };
+    ghost Value = { StoreFields };
 
     ghost view = { λ store. record { length = length store.bytes.items; room = vec_capacity store.bytes } };
 }

@@ -7,7 +7,7 @@ use Rattle.std.proofs.lemmas.Bool.Decides.{nat_tests}
 use Rattle.std.proofs.lemmas.List.{ext_get_or, get_or-drop, get_or-take}
 use Rattle.std.specs.Int.{div_ceil}
 use Rattle.verity_io.specs.Writing.{most_bytes, put}
-use Rattle.verity_plan.specs.Plans.{HasBlock, IsPlanned, base_of, end_place_of, start_byte_of}
+use Rattle.verity_plan.specs.Plans.{HasBlock, IsPlan, base_of, end_place_of, start_byte_of}
 use Rattle.verity_plan.proofs.CountLemmas.{le-div_ceil}
 use Rattle.verity_plan.proofs.PlanLemmas.{some_hash}
 use Rattle.verity_format.specs.Superblocks.{IsValidSuperblock, superblock_bytes}
@@ -18,20 +18,20 @@ use Rattle.verity_tree.specs.TreeWriting.{tree_on_device}
 use Rattle.verity_tree.proofs.DataBlockLemmas.{blocks-some}
 use Rattle.verity_tree.proofs.BesideLemmas.{block-within, tree-byte, tree-bytes, tree-no_longer, tree-no_shorter}
 use Rattle.verity_tree.proofs.StandingLemmas.{length-put, put-before, put-byte, put-here, put-holds, range-within}
-use Rattle.veritysetup.specs.Options.VeritySettings.{PartsAgree, VeritySettings}
+use Rattle.veritysetup.specs.Options.Settings.{PartsAgree, SettingsFields}
 use Rattle.veritysetup.specs.Runs.Formatted.{IsFormattedDevice, is_within, is_written, root_above}
 use Rattle.veritysetup.specs.Runs.HashDevice.{superblock_at, superblock_for}
 use Rattle.veritysetup.specs.Runs.Format.{formatted_device}
 
 -- what settings keep to: a plan that can be carried out, parts that agree, a UUID of 16 bytes
-pub record AreWhole (s : VeritySettings) : Type 0 where
-  pub planned : IsPlanned s.plan
+pub record AreWhole (s : SettingsFields) : Type 0 where
+  pub planned : IsPlan s.plan
   pub agree : PartsAgree s
   pub uuid : length s.uuid ≡ 16
 
 -- ---- the superblock
 
-pub superblock-valid : (s : VeritySettings) → AreWhole s → IsValidSuperblock (superblock_for s)
+pub superblock-valid : (s : SettingsFields) → AreWhole s → IsValidSuperblock (superblock_for s)
 superblock-valid s whole = record {
   tree = whole.planned.valid;
   of_type = whole.agree.of_type;
@@ -41,19 +41,19 @@ superblock-valid s whole = record {
 }
 
 -- a device with the superblock
-with-superblock : (s : VeritySettings) (blocks : List (List ℕ)) (before : List ℕ) → s.superblock ≡ true
+with-superblock : (s : SettingsFields) (blocks : List (List ℕ)) (before : List ℕ) → s.superblock ≡ true
     → formatted_device s blocks before
     ≡ put (tree_on_device s.plan blocks before) s.offset (superblock_bytes (superblock_for s))
 with-superblock s blocks before has = rw has refl
 
-without-superblock : (s : VeritySettings) (blocks : List (List ℕ)) (before : List ℕ) → s.superblock ≡ false
+without-superblock : (s : SettingsFields) (blocks : List (List ℕ)) (before : List ℕ) → s.superblock ≡ false
     → formatted_device s blocks before ≡ tree_on_device s.plan blocks before
 without-superblock s blocks before none = rw none refl
 
 -- ---- the tree
 
 -- the superblock ends before the hash area
-superblock-before : (s : VeritySettings) → AreWhole s → s.superblock ≡ true
+superblock-before : (s : SettingsFields) → AreWhole s → s.superblock ≡ true
     → s.offset + 512 ≤ s.plan.base * s.plan.settings.hash_block
 superblock-before s whole has =
     let size = s.plan.settings.hash_block in
@@ -71,7 +71,7 @@ superblock-before s whole has =
     by_test false e = cc
 
 -- the device holds the tree
-holds-formatted : (s : VeritySettings) (bytes before : List ℕ) → AreWhole s → s.plan.wanted ≤ length bytes
+holds-formatted : (s : SettingsFields) (bytes before : List ℕ) → AreWhole s → s.plan.wanted ≤ length bytes
     → HoldsTree s.plan (formatted_device s (data_blocks s.plan bytes) before) bytes (root_above s bytes)
 holds-formatted s bytes before whole enough = by_test s.superblock refl
   where
@@ -117,14 +117,14 @@ within_false first end i e = elim (cases_lt i first) [
 ]
 
 -- a byte that isn't written is outside the tree's range
-beside-tree : (s : VeritySettings) (i : ℕ) → is_written s i ≡ false
+beside-tree : (s : SettingsFields) (i : ℕ) → is_written s i ≡ false
     → (i < s.plan.base * s.plan.settings.hash_block) ⊎ (end_place_of s.plan * s.plan.settings.hash_block ≤ i)
 beside-tree s i miss =
     within_false (s.plan.base * s.plan.settings.hash_block) (end_place_of s.plan * s.plan.settings.hash_block) i
     (both_false _ _ miss).1
 
 -- and outside the superblock
-beside-superblock : (s : VeritySettings) (i : ℕ) → s.superblock ≡ true → is_written s i ≡ false
+beside-superblock : (s : SettingsFields) (i : ℕ) → s.superblock ≡ true → is_written s i ≡ false
     → (i < s.offset) ⊎ (s.offset + 512 ≤ i)
 beside-superblock s i has miss =
     let outside : (s.superblock && is_within s.offset (s.offset + 512) i) ≡ false = (both_false _ _ miss).0 in
@@ -133,7 +133,7 @@ beside-superblock s i has miss =
 
 -- ---- what is written leaves a formatted device
 
-formatted-superblock : (s : VeritySettings) (blocks : List (List ℕ)) (before : List ℕ) → AreWhole s
+formatted-superblock : (s : SettingsFields) (blocks : List (List ℕ)) (before : List ℕ) → AreWhole s
     → s.superblock ≡ true
     → superblock_at s.offset (formatted_device s blocks before) ≡ superblock_bytes (superblock_for s)
 formatted-superblock s blocks before whole has =
@@ -144,7 +144,7 @@ formatted-superblock s blocks before whole has =
     (sym (length-superblock_bytes v (superblock-valid s whole)))
     ∙ put-here tree s.offset (superblock_bytes v)
 
-formatted-others : (s : VeritySettings) (source before : List ℕ) → AreWhole s → (i : ℕ) → is_written s i ≡ false
+formatted-others : (s : SettingsFields) (source before : List ℕ) → AreWhole s → (i : ℕ) → is_written s i ≡ false
     → get_or (formatted_device s (data_blocks s.plan source) before) i 0 ≡ get_or before i 0
 formatted-others s source before whole i miss = by_test s.superblock refl
   where
@@ -166,7 +166,7 @@ formatted-others s source before whole i miss = by_test s.superblock refl
         ∙ put-byte tree s.offset bytes i outside
         ∙ tree-byte s.plan source before i whole.planned (beside-tree s i miss)
 
-formatted-no_shorter : (s : VeritySettings) (blocks : List (List ℕ)) (before : List ℕ)
+formatted-no_shorter : (s : SettingsFields) (blocks : List (List ℕ)) (before : List ℕ)
     → length before ≤ length (formatted_device s blocks before)
 formatted-no_shorter s blocks before = by_test s.superblock refl
   where
@@ -186,7 +186,7 @@ formatted-no_shorter s blocks before = by_test s.superblock refl
         )
 
 -- a block that is written ends before a byte from which on nothing is written
-block-before : (s : VeritySettings) (i : ℕ) → AreWhole s → ((j : ℕ) → i ≤ j → is_written s j ≡ false)
+block-before : (s : SettingsFields) (i : ℕ) → AreWhole s → ((j : ℕ) → i ≤ j → is_written s j ≡ false)
     → (l j : ℕ) → HasBlock s.plan l j → start_byte_of s.plan l j + s.plan.settings.hash_block ≤ i
 block-before s i whole none l j here =
     let size = s.plan.settings.hash_block in
@@ -203,7 +203,7 @@ block-before s i whole none l j here =
           ]
     ]
 
-formatted-no_longer : (s : VeritySettings) (source before : List ℕ) → AreWhole s → (i : ℕ) → length before ≤ i
+formatted-no_longer : (s : SettingsFields) (source before : List ℕ) → AreWhole s → (i : ℕ) → length before ≤ i
     → ((j : ℕ) → i ≤ j → is_written s j ≡ false)
     → length (formatted_device s (data_blocks s.plan source) before) ≤ i
 formatted-no_longer s source before whole i past none = by_test s.superblock refl
@@ -236,7 +236,7 @@ formatted-no_longer s source before whole i past none = by_test s.superblock ref
         )
 
 -- a device on which all is written is formatted
-pub written-formatted : (s : VeritySettings) (source before : List ℕ) → AreWhole s → s.plan.wanted ≤ length source
+pub written-formatted : (s : SettingsFields) (source before : List ℕ) → AreWhole s → s.plan.wanted ≤ length source
     → IsFormattedDevice s source before (formatted_device s (data_blocks s.plan source) before)
 written-formatted s source before whole enough = record {
   tree = holds-formatted s source before whole enough;
@@ -249,7 +249,7 @@ written-formatted s source before whole enough = record {
 -- ---- and there is no other
 
 -- a byte of the superblock is the same on two formatted devices
-superblock-byte : (s : VeritySettings) (a b : List ℕ) (i : ℕ) → AreWhole s → s.offset ≤ i → i < s.offset + 512
+superblock-byte : (s : SettingsFields) (a b : List ℕ) (i : ℕ) → AreWhole s → s.offset ≤ i → i < s.offset + 512
     → superblock_at s.offset a ≡ superblock_bytes (superblock_for s)
     → superblock_at s.offset b ≡ superblock_bytes (superblock_for s)
     → (i < length a) × (get_or a i 0 ≡ get_or b i 0)
@@ -266,7 +266,7 @@ superblock-byte s a b i whole from to of_a of_b =
     (omega (arith, fits, to), sym (byte a) ∙ ap (λ (xs : List ℕ). get_or xs n 0) (of_a ∙ sym of_b) ∙ byte b)
 
 -- and so is each byte that is written
-written-same : (s : VeritySettings) (source before a b : List ℕ) → AreWhole s
+written-same : (s : SettingsFields) (source before a b : List ℕ) → AreWhole s
     → IsFormattedDevice s source before a → IsFormattedDevice s source before b → (i : ℕ) → is_written s i ≡ true
     → (i < length a) × (get_or a i 0 ≡ get_or b i 0)
 written-same s source before a b whole of_a of_b i hit =
@@ -282,7 +282,7 @@ written-same s source before a b whole of_a of_b i hit =
           tree-bytes s.plan source a b (root_above s source) i whole.planned of_a.tree of_b.tree within.0 within.1
     ]
 
-formatted-most : (s : VeritySettings) (source before a b : List ℕ) → AreWhole s → IsFormattedDevice s source before a
+formatted-most : (s : SettingsFields) (source before a b : List ℕ) → AreWhole s → IsFormattedDevice s source before a
     → IsFormattedDevice s source before b → length a ≤ length b
 formatted-most s source before a b whole of_a of_b =
     of_a.no_longer (length b) of_b.no_shorter (λ j past. by_test j past (is_written s j) refl)
@@ -294,7 +294,7 @@ formatted-most s source before a b whole of_a of_b =
         absurd (omega (arith, past, same.0))
 
 -- two devices that are formatted alike are the same
-pub formatted-same : (s : VeritySettings) (source before a b : List ℕ) → AreWhole s
+pub formatted-same : (s : SettingsFields) (source before a b : List ℕ) → AreWhole s
     → IsFormattedDevice s source before a → IsFormattedDevice s source before b → a ≡ b
 formatted-same s source before a b whole of_a of_b =
     let long : length a ≡ length b =

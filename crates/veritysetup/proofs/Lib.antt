@@ -1,4 +1,3 @@
 pub mod PrintingLemmas
 pub mod FormattedLemmas
 pub mod AcceptedLemmas
-pub mod ProgramLemmas

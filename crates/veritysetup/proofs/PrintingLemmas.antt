@@ -1,7 +1,36 @@
--- What a writer holds after nothing was written.
-use Rattle.std.proofs.Common.{refl, List, ℕ, Option, Some, None}
+-- What a writer holds after nothing was written, or after format printed its report.
+use Rattle.std.proofs.Common.{◌∙◌, ℕ, List, Option, Some, None, Result, Ok, Err, [], append-nil, refl, sym, take}
 use Rattle.std.specs.Io.KnownBytes.{Keeps}
+use Rattle.command_line.specs.Writing.{WritesText}
+use Rattle.command_line.specs.declared.writing.print_fault.PrintFault.{PrintFault}
+use Rattle.command_line.specs.declared.writing.print_fault.PrintFault.TheVariants.{Memory, Output}
+use Rattle.veritysetup.specs.Runs.Format.{PrintsReport}
+use Rattle.veritysetup.specs.Texts.TextChanges.{Grows}
+use Rattle.veritysetup.specs.declared.fault.Fault.{Fault}
+use Rattle.veritysetup.specs.declared.fault.Fault.TheVariants as fault
 
 pub Keeps-refl : (held : Option (List ℕ)) → Keeps held held
 Keeps-refl None = tt
 Keeps-refl (Some bytes) = refl
+
+Keeps-grows : (before after : Option (List ℕ)) → Keeps before after → Grows before after
+Keeps-grows None after kept = ([], tt)
+Keeps-grows (Some xs) None kept = absurd kept
+Keeps-grows (Some xs) (Some ys) kept = ([], kept ∙ sym (append-nil xs))
+
+WritesText-grows : (result : Result (Unit {0}) PrintFault) (text : List ℕ) (before after : Option (List ℕ))
+    → WritesText result text before after → Grows before after
+WritesText-grows (Ok done) text before after printed = (text, printed)
+WritesText-grows (Err Memory) text before after printed = Keeps-grows before after printed
+WritesText-grows (Err (Output count)) text before after printed = (take count text, printed.1)
+
+-- what a run of format prints is added to what the writer held
+pub PrintsReport-grows : (report : List ℕ) (outcome : Result (Unit {0}) Fault) (before after : Option (List ℕ))
+    → PrintsReport report outcome before after → Grows before after
+PrintsReport-grows report (Ok done) before after printed = (report, printed)
+PrintsReport-grows report (Err (fault.Report cause)) before after printed =
+    WritesText-grows (Err cause) report before after printed
+PrintsReport-grows report (Err fault.Store) before after printed = Keeps-grows before after printed
+PrintsReport-grows report (Err (fault.Build cause)) before after printed = Keeps-grows before after printed
+PrintsReport-grows report (Err fault.SuperblockUnwritten) before after printed = Keeps-grows before after printed
+PrintsReport-grows report (Err other) before after printed = absurd printed

@@ -1,5 +1,6 @@
 -- From the texts of a line's options to settings.
 pub mod OptionTexts
 pub mod Choices
-pub mod VeritySettings
+pub mod ChoiceSteps
+pub mod Settings
 pub mod Uuids

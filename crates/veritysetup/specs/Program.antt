@@ -1,5 +1,4 @@
 -- The program over any runtime: files, streams and randomness.
-pub mod CommandRuns
 pub mod Refusals
 pub mod Folders
 pub mod RandomBytes

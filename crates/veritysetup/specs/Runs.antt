@@ -8,4 +8,3 @@ pub mod GivenBack
 pub mod VerifySteps
 pub mod HashDevice
 pub mod StoredSuperblock
-pub mod Outcomes

@@ -1,6 +1,5 @@
 -- What is printed: reports and messages.
 pub mod Messages
-pub mod ProgramMessages
 pub mod Reports
 pub mod TextChanges
 pub mod ReportSteps

@@ -1,24 +1,24 @@
 //! Laws of the runs: each holds for all settings and data.
 ghost use Rattle.std.specs.Prelude.{◌≡◌, ◌≢◌, ◌⊎◌, ◌↔◌, ◌≤◌, ℕ, true, List, Option, Result, length, take, drop};
 ghost use Rattle.verity_format.specs.Superblocks.{IsSuperblock};
-ghost use Rattle.verity_plan.specs.Plans.{IsPlanned};
+ghost use Rattle.verity_plan.specs.Plans.{IsPlan};
 ghost use Rattle.verity_tree.specs.Collisions.{TreesCollide};
 ghost use Rattle.verity_tree.specs.Levels.{data_blocks, root};
-ghost use Rattle.veritysetup.specs.Options.VeritySettings.{PartsAgree, VeritySettings};
+ghost use Rattle.veritysetup.specs.Faults.{result_status, status_refused, status_verification_failed};
+ghost use Rattle.veritysetup.specs.Options.Settings.{PartsAgree, SettingsFields};
 ghost use Rattle.veritysetup.specs.Runs.Format.{formatted_device};
 ghost use Rattle.veritysetup.specs.Runs.Formatted.{IsFormatted, IsFormattedDevice, root_above};
 ghost use Rattle.veritysetup.specs.Runs.GivenBack.{IsGivenBack, IsGivenPlanned};
 ghost use Rattle.veritysetup.specs.Runs.HashDevice.{superblock_at, superblock_for};
-ghost use Rattle.veritysetup.specs.Runs.Outcomes.{status_of};
 ghost use Rattle.veritysetup.specs.Runs.Verified.{IsVerified};
-ghost use Rattle.veritysetup.specs.Runs.Verify.{Verifies, fault_status};
-ghost use Rattle.veritysetup.specs.declared.runs.verify_fault.VerifyFault.{VerifyFault};
+ghost use Rattle.veritysetup.specs.Runs.Verify.{Verifies};
+ghost use Rattle.veritysetup.specs.declared.fault.Fault.{Fault};
 ghost use Rattle.veritysetup.specs.declared.runs.verify_input.VerifyInput.{VerifyInput};
 
 /// A device is formatted, as status 0 says it, exactly if it is the one that writing each hash block in closing order and
 /// then the superblock leaves. So just one device is that.
 pub fn formatted_devices_are_written()
-    ensures { (s : VeritySettings) (source before after : List ℕ) → IsPlanned s.plan → PartsAgree s → length s.uuid ≡ 16
+    ensures { (s : SettingsFields) (source before after : List ℕ) → IsPlan s.plan → PartsAgree s → length s.uuid ≡ 16
         → s.plan.wanted ≤ length source
         → (after ≡ formatted_device s (data_blocks s.plan source) before) ↔ IsFormattedDevice s source before after }
 {}
@@ -27,25 +27,25 @@ pub fn formatted_devices_are_written()
 /// root hash all is right, and no run of `verify` refuses it or finds a difference (statuses 1 and 2), over any data that
 /// has the same covered bytes.
 pub fn formatted_devices_are_verified()
-    ensures superblock { (s : VeritySettings) (path source rest before after : List ℕ) (out out_after : Option (List ℕ))
-        → IsPlanned s.plan → PartsAgree s → length s.uuid ≡ 16 → s.superblock ≡ true
+    ensures superblock { (s : SettingsFields) (path source rest before after : List ℕ) (out out_after : Option (List ℕ))
+        → IsPlan s.plan → PartsAgree s → length s.uuid ≡ 16 → s.superblock ≡ true
         → IsFormatted s path source rest before after out out_after
         → IsSuperblock (superblock_at s.offset after) (superblock_for s) }
-    ensures verified { (s : VeritySettings) (path source rest before after bytes : List ℕ)
+    ensures verified { (s : SettingsFields) (path source rest before after bytes : List ℕ)
         (out out_after : Option (List ℕ)) (input : VerifyInput)
-        → IsPlanned s.plan → PartsAgree s → length s.uuid ≡ 16
+        → IsPlan s.plan → PartsAgree s → length s.uuid ≡ 16
         → IsFormatted s path source rest before after out out_after
         → IsGivenBack input s (root_above s source)
         → take s.plan.wanted bytes ≡ take s.plan.wanted source
         → IsVerified input after bytes (drop s.plan.wanted bytes) }
-    ensures accepted { (s : VeritySettings) (path source rest before after bytes left : List ℕ)
-        (out out_after : Option (List ℕ)) (input : VerifyInput) (outcome : Result (Unit {0}) VerifyFault)
-        → IsPlanned s.plan → PartsAgree s → length s.uuid ≡ 16
+    ensures accepted { (s : SettingsFields) (path source rest before after bytes left : List ℕ)
+        (out out_after : Option (List ℕ)) (input : VerifyInput) (outcome : Result (Unit {0}) Fault)
+        → IsPlan s.plan → PartsAgree s → length s.uuid ≡ 16
         → IsFormatted s path source rest before after out out_after
         → IsGivenBack input s (root_above s source)
         → take s.plan.wanted bytes ≡ take s.plan.wanted source
         → Verifies input after bytes left outcome
-        → (status_of fault_status outcome ≢ 1) × (status_of fault_status outcome ≢ 2) }
+        → (result_status outcome ≢ status_refused) × (result_status outcome ≢ status_verification_failed) }
 {}
 
 /// If `verify` ended with 0 on some data, against the root hash that other data have by its plan, the two are the same in

@@ -2,6 +2,7 @@
 //! the program itself over any runtime.
 #![tactic(auto)]
 
+mod fault;
 pub mod laws;
 mod options;
 mod program;

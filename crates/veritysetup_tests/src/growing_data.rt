@@ -1,6 +1,6 @@
 //! Data that grows while it is read, and data that is long.
-use crate::images::{Image, image_17};
 use crate::program_runs::{disk_of, run, run_words};
+use fixtures::{Image, image_17};
 use memory_runtime::Disk;
 use std::alloc::Global;
 use std::io;
@@ -35,8 +35,8 @@ fn bytes_that_come_later_are_no_data(rt: HostRuntime) -> Result<(), Fail> {
     for &words in &WORDS {
         for &(length, status, message) in &LENGTHS {
             let disk = growing_disk(alloc, &image, length)?;
-            let said = run(alloc, &disk, words, Some(root.as_bytes()));
-            let differs = said.differs(status, b"", message.as_bytes());
+            let output = run(alloc, &disk, words, Some(root.as_bytes()));
+            let differs = output.differs(status, b"", message.as_bytes());
             let grown = disk.bytes_of("data")?;
             let found = (differs, grown.as_slice());
             assert_eq!(rt;
@@ -72,8 +72,8 @@ fn a_length_is_taken_as_it_is_said(rt: HostRuntime) -> Result<(), Fail> {
         disk.end_at("data", end)?;
         let words =
             "veritysetup format --salt=- --data-block-size 512 --data-blocks 17592186044417 data new";
-        let said = run_words(alloc, &disk, words);
-        let differs = said.differs(4, b"", message.as_bytes());
+        let output = run_words(alloc, &disk, words);
+        let differs = output.differs(4, b"", message.as_bytes());
         assert_eq!(rt; (differs, disk.has("new")?), (None, false), "at {end}");
     }
     Ok(())

@@ -9,8 +9,6 @@
 #[cfg(test)]
 mod growing_data;
 #[cfg(test)]
-mod images;
-#[cfg(test)]
 mod long_words;
 #[cfg(test)]
 mod offsets;
@@ -29,6 +27,8 @@ mod progress_texts;
 #[cfg(test)]
 mod random_values;
 #[cfg(test)]
+mod refused_lines;
+#[cfg(test)]
 mod refused_options;
 #[cfg(test)]
 mod reports;
@@ -36,5 +36,3 @@ mod reports;
 mod texts;
 #[cfg(test)]
 mod whole_runs;
-#[cfg(test)]
-mod words;

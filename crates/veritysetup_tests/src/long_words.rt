@@ -1,7 +1,6 @@
 //! Words of more than 1024 bytes, with ample memory: paths, the values of options, and words that are refused.
-use crate::images::{Image, image_17};
 use crate::program_runs::{disk_of, run, run_words};
-use fixtures::{REPORT_17, Report};
+use fixtures::{Image, REPORT_17, Report, image_17};
 use memory_runtime::Disk;
 use std::alloc::{AllocError, Global};
 use std::io;
@@ -42,18 +41,18 @@ fn first_wrong(
     };
     let text = report.with_root(alloc, image.root.as_slice())?;
     let words = format!(in alloc; "veritysetup format {options} {data} {hash}")?;
-    let said = run_words(alloc, &disk, words.as_str());
-    if let Some(what) = said.differs(0, text.as_bytes(), b"") {
+    let output = run_words(alloc, &disk, words.as_str());
+    if let Some(what) = output.differs(0, text.as_bytes(), b"") {
         return Ok(Some(("format", what)));
     }
     let words = format!(in alloc; "veritysetup dump {hash}")?;
-    let said = run_words(alloc, &disk, words.as_str());
-    if let Some(what) = said.differs(0, report.text(alloc)?.as_bytes(), b"") {
+    let output = run_words(alloc, &disk, words.as_str());
+    if let Some(what) = output.differs(0, report.text(alloc)?.as_bytes(), b"") {
         return Ok(Some(("dump", what)));
     }
     let words = format!(in alloc; "veritysetup verify {data} {hash} {root}")?;
-    let said = run_words(alloc, &disk, words.as_str());
-    if let Some(what) = said.differs(0, b"", b"") {
+    let output = run_words(alloc, &disk, words.as_str());
+    if let Some(what) = output.differs(0, b"", b"") {
         return Ok(Some(("verify", what)));
     }
     Ok(if disk.bytes_of(hash)? == image.device {
@@ -120,8 +119,8 @@ fn long_values_are_refused_with_their_messages(rt: HostRuntime) -> Result<(), Fa
     let long = "ab".repeat(alloc, MANY)?;
     for &(before, after, message) in &REFUSED {
         let words = format!(in alloc; "veritysetup {before}{long}{after}")?;
-        let said = run(alloc, &disk, words.as_str(), None);
-        let differs = said.differs(1, b"", message.as_bytes());
+        let output = run(alloc, &disk, words.as_str(), None);
+        let differs = output.differs(1, b"", message.as_bytes());
         assert_eq!(rt; differs, None, "at {before}");
     }
     Ok(())
@@ -134,8 +133,8 @@ fn a_long_name_stands_in_the_message(rt: HostRuntime) -> Result<(), Fail> {
     let name = "long/".repeat(alloc, MANY)?;
     let words = format!(in alloc; "veritysetup format {name} hash")?;
     let message = format!(in alloc; "Cannot open {name}.\n")?;
-    let said = run(alloc, &disk, words.as_str(), None);
-    assert_eq!(rt; said.differs(4, b"", message.as_bytes()), None);
+    let output = run(alloc, &disk, words.as_str(), None);
+    assert_eq!(rt; output.differs(4, b"", message.as_bytes()), None);
     Ok(())
 }
 
@@ -146,12 +145,12 @@ fn a_long_word_that_is_not_utf8_is_refused(rt: HostRuntime) -> Result<(), Fail> 
     let word = vec![in alloc; 0xff_u8; MANY]?;
     let escaped = "\\xff".repeat(alloc, MANY)?;
     let message = format!(in alloc; "error: argument 3 is not UTF-8: {escaped}\n")?;
-    let said = run(
+    let output = run(
         alloc,
         &disk,
         "veritysetup format data",
         Some(word.as_slice()),
     );
-    assert_eq!(rt; said.differs(1, b"", message.as_bytes()), None);
+    assert_eq!(rt; output.differs(1, b"", message.as_bytes()), None);
     Ok(())
 }

@@ -1,7 +1,7 @@
 //! A hash area that ends past the largest offset.
 ghost use Rattle.std.specs.Prelude.{[]};
 
-use crate::images::image_17;
+use fixtures::{SUPERBLOCK_SIZE, image_17};
 use std::test::Fail;
 use verity_tree::{Device, Failed, MemorySource};
 use veritysetup::{VerifyInput, run_verify};
@@ -55,7 +55,7 @@ fn an_area_past_the_largest_offset_is_too_large(rt: HostRuntime) -> Result<(), F
     let alloc = rt.alloc();
     let image = image_17(alloc)?;
     let root = hex::encode(alloc, image.root.as_slice())?;
-    let bytes = image.device.get(..512).unwrap_or(&[]);
+    let bytes = image.device.get(..SUPERBLOCK_SIZE).unwrap_or(&[]);
     for &(offset, status, message) in &OFFSETS {
         let mut msgs = Vec::new(alloc);
         let mut source = MemorySource::new(image.data.as_slice());
@@ -64,9 +64,9 @@ fn an_area_past_the_largest_offset_is_too_large(rt: HostRuntime) -> Result<(), F
             root: root.as_str(),
         };
         let mut device = Far { offset, bytes };
-        let found = run_verify(alloc, &input, &mut source, &mut device, &mut msgs);
-        let said = (found, msgs.as_slice());
-        assert_eq!(rt; said, (status, message.as_bytes()), "at {offset}");
+        let ended = run_verify(alloc, &input, &mut source, &mut device, &mut msgs);
+        let found = (ended, msgs.as_slice());
+        assert_eq!(rt; found, (status, message.as_bytes()), "at {offset}");
     }
     Ok(())
 }

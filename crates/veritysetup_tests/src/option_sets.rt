@@ -144,7 +144,7 @@ fn is_read(alloc: Global, command: Command, set: u32, layout: Layout) -> Result<
     }
 }
 
-/// All layouts with these many files before the options, or only the first if `is_large`. The answer is the first in
+/// All layouts with these many files before the options, or only the first if `is_large`. The result is the first in
 /// which the words of a set of options aren't read as that.
 fn wrong_layout(
     alloc: Global,

@@ -196,7 +196,7 @@ fn files_are_opened_and_held_in_order(rt: HostRuntime) -> Result<(), Fail> {
         let disk = disk_of(alloc, &[5; 8192])?;
         disk.make_kind("images", Kind::Folder, Vec::new(alloc))?;
         disk.make("hash.img", [0; 8192].to_vec(alloc)?)?;
-        let said = run(alloc, &disk, words, None);
+        let output = run(alloc, &disk, words, None);
         let all_opened = disk.opened()?;
         let all_held = disk.held()?;
         let found = (
@@ -206,9 +206,9 @@ fn files_are_opened_and_held_in_order(rt: HostRuntime) -> Result<(), Fail> {
                 .strip_prefix(NULL_FILES_OPENED)
                 .unwrap_or("")
                 .strip_suffix(NULL_FILES_CLOSED),
-            said.status,
-            said.msgs.as_slice(),
-            said.out.is_empty(),
+            output.status,
+            output.msgs.as_slice(),
+            output.out.is_empty(),
             message == NOT_OPENED && disk.calls(Call::Read)? == 0,
         );
         let expected = (
@@ -265,11 +265,11 @@ fn a_file_of_which_the_system_says_nothing_counts_as_new(rt: HostRuntime) -> Res
     let disk = disk_of(alloc, &[5; 8192])?;
     disk.make("hash.img", [0; 8192].to_vec(alloc)?)?;
     disk.fail(Call::Metadata, 2)?;
-    let said = run(alloc, &disk, "veritysetup format data hash.img", None);
+    let output = run(alloc, &disk, "veritysetup format data hash.img", None);
     let expected = format!(in alloc;
         "{NULL_FILES}data: read\nhash.img: read write create\n.: read\n"
     )?;
-    let found = (said.status, disk.opened()?, disk.calls(Call::Sync)?);
+    let found = (output.status, disk.opened()?, disk.calls(Call::Sync)?);
     assert_eq!(rt; found, (0, expected, 2));
     Ok(())
 }
@@ -303,8 +303,8 @@ fn an_opened_file_of_which_the_system_says_nothing_is_refused(rt: HostRuntime) -
         let disk = disk_of(alloc, &[5; 8192])?;
         disk.make("hash.img", [0; 8192].to_vec(alloc)?)?;
         disk.fail(Call::Metadata, number)?;
-        let said = run(alloc, &disk, words, None);
-        let differs = said.differs(4, b"", message.as_bytes());
+        let output = run(alloc, &disk, words, None);
+        let differs = output.differs(4, b"", message.as_bytes());
         let found = (differs, disk.calls(Call::Read)?, disk.has("hash")?);
         assert_eq!(rt; found, (None, 0, false), "at {words}");
     }
@@ -376,11 +376,11 @@ fn opened_data_is_known_whatever_its_name_leads_to(rt: HostRuntime) -> Result<()
         disk.make("else", [6; 100].to_vec(alloc)?)?;
         disk.lead("data", "data", "else")?;
         let words = format!(in alloc; "veritysetup format data {hash}")?;
-        let said = run(alloc, &disk, words.as_str(), None);
+        let output = run(alloc, &disk, words.as_str(), None);
         let all = disk.opened()?;
         let found = (
-            said.status,
-            said.msgs.as_slice(),
+            output.status,
+            output.msgs.as_slice(),
             all.as_str()
                 .strip_prefix(NULL_FILES)
                 .unwrap_or("")

@@ -1,5 +1,5 @@
 //! The program over files in memory, and what it says without random bytes.
-use fixtures::Said;
+use fixtures::RunOutput;
 use memory_runtime::{Disk, Kind, MemoryRuntime};
 use std::alloc::Global;
 use std::io;
@@ -16,31 +16,36 @@ pub fn disk_of(alloc: Global, data: &[u8]) -> io::Result<Disk> {
 }
 
 /// Runs the program.
-pub fn said_by(alloc: Global, runtime: &MemoryRuntime<'_>) -> Said {
+pub fn output_of(alloc: Global, runtime: &MemoryRuntime<'_>) -> RunOutput {
     let mut out = Vec::new(alloc);
     let mut msgs = Vec::new(alloc);
     let progress = ProgressLine::new(runtime);
     let status = run_program(runtime, &progress, &mut out, &mut msgs);
-    Said { status, out, msgs }
+    RunOutput { status, out, msgs }
 }
 
 /// Runs the program with these words, its name first, and one more word if there is one.
-pub fn run<'a>(alloc: Global, disk: &'a Disk, words: &'a str, last_word: Option<&'a [u8]>) -> Said {
+pub fn run<'a>(
+    alloc: Global,
+    disk: &'a Disk,
+    words: &'a str,
+    last_word: Option<&'a [u8]>,
+) -> RunOutput {
     let mut runtime = MemoryRuntime::new(alloc, disk, words);
     runtime.last_word = last_word;
-    said_by(alloc, &runtime)
+    output_of(alloc, &runtime)
 }
 
 /// Runs the program on these words alone.
-pub fn run_words<'a>(alloc: Global, disk: &'a Disk, words: &'a str) -> Said {
-    said_by(alloc, &MemoryRuntime::new(alloc, disk, words))
+pub fn run_words<'a>(alloc: Global, disk: &'a Disk, words: &'a str) -> RunOutput {
+    output_of(alloc, &MemoryRuntime::new(alloc, disk, words))
 }
 
 /// Runs the program without random bytes.
-fn run_without_random<'a>(alloc: Global, disk: &'a Disk, words: &'a str) -> Said {
+fn run_without_random<'a>(alloc: Global, disk: &'a Disk, words: &'a str) -> RunOutput {
     let mut runtime = MemoryRuntime::new(alloc, disk, words);
     runtime.random = &[];
-    said_by(alloc, &runtime)
+    output_of(alloc, &runtime)
 }
 
 #[test]
@@ -52,8 +57,8 @@ fn no_random_bytes_make_no_file(rt: HostRuntime) -> Result<(), Fail> {
         "veritysetup format --salt ab data hash",
         "veritysetup format --uuid 00112233-4455-4677-8899-aabbccddeeff data hash",
     ] {
-        let said = run_without_random(alloc, &disk, words);
-        let differs = said.differs(4, b"", b"Cannot get random bytes.\n");
+        let output = run_without_random(alloc, &disk, words);
+        let differs = output.differs(4, b"", b"Cannot get random bytes.\n");
         let found = (differs, disk.has("hash")?);
         assert_eq!(rt; found, (None, false), "at {words}");
     }

@@ -1,8 +1,7 @@
 //! The salt and the UUID that format draws if they aren't given: both come from a generator of the crate `rand` that is
 //! seeded with 32 bytes of the system.
-use crate::images::{Image, image_of};
-use crate::program_runs::{disk_of, said_by};
-use fixtures::{REPORT_17, Report, Said, UUID, data, lay};
+use crate::program_runs::{disk_of, output_of};
+use fixtures::{Image, REPORT_17, Report, RunOutput, UUID, UUID_AT, data, image_of, lay};
 use memory_runtime::{Disk, MemoryRuntime};
 use rand::rngs::StdRng;
 use rand::{Rng, SeedableRng};
@@ -101,7 +100,7 @@ fn values(
 /// The image of 17 blocks with this salt and UUID, and its report.
 fn expected(alloc: Global, salt: &[u8], uuid: &[u8; 16]) -> Result<(Image, String), AllocError> {
     let mut image = image_of(alloc, 512, salt, 17, 2)?;
-    lay(&mut image.device, &[(16, uuid)]);
+    lay(&mut image.device, &[(UUID_AT, uuid)]);
     let salt = hex::encode(alloc, salt)?;
     let uuid = uuid_text(alloc, uuid)?;
     let report = report(alloc, uuid.as_str(), salt.as_str(), image.root.as_slice())?;
@@ -125,7 +124,12 @@ fn report<'a>(
 }
 
 /// What format of 17 blocks says, with a seed and with options.
-fn formatted(alloc: Global, disk: &Disk, seed: &[u8; 32], options: &str) -> Result<Said, Fail> {
+fn formatted(
+    alloc: Global,
+    disk: &Disk,
+    seed: &[u8; 32],
+    options: &str,
+) -> Result<RunOutput, Fail> {
     let words = format!(in alloc;
         "veritysetup format --data-block-size 512 --hash-block-size 512 {options}data hash"
     )?;
@@ -133,10 +137,15 @@ fn formatted(alloc: Global, disk: &Disk, seed: &[u8; 32], options: &str) -> Resu
 }
 
 /// Runs the program with these random bytes.
-fn run_with_random<'a>(alloc: Global, disk: &'a Disk, words: &'a str, random: &'a [u8]) -> Said {
+fn run_with_random<'a>(
+    alloc: Global,
+    disk: &'a Disk,
+    words: &'a str,
+    random: &'a [u8],
+) -> RunOutput {
     let mut runtime = MemoryRuntime::new(alloc, disk, words);
     runtime.random = random;
-    said_by(alloc, &runtime)
+    output_of(alloc, &runtime)
 }
 
 /// What goes wrong with a seed and options: the run, the hash device, or the number of random bytes that are asked for.
@@ -148,8 +157,8 @@ fn first_wrong(
     let (salt, uuid) = values(alloc, seed, draws_salt, draws_uuid)?;
     let (image, report) = expected(alloc, salt.as_slice(), &uuid)?;
     let disk = disk_of(alloc, data(alloc, 8704)?.as_slice())?;
-    let said = formatted(alloc, &disk, &seed, options)?;
-    if let Some(what) = said.differs(0, report.as_bytes(), b"") {
+    let output = formatted(alloc, &disk, &seed, options)?;
+    if let Some(what) = output.differs(0, report.as_bytes(), b"") {
         return Ok(Some(what));
     }
     if disk.bytes_of("hash")? != image.device {

@@ -96,8 +96,11 @@ fn each_refused_option_has_its_message(rt: HostRuntime) -> Result<(), Fail> {
     let disk = disk_of(alloc, &[5; 8192])?;
     for &(words, message) in &REFUSED {
         let line = format!(in alloc; "veritysetup {words}")?;
-        let said = run(alloc, &disk, line.as_str(), None);
-        let found = (said.differs(1, b"", message.as_bytes()), disk.has("hash")?);
+        let output = run(alloc, &disk, line.as_str(), None);
+        let found = (
+            output.differs(1, b"", message.as_bytes()),
+            disk.has("hash")?,
+        );
         assert_eq!(rt; found, (None, false), "at {words}");
     }
     Ok(())

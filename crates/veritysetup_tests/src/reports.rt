@@ -90,8 +90,8 @@ fn wrong_format(
 ) -> Result<Option<&'static str>, Fail> {
     let words = words_of_format(alloc, row, has_superblock)?;
     let text = report_of(row, has_superblock).with_root(alloc, tree.root.as_slice())?;
-    let said = run(alloc, disk, words.as_str(), None);
-    if let Some(what) = said.differs(0, text.as_bytes(), b"") {
+    let output = run(alloc, disk, words.as_str(), None);
+    if let Some(what) = output.differs(0, text.as_bytes(), b"") {
         return Ok(Some(what));
     }
     let device = device_of(alloc, row, tree, has_superblock)?;

@@ -1,8 +1,7 @@
 //! Whole runs of each command over files in memory: of a small image, in a file and on a block device, and of one with
 //! the largest blocks, the longest salt and the longest path.
-use crate::images::{Image, image_17, image_of};
 use crate::program_runs::{disk_of, run, run_words};
-use fixtures::{REPORT_17, Report, with_zeros};
+use fixtures::{Image, REPORT_17, Report, image_17, image_of, with_zeros};
 use memory_runtime::Kind;
 use std::alloc::{AllocError, Global};
 use std::process::Abort;

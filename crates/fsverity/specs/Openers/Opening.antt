@@ -1,7 +1,7 @@
 -- Opening the files of a list one after another, as open(2) of POSIX opens one; this project's own.
 use Rattle.std.specs.Prelude.{◌≡◌, ◌↔◌, ◌⊎◌, ℕ, ◌+◌, ◌≤◌, List, Option, Some, None, length, slice_get, Result, MatchResult}
 use Rattle.verity_io.specs.declared.failed.Failed.{Failed}
-use Rattle.verity_io.specs.Counting.{Rose}
+use Rattle.verity_io.specs.Counting.{CountRose}
 
 -- an opener before and after some calls: whether it tells its files; the files, each its bytes or absent; the index of
 -- the next file; and its count of failures
@@ -43,4 +43,4 @@ CountsOpening before after result =
 
 -- the file is told as absent, or the count rose
 abbrev pub FailsFor : Type 0 → List (Option (List ℕ)) → ℕ → ℕ → ℕ → Type 0
-FailsFor tells files i before after = (tells × (slice_get files i ≡ Some None)) ⊎ Rose before after
+FailsFor tells files i before after = (tells × (slice_get files i ≡ Some None)) ⊎ CountRose before after

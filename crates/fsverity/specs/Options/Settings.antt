@@ -4,7 +4,7 @@ use Rattle.std.specs.Prelude.{ℕ, ◌&&◌, Bool, nat_lt, List, [], Option, Som
 use Rattle.verity_hash.specs.Hashing.{digest_len_of}
 use Rattle.verity_hash.specs.declared.algorithm.Algorithm.{Algorithm}
 use Rattle.verity_hash.specs.declared.salting.SaltRule.TheVariants.{PaddedBefore}
-use Rattle.verity_plan.specs.Settings.{Settings, is_block_size, is_of_fsverity, least_block, most_salt}
+use Rattle.verity_plan.specs.Settings.{TreeSettingsFields, is_block_size, is_of_fsverity, least_block, most_salt}
 use Rattle.command_line.specs.Options.{algorithm_or_default, default_block_size, number_of, salt_of, ◌>>=◌}
 use Rattle.fsverity.specs.declared.options.option_fault.FsOptionFault.{FsOptionFault}
 use Rattle.fsverity.specs.declared.options.option_fault.FsOptionFault.TheVariants.{UnknownHash, BadBlockSize, BadSalt, OneFileOnly}
@@ -33,7 +33,7 @@ salt_bytes_of text = salt_of (most_salt PaddedBefore) (unwrap_or text [])
 
 -- the settings, or the first option that is refused, for so many input files and for an output file or none
 abbrev pub digest_settings : Option (List ℕ) → Option (List ℕ) → Option (List ℕ) → ℕ → Bool
-    → Result Settings FsOptionFault
+    → Result TreeSettingsFields FsOptionFault
 digest_settings hash_alg block_size salt files out_files = do
   algorithm ← ok_or (algorithm_of hash_alg) UnknownHash
   block ← ok_or (block_size_of algorithm block_size) BadBlockSize

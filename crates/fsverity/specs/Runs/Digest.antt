@@ -4,10 +4,10 @@ use Rattle.std.specs.Prelude.{◌≡◌, ◌⊎◌, ℕ, ◌+◌, ◌<◌, ◌�
 use Rattle.std.specs.Prelude.{Some, None, slice_get, slice_index_or}
 use Rattle.std.specs.List.{prefix_len}
 use Rattle.std.specs.Io.KnownBytes.{Appends}
-use Rattle.command_line.specs.Printing.{AppendsPrefix}
-use Rattle.verity_io.specs.Counting.{Counts, Rose}
-use Rattle.verity_plan.specs.Settings.{Settings}
-use Rattle.fsverity.specs.Runs.FileDigest.{fault_of_source}
+use Rattle.command_line.specs.Writing.{AppendsPrefix}
+use Rattle.verity_io.specs.Counting.{Counts, CountRose, TheSource, is_call_of}
+use Rattle.verity_plan.specs.Settings.{TreeSettingsFields}
+use Rattle.fsverity.specs.Faults.{run_side}
 use Rattle.fsverity.specs.Runs.Digested.{is_too_large, DigestInput, IsDigestAt, line_at, AreLines}
 use Rattle.fsverity.specs.Texts.Messages.{run_fault_message}
 use Rattle.fsverity.specs.Openers.Opening.{OpenerChange}
@@ -17,31 +17,31 @@ use Rattle.fsverity.specs.declared.runs.run_fault.RunFault.{RunFault}
 use Rattle.fsverity.specs.declared.runs.run_fault.RunFault.TheVariants.{NotOpened, Digest, NotWritten}
 
 -- the file is there, and not too large
-abbrev pub has_digest : Settings → Option (List ℕ) → Bool
+abbrev pub has_digest : TreeSettingsFields → Option (List ℕ) → Bool
 has_digest s None = false
 has_digest s (Some bytes) = not (is_too_large s (length bytes))
 
 -- the index of the first file that is absent or too large, or the number of files if there is none
-abbrev pub first_without_digest : Settings → List (Option (List ℕ)) → ℕ
+abbrev pub first_without_digest : TreeSettingsFields → List (Option (List ℕ)) → ℕ
 first_without_digest s files = prefix_len (has_digest s) files
 
 -- the file of this index is there, and too large
-abbrev pub IsLargeAt : Settings → List (Option (List ℕ)) → ℕ → Type 0
+abbrev pub IsLargeAt : TreeSettingsFields → List (Option (List ℕ)) → ℕ → Type 0
 IsLargeAt s files f =
     (bytes : List ℕ) × (slice_get files f ≡ Some (Some bytes)) × (is_too_large s (length bytes) ≡ true)
 
 -- why a run ends at file f: it is absent and nothing before it was, or a count rose; it is there and too large; it
 -- ended early, as no file does whose bytes are told; or memory, a read or the writer failed, and then the file is there
 -- and not too large. There is no device
-abbrev pub HasReason : Settings → OpenerChange → ℕ → RunFault → Type 0
+abbrev pub HasReason : TreeSettingsFields → OpenerChange → ℕ → RunFault → Type 0
 HasReason s opener f NotOpened =
     (opener.told × (slice_get opener.files f ≡ Some None) × (first_without_digest s opener.files ≡ f))
-    ⊎ Rose opener.failures_before opener.failures_after
+    ⊎ CountRose opener.failures_before opener.failures_after
 HasReason s opener f (Digest TooLarge) =
     opener.told → IsLargeAt s opener.files f × (first_without_digest s opener.files ≡ f)
 HasReason s opener f (Digest (SourceShort i)) = opener.told → ⊥
 HasReason s opener f (Digest (SourceFailed i)) =
-    (opener.told → f < first_without_digest s opener.files) × Rose opener.failures_before opener.failures_after
+    (opener.told → f < first_without_digest s opener.files) × CountRose opener.failures_before opener.failures_after
 HasReason s opener f (Digest (DeviceFailed level block)) = ⊥
 HasReason s opener f (Digest Memory) = opener.told → f < first_without_digest s opener.files
 HasReason s opener f NotWritten = opener.told → f < first_without_digest s opener.files
@@ -57,22 +57,26 @@ IsPartOfLine run told files f fault part = part ≡ []
 -- opened may raise it
 abbrev pub CountsFault : RunFault → ℕ → ℕ → Type 0
 CountsFault NotOpened before after = before ≤ after
-CountsFault (Digest fault) before after = Counts (fault_of_source fault) before after
-CountsFault NotWritten before after = Counts false before after
+CountsFault fault before after = Counts (is_call_of TheSource (run_side fault)) before after
 
--- a run ended at file f, the next one is after it, and no file before it is absent or too large; the lines of the files
+-- file f ended a run: the next file is after it, and no file before it is absent or too large; the lines of the files
 -- before it are written, and of its own perhaps a part
-pub record EndsAt (run : DigestInput) (opener : OpenerChange) (out out' msgs msgs' : Option (List ℕ)) : Type 0 where
-  pub f : ℕ
-  pub fault : RunFault
+pub record FailsAt (run : DigestInput) (opener : OpenerChange) (out out' : Option (List ℕ)) (f : ℕ) (fault : RunFault)
+    : Type 0 where
   pub has_name : f < length run.names
   pub is_next : opener.next_after ≡ f + 1
   pub within : opener.told → f ≤ first_without_digest run.settings opener.files
   pub reason : HasReason run.settings opener f fault
   pub counted : CountsFault fault opener.failures_before opener.failures_after
-  pub message : AppendsPrefix (run_fault_message fault (slice_index_or run.names f [])) msgs msgs'
   pub lines : List ℕ
   pub lines_are : AreLines run opener.told opener.files f lines
   pub part : List ℕ
   pub part_is : IsPartOfLine run opener.told opener.files f fault part
   pub written : Appends out out' (lines ++ part)
+
+-- a file ended the run, and its message is written, as far as the writer takes it
+pub record EndsAt (run : DigestInput) (opener : OpenerChange) (out out' msgs msgs' : Option (List ℕ)) : Type 0 where
+  pub f : ℕ
+  pub fault : RunFault
+  pub fails : FailsAt run opener out out' f fault
+  pub message : AppendsPrefix (run_fault_message fault (slice_index_or run.names f [])) msgs msgs'

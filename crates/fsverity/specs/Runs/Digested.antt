@@ -5,27 +5,27 @@ use Rattle.std.specs.Prelude.{slice_index_or, ◌&&◌, is_ok, nat_lt}
 use Rattle.verity_format.specs.Descriptors.{digest_of_file, DescriptorFields}
 use Rattle.verity_tree.specs.Levels.{root_of_file}
 use Rattle.verity_plan.specs.Plans.{plan_for_bytes}
-use Rattle.verity_plan.specs.Settings.{Settings, digest_len}
+use Rattle.verity_plan.specs.Settings.{TreeSettingsFields, digest_len}
 use Rattle.fsverity.specs.Texts.Lines.{line}
 use Rattle.fsverity.specs.declared.texts.digest_lines.Form.{Form}
 
 -- the descriptor of so many bytes with this root hash
-abbrev pub descriptor_of : Settings → ℕ → List ℕ → DescriptorFields
+abbrev pub descriptor_of : TreeSettingsFields → ℕ → List ℕ → DescriptorFields
 descriptor_of s size root = record { tree = s; size = size; root = root }
 
 -- there is data, and no plan for it
-abbrev pub is_too_large : Settings → ℕ → Bool
+abbrev pub is_too_large : TreeSettingsFields → ℕ → Bool
 is_too_large s size = nat_lt 0 size && not (is_ok (plan_for_bytes s size 0))
 
 -- what a run gets beside its files: the settings, the form of the lines, and the files' names
 pub record DigestInput : Type 0 where
-  pub settings : Settings
+  pub settings : TreeSettingsFields
   pub form : Form
   pub names : List (List ℕ)
 
 -- the digest of a file that is not too large, made of a root hash of the settings' length; if the files are told, the
 -- file of this index is there, and size and root hash are its own
-pub record IsDigestAt (s : Settings) (told : Type 0) (files : List (Option (List ℕ))) (i : ℕ) (digest : List ℕ)
+pub record IsDigestAt (s : TreeSettingsFields) (told : Type 0) (files : List (Option (List ℕ))) (i : ℕ) (digest : List ℕ)
     : Type 0 where
   pub size : ℕ
   pub fits : is_too_large s size ≡ false

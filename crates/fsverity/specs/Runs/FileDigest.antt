@@ -1,7 +1,7 @@
 -- The file digest of fs-verity (Linux kernel, fs-verity page, "fs-verity descriptor" and "Merkle tree"), and the answer
 -- of making one of a source's bytes.
-use Rattle.std.specs.Prelude.{◌≡◌, ℕ, ◌+◌, ◌*◌, ◌/◌, ◌<◌, ◌≤◌, ◌==◌, min, Bool, true, false, List, [], length, Option}
-use Rattle.std.specs.Prelude.{Some, None, IsNone, MatchOption, Result, Ok, Err, MatchResult, if◌then◌else◌}
+use Rattle.std.specs.Prelude.{◌≡◌, ℕ, ◌+◌, ◌*◌, ◌/◌, ◌<◌, ◌≤◌, ◌==◌, min, List, [], length, Option}
+use Rattle.std.specs.Prelude.{Some, None, IsNone, MatchOption, Result, Err, MatchResult, if◌then◌else◌}
 use Rattle.verity_format.specs.Descriptors.{descriptor_bytes, digest_of_file}
 use Rattle.verity_io.specs.Reading.{HasRead}
 use Rattle.verity_tree.specs.Levels.{data_blocks, root_of_file}
@@ -10,7 +10,7 @@ use Rattle.verity_tree.specs.TreeWriting.{tree_on_device}
 use Rattle.verity_tree.specs.Reading.{ReadsUpTo}
 use Rattle.verity_tree.specs.declared.building.BuildFault.{BuildFault}
 use Rattle.verity_plan.specs.Plans.{plan_of_file}
-use Rattle.verity_plan.specs.Settings.{Settings, digest_len}
+use Rattle.verity_plan.specs.Settings.{TreeSettingsFields, digest_len}
 use Rattle.fsverity.specs.declared.runs.digest_fault.DigestFault.{DigestFault}
 use Rattle.fsverity.specs.declared.runs.digest_fault.DigestFault.TheVariants.{TooLarge, SourceShort, SourceFailed}
 use Rattle.fsverity.specs.declared.runs.digest_fault.DigestFault.TheVariants.{DeviceFailed, Memory}
@@ -19,18 +19,18 @@ use Rattle.fsverity.specs.Runs.Digested.{descriptor_of}
 use Rattle.verity_tree.specs.declared.building.BuildFault.TheVariants as build
 
 -- a device with the tree of the first size bytes; an empty file has none
-abbrev pub with_tree : Settings → ℕ → List ℕ → List ℕ → List ℕ
+abbrev pub with_tree : TreeSettingsFields → ℕ → List ℕ → List ℕ → List ℕ
 with_tree s size bytes device = if size == 0 then device
     else tree_on_device (plan_of_file s size) (data_blocks (plan_of_file s size) bytes) device
 
 -- the descriptor with this root hash, and its digest
-pub record IsDigestOfRoot (s : Settings) (size : ℕ) (root : List ℕ) (made : FileDigest) : Type 0 where
+pub record IsDigestOfRoot (s : TreeSettingsFields) (size : ℕ) (root : List ℕ) (made : FileDigest) : Type 0 where
   pub digest : made.digest ≡ digest_of_file (descriptor_of s size root)
   pub descriptor : made.descriptor ≡ descriptor_bytes (descriptor_of s size root)
 
 -- the descriptor with a root hash of the settings' length, and its digest; it is the file's root hash if the source
 -- tells these bytes
-pub record IsDigestOfSource (s : Settings) (size : ℕ) (told : Type 0) (bytes : List ℕ) (made : FileDigest)
+pub record IsDigestOfSource (s : TreeSettingsFields) (size : ℕ) (told : Type 0) (bytes : List ℕ) (made : FileDigest)
     : Type 0 where
   pub root : List ℕ
   pub root_length : length root ≡ digest_len s
@@ -38,7 +38,7 @@ pub record IsDigestOfSource (s : Settings) (size : ℕ) (told : Type 0) (bytes :
   pub by_root : IsDigestOfRoot s size root made
 
 -- the descriptor of the first size bytes, and the file digest
-abbrev pub IsFileDigest : Settings → ℕ → List ℕ → FileDigest → Type 0
+abbrev pub IsFileDigest : TreeSettingsFields → ℕ → List ℕ → FileDigest → Type 0
 IsFileDigest s size bytes made = IsDigestOfRoot s size (root_of_file s size bytes) made
 
 -- the fault of building the tree, if it is one
@@ -50,7 +50,7 @@ build_fault (DeviceFailed level block) = Some (build.DeviceFailed level block)
 build_fault Memory = None
 
 -- what a fault says of a source whose first size bytes are wanted, and how much was read
-abbrev pub FaultsIn : Settings → ℕ → List ℕ → List ℕ → DigestFault → Type 0
+abbrev pub FaultsIn : TreeSettingsFields → ℕ → List ℕ → List ℕ → DigestFault → Type 0
 FaultsIn s size before after TooLarge = after ≡ before
 FaultsIn s size before after (SourceShort i) =
     (length before < size) × (i ≡ length before / s.data_block) × (after ≡ [])
@@ -60,38 +60,20 @@ FaultsIn s size before after (DeviceFailed level block) = ReadsUpTo (plan_of_fil
 FaultsIn s size before after Memory = after ≡ before
 
 -- the answer for the first size bytes of a source, and how much was read
-abbrev pub GivesDigest : Settings → ℕ → Result FileDigest DigestFault → List ℕ → List ℕ → Type 0
+abbrev pub GivesDigest : TreeSettingsFields → ℕ → Result FileDigest DigestFault → List ℕ → List ℕ → Type 0
 GivesDigest s size result before after = MatchResult result
     (λ made. IsFileDigest s size before made × HasRead size before after) (FaultsIn s size before after)
 
 -- what stands on the tree's device after a fault: of the tree above the first `size` bytes, the hash blocks that closed
 -- before it
-abbrev pub StandsAfter : Settings → ℕ → List ℕ → List ℕ → List ℕ → DigestFault → Type 0
+abbrev pub StandsAfter : TreeSettingsFields → ℕ → List ℕ → List ℕ → List ℕ → DigestFault → Type 0
 StandsAfter s size bytes before after fault = MatchOption (build_fault fault) (after ≡ before)
     (λ f. BuildsOnDevice (plan_of_file s size) (data_blocks (plan_of_file s size) bytes) (Err f) before after)
 
 -- what stands on the tree's device, by the answer
-abbrev pub Stands : {X : Type 0} → Settings → ℕ → List ℕ → Result X DigestFault → List ℕ → List ℕ → Type 0
+abbrev pub Stands : {X : Type 0} → TreeSettingsFields → ℕ → List ℕ → Result X DigestFault → List ℕ → List ℕ → Type 0
 Stands s size bytes result before after =
     MatchResult result (λ _. after ≡ with_tree s size bytes before) (StandsAfter s size bytes before after)
-
--- whether a fault is a failure of the source, or of the device
-abbrev pub fault_of_source : DigestFault → Bool
-fault_of_source (SourceFailed i) = true
-fault_of_source fault = false
-
-abbrev pub fault_of_device : DigestFault → Bool
-fault_of_device (DeviceFailed level block) = true
-fault_of_device fault = false
-
--- whether an answer is such a failure
-abbrev pub source_failed : {X : Type 0} → Result X DigestFault → Bool
-source_failed (Ok made) = false
-source_failed (Err fault) = fault_of_source fault
-
-abbrev pub device_failed : {X : Type 0} → Result X DigestFault → Bool
-device_failed (Ok made) = false
-device_failed (Err fault) = fault_of_device fault
 
 -- a fault that comes before any read
 abbrev pub ComesBeforeReading : DigestFault → Type 0

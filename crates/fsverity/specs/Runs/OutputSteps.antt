@@ -2,8 +2,8 @@
 -- For the private steps; not needed to read a public contract.
 use Rattle.std.specs.Prelude.{ℕ, ◌<◌, Bool, MatchBool, List, length, take, Option, Result, Ok, Err}
 use Rattle.std.specs.Io.KnownBytes.{Appends, Keeps}
-use Rattle.verity_format.specs.Putting.{bytes_taken}
-use Rattle.verity_format.specs.declared.putting.PutFault.{PutFault}
+use Rattle.verity_io.specs.Putting.{bytes_taken}
+use Rattle.verity_io.specs.declared.putting.PutFault.{PutFault}
 use Rattle.fsverity.specs.Runs.Outputs.{OutputTask, output_task}
 use Rattle.fsverity.specs.declared.runs.outputs.OutputTask.{OutputTask as Given}
 

@@ -3,12 +3,13 @@
 use Rattle.std.specs.Prelude.{◌≡◌, ◌↔◌, ℕ, ◌<◌, Bool, MatchBool, List, [], length, take, Option, Result, Ok, Err}
 use Rattle.std.specs.Prelude.{IsTrue}
 use Rattle.std.specs.Io.KnownBytes.{Appends, Keeps}
-use Rattle.command_line.specs.Printing.{AppendsPrefix, Prints}
+use Rattle.command_line.specs.Writing.{AppendsPrefix, WritesText}
 use Rattle.verity_format.specs.Descriptors.{descriptor_bytes, digest_of_file}
-use Rattle.verity_io.specs.Counting.{Change, Counts}
+use Rattle.verity_io.specs.Counting.{Change, Counts, TheDevice, TheSource, failed_at}
 use Rattle.verity_io.specs.Reading.{HasRead}
-use Rattle.verity_plan.specs.Settings.{Settings, digest_len}
-use Rattle.fsverity.specs.Runs.FileDigest.{FaultsIn, Stands, device_failed, source_failed, with_tree}
+use Rattle.verity_plan.specs.Settings.{TreeSettingsFields, digest_len}
+use Rattle.fsverity.specs.Faults.{side_of, status_done, status_failed}
+use Rattle.fsverity.specs.Runs.FileDigest.{FaultsIn, Stands, with_tree}
 use Rattle.fsverity.specs.Runs.Digested.{descriptor_of, is_too_large}
 use Rattle.verity_tree.specs.Levels.{root_of_file}
 use Rattle.fsverity.specs.Texts.Lines.{line}
@@ -22,7 +23,7 @@ use Rattle.fsverity.specs.declared.runs.output_fault.OutputFault.TheVariants.{Di
 -- what a run gets beside the file's bytes: the settings, the form of the line, the file's name and its size, and
 -- whether the tree and the descriptor are wanted
 pub record OutputTask : Type 0 where
-  pub settings : Settings
+  pub settings : TreeSettingsFields
   pub form : Form
   pub name : List ℕ
   pub size : ℕ
@@ -30,7 +31,7 @@ pub record OutputTask : Type 0 where
   pub wants_descriptor : Bool
 
 -- the task with these parts
-abbrev pub output_task : Settings → Form → List ℕ → ℕ → Bool → Bool → OutputTask
+abbrev pub output_task : TreeSettingsFields → Form → List ℕ → ℕ → Bool → Bool → OutputTask
 output_task settings form name size wants_tree wants_descriptor = record {
   settings = settings;
   form = form;
@@ -67,14 +68,14 @@ abbrev pub Outcome : Type 0
 Outcome = Result (Unit {0}) OutputFault
 
 -- the status of an outcome
-abbrev pub status_of : Outcome → ℕ
-status_of (Ok done) = 0
-status_of (Err fault) = 1
+abbrev pub outcome_status : Outcome → ℕ
+outcome_status (Ok unit) = status_done
+outcome_status (Err fault) = status_failed
 
 -- the message of an outcome
-abbrev pub message_of : Outcome → List ℕ → List ℕ
-message_of (Ok done) name = []
-message_of (Err fault) name = output_fault_message fault name
+abbrev pub outcome_message : Outcome → List ℕ → List ℕ
+outcome_message (Ok unit) name = []
+outcome_message (Err fault) name = output_fault_message fault name
 
 -- the digest's part of an outcome
 abbrev pub digest_result : Outcome → Result (Unit {0}) DigestFault
@@ -83,7 +84,7 @@ digest_result outcome = Ok tt
 
 -- how much was read of the source: once there is a digest, all of the file
 abbrev pub Reads : OutputTask → Result (Unit {0}) DigestFault → List ℕ → List ℕ → Type 0
-Reads task (Ok done) before after = HasRead task.size before after
+Reads task (Ok unit) before after = HasRead task.size before after
 Reads task (Err fault) before after = FaultsIn task.settings task.size before after fault
 
 -- what the tree's device holds for these bytes of the source; it stays if no tree is wanted
@@ -104,7 +105,7 @@ AddsPrefix task root count before after = MatchBool task.wants_descriptor
 
 -- what is added to the descriptor's writer
 abbrev pub WritesDescriptor : OutputTask → List ℕ → Outcome → Option (List ℕ) → Option (List ℕ) → Type 0
-WritesDescriptor task root (Ok done) before after = AddsDescriptor task root before after
+WritesDescriptor task root (Ok unit) before after = AddsDescriptor task root before after
 WritesDescriptor task root (Err (Digest fault)) before after = Keeps before after
 WritesDescriptor task root (Err (Descriptor count)) before after = AddsPrefix task root count before after
 WritesDescriptor task root (Err (Line fault)) before after = AddsDescriptor task root before after
@@ -115,10 +116,10 @@ line_of_root task root =
     line task.form task.settings.algorithm (digest_of_file (descriptor_of task.settings task.size root)) task.name
 
 -- what is added to out: the line, or only its first bytes if a write fails
-abbrev pub PrintsLine : OutputTask → List ℕ → Outcome → Option (List ℕ) → Option (List ℕ) → Type 0
-PrintsLine task root (Ok done) before after = Prints (Ok tt) (line_of_root task root) before after
-PrintsLine task root (Err (Line fault)) before after = Prints (Err fault) (line_of_root task root) before after
-PrintsLine task root outcome before after = Keeps before after
+abbrev pub WritesLine : OutputTask → List ℕ → Outcome → Option (List ℕ) → Option (List ℕ) → Type 0
+WritesLine task root (Ok unit) before after = WritesText (Ok tt) (line_of_root task root) before after
+WritesLine task root (Err (Line fault)) before after = WritesText (Err fault) (line_of_root task root) before after
+WritesLine task root outcome before after = Keeps before after
 
 -- the descriptor and the line have one root hash, of the settings' length; it is the file's if the source tells its
 -- bytes
@@ -128,19 +129,19 @@ pub record WritesOutputs (task : OutputTask) (outcome : Outcome) (told : Type 0)
   pub root_length : length root ≡ digest_len task.settings
   pub root_is : told → root ≡ root_of_file task.settings task.size bytes
   pub descriptor : WritesDescriptor task root outcome outputs.descriptor_before outputs.descriptor_after
-  pub printed : PrintsLine task root outcome outputs.out_before outputs.out_after
+  pub printed : WritesLine task root outcome outputs.out_before outputs.out_after
 
 -- a run: one outcome says what became of the source, the tree's device and the writers
 pub record OutputRun (task : OutputTask) (status : ℕ) (source tree : Change) (writers : WriterChange) : Type 0 where
   pub outcome : Outcome
-  pub status_is : status ≡ status_of outcome
+  pub status_is : status ≡ outcome_status outcome
   pub too_large : (digest_result outcome ≡ Err TooLarge) ↔ IsTrue (is_too_large task.settings task.size)
   pub read : source.told → Reads task (digest_result outcome) source.before source.after
   pub stands : source.told → tree.told → WritesTree task source.before (digest_result outcome) tree.before tree.after
   pub outputs_written : WritesOutputs task outcome source.told source.before writers.outputs
-  pub message : AppendsPrefix (message_of outcome task.name) writers.msgs_before writers.msgs_after
-  pub source_counted : Counts (source_failed (digest_result outcome)) source.failures_before source.failures_after
-  pub tree_counted : Counts (device_failed (digest_result outcome)) tree.failures_before tree.failures_after
+  pub message : AppendsPrefix (outcome_message outcome task.name) writers.msgs_before writers.msgs_after
+  pub source_counted : Counts (failed_at side_of TheSource (digest_result outcome)) source.failures_before source.failures_after
+  pub tree_counted : Counts (failed_at side_of TheDevice (digest_result outcome)) tree.failures_before tree.failures_after
 
 -- what status 0 means: the file was read once, and what is wanted is written
 pub record IsWritten (task : OutputTask) (source tree : Change) (outputs : OutputChange) : Type 0 where

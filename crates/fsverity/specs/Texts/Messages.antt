@@ -12,9 +12,13 @@ use Rattle.fsverity.specs.declared.runs.run_fault.RunFault.{RunFault}
 use Rattle.fsverity.specs.declared.runs.run_fault.RunFault.TheVariants as run
 use Rattle.fsverity.specs.declared.runs.output_fault.OutputFault.{OutputFault}
 use Rattle.fsverity.specs.declared.runs.output_fault.OutputFault.TheVariants as output
-use Rattle.command_line.specs.declared.printing.print_fault.PrintFault.TheVariants as print
+use Rattle.command_line.specs.declared.writing.print_fault.PrintFault.TheVariants as print
 use Rattle.fsverity.specs.declared.options.option_fault.FsOptionFault.{FsOptionFault}
 use Rattle.fsverity.specs.declared.options.option_fault.FsOptionFault.TheVariants.{UnknownHash, BadBlockSize, BadSalt, OneFileOnly}
+
+-- there is no memory
+abbrev pub out_of_memory : List ℕ
+out_of_memory = codes "fsverity: out of memory.\n"
 
 -- why a file of this name has no digest
 abbrev pub digest_message : DigestFault → List ℕ → List ℕ
@@ -25,7 +29,7 @@ digest_message (SourceFailed i) name =
     concat (codes "fsverity: cannot read block " ∷ decimal i ∷ codes ": " ∷ name ∷ codes ".\n" ∷ [])
 digest_message (DeviceFailed level block) name = concat
     (codes "fsverity: cannot write tree block " ∷ decimal block ∷ codes " of level " ∷ decimal level ∷ codes ".\n" ∷ [])
-digest_message Memory name = codes "fsverity: out of memory.\n"
+digest_message Memory name = out_of_memory
 
 -- why a run over files ended at the file of this name
 abbrev pub run_fault_message : RunFault → List ℕ → List ℕ
@@ -37,7 +41,7 @@ run_fault_message run.NotWritten name = codes "fsverity: cannot write output.\n"
 abbrev pub output_fault_message : OutputFault → List ℕ → List ℕ
 output_fault_message (output.Digest fault) name = digest_message fault name
 output_fault_message (output.Descriptor count) name = codes "fsverity: cannot write descriptor.\n"
-output_fault_message (output.Line print.Memory) name = codes "fsverity: out of memory.\n"
+output_fault_message (output.Line print.Memory) name = out_of_memory
 output_fault_message (output.Line (print.Output count)) name = codes "fsverity: cannot write output.\n"
 
 -- why the options are refused
@@ -47,11 +51,7 @@ option_message BadBlockSize = codes "fsverity: block size is not valid.\n"
 option_message BadSalt = codes "fsverity: salt is not valid.\n"
 option_message OneFileOnly = codes "fsverity: output files need exactly one input file.\n"
 
--- why the words of the command line can't be read, and the status that goes with it
+-- why the words of the command line can't be read
 abbrev pub words_message : WordsFault → List ℕ
 words_message (NotUtf8 number word) = not_utf8_message number word.items
-words_message NoMemory = codes "fsverity: out of memory.\n"
-
-abbrev pub words_status : WordsFault → ℕ
-words_status (NotUtf8 number word) = 2
-words_status NoMemory = 1
+words_message NoMemory = out_of_memory

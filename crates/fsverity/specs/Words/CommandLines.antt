@@ -1,24 +1,21 @@
 -- The command line of `fsverity` (fsverity(1)), in the words of clap, and what a line holds.
-use Rattle.std.specs.Prelude.{◌≡◌, ◌||◌, Bool, Option, Some, Result, List, [], length, is_some, codes, map, option_map, unwrap_or, string_bytes}
-use Rattle.clap.specs.Words.{App, Row, Text, all_of, first_of, new_app, with_rule, with_subcommand}
-use Rattle.command_line.specs.Arguments.{flag_of, flag_rule, option_rule, program_app, positionals_rule}
-use Rattle.verity_plan.specs.Settings.{Settings}
+use Rattle.std.specs.Prelude.{◌≡◌, ◌||◌, Bool, Option, Some, Result, List, [], ◌∷◌, length, is_some, codes, map, option_map, unwrap_or, string_bytes}
+use Rattle.clap.specs.Words.{App, Row, Text, all_of, first_of}
+use Rattle.command_line.specs.Arguments.{flag_of, flag_rule, named_app, option_rule, program_app, words_rule}
+use Rattle.verity_plan.specs.Settings.{TreeSettingsFields}
 use Rattle.fsverity.specs.Options.Settings.{digest_settings}
 use Rattle.fsverity.specs.declared.options.option_fault.FsOptionFault.{FsOptionFault}
 use Rattle.fsverity.specs.declared.words.line.Line.{Line}
 
 -- the command `digest`
 unfoldable pub digest_app : App
-digest_app = with_rule (with_rule (with_rule (with_rule (with_rule (with_rule (with_rule (with_rule
-    (new_app (codes "digest"))
-    (option_rule (codes "hash-alg"))) (option_rule (codes "block-size"))) (option_rule (codes "salt")))
-    (flag_rule (codes "compact"))) (flag_rule (codes "for-builtin-sig")))
-    (option_rule (codes "out-merkle-tree"))) (option_rule (codes "out-descriptor")))
-    (positionals_rule (codes "files"))
+digest_app = named_app (codes "digest") (option_rule (codes "hash-alg") ∷ option_rule (codes "block-size")
+    ∷ option_rule (codes "salt") ∷ flag_rule (codes "compact") ∷ flag_rule (codes "for-builtin-sig")
+    ∷ option_rule (codes "out-merkle-tree") ∷ option_rule (codes "out-descriptor") ∷ words_rule (codes "files") ∷ [])
 
 -- the program
 unfoldable pub fsverity_app : App
-fsverity_app = with_subcommand (program_app (codes "fsverity")) digest_app.top
+fsverity_app = program_app (codes "fsverity") (digest_app ∷ [])
 
 -- the line holds what the rows hold, name by name
 pub record HoldsRows (rows : List Row) (line : Line) : Type 0 where
@@ -40,6 +37,6 @@ abbrev pub names_output : Line → Bool
 names_output line = is_some line.out_merkle_tree || is_some line.out_descriptor
 
 -- the settings that a line's options give, or the first option that is refused
-abbrev pub line_settings : Line → Result Settings FsOptionFault
+abbrev pub line_settings : Line → Result TreeSettingsFields FsOptionFault
 line_settings line = digest_settings (option_map string_bytes line.hash_alg) (option_map string_bytes line.block_size)
     (option_map string_bytes line.salt) (length line.files.items) (names_output line)

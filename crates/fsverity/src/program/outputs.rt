@@ -1,10 +1,12 @@
 //! The program with output files, over any runtime.
-ghost use Rattle.std.specs.Prelude.{◌≡◌, ◌≤◌};
+ghost use Rattle.std.specs.Prelude.{◌≡◌, IfErr};
 ghost use Rattle.verity_hash.specs.declared.salting.SaltRule.TheVariants.{PaddedBefore};
+ghost use Rattle.fsverity.specs.Faults.{status_failed, status_of};
 
-use crate::program::entry::stop_for_unopened_file;
+use crate::fault::Fault;
 use crate::program::output_files::{OutputFiles, OutputNames};
-use crate::{Form, run_digest_to};
+use crate::runs::outputs::{OutputTask, write_outputs};
+use crate::{Form, OutputFault, RunFault};
 use command_line::{Identities, ProgressLine, ProgressReader, ProgressRuntime, open_measured};
 use std::alloc::Global;
 use std::io;
@@ -14,146 +16,83 @@ use verity_tree::{Device, FileDevice, FileSource, Nowhere, Source, TreeSettings}
 /// What a command line with output files asks for.
 #[derive(Clone, Copy)]
 pub(crate) struct OutputRequest<'a> {
-    pub settings: &'a TreeSettings,
     pub form: Form,
     /// The name of the input file.
     pub name: &'a str,
     pub outputs: OutputNames<'a>,
 }
 
-/// An opened input file.
-#[derive(Drop)]
-struct Input<S> {
-    size: u64,
-    source: S,
-}
-
-/// What the input file's tree and descriptor are written to. A tree that is not wanted is not written to its device.
-#[derive(Drop)]
-struct Outputs<D, F> {
-    wants_tree: bool,
-    tree: D,
-    /// The descriptor's file, if it is wanted.
-    descriptor: Option<F>,
-}
-
 /// `fsverity digest` of one file, with output files: the input file is opened and its length is found, and then the
 /// output files are opened.
-pub(crate) fn digest_with_outputs<
-    R: Identities + ProgressRuntime + AllocGlobal,
-    O: Write,
-    M: Write,
->(
+pub(crate) fn digest_with_outputs<'a, R: Identities + ProgressRuntime + AllocGlobal, O: Write>(
     rt: &R,
     progress: &ProgressLine<'_, R>,
-    request: OutputRequest<'_>,
+    settings: &TreeSettings,
+    request: OutputRequest<'a>,
     out: &mut O,
-    msgs: &mut M,
-) -> u8
-    requires { request.settings.now.rule ≡ PaddedBefore }
-    ensures status { result ≤ 1 }
-    ensures quiet { result ≡ 0 → msgs.new ≡ msgs.old }
-{
-    let alloc = rt.alloc();
-    let (file, size) = match open_measured(rt, request.name) {
-        Ok(opened) => opened,
-        Err(_) => return stop_for_unopened_file(alloc, request.name, msgs),
-    };
-    let files = match OutputFiles::open(rt, &file, request.outputs) {
-        Ok(files) => files,
-        Err(refused) => return stop_for_unopened_file(alloc, refused, msgs),
-    };
-    let source = FileSource::new(ProgressReader::new(file, size, progress), size);
-    run_with_files(alloc, request, Input { size, source }, files, out, msgs)
-}
-
-/// Digests the input file, and writes its tree and its descriptor to those output files that there are.
-fn run_with_files<S: Source + Drop, F: Read + Write + Seek + Drop, O: Write, M: Write>(
-    alloc: Global,
-    request: OutputRequest<'_>,
-    input: Input<S>,
-    files: OutputFiles<F>,
-    out: &mut O,
-    msgs: &mut M,
-) -> u8
-    requires { request.settings.now.rule ≡ PaddedBefore }
-    ensures status { result ≤ 1 }
-    ensures quiet { result ≡ 0 → msgs.new ≡ msgs.old }
-{
-    let OutputFiles { tree, descriptor } = files;
-    match tree {
-        Some(file) => {
-            let outputs = Outputs {
-                wants_tree: true,
-                tree: FileDevice::new(file),
-                descriptor,
-            };
-            run_with_devices(alloc, request, input, outputs, out, msgs)
-        }
-        None => {
-            let outputs = Outputs {
-                wants_tree: false,
-                tree: Nowhere,
-                descriptor,
-            };
-            run_with_devices(alloc, request, input, outputs, out, msgs)
-        }
-    }
-}
-
-/// Digests the input file, and writes its tree if it is wanted, and its descriptor if there is a file for it.
-fn run_with_devices<S: Source + Drop, D: Device + Drop, F: Write + Drop, O: Write, M: Write>(
-    alloc: Global,
-    request: OutputRequest<'_>,
-    input: Input<S>,
-    outputs: Outputs<D, F>,
-    out: &mut O,
-    msgs: &mut M,
-) -> u8
-    requires { request.settings.now.rule ≡ PaddedBefore }
-    ensures status { result ≤ 1 }
-    ensures quiet { result ≡ 0 → msgs.new ≡ msgs.old }
+) -> Result<(), Fault<'a>>
+    requires { settings.now.rule ≡ PaddedBefore }
+    ensures failed { IfErr result (λ fault. status_of fault ≡ status_failed) }
 {
     let OutputRequest {
+        form,
+        name,
+        outputs,
+    } = request;
+    let (file, size) = match open_measured(rt, name) {
+        Ok(opened) => opened,
+        Err(_) => return Err(Fault::File(RunFault::NotOpened, name)),
+    };
+    let files = match OutputFiles::open(rt, &file, outputs) {
+        Ok(files) => files,
+        Err(refused) => return Err(Fault::File(RunFault::NotOpened, refused)),
+    };
+    let source = FileSource::new(ProgressReader::new(file, size, progress), size);
+    let task = OutputTask {
         settings,
         form,
         name,
-        ..
-    } = request;
-    let Input { size, mut source } = input;
-    let Outputs {
-        wants_tree,
-        mut tree,
-        descriptor,
-    } = outputs;
+        size,
+        wants_tree: files.tree.is_some(),
+        wants_descriptor: files.descriptor.is_some(),
+    };
+    match write_to_files(rt.alloc(), &task, source, files, out) {
+        Ok(()) => Ok(()),
+        Err(fault) => Err(Fault::Outputs(fault, name)),
+    }
+}
+
+/// Digests the input file, and writes its tree and its descriptor to those output files that there are.
+fn write_to_files<S: Source + Drop, F: Read + Write + Seek + Drop, O: Write>(
+    alloc: Global,
+    task: &OutputTask<'_>,
+    source: S,
+    files: OutputFiles<F>,
+    out: &mut O,
+) -> Result<(), OutputFault>
+    requires { task.now.settings.now.rule ≡ PaddedBefore }
+{
+    let OutputFiles { tree, descriptor } = files;
+    match tree {
+        Some(file) => write_to_device(alloc, task, source, FileDevice::new(file), descriptor, out),
+        None => write_to_device(alloc, task, source, Nowhere, descriptor, out),
+    }
+}
+
+/// Digests the input file, and writes its tree to a device if it is wanted, and its descriptor if there is a file for
+/// it.
+fn write_to_device<S: Source + Drop, D: Device + Drop, F: Write + Drop, O: Write>(
+    alloc: Global,
+    task: &OutputTask<'_>,
+    mut source: S,
+    mut tree: D,
+    descriptor: Option<F>,
+    out: &mut O,
+) -> Result<(), OutputFault>
+    requires { task.now.settings.now.rule ≡ PaddedBefore }
+{
     match descriptor {
-        Some(mut file) => run_digest_to(
-            alloc,
-            settings,
-            form,
-            name,
-            size,
-            &mut source,
-            wants_tree,
-            &mut tree,
-            true,
-            &mut file,
-            out,
-            msgs,
-        ),
-        None => run_digest_to(
-            alloc,
-            settings,
-            form,
-            name,
-            size,
-            &mut source,
-            wants_tree,
-            &mut tree,
-            false,
-            &mut io::sink(),
-            out,
-            msgs,
-        ),
+        Some(mut file) => write_outputs(alloc, task, &mut source, &mut tree, &mut file, out),
+        None => write_outputs(alloc, task, &mut source, &mut tree, &mut io::sink(), out),
     }
 }

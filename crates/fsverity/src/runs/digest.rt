@@ -1,16 +1,18 @@
 //! A run over files, one after another.
-ghost use Rattle.std.specs.Prelude.{◌≡◌, ◌≢◌, ◌⊎◌, ℕ, ◌+◌, ◌<◌, ◌≤◌, List, length, map, IfOk, IfErr, MatchResult};
+ghost use Rattle.std.specs.Prelude.{◌≡◌, ◌≢◌, ◌⊎◌, ℕ, ◌+◌, ◌<◌, ◌≤◌, List, length, map, IfOk, IfErr, OnOk, MatchResult};
 ghost use Rattle.std.specs.Io.KnownBytes.{Appends};
 ghost use Rattle.verity_hash.specs.declared.salting.SaltRule.TheVariants.{PaddedBefore};
 ghost use Rattle.verity_plan.specs.Settings.{digest_len};
 ghost use Rattle.fsverity.specs.Openers.Opening.{SameFiles, opener_change};
 ghost use Rattle.fsverity.specs.Runs.Digest.{CountsFault, EndsAt, first_without_digest};
 ghost use Rattle.fsverity.specs.Runs.Digested.{AreLines, IsDigestAt};
-ghost use Rattle.fsverity.specs.Runs.DigestSteps.{StopsStep, WritesStep};
+ghost use Rattle.fsverity.specs.Faults.{status_failed, status_of};
+ghost use Rattle.fsverity.specs.Runs.DigestSteps.{StopsRun, StopsStep, WritesStep};
 ghost use Rattle.fsverity.specs.Texts.Lines.{line};
 ghost use Rattle.fsverity.specs.declared.runs.run_fault.RunFault.TheVariants.{NotWritten};
 
-use crate::texts::line_printing::print_line;
+use crate::fault::{Fault, end_run};
+use crate::texts::line_writing::write_line;
 use crate::{DigestFault, FileDigest, Form, Opener, PrintFault, RunFault, digest_file};
 use std::alloc::Global;
 use std::io::Write;
@@ -71,11 +73,47 @@ fn write_next_line<O: Opener, W: Write>(
         (O.tells opener.old) (O.files opener.old) (O.next opener.old) result (W.contents out.old) (W.contents out.new) }
 {
     let made = next_digest(alloc, settings, opener)?;
-    match print_line(alloc, settings, form, name, &made, out) {
+    match write_line(alloc, settings, form, name, &made, out) {
         Ok(()) => Ok(()),
         Err(PrintFault::Memory) => Err(RunFault::Digest(DigestFault::Memory)),
         Err(PrintFault::Output(_)) => Err(RunFault::NotWritten),
     }
+}
+
+/// Writes the line of each file to `out`, in the order of their names, up to the first file that fails: the fault names
+/// it.
+pub(crate) fn write_lines<'a, O: Opener, W: Write>(
+    alloc: Global,
+    settings: &TreeSettings,
+    form: Form,
+    names: &[&'a str],
+    opener: &mut O,
+    out: &mut W,
+) -> Result<(), Fault<'a>>
+    requires settings { settings.now.rule ≡ PaddedBefore }
+    requires names { length names.now ≡ O.count opener.old }
+    requires first { O.next opener.old ≡ 0 }
+    ensures done { OnOk result (O.next opener.new ≡ length names.now) }
+    ensures no_failure { OnOk result (O.failures opener.new ≡ O.failures opener.old) }
+    ensures all { O.tells opener.old
+        → OnOk result (first_without_digest settings.now (O.files opener.old) ≡ length names.now) }
+    ensures printed { OnOk result ((lines : List ℕ) × AreLines
+        (record { settings = settings.now; form = form; names = map (λ n. n.now) names.now })
+        (O.tells opener.old) (O.files opener.old) (length names.now) lines
+        × Appends (W.contents out.old) (W.contents out.new) lines) }
+    ensures ended { IfErr result (StopsRun
+        (record { settings = settings.now; form = form; names = map (λ n. n.now) names.now })
+        (opener_change O.tells O.files O.next O.failures opener.old opener.new)
+        (W.contents out.old) (W.contents out.new)) }
+    ensures failed { IfErr result (λ fault. status_of fault ≡ status_failed) }
+{
+    for name in names {
+        match write_next_line(alloc, settings, form, name, opener, out) {
+            Ok(()) => {}
+            Err(fault) => return Err(Fault::File(fault, name)),
+        }
+    }
+    Ok(())
 }
 
 /// Writes the line of each file to `out`, in the order of their names (fsverity(1), "fsverity digest"). The status is 0
@@ -115,14 +153,6 @@ pub fn run_digest<O: Opener, W: Write, M: Write>(
         (opener_change O.tells O.files O.next O.failures opener.old opener.new)
         (W.contents out.old) (W.contents out.new) (M.contents msgs.old) (M.contents msgs.new) }
 {
-    for name in names {
-        match write_next_line(alloc, settings, form, name, opener, out) {
-            Ok(()) => {}
-            Err(fault) => {
-                fault.write_message(alloc, name, msgs);
-                return 1;
-            }
-        }
-    }
-    0
+    let outcome = write_lines(alloc, settings, form, names, opener, out);
+    end_run(alloc, outcome, msgs)
 }

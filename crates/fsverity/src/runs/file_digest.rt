@@ -19,9 +19,10 @@ pub struct FileDigest {
 }
 
 ghost use Rattle.verity_plan.specs.Settings.{digest_len};
-ghost use Rattle.verity_io.specs.Counting.{Counts};
+ghost use Rattle.verity_io.specs.Counting.{Counts, TheDevice, TheSource, failed_at};
+ghost use Rattle.fsverity.specs.Faults.{side_of};
 ghost use Rattle.fsverity.specs.Runs.FileDigest.{GivesDigest, ComesBeforeReading, IsDigestOfSource, IsDigestOfRoot};
-ghost use Rattle.fsverity.specs.Runs.FileDigest.{Stands, device_failed, source_failed};
+ghost use Rattle.fsverity.specs.Runs.FileDigest.{Stands};
 ghost use Rattle.fsverity.specs.Runs.Digested.{is_too_large};
 ghost use Rattle.fsverity.specs.Runs.DigestSteps.{GivesRoot};
 
@@ -45,8 +46,8 @@ pub fn digest_file<S: Source>(
     ensures described { IfOk result
         (IsDigestOfSource settings.now size (S.tells source.old) (S.remaining source.old)) }
     ensures length { IfOk result (λ made. length made.digest ≡ digest_len settings.now) }
-    ensures count { Counts (source_failed result) (S.failures source.old) (S.failures source.new) }
-    ensures no_device { device_failed result ≡ false }
+    ensures count { Counts (failed_at side_of TheSource result) (S.failures source.old) (S.failures source.new) }
+    ensures no_device { failed_at side_of TheDevice result ≡ false }
     ensures bytes { S.tells source.old
         → GivesDigest settings.now size result (S.remaining source.old) (S.remaining source.new) }
 {
@@ -76,8 +77,8 @@ pub fn digest_file_with_tree<S: Source, D: Device>(
     ensures described { IfOk result
         (IsDigestOfSource settings.now size (S.tells source.old) (S.remaining source.old)) }
     ensures length { IfOk result (λ made. length made.digest ≡ digest_len settings.now) }
-    ensures source_count { Counts (source_failed result) (S.failures source.old) (S.failures source.new) }
-    ensures tree_count { Counts (device_failed result) (D.failures tree.old) (D.failures tree.new) }
+    ensures source_count { Counts (failed_at side_of TheSource result) (S.failures source.old) (S.failures source.new) }
+    ensures tree_count { Counts (failed_at side_of TheDevice result) (D.failures tree.old) (D.failures tree.new) }
     ensures bytes { S.tells source.old
         → GivesDigest settings.now size result (S.remaining source.old) (S.remaining source.new) }
     ensures stands { S.tells source.old → D.tells tree.old → Stands settings.now size (S.remaining source.old) result
@@ -106,8 +107,8 @@ fn root_of_source<S: Source, D: Device>(
     ensures unread { IfErr result (λ fault.
         ComesBeforeReading fault → (source.new ≡ source.old) × (tree.new ≡ tree.old)) }
     ensures length { IfOk result (λ root. length root ≡ digest_len settings.now) }
-    ensures source_count { Counts (source_failed result) (S.failures source.old) (S.failures source.new) }
-    ensures tree_count { Counts (device_failed result) (D.failures tree.old) (D.failures tree.new) }
+    ensures source_count { Counts (failed_at side_of TheSource result) (S.failures source.old) (S.failures source.new) }
+    ensures tree_count { Counts (failed_at side_of TheDevice result) (D.failures tree.old) (D.failures tree.new) }
     ensures bytes { S.tells source.old
         → GivesRoot settings.now size result (S.remaining source.old) (S.remaining source.new) }
     ensures stands { S.tells source.old → D.tells tree.old → Stands settings.now size (S.remaining source.old) result

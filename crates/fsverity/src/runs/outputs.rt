@@ -2,14 +2,16 @@
 ghost use Rattle.std.specs.Prelude.{◌≡◌, ◌↔◌, ◌⊎◌, length, false, IfOk, IsTrue};
 ghost use Rattle.verity_hash.specs.declared.salting.SaltRule.TheVariants.{PaddedBefore};
 ghost use Rattle.verity_plan.specs.Settings.{digest_len};
-ghost use Rattle.verity_io.specs.Counting.{Counts, change};
-ghost use Rattle.fsverity.specs.Runs.FileDigest.{GivesDigest, IsDigestOfSource, device_failed, source_failed};
+ghost use Rattle.verity_io.specs.Counting.{Counts, TheDevice, TheSource, change, failed_at};
+ghost use Rattle.fsverity.specs.Faults.{side_of};
+ghost use Rattle.fsverity.specs.Runs.FileDigest.{GivesDigest, IsDigestOfSource};
 ghost use Rattle.fsverity.specs.Runs.Digested.{is_too_large};
 ghost use Rattle.fsverity.specs.Runs.Outputs.{IsWritten, OutputRun, Reads, WritesOutputs, WritesTree, digest_result};
 ghost use Rattle.fsverity.specs.Runs.Outputs.{output_change, output_task};
 ghost use Rattle.fsverity.specs.declared.runs.digest_fault.DigestFault.TheVariants.{TooLarge};
 
-use crate::texts::line_printing::print_line;
+use crate::fault::{Fault, end_run};
+use crate::texts::line_writing::write_line;
 use crate::{DigestFault, FileDigest, Form, OutputFault, digest_file, digest_file_with_tree};
 use std::alloc::Global;
 use std::io::Write;
@@ -18,13 +20,13 @@ use verity_tree::{Device, Source, TreeSettings};
 
 /// What a run is asked for: the digest and the line of a file, and its tree and its descriptor if they are wanted.
 #[derive(Drop)]
-struct OutputTask<'a> {
-    settings: &'a TreeSettings,
-    form: Form,
-    name: &'a str,
-    size: u64,
-    wants_tree: bool,
-    wants_descriptor: bool,
+pub(crate) struct OutputTask<'a> {
+    pub settings: &'a TreeSettings,
+    pub form: Form,
+    pub name: &'a str,
+    pub size: u64,
+    pub wants_tree: bool,
+    pub wants_descriptor: bool,
 }
 
 ghost use Rattle.fsverity.specs.Runs.OutputSteps.{PutsDescriptor, task_of};
@@ -44,8 +46,8 @@ fn digest_for_task<S: Source, D: Device>(
     ensures described { IfOk result
         (IsDigestOfSource task.now.settings.now task.now.size (S.tells source.old) (S.remaining source.old)) }
     ensures length { IfOk result (λ made. length made.digest ≡ digest_len task.now.settings.now) }
-    ensures source_count { Counts (source_failed result) (S.failures source.old) (S.failures source.new) }
-    ensures tree_count { Counts (device_failed result) (D.failures tree.old) (D.failures tree.new) }
+    ensures source_count { Counts (failed_at side_of TheSource result) (S.failures source.old) (S.failures source.new) }
+    ensures tree_count { Counts (failed_at side_of TheDevice result) (D.failures tree.old) (D.failures tree.new) }
     ensures bytes { S.tells source.old
         → GivesDigest task.now.settings.now task.now.size result (S.remaining source.old) (S.remaining source.new) }
     ensures stands { S.tells source.old → D.tells tree.old
@@ -76,7 +78,7 @@ fn put_descriptor<W: Write>(
 }
 
 /// Writes the tree, the descriptor and the line of a file, in this order, up to the first fault.
-fn write_outputs<S: Source, D: Device, W: Write, O: Write>(
+pub(crate) fn write_outputs<S: Source, D: Device, W: Write, O: Write>(
     alloc: Global,
     task: &OutputTask<'_>,
     source: &mut S,
@@ -98,9 +100,10 @@ fn write_outputs<S: Source, D: Device, W: Write, O: Write>(
         (D.content tree.old) (D.content tree.new) }
     ensures written { WritesOutputs (task_of task.now) result (S.tells source.old) (S.remaining source.old)
         (output_change W.contents O.contents descriptor.old descriptor.new out.old out.new) }
-    ensures source_count { Counts (source_failed (digest_result result))
+    ensures source_count { Counts (failed_at side_of TheSource (digest_result result))
         (S.failures source.old) (S.failures source.new) }
-    ensures tree_count { Counts (device_failed (digest_result result)) (D.failures tree.old) (D.failures tree.new) }
+    ensures tree_count { Counts (failed_at side_of TheDevice (digest_result result))
+        (D.failures tree.old) (D.failures tree.new) }
 {
     let made = match digest_for_task(alloc, task, source, tree) {
         Ok(made) => made,
@@ -110,7 +113,7 @@ fn write_outputs<S: Source, D: Device, W: Write, O: Write>(
         Ok(()) => {}
         Err(PutFault(count)) => return Err(OutputFault::Descriptor(count)),
     }
-    match print_line(alloc, task.settings, task.form, task.name, &made, out) {
+    match write_line(alloc, task.settings, task.form, task.name, &made, out) {
         Ok(()) => Ok(()),
         Err(fault) => Err(OutputFault::Line(fault)),
     }
@@ -172,10 +175,7 @@ pub fn run_digest_to<S: Source, D: Device, W: Write, O: Write, M: Write>(
         wants_descriptor: want_descriptor,
     };
     match write_outputs(alloc, &task, source, tree, descriptor, out) {
-        Ok(()) => 0,
-        Err(fault) => {
-            fault.write_message(alloc, name, msgs);
-            1
-        }
+        Ok(()) => end_run(alloc, Ok(()), msgs),
+        Err(fault) => end_run(alloc, Err(Fault::Outputs(fault, name)), msgs),
     }
 }

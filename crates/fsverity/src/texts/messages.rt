@@ -1,19 +1,15 @@
 //! Messages, one line each.
-ghost use Rattle.std.specs.Prelude.{◌≡◌, IfOk, IsTrue, string_bytes};
-ghost use Rattle.std.specs.Io.KnownBytes.{Appends};
-ghost use Rattle.command_line.specs.Printing.{AppendsPrefix};
-ghost use Rattle.fsverity.specs.Texts.Messages.{digest_message, option_message, output_fault_message, run_fault_message};
+ghost use Rattle.std.specs.Prelude.{◌≡◌, IfOk, string_bytes};
+ghost use Rattle.fsverity.specs.Texts.Messages.{digest_message, option_message};
 
-use crate::{DigestFault, FsOptionFault, OutputFault, PrintFault, RunFault};
-use command_line::{write_message, write_pieces, write_text};
+use crate::{DigestFault, FsOptionFault};
 use std::alloc::{AllocError, Global};
-use std::io::Write;
 
 /// The message of out of memory. It is a constant, since there is no memory to make it.
 pub const OUT_OF_MEMORY: &str = "fsverity: out of memory.\n";
 
-/// The message for a line that is not printed whole.
-const OUTPUT_UNWRITTEN: &str = "fsverity: cannot write output.\n";
+/// The message for a line of a file that is not written whole.
+pub(crate) const OUTPUT_UNWRITTEN: &str = "fsverity: cannot write output.\n";
 
 /// The message of a refused option: one line, with its newline.
 pub fn option_message(fault: &FsOptionFault) -> &'static str
@@ -43,42 +39,5 @@ pub fn digest_message(alloc: Global, fault: &DigestFault, name: &str) -> Result<
             format!(in alloc; "fsverity: cannot write tree block {block} of level {level}.\n")
         }
         DigestFault::Memory => String::from_str(alloc, OUT_OF_MEMORY),
-    }
-}
-
-impl RunFault {
-    /// Writes the message of the fault at the file of this name, as far as memory and the writer allow. The message
-    /// that a file can't be opened needs no memory. The answer says whether the writer took all of it.
-    pub(crate) fn write_message<W: Write>(&self, alloc: Global, name: &str, msgs: &mut W) -> bool
-        ensures whole { IsTrue result
-            → Appends (W.contents msgs.old) (W.contents msgs.new) (run_fault_message self.now name.now) }
-        ensures prefix { AppendsPrefix (run_fault_message self.now name.now)
-            (W.contents msgs.old) (W.contents msgs.new) }
-    {
-        match self {
-            RunFault::NotOpened => write_pieces(&["fsverity: cannot open ", name, ".\n"], msgs),
-            RunFault::NotWritten => write_text(OUTPUT_UNWRITTEN, msgs),
-            RunFault::Digest(DigestFault::Memory) => write_text(OUT_OF_MEMORY, msgs),
-            RunFault::Digest(fault) => write_message(digest_message(alloc, fault, name), msgs),
-        }
-    }
-}
-
-impl OutputFault {
-    /// Writes the message of the fault at the file of this name, as far as memory and the writer allow. The answer says
-    /// whether the writer took all of it.
-    pub(crate) fn write_message<W: Write>(&self, alloc: Global, name: &str, msgs: &mut W) -> bool
-        ensures whole { IsTrue result
-            → Appends (W.contents msgs.old) (W.contents msgs.new) (output_fault_message self.now name.now) }
-        ensures prefix { AppendsPrefix (output_fault_message self.now name.now)
-            (W.contents msgs.old) (W.contents msgs.new) }
-    {
-        match self {
-            OutputFault::Digest(DigestFault::Memory) => write_text(OUT_OF_MEMORY, msgs),
-            OutputFault::Digest(fault) => write_message(digest_message(alloc, fault, name), msgs),
-            OutputFault::Descriptor(_) => write_text("fsverity: cannot write descriptor.\n", msgs),
-            OutputFault::Line(PrintFault::Memory) => write_text(OUT_OF_MEMORY, msgs),
-            OutputFault::Line(PrintFault::Output(_)) => write_text(OUTPUT_UNWRITTEN, msgs),
-        }
     }
 }

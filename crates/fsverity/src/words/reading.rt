@@ -1,46 +1,14 @@
 //! Reading the words of a command line by clap.
 ghost use Rattle.std.specs.Prelude.{◌≡◌, [], IfOk, IfErr, map, true};
 ghost use Rattle.clap.specs.Words.{fault_of, found_of, rows_of, subcommand_of, takes};
-ghost use Rattle.clap.specs.declared.Command.TheViews.{out-Command as fields_of};
-ghost use Rattle.command_line.specs.Arguments.{Defines};
 ghost use Rattle.command_line.specs.LineFaults.{HasCause, LacksMemory};
-ghost use Rattle.fsverity.specs.Words.CommandLines.{HoldsCommand, HoldsRows, digest_app, fsverity_app};
+ghost use Rattle.fsverity.specs.Words.CommandLines.{HoldsCommand, HoldsRows, fsverity_app};
 
+use crate::words::commands::defined_program;
 use crate::{Line, LineFault};
-use clap::{ArgMatches, Command};
-use command_line::{copied_value, copied_values, flag, is_given, option, positionals, program};
+use clap::ArgMatches;
+use command_line::{copied_value, copied_values, is_given};
 use std::alloc::{AllocError, Global};
-
-/// The usage text of the program and of its command.
-pub(crate) const USAGE: &str = "fsverity digest [--hash-alg NAME] [--block-size BYTES] [--salt HEX]
-           [--compact] [--for-builtin-sig] [--out-merkle-tree FILE]
-           [--out-descriptor FILE] FILE...";
-
-/// The command `digest`, as clap defines it.
-fn digest_command<'a>(alloc: Global) -> Result<Command<'a>, AllocError>
-    ensures { IfOk result (Defines digest_app) }
-{
-    Command::new(alloc, "digest")
-        .override_usage(USAGE)
-        .arg(option(alloc, "hash-alg"))?
-        .arg(option(alloc, "block-size"))?
-        .arg(option(alloc, "salt"))?
-        .arg(flag(alloc, "compact"))?
-        .arg(flag(alloc, "for-builtin-sig"))?
-        .arg(option(alloc, "out-merkle-tree"))?
-        .arg(option(alloc, "out-descriptor"))?
-        .arg(positionals(alloc, "files"))
-}
-
-/// The program, as clap defines it.
-fn command<'a>(alloc: Global) -> Result<Command<'a>, AllocError>
-    ensures defined { IfOk result (Defines fsverity_app) }
-    ensures required { IfOk result (λ c. (fields_of c).subcommand_required ≡ true) }
-{
-    program(alloc, "fsverity")
-        .override_usage(USAGE)
-        .subcommand(digest_command(alloc)?)
-}
 
 /// Copies what clap found in a line. The error is out of memory.
 fn line_of_matches(alloc: Global, matches: &ArgMatches<'_>) -> Result<Line, AllocError>
@@ -68,11 +36,11 @@ pub fn read_words(alloc: Global, words: &[&str]) -> Result<Line, LineFault>
     ensures cause { IfErr result (HasCause (fault_of fsverity_app (map (λ w. w.now) words.now))) }
     ensures memory { takes fsverity_app (map (λ w. w.now) words.now) ≡ true → IfErr result LacksMemory }
 {
-    let command = match command(alloc) {
-        Ok(command) => command,
+    let program = match defined_program(alloc) {
+        Ok(program) => program,
         Err(error) => return Err(LineFault::Refused(clap::Error::from(error))),
     };
-    let matches = command.try_get_matches_from(words)?;
+    let matches = program.try_get_matches_from(words)?;
     match matches.subcommand() {
         Some((_, inner)) => Ok(line_of_matches(alloc, inner)?),
         None => unreachable!(),

@@ -1,11 +1,12 @@
 -- How one data block is read from a source and hashed.
 -- For the private steps; not needed to read a public contract.
-use Rattle.std.specs.Prelude.{◌≡◌, ℕ, ◌+◌, ◌<◌, ◌≤◌, Bool, true, false, List, [], length, take, drop, Result, Ok}
-use Rattle.std.specs.Prelude.{Err}
+use Rattle.std.specs.Prelude.{◌≡◌, ℕ, ◌+◌, ◌<◌, ◌≤◌, List, [], length, take, drop, Option, Some, None}
+use Rattle.std.specs.Prelude.{Result, Ok, Err}
 use Rattle.verity_hash.specs.Hashing.{with_zeros}
 use Rattle.verity_hash.specs.declared.digest.Digest.{Digest}
+use Rattle.verity_io.specs.Counting.{Side, TheSource}
 use Rattle.verity_io.specs.Reading.{HasRead}
-use Rattle.verity_plan.specs.Plans.{Planned}
+use Rattle.verity_plan.specs.Plans.{PlanFields}
 use Rattle.verity_tree.specs.Levels.{data_blocks}
 use Rattle.verity_tree.specs.Reading.{EndsWithin, FailsWithin, bytes_of}
 use Rattle.verity_tree.specs.Steps.OpenBlocks.{level_digest}
@@ -34,18 +35,18 @@ abbrev pub ReadsBlock : Result Unit BlockFault → ℕ → ℕ → List ℕ → 
 ReadsBlock (Ok _) data_len size before after block = HoldsBlock data_len size before after block
 ReadsBlock (Err fault) data_len size before after block = StopsBy fault data_len before after
 
--- whether the source failed
-abbrev pub read_failed : {X : Type 0} → Result X BlockFault → Bool
-read_failed (Err Failed) = true
-read_failed _ = false
+-- whose call failed
+abbrev pub side_of : BlockFault → Option Side
+side_of Short = None
+side_of Failed = Some TheSource
 
 -- the source ended or failed within data block i
-abbrev pub StopsInBlock : Planned → ℕ → List ℕ → BlockFault → List ℕ → Type 0
+abbrev pub StopsInBlock : PlanFields → ℕ → List ℕ → BlockFault → List ℕ → Type 0
 StopsInBlock p i bytes Short after = EndsWithin p i bytes after
 StopsInBlock p i bytes Failed after = FailsWithin p i bytes after
 
 -- data block i of these bytes is read and hashed, or the source ended or failed within it
-abbrev pub TakesDataBlock : Planned → ℕ → List ℕ → Result Digest BlockFault → List ℕ → Type 0
+abbrev pub TakesDataBlock : PlanFields → ℕ → List ℕ → Result Digest BlockFault → List ℕ → Type 0
 TakesDataBlock p i bytes (Ok digest) after =
     HasRead (bytes_of p (i + 1)) bytes after × (digest ≡ level_digest p.settings (data_blocks p bytes) i 0)
 TakesDataBlock p i bytes (Err fault) after = StopsInBlock p i bytes fault after

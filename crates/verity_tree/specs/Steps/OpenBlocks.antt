@@ -3,29 +3,29 @@
 use Rattle.std.specs.Prelude.{◌≡◌, ℕ, ◌+◌, ◌*◌, ◌/◌, ◌%◌, ◌^◌, ◌<◌, ◌≤◌, List, [], take, drop, length, map, replicate}
 use Rattle.std.specs.Prelude.{slice_index_or, Bool, true, false, ◌⊎◌}
 use Rattle.std.specs.Fork.{slice_chunk}
-use Rattle.verity_plan.specs.Settings.{Settings, hash, fan, digest_len}
+use Rattle.verity_plan.specs.Settings.{TreeSettingsFields, hash, fan, digest_len}
 use Rattle.verity_tree.specs.Levels.{hash_block_of, blocks_up, root}
 
 -- the digests that the blocks of level l are made of, level 0 next to the data
-abbrev pub digests_under : Settings → List (List ℕ) → ℕ → List (List ℕ)
+abbrev pub digests_under : TreeSettingsFields → List (List ℕ) → ℕ → List (List ℕ)
 digests_under s blocks l = map (hash s) (blocks_up s blocks l)
 
 -- the open block above some digests of which q have come
-abbrev pub open_block : Settings → List (List ℕ) → ℕ → List ℕ
+abbrev pub open_block : TreeSettingsFields → List (List ℕ) → ℕ → List ℕ
 open_block s digests q = hash_block_of s (take (q % fan s) (drop (q / fan s * fan s) digests))
 
 -- after i data blocks the levels from one to another have their open blocks in the store
-abbrev pub HasOpenBlocks : Settings → List (List ℕ) → ℕ → ℕ → ℕ → List ℕ → Type 0
+abbrev pub HasOpenBlocks : TreeSettingsFields → List (List ℕ) → ℕ → ℕ → ℕ → List ℕ → Type 0
 HasOpenBlocks s blocks from to i store =
     (l : ℕ) → from ≤ l → l < to
     → slice_chunk store s.hash_block l ≡ open_block s (digests_under s blocks l) (i / fan s ^ l)
 
 -- the digest that comes to level m with data block i
-abbrev pub level_digest : Settings → List (List ℕ) → ℕ → ℕ → List ℕ
+abbrev pub level_digest : TreeSettingsFields → List (List ℕ) → ℕ → ℕ → List ℕ
 level_digest s blocks i m = hash s (slice_index_or (blocks_up s blocks m) (i / fan s ^ m) [])
 
 -- that block once digest q has come too
-abbrev pub open_block_with : Settings → List (List ℕ) → ℕ → List ℕ
+abbrev pub open_block_with : TreeSettingsFields → List (List ℕ) → ℕ → List ℕ
 open_block_with s digests q = hash_block_of s (take (q % fan s + 1) (drop (q / fan s * fan s) digests))
 
 -- data block i is the last below a block of level m - 1
@@ -42,7 +42,7 @@ abbrev pub cascade_state : ℕ → ℕ → ℕ → CascadeState
 cascade_state i level levels = record { i = i; level = level; levels = levels }
 
 -- the cascade of data block i has come to a level with this digest: the levels below have closed
-pub record IsCarrying (s : Settings) (blocks : List (List ℕ)) (c : CascadeState) (store digest : List ℕ) : Type 0 where
+pub record IsCarrying (s : TreeSettingsFields) (blocks : List (List ℕ)) (c : CascadeState) (store digest : List ℕ) : Type 0 where
   pub reached : c.i + 1 < length blocks → IsReached (fan s) c.i c.level
   pub above : HasOpenBlocks s blocks c.level c.levels c.i store
   pub below : c.i + 1 < length blocks → HasOpenBlocks s blocks 0 c.level (c.i + 1) store
@@ -58,19 +58,19 @@ abbrev pub arrival : ℕ → List ℕ → List ℕ → Arrival
 arrival index opened digest = record { index = index; opened = opened; digest = digest }
 
 -- the digest is the next one above these blocks, and the open block is the one that it comes to
-pub record IsNext (s : Settings) (below : List (List ℕ)) (a : Arrival) : Type 0 where
+pub record IsNext (s : TreeSettingsFields) (below : List (List ℕ)) (a : Arrival) : Type 0 where
   pub here : a.index < length below
   pub stands : a.opened ≡ open_block s (map (hash s) below) a.index
   pub digest_is : a.digest ≡ hash s (slice_index_or below a.index [])
 
 -- the block stays open
-pub record IsKept (s : Settings) (a : Arrival) (last : Bool) (after : List ℕ) : Type 0 where
+pub record IsKept (s : TreeSettingsFields) (a : Arrival) (last : Bool) (after : List ℕ) : Type 0 where
   pub room : a.index % fan s + 1 < fan s
   pub more : last ≡ false
   pub filled : (below : List (List ℕ)) → IsNext s below a → after ≡ open_block_with s (map (hash s) below) a.index
 
 -- the block closed: it is hashed and zeros are left
-pub record IsClosed (s : Settings) (a : Arrival) (last : Bool) (after above : List ℕ) : Type 0 where
+pub record IsClosed (s : TreeSettingsFields) (a : Arrival) (last : Bool) (after above : List ℕ) : Type 0 where
   pub ends : (a.index % fan s + 1 ≡ fan s) ⊎ (last ≡ true)
   pub zeros : after ≡ replicate s.hash_block 0
   pub len : length above ≡ digest_len s
@@ -78,6 +78,6 @@ pub record IsClosed (s : Settings) (a : Arrival) (last : Bool) (after above : Li
       → above ≡ hash s (open_block_with s (map (hash s) below) a.index)
 
 -- data block i has come to all levels; the last one gives the root
-pub record IsCarriedOn (s : Settings) (blocks : List (List ℕ)) (i levels : ℕ) (store digest : List ℕ) : Type 0 where
+pub record IsCarriedOn (s : TreeSettingsFields) (blocks : List (List ℕ)) (i levels : ℕ) (store digest : List ℕ) : Type 0 where
   pub stands : i + 1 < length blocks → HasOpenBlocks s blocks 0 levels (i + 1) store
   pub root_is : i + 1 ≡ length blocks → digest ≡ root s blocks

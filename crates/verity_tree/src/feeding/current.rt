@@ -34,7 +34,7 @@ pub(crate) fn fill_current(plan: &Plan, current: &mut [u8], at: usize, piece: &[
     let count = (size - at).min(piece.len());
     current[at..at + count].copy_from_slice(&piece[..count]);
     if at + count == size {
-        let digest = plan.hash(current);
+        let digest = plan.settings().hash(current);
         keep_digest(plan, current, &digest);
     }
     count
@@ -56,5 +56,5 @@ pub(crate) fn current_digest(plan: &Plan, current: &mut [u8], at: usize) -> Dige
         return Digest::from_bytes(&current[..plan.digest_len()]).unwrap();
     }
     current[at..].fill(0);
-    plan.hash(current)
+    plan.settings().hash(current)
 }

@@ -38,7 +38,7 @@ pub(crate) fn add_digest(
     let from = level * size;
     put_slot(
         &mut opened[from..from + size],
-        slot * plan.slot_width(),
+        slot * plan.settings().slot_width(),
         digest,
     );
     slot + 1 >= fan || i + 1 == blocks
@@ -55,7 +55,7 @@ pub(crate) fn close_block(plan: &Plan, opened: &mut [u8], level: usize) -> Diges
 {
     let size = plan.hash_block();
     let from = level * size;
-    let digest = plan.hash(&opened[from..from + size]);
+    let digest = plan.settings().hash(&opened[from..from + size]);
     opened[from..from + size].fill(0);
     digest
 }

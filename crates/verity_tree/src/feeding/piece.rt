@@ -33,7 +33,9 @@ fn take_rows(plan: &Plan, opened: &mut [u8], current: &mut [u8], i: u64, piece: 
     let _blocks = plan.blocks();
     let size = plan.data_block();
     let count = rows_from(plan, piece.len(), i);
-    let digests = plan.hash_rows(&piece[..count * size], size, count);
+    let digests = plan
+        .settings()
+        .hash_rows(&piece[..count * size], size, count);
     add_rows(plan, opened, i, &digests, count - 1);
     let last = digests[count - 1];
     keep_digest(plan, current, &last);

@@ -105,5 +105,6 @@ pub(crate) fn digest_at_the_top(plan: &Plan, opened: &[u8], current: &mut [u8]) 
         let at = (plan.wanted() % plan.data_block() as u64) as usize;
         return current_digest(plan, current, at);
     }
-    plan.hash(&opened[(levels - 1) * size..levels * size])
+    plan.settings()
+        .hash(&opened[(levels - 1) * size..levels * size])
 }

@@ -1,40 +1,20 @@
 //! A data block's digest on its way up through the levels, with one open block a level.
 ghost use Rattle.std.specs.Prelude.{◌≡◌, ℕ, ◌+◌, ◌-◌, ◌*◌, ◌/◌, ◌%◌, ◌<◌, ◌≤◌, ◌++◌, List, length, take, drop, IfErr};
 ghost use Rattle.std.specs.Prelude.{IfOk};
-ghost use Rattle.verity_io.specs.Counting.{Counts};
+ghost use Rattle.verity_io.specs.Counting.{Counts, TheDevice, failed_at};
 ghost use Rattle.verity_tree.specs.Steps.Cascade.{Carries, CarriesCompared, CarriesDevice, StepsCompared, StepsDevice};
-ghost use Rattle.verity_tree.specs.Steps.Cascade.{EndsBlock, StepsLevel, carry_failed, step_failed};
+ghost use Rattle.verity_tree.specs.Steps.Cascade.{EndsBlock, StepsLevel};
+ghost use Rattle.verity_tree.specs.Steps.PassFaults.{IsOfHashBlock, StopsAtBlock, side_of};
 ghost use Rattle.verity_tree.specs.declared.pass.closed_block.Task.TheVariants.{Compare};
 ghost use Rattle.verity_tree.specs.Steps.OpenBlocks.{HasOpenBlocks, arrival, level_digest};
-ghost use Rattle.verity_plan.specs.Plans.{Planned, HasBlock};
+ghost use Rattle.verity_plan.specs.Plans.{PlanFields, HasBlock};
 ghost use Rattle.verity_plan.specs.PlanCounts.{level_count_of};
 ghost use Rattle.verity_plan.specs.Settings.{digest_len, fan};
 
-use crate::pass::closed_block::{HashBlockFault, Job, write_or_compare};
+use crate::pass::closed_block::{Job, write_or_compare};
+use crate::pass::pass_fault::PassFault;
 use verity_hash::Digest;
 use verity_io::Device;
-
-/// What became of a level's open block.
-#[derive(Clone, Copy)]
-pub(crate) enum LevelStep {
-    /// It has room for more digests.
-    Open,
-    /// It has closed, and this is its digest.
-    Closed(Digest),
-    /// It stops the pass.
-    Stopped(HashBlockFault),
-}
-
-/// The hash block that stops a pass.
-#[derive(Clone, Copy)]
-pub(crate) struct Stop {
-    /// Its level, counted from 0 next to the data.
-    pub level: usize,
-    /// Its index in the level, counted from 0.
-    pub index: u64,
-    /// Why it stops the pass.
-    pub fault: HashBlockFault,
-}
 
 /// The next digest of a level.
 #[derive(Clone, Copy)]
@@ -55,7 +35,8 @@ pub(crate) fn put_slot(block: &mut [u8], from: usize, digest: &Digest)
     block[from..from + bytes.len()].copy_from_slice(bytes);
 }
 
-/// Adds a digest to a level's open block; if that is then full, or the last, closes it and leaves zeros.
+/// Adds a digest to a level's open block; if that is then full, or the last, closes it, leaves zeros and answers its
+/// digest.
 fn step_level<D: Device>(
     job: &Job,
     level: usize,
@@ -63,7 +44,7 @@ fn step_level<D: Device>(
     bytes: &mut [u8],
     stored: &mut [u8],
     device: &mut D,
-) -> LevelStep
+) -> Result<Option<Digest>, PassFault>
     requires size { length bytes.old ≡ job.now.plan.settings.hash_block }
     requires stored { length stored.old ≡ job.now.plan.settings.hash_block }
     requires digest { length next.now.digest.now ≡ digest_len job.now.plan.settings }
@@ -77,22 +58,24 @@ fn step_level<D: Device>(
     ensures compared { job.now.task ≡ Compare → D.tells device.old
         → StepsCompared job.now.plan level (arrival next.now.index bytes.old next.now.digest.now)
         result (D.content device.old) (D.content device.new) }
-    ensures count { Counts (step_failed job.now.task result) (D.failures device.old) (D.failures device.new) }
+    ensures fault { IfErr result
+        (StopsAtBlock job.now.task level (next.now.index / fan job.now.plan.settings)) }
+    ensures count { Counts (failed_at side_of TheDevice result) (D.failures device.old) (D.failures device.new) }
 {
     let plan = &job.plan;
     let fan = plan.fan();
     let slot = (next.index % fan as u64) as usize;
-    put_slot(bytes, slot * plan.slot_width(), next.digest);
+    put_slot(bytes, slot * plan.settings().slot_width(), next.digest);
     if slot + 1 < fan && !next.last {
-        return LevelStep::Open;
+        return Ok(None);
     }
     match write_or_compare(job, level, next.index / fan as u64, bytes, stored, device) {
         Ok(()) => {
-            let above = plan.hash(bytes);
+            let above = plan.settings().hash(bytes);
             bytes.fill(0);
-            LevelStep::Closed(above)
+            Ok(Some(above))
         }
-        Err(fault) => LevelStep::Stopped(fault),
+        Err(fault) => Err(fault),
     }
 }
 
@@ -105,7 +88,7 @@ pub(crate) fn carry<D: Device>(
     i: u64,
     digest: Digest,
     device: &mut D,
-) -> Result<Digest, Stop>
+) -> Result<Digest, PassFault>
     requires room { level_count_of job.now.plan * job.now.plan.settings.hash_block ≤ length opened.old }
     requires stored { length stored.old ≡ job.now.plan.settings.hash_block }
     requires digest { length digest ≡ digest_len job.now.plan.settings }
@@ -113,7 +96,8 @@ pub(crate) fn carry<D: Device>(
     ensures size { IfOk result (λ root. length root ≡ digest_len job.now.plan.settings) }
     ensures told { D.tells device.old → D.tells device.new }
     ensures ends { IfErr result (λ _. EndsBlock (fan job.now.plan.settings) job.now.plan.blocks i) }
-    ensures count { Counts (carry_failed job.now.task result) (D.failures device.old) (D.failures device.new) }
+    ensures fault { IfErr result (IsOfHashBlock job.now.task) }
+    ensures count { Counts (failed_at side_of TheDevice result) (D.failures device.old) (D.failures device.new) }
     ensures carries { (blocks : List (List ℕ)) → job.now.plan.blocks ≡ length blocks
         → digest ≡ level_digest job.now.plan.settings blocks i 0
         → HasOpenBlocks job.now.plan.settings blocks 0 (level_count_of job.now.plan) i opened.old
@@ -145,15 +129,9 @@ pub(crate) fn carry<D: Device>(
             digest: &current,
         };
         match step_level(job, level, &next, bytes, stored, device) {
-            LevelStep::Closed(above) => current = above,
-            LevelStep::Open => return Ok(current),
-            LevelStep::Stopped(fault) => {
-                return Err(Stop {
-                    level,
-                    index: index / fan,
-                    fault,
-                });
-            }
+            Ok(Some(above)) => current = above,
+            Ok(None) => return Ok(current),
+            Err(fault) => return Err(fault),
         }
         index /= fan;
     }

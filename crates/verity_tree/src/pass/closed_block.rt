@@ -1,10 +1,12 @@
 //! What is done with a hash block when it has closed.
-ghost use Rattle.std.specs.Prelude.{◌≡◌, ◌+◌, ◌*◌, ◌≤◌, length, take};
-ghost use Rattle.verity_io.specs.Counting.{Counts};
-ghost use Rattle.verity_tree.specs.Steps.ClosedBlocks.{WritesOrCompares, ComparesBlock, write_or_compare_failed, closed_block};
+ghost use Rattle.std.specs.Prelude.{◌≡◌, ◌+◌, ◌*◌, ◌≤◌, length, take, IfErr};
+ghost use Rattle.verity_io.specs.Counting.{Counts, TheDevice, failed_at};
+ghost use Rattle.verity_tree.specs.Steps.ClosedBlocks.{WritesOrCompares, ComparesBlock, closed_block};
+ghost use Rattle.verity_tree.specs.Steps.PassFaults.{StopsAtBlock, side_of};
 ghost use Rattle.verity_plan.specs.Plans.{HasBlock};
 
 use crate::part::{Part, part_between};
+use crate::pass::pass_fault::PassFault;
 use verity_io::Device;
 use verity_plan::Plan;
 
@@ -24,15 +26,6 @@ pub(crate) struct Job {
     pub task: Task,
 }
 
-/// Why a pass stops at a hash block.
-#[derive(Clone, Copy)]
-pub(crate) enum HashBlockFault {
-    /// The device failed.
-    Failed,
-    /// What stands at the block's place differs.
-    Differs(Part),
-}
-
 /// Writes a closed hash block, or compares it, by way of a buffer for the stored one, with what stands at its place.
 pub(crate) fn write_or_compare<D: Device>(
     job: &Job,
@@ -41,12 +34,13 @@ pub(crate) fn write_or_compare<D: Device>(
     bytes: &[u8],
     stored: &mut [u8],
     device: &mut D,
-) -> Result<(), HashBlockFault>
+) -> Result<(), PassFault>
     requires here { HasBlock job.now.plan level index }
     requires size { length bytes.now ≡ job.now.plan.settings.hash_block }
     requires stored { length stored.old ≡ job.now.plan.settings.hash_block }
     ensures told { D.tells device.old → D.tells device.new }
-    ensures count { Counts (write_or_compare_failed job.now.task result) (D.failures device.old) (D.failures device.new) }
+    ensures fault { IfErr result (StopsAtBlock job.now.task level index) }
+    ensures count { Counts (failed_at side_of TheDevice result) (D.failures device.old) (D.failures device.new) }
     ensures device { D.tells device.old
         → WritesOrCompares job.now.plan job.now.task (closed_block level index bytes.now)
         result (D.content device.old) (D.content device.new) }
@@ -55,16 +49,29 @@ pub(crate) fn write_or_compare<D: Device>(
     match job.task {
         Task::Write => match device.write_at(at, bytes) {
             Ok(()) => Ok(()),
-            Err(_) => Err(HashBlockFault::Failed),
+            Err(_) => Err(PassFault::DeviceFailed {
+                level,
+                block: index,
+            }),
         },
         Task::Compare => match device.read_at(at, stored) {
-            Ok(count) => compare_block(&job.plan, level, index, bytes, stored, count),
-            Err(_) => Err(HashBlockFault::Failed),
+            Ok(count) => match compare_block(&job.plan, level, index, bytes, stored, count) {
+                Ok(()) => Ok(()),
+                Err(part) => Err(PassFault::Differs {
+                    level,
+                    block: index,
+                    part,
+                }),
+            },
+            Err(_) => Err(PassFault::DeviceFailed {
+                level,
+                block: index,
+            }),
         },
     }
 }
 
-/// Compares the stored block, of which the first `count` bytes were read, with the computed one.
+/// Compares the stored block, of which the first `count` bytes were read, with the computed one: where they differ.
 fn compare_block(
     plan: &Plan,
     level: usize,
@@ -72,7 +79,7 @@ fn compare_block(
     bytes: &[u8],
     stored: &[u8],
     count: usize,
-) -> Result<(), HashBlockFault>
+) -> Result<(), Part>
     requires here { HasBlock plan.now level index }
     requires size { length bytes.now ≡ plan.now.settings.hash_block }
     requires stored { length stored.now ≡ plan.now.settings.hash_block }
@@ -80,10 +87,10 @@ fn compare_block(
     ensures { ComparesBlock plan.now (closed_block level index bytes.now) (take count stored.now) result }
 {
     if count < stored.len() {
-        return Err(HashBlockFault::Differs(Part::Missing));
+        return Err(Part::Missing);
     }
     if stored == bytes {
         return Ok(());
     }
-    Err(HashBlockFault::Differs(part_between(plan, level, index, stored, bytes)))
+    Err(part_between(plan, level, index, stored, bytes))
 }

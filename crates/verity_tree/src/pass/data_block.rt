@@ -1,11 +1,11 @@
 //! One data block, read whole and hashed.
 ghost use Rattle.std.specs.Prelude.{◌≡◌, ℕ, ◌+◌, ◌*◌, ◌-◌, ◌<◌, ◌≤◌, ◌++◌, List, length, take, replicate, IfOk};
-ghost use Rattle.verity_io.specs.Counting.{Counts};
+ghost use Rattle.verity_io.specs.Counting.{Counts, TheSource, failed_at};
 ghost use Rattle.verity_io.specs.Reading.{HasRead};
 ghost use Rattle.verity_plan.specs.PlanCounts.{level_count_of};
 ghost use Rattle.verity_plan.specs.Settings.{digest_len};
 ghost use Rattle.verity_tree.specs.Reading.{bytes_of};
-ghost use Rattle.verity_tree.specs.Steps.DataBlocks.{ReadsBlock, TakesDataBlock, read_failed};
+ghost use Rattle.verity_tree.specs.Steps.DataBlocks.{ReadsBlock, TakesDataBlock, side_of};
 ghost use Rattle.verity_tree.specs.Steps.OpenBlocks.{HasOpenBlocks};
 
 use verity_hash::Digest;
@@ -29,7 +29,7 @@ pub(crate) fn read_data_block<S: Source>(
 ) -> Result<(), BlockFault>
     requires { data_len ≤ length block.old }
     ensures told { S.tells source.old → S.tells source.new }
-    ensures count { Counts (read_failed result) (S.failures source.old) (S.failures source.new) }
+    ensures count { Counts (failed_at side_of TheSource result) (S.failures source.old) (S.failures source.new) }
     ensures bytes { S.tells source.old
         → ReadsBlock result data_len (length block.old) (S.remaining source.old) (S.remaining source.new) block.new }
 {
@@ -57,7 +57,7 @@ pub(crate) fn take_data_block<S: Source>(
     requires below { i < plan.now.blocks }
     ensures size { IfOk result (λ digest. length digest ≡ digest_len plan.now.settings) }
     ensures told { S.tells source.old → S.tells source.new }
-    ensures count { Counts (read_failed result) (S.failures source.old) (S.failures source.new) }
+    ensures count { Counts (failed_at side_of TheSource result) (S.failures source.old) (S.failures source.new) }
     ensures opened { (blocks : List (List ℕ))
         → HasOpenBlocks plan.now.settings blocks 0 (level_count_of plan.now) i work.old
         → HasOpenBlocks plan.now.settings blocks 0 (level_count_of plan.now) i work.new }
@@ -68,7 +68,7 @@ pub(crate) fn take_data_block<S: Source>(
     let from = plan.levels() * plan.hash_block();
     let data_len = (size as u64).min(plan.wanted() - i * size as u64) as usize;
     match read_data_block(source, &mut work[from..from + size], data_len) {
-        Ok(()) => Ok(plan.hash(&work[from..from + size])),
+        Ok(()) => Ok(plan.settings().hash(&work[from..from + size])),
         Err(fault) => Err(fault),
     }
 }

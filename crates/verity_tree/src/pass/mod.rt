@@ -4,4 +4,5 @@ pub(crate) mod cascade;
 pub(crate) mod closed_block;
 pub(crate) mod data_block;
 pub(crate) mod one_pass;
+pub(crate) mod pass_fault;
 pub(crate) mod reading_ahead;

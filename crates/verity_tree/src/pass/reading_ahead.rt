@@ -1,16 +1,16 @@
 //! Data blocks that are read and hashed before their turn, up to eight side by side.
-ghost use Rattle.std.specs.Prelude.{◌≡◌, ℕ, ◌+◌, ◌*◌, ◌<◌, ◌≤◌, List, length, IfOk};
+ghost use Rattle.std.specs.Prelude.{◌≡◌, ℕ, ◌+◌, ◌*◌, ◌<◌, ◌≤◌, List, length, IfErr, IfOk, Some};
 ghost use Rattle.std.specs.Fork.{slice_chunk};
-ghost use Rattle.verity_io.specs.Counting.{Counts};
+ghost use Rattle.verity_io.specs.Counting.{Counts, TheSource, failed_at, is_call_of};
 ghost use Rattle.verity_io.specs.Reading.{HasRead};
 ghost use Rattle.verity_plan.specs.PlanCounts.{level_count_of};
 ghost use Rattle.verity_plan.specs.Settings.{digest_len};
 ghost use Rattle.verity_tree.specs.Reading.{bytes_of};
-ghost use Rattle.verity_tree.specs.Steps.DataBlocks.{read_failed};
+ghost use Rattle.verity_tree.specs.Steps.DataBlocks.{side_of};
 ghost use Rattle.verity_tree.specs.Steps.OpenBlocks.{HasOpenBlocks};
 ghost use Rattle.verity_tree.specs.Steps.ReadingAhead.{HoldsDataBlocks, IsAhead, HasNext, IsWithinHashBlock};
 ghost use Rattle.verity_tree.specs.Steps.ReadingAhead.{ReadsCount, IsBatch, ReadsRow, SourceStandsAt, TakesDigest};
-ghost use Rattle.verity_tree.specs.Steps.ReadingAhead.{ahead_failed, next_failed, stop_failed, rows_from, window_for};
+ghost use Rattle.verity_tree.specs.Steps.ReadingAhead.{rows_from, side_if_any, window_for};
 
 use crate::pass::data_block::{BlockFault, read_data_block, take_data_block};
 use verity_hash::Digest;
@@ -47,7 +47,7 @@ pub(crate) const LARGE_WINDOW: usize = 524_288;
 
 /// Data blocks that were read and hashed before their turn.
 #[derive(Clone, Copy)]
-pub(crate) struct Ahead {
+pub(crate) struct DigestsAhead {
     /// The digest of each block from `first` on and below `end`; those after them count for nothing.
     digests: [Digest; ROWS],
     /// The number of the first of them.
@@ -58,18 +58,18 @@ pub(crate) struct Ahead {
     fault: Option<BlockFault>,
 }
 
-impl Ahead {
+impl DigestsAhead {
     ghost use Rattle.std.specs.Prelude.{ℕ, List};
-    ghost use Rattle.verity_io.specs.Counting.{Counts};
-    ghost use Rattle.verity_tree.specs.Steps.ReadingAhead.{IsAhead, IsWithinHashBlock, ahead_failed};
+    ghost use Rattle.verity_io.specs.Counting.{Counts, TheSource, is_call_of};
+    ghost use Rattle.verity_tree.specs.Steps.ReadingAhead.{IsAhead, IsWithinHashBlock, side_if_any};
 
     /// Before the first data block nothing is ahead.
-    pub(crate) fn none(plan: &Plan) -> Ahead
+    pub(crate) fn none(plan: &Plan) -> DigestsAhead
         ensures within { IsWithinHashBlock plan.now 0 result }
-        ensures count { (start : ℕ) → Counts (ahead_failed result) start start }
+        ensures count { (start : ℕ) → Counts (is_call_of TheSource (side_if_any result.fault)) start start }
         ensures ahead { (bytes : List ℕ) → IsAhead plan.now 0 bytes result bytes }
     {
-        Ahead {
+        DigestsAhead {
             digests: [Digest::zeros(plan.settings().algorithm()); ROWS],
             first: 0,
             end: 0,
@@ -85,7 +85,7 @@ pub(crate) fn take_next<S: Source>(
     window: &mut [u8],
     i: u64,
     source: &mut S,
-    ahead: &mut Ahead,
+    ahead: &mut DigestsAhead,
 ) -> Result<Digest, BlockFault>
     requires room { level_count_of plan.now * plan.now.settings.hash_block + plan.now.settings.data_block
         ≤ length work.old }
@@ -94,8 +94,9 @@ pub(crate) fn take_next<S: Source>(
     ensures size { IfOk result (λ digest. length digest ≡ digest_len plan.now.settings) }
     ensures told { S.tells source.old → S.tells source.new }
     ensures within { IfOk result (λ digest. IsWithinHashBlock plan.now (i + 1) ahead.new) }
-    ensures count { (start : ℕ) → Counts (ahead_failed ahead.old) start (S.failures source.old)
-        → Counts (next_failed result ahead.new) start (S.failures source.new) }
+    ensures fault { IfErr result (λ fault. ahead.new.fault ≡ Some fault) }
+    ensures count { (start : ℕ) → Counts (is_call_of TheSource (side_if_any ahead.old.fault)) start (S.failures source.old)
+        → Counts (is_call_of TheSource (side_if_any ahead.new.fault)) start (S.failures source.new) }
     ensures opened { (blocks : List (List ℕ))
         → HasOpenBlocks plan.now.settings blocks 0 (level_count_of plan.now) i work.old
         → HasOpenBlocks plan.now.settings blocks 0 (level_count_of plan.now) i work.new }
@@ -158,13 +159,13 @@ fn read_ahead<S: Source>(
     window: &mut [u8],
     i: u64,
     source: &mut S,
-) -> Ahead
+) -> DigestsAhead
     requires room { level_count_of plan.now * plan.now.settings.hash_block + plan.now.settings.data_block
         ≤ length work.old }
     requires below { i < plan.now.blocks }
     ensures told { S.tells source.old → S.tells source.new }
     ensures next { HasNext plan.now i result }
-    ensures count { Counts (ahead_failed result) (S.failures source.old) (S.failures source.new) }
+    ensures count { Counts (is_call_of TheSource (side_if_any result.fault)) (S.failures source.old) (S.failures source.new) }
     ensures opened { (blocks : List (List ℕ))
         → HasOpenBlocks plan.now.settings blocks 0 (level_count_of plan.now) i work.old
         → HasOpenBlocks plan.now.settings blocks 0 (level_count_of plan.now) i work.new }
@@ -184,13 +185,13 @@ fn read_ahead<S: Source>(
         );
     }
     match take_data_block(plan, work, i, source) {
-        Ok(digest) => Ahead {
+        Ok(digest) => DigestsAhead {
             digests: [digest; ROWS],
             first: i,
             end: i + 1,
             fault: None,
         },
-        Err(fault) => Ahead {
+        Err(fault) => DigestsAhead {
             digests: [Digest::zeros(plan.settings().algorithm()); ROWS],
             first: i,
             end: i,
@@ -207,22 +208,22 @@ fn read_batch<S: Source>(
     i: u64,
     count: usize,
     source: &mut S,
-) -> Ahead
+) -> DigestsAhead
     requires room { length rows.old ≡ count * plan.now.settings.data_block }
     requires some { 0 < count }
     requires most { count ≤ 8 }
     requires batch { IsBatch plan.now i count }
     ensures told { S.tells source.old → S.tells source.new }
     ensures next { HasNext plan.now i result }
-    ensures count { Counts (ahead_failed result) (S.failures source.old) (S.failures source.new) }
+    ensures count { Counts (is_call_of TheSource (side_if_any result.fault)) (S.failures source.old) (S.failures source.new) }
     ensures ahead { S.tells source.old → (bytes : List ℕ) → HasRead (bytes_of plan.now i) bytes (S.remaining source.old)
         → IsAhead plan.now i bytes result (S.remaining source.new) }
 {
     // Called for the proof: by its contract there are fewer than 2^64 data blocks.
     let _blocks = plan.blocks();
     let (read, fault) = read_rows(plan, rows, i, count, source);
-    Ahead {
-        digests: plan.hash_rows(rows, plan.data_block(), count),
+    DigestsAhead {
+        digests: plan.settings().hash_rows(rows, plan.data_block(), count),
         first: i,
         end: i + read as u64,
         fault,
@@ -240,7 +241,7 @@ fn read_rows<S: Source>(
     requires room { length rows.old ≡ count * plan.now.settings.data_block }
     requires below { i + count ≤ plan.now.blocks }
     ensures told { S.tells source.old → S.tells source.new }
-    ensures count { Counts (stop_failed result.1) (S.failures source.old) (S.failures source.new) }
+    ensures count { Counts (is_call_of TheSource (side_if_any result.1)) (S.failures source.old) (S.failures source.new) }
     ensures many { ReadsCount count result.0 result.1 }
     ensures rows { S.tells source.old → (bytes : List ℕ) → HasRead (bytes_of plan.now i) bytes (S.remaining source.old)
         → HoldsDataBlocks plan.now i bytes result.0 rows.new }
@@ -269,7 +270,7 @@ fn read_row<S: Source>(
     requires room { row * plan.now.settings.data_block + plan.now.settings.data_block ≤ length rows.old }
     requires below { i < plan.now.blocks }
     ensures told { S.tells source.old → S.tells source.new }
-    ensures count { Counts (read_failed result) (S.failures source.old) (S.failures source.new) }
+    ensures count { Counts (failed_at side_of TheSource result) (S.failures source.old) (S.failures source.new) }
     ensures kept { (r : ℕ) → r < row → slice_chunk rows.new plan.now.settings.data_block r
         ≡ slice_chunk rows.old plan.now.settings.data_block r }
     ensures read { S.tells source.old → (bytes : List ℕ) → HasRead (bytes_of plan.now i) bytes (S.remaining source.old)

@@ -1,15 +1,18 @@
 -- What the texts of options stand for, one by one, with the defaults of veritysetup(8).
 use Rattle.std.specs.Prelude.{ℕ, Bool, true, false, List, [], replicate, take, drop, codes, Option, Some, None}
-use Rattle.std.specs.Prelude.{option_map, if◌then◌else◌}
+use Rattle.std.specs.Prelude.{option_map, if◌then◌else◌, Result, ok_or}
 use Rattle.std.specs.Str.{bytes_eq}
 use Rattle.uuid.specs.Text.{parsed}
 use Rattle.verity_hash.specs.declared.algorithm.Algorithm.{Algorithm}
 use Rattle.verity_hash.specs.declared.salting.SaltRule.TheVariants.{Before}
 use Rattle.verity_plan.specs.Settings.{most_salt}
 use Rattle.verity_plan.specs.CheckedSettings.{is_verity_block_size}
-use Rattle.command_line.specs.Options.{number_of, salt_of}
+use Rattle.command_line.specs.Options.{number_of, number_or, salt_of}
 use Rattle.veritysetup.specs.Options.Uuids.{random_uuid}
-use Rattle.veritysetup.specs.Options.VeritySettings.{read_root}
+use Rattle.veritysetup.specs.Options.Settings.{read_root}
+use Rattle.veritysetup.specs.declared.options.option_fault.OptionName.{OptionName}
+use Rattle.veritysetup.specs.declared.options.option_fault.OptionFault.{OptionFault}
+use Rattle.veritysetup.specs.declared.options.option_fault.OptionFault.TheVariants.{BadNumber}
 use Rattle.veritysetup.specs.declared.options.raw_options.RawOptions.{RawOptions}
 
 -- the texts of the options, each None if it is not given
@@ -41,6 +44,10 @@ option_texts raw = record {
   no_superblock = raw.no_superblock;
   same_file = raw.same_file;
 }
+
+-- the number of an option, or its default; or that the option is no number
+abbrev pub number_option : OptionName → ℕ → Option (List ℕ) → Result ℕ OptionFault
+number_option name default text = ok_or (number_or default text) (BadNumber name)
 
 -- a number that may be missing; none if the text is no number
 abbrev pub number_if_given : Option (List ℕ) → Option (Option ℕ)

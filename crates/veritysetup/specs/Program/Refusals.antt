@@ -1,9 +1,10 @@
--- How a run ends if it refuses an option of its command line.
+-- How a command ends that refuses an option of its line, or data that ends too soon.
 -- For the private steps; not needed to read a public contract.
-use Rattle.std.specs.Prelude.{◌≡◌, ℕ, List, Option, Result, option_map, string_bytes}
-use Rattle.command_line.specs.Printing.{AppendsPrefix}
+use Rattle.std.specs.Prelude.{◌≡◌, ℕ, Result, Err, option_map, string_bytes}
+use Rattle.verity_tree.specs.declared.building.BuildFault.TheVariants as build
 use Rattle.veritysetup.specs.Options.Choices.{offset_of}
-use Rattle.veritysetup.specs.Texts.Messages.{option_message}
+use Rattle.veritysetup.specs.declared.fault.Fault.{Fault}
+use Rattle.veritysetup.specs.declared.fault.Fault.TheVariants as fault
 use Rattle.veritysetup.specs.declared.options.option_fault.OptionFault.{OptionFault}
 use Rattle.veritysetup.specs.declared.words.line.Line.{Line}
 
@@ -11,6 +12,10 @@ use Rattle.veritysetup.specs.declared.words.line.Line.{Line}
 abbrev pub line_offset : Line → Result ℕ OptionFault
 line_offset line = offset_of (option_map string_bytes line.hash_offset)
 
--- with status 1, and the option's message or its first bytes
-abbrev pub EndsRefused : ℕ → Option (List ℕ) → Option (List ℕ) → OptionFault → Type 0
-EndsRefused status before after fault = (status ≡ 1) × AppendsPrefix (option_message fault) before after
+-- with the fault of the option
+abbrev pub EndsRefused : Result (Unit {0}) Fault → OptionFault → Type 0
+EndsRefused result cause = result ≡ Err (fault.Option cause)
+
+-- with the data block that is not whole
+abbrev pub EndsShort : Result (Unit {0}) Fault → ℕ → Type 0
+EndsShort result block = result ≡ Err (fault.Build (build.SourceShort block))

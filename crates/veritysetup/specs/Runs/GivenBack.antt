@@ -1,18 +1,18 @@
 -- What verify is given: for the laws that it accepts what format leaves, and that data that it accepts are true.
 use Rattle.std.specs.Prelude.{◌≡◌, ℕ, true, List, Some}
 use Rattle.hex.specs.Hex.{encode_lower}
-use Rattle.verity_plan.specs.Plans.{IsPlanned}
-use Rattle.veritysetup.specs.Options.VeritySettings.{VeritySettings}
+use Rattle.verity_plan.specs.Plans.{IsPlan}
+use Rattle.veritysetup.specs.Options.Settings.{SettingsFields}
 use Rattle.veritysetup.specs.declared.runs.verify_input.VerifyInput.{VerifyInput}
 use Rattle.veritysetup.specs.declared.runs.verify_input.VerifyInput.TheVariants.{Stored, Given}
 
 -- the place of the superblock that format wrote and the digits of the root hash, as its report has them; or, whether
 -- there is a superblock or not, settings with the same plan and the root hash
-abbrev pub IsGivenBack : VerifyInput → VeritySettings → List ℕ → Type 0
+abbrev pub IsGivenBack : VerifyInput → SettingsFields → List ℕ → Type 0
 IsGivenBack (Stored offset text) s root = (s.superblock ≡ true) × (offset ≡ s.offset) × (text.now ≡ encode_lower root)
 IsGivenBack (Given settings) s root = (settings.now.plan ≡ s.plan) × (settings.now.root ≡ Some root)
 
 -- settings that verify is given have a plan that can be carried out, as all `Settings` of the code have
 abbrev pub IsGivenPlanned : VerifyInput → Type 0
 IsGivenPlanned (Stored offset text) = Unit {0}
-IsGivenPlanned (Given settings) = IsPlanned settings.now.plan
+IsGivenPlanned (Given settings) = IsPlan settings.now.plan

@@ -3,12 +3,12 @@
 use Rattle.std.specs.Prelude.{ℕ, List, take, drop}
 use Rattle.verity_format.specs.Superblocks.{SuperblockFields}
 use Rattle.verity_plan.specs.Plans.{superblock_size}
-use Rattle.veritysetup.specs.Options.VeritySettings.{VeritySettings}
+use Rattle.veritysetup.specs.Options.Settings.{SettingsFields}
 
 -- the bytes that a superblock is read from; on a shorter device all that there are
 abbrev pub superblock_at : ℕ → List ℕ → List ℕ
 superblock_at offset device = take superblock_size (drop offset device)
 
 -- the superblock of some settings
-abbrev pub superblock_for : VeritySettings → SuperblockFields
+abbrev pub superblock_for : SettingsFields → SuperblockFields
 superblock_for s = record { hash_type = s.hash_type; tree = s.plan.settings; uuid = s.uuid; blocks = s.plan.blocks }

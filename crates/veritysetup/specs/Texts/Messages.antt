@@ -33,6 +33,22 @@ too_large_message = codes "Data or hash area is too large.\n"
 abbrev pub memory_message : List ℕ
 memory_message = codes "Out of memory.\n"
 
+-- a command line without a file that it must have
+abbrev pub incomplete_message : List ℕ
+incomplete_message = codes "error: the command line is not complete\n"
+
+-- a file that can't be opened, or whose length can't be found
+abbrev pub unopened_message : List ℕ → List ℕ
+unopened_message path = concat (codes "Cannot open " ∷ path ∷ codes ".\n" ∷ [])
+
+-- a file that the system does not keep as it was written
+abbrev pub unwritten_message : List ℕ → List ℕ
+unwritten_message path = concat (codes "Cannot write " ∷ path ∷ codes ".\n" ∷ [])
+
+-- the system gives no random bytes
+abbrev pub no_random_message : List ℕ
+no_random_message = codes "Cannot get random bytes.\n"
+
 abbrev pub unread_superblock_message : List ℕ
 unread_superblock_message = codes "Cannot read superblock.\n"
 

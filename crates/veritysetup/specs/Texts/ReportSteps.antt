@@ -3,7 +3,7 @@
 use Rattle.std.specs.Prelude.{ℕ, List, ◌++◌, codes}
 use Rattle.std.specs.Fmt.{decimal}
 use Rattle.verity_format.specs.Superblocks.{SuperblockFields}
-use Rattle.verity_plan.specs.Settings.{type_number, Settings}
+use Rattle.verity_plan.specs.Settings.{type_number, TreeSettingsFields}
 use Rattle.veritysetup.specs.Texts.Reports.{report_line}
 
 -- a text, and the lines on the device, with this text of the UUID
@@ -14,7 +14,7 @@ with_device text uuid v = text
     ++ report_line (codes "Data blocks:") (decimal v.blocks)
 
 -- a text, and the lines on the block sizes
-abbrev pub with_sizes : List ℕ → Settings → List ℕ
+abbrev pub with_sizes : List ℕ → TreeSettingsFields → List ℕ
 with_sizes text tree = text
     ++ report_line (codes "Data block size:") (decimal tree.data_block)
     ++ report_line (codes "Hash block size:") (decimal tree.hash_block)

@@ -1,5 +1,10 @@
 -- What contracts see of the writers of a report and of a message, before and after.
 use Rattle.std.specs.Prelude.{ℕ, List, Option}
+use Rattle.std.specs.Io.KnownBytes.{Appends}
+
+-- bytes are added to what a writer holds, perhaps none
+abbrev pub Grows : Option (List ℕ) → Option (List ℕ) → Type 0
+Grows before after = (added : List ℕ) × Appends before after added
 
 -- what the writers of the report and of the message hold before and after, if that is known
 pub record TextChange : Type 0 where

@@ -1,41 +1,32 @@
 -- The command lines of `veritysetup` (veritysetup(8)), in the words of clap, and what a line of it holds.
-use Rattle.std.specs.Prelude.{◌≡◌, Option, Some, None, List, [], ◌∷◌, ◌++◌, codes, fold, map, option_map, string_bytes}
-use Rattle.clap.specs.Words.{App, Row, Text, first_of, new_app, with_rule, with_subcommand}
-use Rattle.command_line.specs.Arguments.{flag_of, flag_rule, option_rule, program_app, positional_rule}
+use Rattle.std.specs.Prelude.{◌≡◌, Option, Some, None, List, [], ◌∷◌, ◌++◌, codes, map, option_map, string_bytes}
+use Rattle.clap.specs.Words.{App, Row, Text, first_of}
+use Rattle.command_line.specs.Arguments.{flag_of, flag_rule, named_app, option_rule, program_app, word_rule}
 use Rattle.veritysetup.specs.declared.words.command_name.CommandName.{CommandName}
 use Rattle.veritysetup.specs.declared.words.command_name.CommandName.TheVariants.{Format, Dump, Verify}
 use Rattle.veritysetup.specs.declared.words.line.Line.{Line}
 
--- the options of format and verify that say what a tree is made by
-unfoldable pub with_tree_rules : App → App
-with_tree_rules app = fold with_rule app (option_rule (codes "hash") ∷ option_rule (codes "format")
-    ∷ option_rule (codes "data-block-size") ∷ option_rule (codes "hash-block-size")
-    ∷ option_rule (codes "data-blocks") ∷ option_rule (codes "salt") ∷ [])
-
--- the option that says where the hash area begins
-unfoldable pub with_offset_rule : App → App
-with_offset_rule app = with_rule app (option_rule (codes "hash-offset"))
-
 -- `format [options] DATA HASH`
 unfoldable pub format_app : App
-format_app = fold with_rule (with_offset_rule (with_tree_rules (new_app (codes "format"))))
-    (option_rule (codes "uuid") ∷ flag_rule (codes "no-superblock") ∷ positional_rule (codes "DATA")
-    ∷ positional_rule (codes "HASH") ∷ [])
+format_app = named_app (codes "format") (option_rule (codes "hash") ∷ option_rule (codes "format")
+    ∷ option_rule (codes "data-block-size") ∷ option_rule (codes "hash-block-size") ∷ option_rule (codes "data-blocks")
+    ∷ option_rule (codes "salt") ∷ option_rule (codes "hash-offset") ∷ option_rule (codes "uuid")
+    ∷ flag_rule (codes "no-superblock") ∷ word_rule (codes "DATA") ∷ word_rule (codes "HASH") ∷ [])
 
 -- `dump [--hash-offset BYTES] HASH`
 unfoldable pub dump_app : App
-dump_app = with_rule (with_offset_rule (new_app (codes "dump"))) (positional_rule (codes "HASH"))
+dump_app = named_app (codes "dump") (option_rule (codes "hash-offset") ∷ word_rule (codes "HASH") ∷ [])
 
 -- `verify [options] DATA HASH ROOT`
 unfoldable pub verify_app : App
-verify_app = fold with_rule (with_offset_rule (with_tree_rules (new_app (codes "verify"))))
-    (flag_rule (codes "no-superblock") ∷ positional_rule (codes "DATA") ∷ positional_rule (codes "HASH")
-    ∷ positional_rule (codes "ROOT") ∷ [])
+verify_app = named_app (codes "verify") (option_rule (codes "hash") ∷ option_rule (codes "format")
+    ∷ option_rule (codes "data-block-size") ∷ option_rule (codes "hash-block-size") ∷ option_rule (codes "data-blocks")
+    ∷ option_rule (codes "salt") ∷ option_rule (codes "hash-offset") ∷ flag_rule (codes "no-superblock")
+    ∷ word_rule (codes "DATA") ∷ word_rule (codes "HASH") ∷ word_rule (codes "ROOT") ∷ [])
 
 -- the program
 unfoldable pub veritysetup_app : App
-veritysetup_app = fold with_subcommand (program_app (codes "veritysetup"))
-    (format_app.top ∷ dump_app.top ∷ verify_app.top ∷ [])
+veritysetup_app = program_app (codes "veritysetup") (format_app ∷ dump_app ∷ verify_app ∷ [])
 
 -- the name of a command
 abbrev pub command_text : CommandName → Text

@@ -2,9 +2,9 @@
 ghost use Rattle.std.specs.Prelude.{◌≡◌, option_copied};
 ghost use Rattle.veritysetup.specs.Options.Choices.{offset_of};
 
+use crate::options::numbers::number_option;
 use crate::options::option_fault::{OptionFault, OptionName};
 use crate::options::raw_options::RawOptions;
-use command_line::number_or;
 use verity_plan::{SUPERBLOCK_SIZE, multiple_of};
 
 /// The byte at which the superblock stands that dump or verify reads, by default 0 (veritysetup(8), `--hash-offset`).
@@ -12,8 +12,6 @@ use verity_plan::{SUPERBLOCK_SIZE, multiple_of};
 pub fn offset_of(raw: &RawOptions) -> Result<u64, OptionFault>
     ensures { result ≡ offset_of (option_copied raw.now.hash_offset) }
 {
-    let offset = number_or(0, raw.hash_offset).ok_or(OptionFault::BadNumber(
-        OptionName::HashOffset,
-    ))?;
+    let offset = number_option(OptionName::HashOffset, 0, raw.hash_offset)?;
     multiple_of(SUPERBLOCK_SIZE as u64, offset).ok_or(OptionFault::BadHashOffset)
 }

@@ -1,7 +1,7 @@
 //! Root hashes as the command line writes them.
 ghost use Rattle.std.specs.Prelude.{◌≡◌, option_map};
 ghost use Rattle.veritysetup.specs.Options.OptionTexts.{root_if_given};
-ghost use Rattle.veritysetup.specs.Options.VeritySettings.{read_root};
+ghost use Rattle.veritysetup.specs.Options.Settings.{read_root};
 
 use verity_hash::{Algorithm, Digest};
 

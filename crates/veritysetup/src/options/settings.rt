@@ -1,21 +1,25 @@
 //! What format makes a hash device by, and verify without a superblock compares by: hash type, UUID, where the hash area
 //! begins, the plan of the tree, and a root hash.
 ghost use Rattle.std.specs.Prelude.{◌≡◌, option_map};
-ghost use Rattle.veritysetup.specs.Options.VeritySettings.{PartsAgree};
+ghost use Rattle.veritysetup.specs.Options.Settings.{PartsAgree};
 ghost use Rattle.veritysetup.specs.Options.Choices.{settings_of};
 ghost use Rattle.veritysetup.specs.Runs.HashDevice.{superblock_for};
 ghost use Rattle.veritysetup.specs.Options.OptionTexts.{option_texts};
 
-use crate::options::option_fault::OptionFault;
-use crate::options::parameters::Parameters;
+use crate::options::numbers::{number_if_given, number_option};
+use crate::options::option_fault::{OptionFault, OptionName};
 use crate::options::raw_options::RawOptions;
 use crate::options::root_hash::root_if_given;
+use crate::options::salts::salt_or_random;
+use crate::options::tree::{accepted_plan, tree_of};
+use crate::options::uuids::{superblock_uuid, uuid_or_random};
+use command_line::{DEFAULT_BLOCK_SIZE, algorithm_or_default};
 use std::marker::Model;
 use uuid::Uuid;
 use verity_format::Superblock;
 use verity_hash::Digest;
-use verity_plan::plan_at;
-use verity_tree::{HashType, Plan, PlanFault};
+use verity_plan::{multiple_of, offset_unit, plan_at};
+use verity_tree::{HashType, Plan};
 
 /// The settings of a hash device. Only `settings_of` makes them, so the parts agree: the plan's tree is of the hash
 /// type, and its hash blocks stand at the hash offset, or after the superblock there.
@@ -30,9 +34,9 @@ pub struct Settings {
 }
 
 impl Model for Settings {
-    ghost use Rattle.veritysetup.specs.Options.VeritySettings.{VeritySettings, PartsAgree};
+    ghost use Rattle.veritysetup.specs.Options.Settings.{SettingsFields, PartsAgree};
 
-    ghost Value = { VeritySettings };
+    ghost Value = { SettingsFields };
 
     ghost view = { λ s. record {
       hash_type = s.hash_type;
@@ -125,28 +129,39 @@ pub fn settings_of(
 ) -> Result<Settings, OptionFault>
     ensures { result ≡ settings_of (option_texts raw.now) length (option_map (λ b. b.now) random.entry) }
 {
-    let parameters = Parameters::read(raw, random)?;
-    let whole = length / u64::from(parameters.tree.data_block());
-    let blocks = parameters.blocks.unwrap_or(whole);
-    match plan_at(
-        &parameters.tree,
-        blocks,
-        parameters.offset,
-        parameters.superblock,
-    ) {
-        Ok(plan) if raw.same_file && parameters.offset < plan.wanted() => Err(OptionFault::Overlap),
-        Ok(plan) => match root_if_given(parameters.tree.algorithm(), raw.root) {
-            Some(root) => Ok(Settings {
-                hash_type: parameters.hash_type,
-                uuid: parameters.uuid,
-                offset: parameters.offset,
-                superblock: parameters.superblock,
-                plan,
-                root,
-            }),
-            None => Err(OptionFault::BadRoot),
-        },
-        Err(PlanFault::NoData) => Err(OptionFault::NoData),
-        Err(PlanFault::TooLarge) => Err(OptionFault::TooLarge),
-    }
+    let format = number_option(OptionName::Format, 1, raw.format)?;
+    let data_size = number_option(
+        OptionName::DataBlockSize,
+        DEFAULT_BLOCK_SIZE,
+        raw.data_block_size,
+    )?;
+    let hash_size = number_option(
+        OptionName::HashBlockSize,
+        DEFAULT_BLOCK_SIZE,
+        raw.hash_block_size,
+    )?;
+    let blocks = number_if_given(raw.data_blocks).ok_or(OptionFault::BadNumber(
+        OptionName::DataBlocks,
+    ))?;
+    let offset_bytes = number_option(OptionName::HashOffset, 0, raw.hash_offset)?;
+    let algorithm = algorithm_or_default(raw.hash).ok_or(OptionFault::UnknownHash)?;
+    let hash_type = HashType::from_number(format).ok_or(OptionFault::BadHashType)?;
+    let salt = salt_or_random(raw.salt, random);
+    let tree = tree_of(algorithm, hash_type, data_size, hash_size, salt)?;
+    let uuid = uuid_or_random(raw.uuid, random).ok_or(OptionFault::BadUuid)?;
+    let superblock = !raw.no_superblock;
+    let unit = offset_unit(superblock, &tree);
+    let offset = multiple_of(unit, offset_bytes).ok_or(OptionFault::BadHashOffset)?;
+    let whole = length / u64::from(tree.data_block());
+    let planned = plan_at(&tree, blocks.unwrap_or(whole), offset, superblock);
+    let plan = accepted_plan(planned, raw.same_file, offset)?;
+    let root = root_if_given(algorithm, raw.root).ok_or(OptionFault::BadRoot)?;
+    Ok(Settings {
+        hash_type,
+        uuid: superblock_uuid(superblock, uuid),
+        offset,
+        superblock,
+        plan,
+        root,
+    })
 }

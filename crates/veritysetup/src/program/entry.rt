@@ -1,17 +1,16 @@
 //! The program veritysetup, over any runtime.
 ghost use Rattle.std.specs.Prelude.{◌≡◌};
 ghost use Rattle.std.specs.Io.KnownBytes.{Keeps};
-ghost use Rattle.veritysetup.specs.Program.CommandRuns.{CommandRun, IsStatus};
-ghost use Rattle.veritysetup.specs.Texts.TextChanges.{text_change};
+ghost use Rattle.veritysetup.specs.Faults.{IsStatus};
+ghost use Rattle.veritysetup.specs.Texts.TextChanges.{Grows};
 
+use crate::fault::{Fault, end_run};
 use crate::program::dump::dump_file;
 use crate::program::file_paths::FilePaths;
 use crate::program::format::format_files;
 use crate::program::verify::verify_files;
-use crate::texts::program_messages::{
-    refuse_incomplete_line, refuse_line, refuse_words, stop_for_unopened_file, stop_without_memory,
-};
-use crate::words::reading::{read_words, usage_of};
+use crate::words::reading::read_words;
+use crate::words::usage::usage_of;
 use crate::{CommandName, Line};
 use command_line::{
     Identities, NULL_DEVICE, NullFiles, ProgressLine, ProgressRuntime, given_words, texts_of,
@@ -34,75 +33,66 @@ where
     ensures status { IsStatus result }
     ensures quiet { result ≡ 0 → Keeps (M.contents msgs.old) (M.contents msgs.new) }
 {
-    let words = match given_words(rt) {
-        Ok(words) => words,
-        Err(fault) => return refuse_words(rt.alloc(), &fault, msgs),
-    };
-    let status = match texts_of(rt.alloc(), words.as_slice()) {
-        Ok(texts) => run_words(rt, progress, texts.as_slice(), out, msgs),
-        Err(_) => stop_without_memory(msgs),
+    let status = match read_line(rt) {
+        Ok(line) => {
+            let outcome = run_line(rt, progress, &line, out);
+            end_run(rt.alloc(), outcome, msgs)
+        }
+        Err(fault) => end_run(rt.alloc(), Err(fault), msgs),
     };
     progress.erase();
     status
 }
 
-/// Reads the words of a command line, the program's name first, and carries it out. A standard stream may be closed. So
-/// that no file of the command gets its number, the null device is opened once for each stream first.
-fn run_words<R, O, M>(
-    rt: &R,
-    progress: &ProgressLine<'_, R>,
-    words: &[&str],
-    out: &mut O,
-    msgs: &mut M,
-) -> u8
-where
-    R: Identities + ProgressRuntime + RandomSource + AllocGlobal,
-    O: Write,
-    M: Write,
-    ensures status { IsStatus result }
-    ensures quiet { result ≡ 0 → Keeps (M.contents msgs.old) (M.contents msgs.new) }
-{
-    let line = match read_words(rt.alloc(), words) {
-        Ok(line) => line,
-        Err(fault) => return refuse_line(&fault, usage_of(words), msgs),
+/// Reads the words of the command line, the program's name first.
+fn read_line<R: Env + AllocGlobal>(rt: &R) -> Result<Line, Fault<'static>> {
+    let words = match given_words(rt) {
+        Ok(words) => words,
+        Err(fault) => return Err(Fault::Words(fault)),
     };
-    let null_files = NullFiles::open(rt);
-    if !null_files.are_open() {
-        return stop_for_unopened_file(NULL_DEVICE, msgs);
+    let texts = match texts_of(rt.alloc(), words.as_slice()) {
+        Ok(texts) => texts,
+        Err(_) => return Err(Fault::Memory),
+    };
+    match read_words(rt.alloc(), texts.as_slice()) {
+        Ok(line) => Ok(line),
+        Err(fault) => Err(Fault::Line(fault, usage_of(texts.as_slice()))),
     }
-    run_line(rt, progress, &line, out, msgs)
 }
 
-/// Carries out the command of a line.
-fn run_line<R, O, M>(
+/// Carries out the command of a line. A standard stream may be closed. So that no file of the command gets its number,
+/// the null device is opened once for each stream first.
+fn run_line<'a, R, O>(
     rt: &R,
     progress: &ProgressLine<'_, R>,
-    line: &Line,
+    line: &'a Line,
     out: &mut O,
-    msgs: &mut M,
-) -> u8
+) -> Result<(), Fault<'a>>
 where
     R: Identities + ProgressRuntime + RandomSource + AllocGlobal,
     O: Write,
-    M: Write,
-    ensures { CommandRun result (text_change O.contents M.contents out.old out.new msgs.old msgs.new) }
+    ensures { Grows (O.contents out.old) (O.contents out.new) }
 {
+    let null_files = NullFiles::open(rt);
+    if !null_files.are_open() {
+        return Err(Fault::Unopened(NULL_DEVICE));
+    }
     match (line.command, line.files.as_slice()) {
         (CommandName::Format, [data, hash]) => {
             let paths = FilePaths {
                 data: data.as_str(),
                 hash: hash.as_str(),
             };
-            format_files(rt, progress, line, paths, out, msgs)
+            format_files(rt, progress, line, paths, out)
         }
-        (CommandName::Dump, [hash]) => dump_file(rt, line, hash.as_str(), out, msgs),
+        (CommandName::Dump, [hash]) => dump_file(rt, line, hash.as_str(), out),
         (CommandName::Verify, [data, hash, root]) => {
             let paths = FilePaths {
                 data: data.as_str(),
                 hash: hash.as_str(),
             };
-            verify_files(rt, progress, line, paths, root.as_str(), msgs)
+            verify_files(rt, progress, line, paths, root.as_str())
         }
-        _ => refuse_incomplete_line(msgs),
+        _ => Err(Fault::IncompleteLine),
     }
 }

@@ -7,8 +7,10 @@ use std::path::Path;
 use std::rt::Files;
 use verity_tree::{Failed, FileDevice};
 
-/// Whether the system knows of nothing at this path, so that a file made there is new.
-pub(crate) fn is_missing<R: Files>(rt: &R, path: &str) -> bool {
+/// Whether the system doesn't say what is at this path: there is nothing, so that a file made there is new, or it
+/// refuses to say, as where access is denied. A file that can be opened there all the same counts as new too, and then
+/// its folder is synced once more than needed.
+pub(crate) fn is_unknown<R: Files>(rt: &R, path: &str) -> bool {
     rt.metadata(path).is_err()
 }
 

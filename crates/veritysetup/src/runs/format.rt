@@ -1,70 +1,24 @@
 //! The run of format.
-ghost use Rattle.std.specs.Prelude.{◌≡◌, ℕ, List, length, IfOk, OnOk, OnErr, IsTrue, string_bytes};
-ghost use Rattle.std.specs.Io.KnownBytes.{Appends};
-ghost use Rattle.verity_io.specs.Counting.{Counts, CountsFailure, change};
+ghost use Rattle.std.specs.Prelude.{◌≡◌, ℕ, List, length, IfOk, OnOk, OnErr, string_bytes};
+ghost use Rattle.verity_io.specs.Counting.{Counts, CountsFailure, TheDevice, TheSource, change, failed_at};
 ghost use Rattle.verity_io.specs.Writing.{Spoiled};
-ghost use Rattle.verity_plan.specs.Plans.{IsPlanned, superblock_size};
+ghost use Rattle.verity_plan.specs.Plans.{IsPlan, superblock_size};
 ghost use Rattle.verity_tree.specs.Levels.{data_blocks};
-ghost use Rattle.veritysetup.specs.Options.VeritySettings.{PartsAgree};
-ghost use Rattle.veritysetup.specs.Runs.Format.{FormatRun, PrintsReport, Reads, Writes, device_failed, fault_status};
-ghost use Rattle.veritysetup.specs.Runs.Format.{fault_message, source_failed, with_superblock};
+ghost use Rattle.veritysetup.specs.Faults.{side_of};
+ghost use Rattle.veritysetup.specs.Options.Settings.{PartsAgree};
+ghost use Rattle.veritysetup.specs.Runs.Format.{FormatRun, PrintsReport, Reads, Writes, with_superblock};
 ghost use Rattle.veritysetup.specs.Runs.Formatted.{IsFormatted, format_report, root_above};
 ghost use Rattle.veritysetup.specs.Texts.TextChanges.{text_change};
-ghost use Rattle.command_line.specs.Printing.{AppendsPrefix};
 
+use crate::fault::{Fault, end_run};
 use crate::options::settings::Settings;
-use crate::texts::messages::{
-    OUT_OF_MEMORY, OUTPUT_UNWRITTEN, SUPERBLOCK_UNWRITTEN, build_message,
-};
 use crate::texts::reports::{report, report_bare};
-use command_line::{PrintFault, print_whole, write_message, write_text};
+use command_line::write_whole;
 use std::alloc::{AllocError, Global};
 use std::io::Write;
 use verity_format::write_superblock;
 use verity_hash::Digest;
-use verity_tree::{BuildFault, Device, Failed, Source, Store, build};
-
-/// Why format stops, in the order of its steps.
-#[derive(Clone, Copy)]
-pub enum FormatFault {
-    /// There is no memory for the store.
-    Store,
-    /// The tree is not built.
-    Build(BuildFault),
-    /// The superblock is not written.
-    Superblock,
-    /// The report is not printed whole.
-    Report(PrintFault),
-}
-
-impl FormatFault {
-    /// The status that the run ends with.
-    fn status(&self) -> u8
-        ensures { result ≡ fault_status self.now }
-    {
-        match self {
-            FormatFault::Store => 3,
-            FormatFault::Report(PrintFault::Memory) => 3,
-            FormatFault::Build(_) => 4,
-            FormatFault::Superblock => 4,
-            FormatFault::Report(PrintFault::Output(_)) => 4,
-        }
-    }
-
-    /// Writes the message of the fault. The answer says whether the writer took all of it.
-    fn write_message<M: Write>(&self, alloc: Global, msgs: &mut M) -> bool
-        ensures whole { IsTrue result → Appends (M.contents msgs.old) (M.contents msgs.new) (fault_message self.now) }
-        ensures prefix { AppendsPrefix (fault_message self.now) (M.contents msgs.old) (M.contents msgs.new) }
-    {
-        match self {
-            FormatFault::Build(fault) => write_message(build_message(alloc, fault), msgs),
-            FormatFault::Superblock => write_text(SUPERBLOCK_UNWRITTEN, msgs),
-            FormatFault::Store => write_text(OUT_OF_MEMORY, msgs),
-            FormatFault::Report(PrintFault::Memory) => write_text(OUT_OF_MEMORY, msgs),
-            FormatFault::Report(PrintFault::Output(_)) => write_text(OUTPUT_UNWRITTEN, msgs),
-        }
-    }
-}
+use verity_tree::{Device, Failed, Source, Store, build};
 
 /// Writes the superblock at the hash offset, if the settings have one.
 fn put_superblock<D: Device>(settings: &Settings, device: &mut D) -> Result<(), Failed>
@@ -102,14 +56,14 @@ fn settings_report(
 }
 
 /// Builds the tree, writes the superblock after it, and prints the report.
-fn build_and_report<S: Source, D: Device, O: Write>(
+pub(crate) fn format<S: Source, D: Device, O: Write>(
     alloc: Global,
     settings: &Settings,
     hash_path: &str,
     source: &mut S,
     device: &mut D,
     out: &mut O,
-) -> Result<(), FormatFault>
+) -> Result<(), Fault<'static>>
     ensures source_told { S.tells source.old → S.tells source.new }
     ensures device_told { D.tells device.old → D.tells device.new }
     ensures read { S.tells source.old → Reads settings.now result (S.remaining source.old) (S.remaining source.new) }
@@ -119,31 +73,31 @@ fn build_and_report<S: Source, D: Device, O: Write>(
     ensures printed { (root : List ℕ) × (S.tells source.old → root ≡ root_above settings.now (S.remaining source.old))
         × PrintsReport (format_report settings.now hash_path.now root) result
         (O.contents out.old) (O.contents out.new) }
-    ensures source_count { Counts (source_failed result) (S.failures source.old) (S.failures source.new) }
-    ensures device_count { Counts (device_failed result) (D.failures device.old) (D.failures device.new) }
+    ensures source_count { Counts (failed_at side_of TheSource result) (S.failures source.old) (S.failures source.new) }
+    ensures device_count { Counts (failed_at side_of TheDevice result) (D.failures device.old) (D.failures device.new) }
 {
     let plan = settings.plan();
     let mut store = match Store::new(alloc, plan) {
         Ok(store) => store,
-        Err(_) => return Err(FormatFault::Store),
+        Err(_) => return Err(Fault::Store),
     };
     let root = match build(plan, &mut store, source, device) {
         Ok(root) => root,
-        Err(fault) => return Err(FormatFault::Build(fault)),
+        Err(fault) => return Err(Fault::Build(fault)),
     };
     match put_superblock(settings, device) {
         Ok(()) => {}
-        Err(Failed) => return Err(FormatFault::Superblock),
+        Err(Failed) => return Err(Fault::SuperblockUnwritten),
     }
-    match print_whole(settings_report(alloc, settings, &root, hash_path), out) {
+    match write_whole(settings_report(alloc, settings, &root, hash_path), out) {
         Ok(()) => Ok(()),
-        Err(fault) => Err(FormatFault::Report(fault)),
+        Err(fault) => Err(Fault::Report(fault)),
     }
 }
 
 /// What all settings keep to. Called for the proof.
 fn settings_are_whole(settings: &Settings)
-    ensures planned { IsPlanned settings.now.plan }
+    ensures planned { IsPlan settings.now.plan }
     ensures agree { PartsAgree settings.now }
     ensures uuid { length settings.now.uuid ≡ 16 }
 {
@@ -179,11 +133,6 @@ pub fn run_format<S: Source, D: Device, O: Write, M: Write>(
         (text_change O.contents M.contents out.old out.new msgs.old msgs.new) }
 {
     settings_are_whole(settings);
-    match build_and_report(alloc, settings, hash_path, source, device, out) {
-        Ok(()) => 0,
-        Err(fault) => {
-            fault.write_message(alloc, msgs);
-            fault.status()
-        }
-    }
+    let outcome = format(alloc, settings, hash_path, source, device, out);
+    end_run(alloc, outcome, msgs)
 }

@@ -5,5 +5,4 @@ pub(crate) mod format;
 pub(crate) mod stored_superblock;
 pub(crate) mod trusted_tree;
 pub(crate) mod verify;
-pub(crate) mod verify_fault;
 pub(crate) mod verify_input;

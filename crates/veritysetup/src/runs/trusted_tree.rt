@@ -1,11 +1,14 @@
 //! What a stored tree is compared by.
-ghost use Rattle.std.specs.Prelude.{◌≡◌};
-ghost use Rattle.verity_io.specs.Counting.{Counts};
-ghost use Rattle.veritysetup.specs.Runs.VerifySteps.{IsTrustedTree, IsStoredTree, device_unread};
+ghost use Rattle.std.specs.Prelude.{◌≡◌, IfErr};
+ghost use Rattle.verity_io.specs.Counting.{Counts, TheDevice, failed_at};
+ghost use Rattle.veritysetup.specs.Faults.{side_of};
+ghost use Rattle.veritysetup.specs.Runs.Verify.{IsInputFault};
+ghost use Rattle.veritysetup.specs.Runs.VerifySteps.{IsTrustedTree, IsStoredTree};
 
+use crate::fault::Fault;
+use crate::options::option_fault::OptionFault;
 use crate::options::root_hash::read_root;
 use crate::runs::stored_superblock::stored_superblock;
-use crate::runs::verify_fault::InputFault;
 use crate::runs::verify_input::VerifyInput;
 use verity_hash::Digest;
 use verity_plan::plan_at;
@@ -24,11 +27,12 @@ pub struct TrustedTree {
 pub fn read_trusted_tree<D: Device>(
     device: &mut D,
     input: &VerifyInput,
-) -> Result<TrustedTree, InputFault>
+) -> Result<TrustedTree, Fault<'static>>
     ensures told { D.tells device.old → D.tells device.new }
     ensures stands { D.tells device.old → D.content device.new ≡ D.content device.old }
     ensures trusted { D.tells device.old → IsTrustedTree input.now (D.content device.old) result }
-    ensures count { Counts (device_unread result) (D.failures device.old) (D.failures device.new) }
+    ensures possible { IfErr result IsInputFault }
+    ensures count { Counts (failed_at side_of TheDevice result) (D.failures device.old) (D.failures device.new) }
 {
     match *input {
         VerifyInput::Stored { offset, root } => read_stored_tree(device, offset, root),
@@ -37,7 +41,7 @@ pub fn read_trusted_tree<D: Device>(
                 plan: *settings.plan(),
                 root,
             }),
-            None => Err(InputFault::BadRoot),
+            None => Err(Fault::Option(OptionFault::BadRoot)),
         },
     }
 }
@@ -47,23 +51,24 @@ fn read_stored_tree<D: Device>(
     device: &mut D,
     offset: u64,
     root: &str,
-) -> Result<TrustedTree, InputFault>
+) -> Result<TrustedTree, Fault<'static>>
     ensures told { D.tells device.old → D.tells device.new }
     ensures stands { D.tells device.old → D.content device.new ≡ D.content device.old }
     ensures trusted { D.tells device.old → IsStoredTree offset root.now (D.content device.old) result }
-    ensures count { Counts (device_unread result) (D.failures device.old) (D.failures device.new) }
+    ensures possible { IfErr result IsInputFault }
+    ensures count { Counts (failed_at side_of TheDevice result) (D.failures device.old) (D.failures device.new) }
 {
     let superblock = match stored_superblock(device, offset) {
         Ok(superblock) => superblock,
-        Err(fault) => return Err(InputFault::Superblock(fault)),
+        Err(fault) => return Err(fault),
     };
     let tree = superblock.tree();
     let plan = match plan_at(tree, superblock.blocks(), offset, true) {
         Ok(plan) => plan,
-        Err(_) => return Err(InputFault::TooLarge),
+        Err(_) => return Err(Fault::Option(OptionFault::TooLarge)),
     };
     match read_root(tree.algorithm(), root) {
         Some(root) => Ok(TrustedTree { plan, root }),
-        None => Err(InputFault::BadRoot),
+        None => Err(Fault::Option(OptionFault::BadRoot)),
     }
 }

@@ -1,42 +1,44 @@
 //! The run of verify.
-ghost use Rattle.std.specs.Prelude.{◌≡◌};
-ghost use Rattle.verity_io.specs.Counting.{Counts, change};
-ghost use Rattle.veritysetup.specs.Runs.Verify.{Verifies, VerifyRun, device_failed, source_failed};
+ghost use Rattle.std.specs.Prelude.{◌≡◌, IfErr};
+ghost use Rattle.verity_io.specs.Counting.{Counts, TheDevice, TheSource, change, failed_at};
+ghost use Rattle.veritysetup.specs.Faults.{side_of};
+ghost use Rattle.veritysetup.specs.Runs.Verify.{IsVerifyFault, Verifies, VerifyRun};
 ghost use Rattle.veritysetup.specs.Runs.Verified.{IsVerified};
 
+use crate::fault::{Fault, end_run};
 use crate::runs::trusted_tree::{TrustedTree, read_trusted_tree};
-use crate::runs::verify_fault::VerifyFault;
 use crate::runs::verify_input::VerifyInput;
 use std::alloc::Global;
 use std::io::Write;
 use verity_tree::{Device, Source, Store, compare};
 
 /// Compares the stored tree with the one above the data.
-fn verify<S: Source, D: Device>(
+pub(crate) fn verify<S: Source, D: Device>(
     alloc: Global,
     input: &VerifyInput,
     source: &mut S,
     device: &mut D,
-) -> Result<(), VerifyFault>
+) -> Result<(), Fault<'static>>
     ensures source_told { S.tells source.old → S.tells source.new }
     ensures device_told { D.tells device.old → D.tells device.new }
     ensures stands { D.tells device.old → D.content device.new ≡ D.content device.old }
     ensures verdict { S.tells source.old → D.tells device.old →
         Verifies input.now (D.content device.old) (S.remaining source.old) (S.remaining source.new) result }
-    ensures source_count { Counts (source_failed result) (S.failures source.old) (S.failures source.new) }
-    ensures device_count { Counts (device_failed result) (D.failures device.old) (D.failures device.new) }
+    ensures possible { IfErr result IsVerifyFault }
+    ensures source_count { Counts (failed_at side_of TheSource result) (S.failures source.old) (S.failures source.new) }
+    ensures device_count { Counts (failed_at side_of TheDevice result) (D.failures device.old) (D.failures device.new) }
 {
     let TrustedTree { plan, root } = match read_trusted_tree(device, input) {
         Ok(tree) => tree,
-        Err(fault) => return Err(VerifyFault::Input(fault)),
+        Err(fault) => return Err(fault),
     };
     let mut store = match Store::new(alloc, &plan) {
         Ok(store) => store,
-        Err(_) => return Err(VerifyFault::Store),
+        Err(_) => return Err(Fault::Store),
     };
     match compare(&plan, &mut store, source, device, &root) {
         Ok(()) => Ok(()),
-        Err(fault) => Err(VerifyFault::Compare(fault)),
+        Err(fault) => Err(Fault::Compare(fault)),
     }
 }
 
@@ -65,11 +67,5 @@ pub fn run_verify<S: Source, D: Device, M: Write>(
         (change D.tells D.content D.failures device.old device.new)
         (M.contents msgs.old) (M.contents msgs.new) }
 {
-    match verify(alloc, input, source, device) {
-        Ok(()) => 0,
-        Err(fault) => {
-            fault.write_message(alloc, msgs);
-            fault.status()
-        }
-    }
+    end_run(alloc, verify(alloc, input, source, device), msgs)
 }

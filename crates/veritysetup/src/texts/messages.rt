@@ -12,10 +12,16 @@ use verity_tree::{BuildFault, CompareFault, Part};
 const NO_DATA: &str = "No data blocks.\n";
 
 /// The data area or the hash area is past its limit.
-pub const TOO_LARGE: &str = "Data or hash area is too large.\n";
+const TOO_LARGE: &str = "Data or hash area is too large.\n";
 
 /// There is no memory. The text is fixed, so that it needs none.
 pub const OUT_OF_MEMORY: &str = "Out of memory.\n";
+
+/// The command line is accepted, but without a file that it must have.
+pub const INCOMPLETE_LINE: &str = "error: the command line is not complete\n";
+
+/// There are no random bytes.
+pub const NO_RANDOM_BYTES: &str = "Cannot get random bytes.\n";
 
 /// The superblock could not be read from the device.
 pub const SUPERBLOCK_UNREAD: &str = "Cannot read superblock.\n";

@@ -1,5 +1,4 @@
 //! What is printed: reports and messages.
 
 pub(crate) mod messages;
-pub(crate) mod program_messages;
 pub(crate) mod reports;

@@ -1,7 +1,7 @@
 use Rattle.std.proofs.Common.{◌≡◌, ℕ, List, Result, length, ap, sym, ◌∙◌}
 use Rattle.verity_format.specs.Descriptors.{digest_of_file}
 use Rattle.verity_hash.specs.Hashing.{digest_len_of}
-use Rattle.verity_plan.specs.Settings.{Settings}
+use Rattle.verity_plan.specs.Settings.{TreeSettingsFields}
 use Rattle.verity_tree.specs.Levels.{root_of_file}
 use Rattle.verity_c.specs.Answers.{value_or}
 use Rattle.verity_c.specs.Building.{digest_of_fed, file_root_in}
@@ -21,7 +21,7 @@ returns-in-Ok-end-clause-root c =
     c.in-Ok-end.ensures.root
     (c.if-root-digest_len.false ∙ same)
     c.put_digest.ensures
-    ∙ sym (ap (λ (r : Result Settings Fault). value_or c.args.root.now (file_root_in r fed)) made)
+    ∙ sym (ap (λ (r : Result TreeSettingsFields Fault). value_or c.args.root.now (file_root_in r fed)) made)
 
 pub returns-in-Ok-end-clause-digest : goal.returns-in-Ok-end-clause-digest
 returns-in-Ok-end-clause-digest c =
@@ -46,4 +46,4 @@ returns-in-Ok-end-clause-digest c =
     ∙ ap (value_or c.args.digest.now) answered
     ∙ ap (λ (n : ℕ). digest_of_file (record { tree = tree; size = n; root = c.put_digest.new.buffer })) size
     ∙ ap (λ (r : List ℕ). digest_of_file (record { tree = tree; size = length fed; root = r })) hash
-    ∙ sym (ap (λ (r : Result Settings Fault). value_or c.args.digest.now (digest_of_fed r fed)) made)
+    ∙ sym (ap (λ (r : Result TreeSettingsFields Fault). value_or c.args.digest.now (digest_of_fed r fed)) made)

@@ -1,5 +1,5 @@
 use Rattle.std.proofs.Common.{◌≡◌, ℕ, List, Result, length, ap, sym, ◌∙◌}
-use Rattle.verity_plan.specs.Plans.{Planned}
+use Rattle.verity_plan.specs.Plans.{PlanFields}
 use Rattle.verity_tree.specs.Levels.{data_blocks, root}
 use Rattle.verity_c.specs.Answers.{value_or}
 use Rattle.verity_c.specs.Building.{root_in}
@@ -18,4 +18,4 @@ returns-in-Ok-end-clause-root c =
     let room = c.if-root-digest_len.false ∙ c.digest_len.ensures in
     c.put_digest.ensures (ap length is ∙ length-root p.settings (data_blocks p fed) ∙ sym room)
     ∙ is
-    ∙ sym (ap (λ (r : Result Planned Fault). value_or c.args.root.now (root_in r fed)) made)
+    ∙ sym (ap (λ (r : Result PlanFields Fault). value_or c.args.root.now (root_in r fed)) made)

@@ -9,10 +9,10 @@ pub levels-preserved : goal.levels-preserved
 levels-preserved c =
     let inv = c.levels.invariant in
     let some : 0 < c.args.fan = omega (arith, c.requires.two) in
-    let more = levels-more c.args.fan c.args.blocks c.levels.above.levels c.levels.size c.requires.two inv.size_is
+    let more = levels-more c.args.fan c.args.blocks c.levels.tree.levels c.levels.size c.requires.two inv.size_is
     c.levels-test.true in
     let next = c.div_ceil-size.ensures
-    ∙ size-more c.args.fan c.args.blocks c.levels.above.levels c.levels.size some inv.size_is in
+    ∙ size-more c.args.fan c.args.blocks c.levels.tree.levels c.levels.size some inv.size_is in
     record {
       size_is = next;
       some = omega (arith, c.div_ceil-size.ensures, div_ceil-pos c.levels.size c.args.fan some inv.some);
@@ -21,7 +21,7 @@ levels-preserved c =
         arith,
         inv.counted,
         next,
-        blocks_from-level c.args.fan c.args.blocks c.levels.above.levels (level_count c.args.fan c.args.blocks) more,
+        blocks_from-level c.args.fan c.args.blocks c.levels.tree.levels (level_count c.args.fan c.args.blocks) more,
       );
       most = omega (
         arith,
@@ -43,18 +43,18 @@ returns-clause-levels c =
     omega (
       arith,
       inv.within,
-      levels-all c.args.fan c.args.blocks c.levels.above.levels c.levels.size c.requires.two
+      levels-all c.args.fan c.args.blocks c.levels.tree.levels c.levels.size c.requires.two
           inv.size_is (omega (arith, c.levels-test.false)),
     )
 
 pub returns-clause-blocks : goal.returns-clause-blocks
 returns-clause-blocks c =
     let inv = c.levels.invariant in
-    let none : level_count c.args.fan c.args.blocks - c.levels.above.levels ≡ 0 =
+    let none : level_count c.args.fan c.args.blocks - c.levels.tree.levels ≡ 0 =
     omega (
       arith,
       inv.within,
-      levels-all c.args.fan c.args.blocks c.levels.above.levels c.levels.size c.requires.two
+      levels-all c.args.fan c.args.blocks c.levels.tree.levels c.levels.size c.requires.two
           inv.size_is (omega (arith, c.levels-test.false)),
     ) in
-    omega (arith, inv.counted, ap (λ (k : ℕ). blocks_from c.args.fan c.args.blocks c.levels.above.levels k) none)
+    omega (arith, inv.counted, ap (λ (k : ℕ). blocks_from c.args.fan c.args.blocks c.levels.tree.levels k) none)

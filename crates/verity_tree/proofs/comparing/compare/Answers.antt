@@ -1,6 +1,6 @@
 use Rattle.std.proofs.Common.{◌≡◌, sym, ◌∙◌, true, false, refl}
 use Rattle.std.proofs.lemmas.Slice.Eq.{bytes_eq-Decides}
-use Rattle.verity_tree.proofs.JudgeLemmas.{judges-right, judges-root, judges-short, judges-stop}
+use Rattle.verity_tree.proofs.JudgeLemmas.{comes-to, judges-differs, judges-right, judges-root, judges-short}
 use Rattle.verity_tree.proofs.comparing.compare.Goals as goal
 
 pub returns-then-eq-clause-verdict : goal.returns-then-eq-clause-verdict
@@ -29,9 +29,12 @@ returns-in-Err-SourceShort-clause-verdict g c = λ tells told.
     judges-short c.args.plan.now _ _ _ c.args.root.now c.in-Err-SourceShort.i (rw c.in-Err-SourceShort.field-0-is at r)
     (rw c.in-Err-SourceShort.field-0-is at h).1
 
-pub returns-in-Err-Stopped-clause-verdict : goal.returns-in-Err-Stopped-clause-verdict
-returns-in-Err-Stopped-clause-verdict g c = λ tells told.
-    let h = c.in-Err-Stopped.ensures.compared refl tells told in
-    let stops = rw c.in-Err-Stopped.field-0-is at h in
-    rw c.fault_of.ensures
-    (judges-stop c.args.plan.now c.pass.ensures.planned _ _ c.args.root.now c.in-Err-Stopped.stop stops.1)
+pub returns-in-Err-DeviceFailed-clause-verdict : goal.returns-in-Err-DeviceFailed-clause-verdict
+returns-in-Err-DeviceFailed-clause-verdict g c = λ tells told.
+    let h = c.in-Err-DeviceFailed.ensures.compared refl tells told in
+    comes-to c.args.plan.now _ _ _ (rw c.in-Err-DeviceFailed.field-0-is at h).1
+
+pub returns-in-Err-Differs-clause-verdict : goal.returns-in-Err-Differs-clause-verdict
+returns-in-Err-Differs-clause-verdict g c = λ tells told.
+    let h = c.in-Err-Differs.ensures.compared refl tells told in
+    judges-differs c.args.plan.now c.pass.ensures.planned _ _ c.args.root.now _ _ _ (rw c.in-Err-Differs.field-0-is at h).1

@@ -3,7 +3,7 @@ use Rattle.verity_tree.specs.declared.part.Part.TheVariants.{Child}
 use Rattle.std.specs.Prelude.{find, not}
 use Rattle.std.specs.Str.{bytes_eq}
 use Rattle.std.specs.List.{range_with_len}
-use Rattle.verity_plan.specs.Plans.{Planned}
+use Rattle.verity_plan.specs.Plans.{PlanFields}
 use Rattle.verity_plan.specs.PlanCounts.{size_under}
 use Rattle.verity_plan.specs.Settings.{fan}
 use Rattle.verity_tree.specs.Verdicts.{digest_in, part_at}
@@ -34,7 +34,7 @@ overflow_sub-below c =
     )
 
 -- the number of used slots
-used-is : (p : Planned) (l j below first used g : ℕ) → g ≡ fan p.settings → first ≡ j * g → below ≡ size_under p l
+used-is : (p : PlanFields) (l j below first used g : ℕ) → g ≡ fan p.settings → first ≡ j * g → below ≡ size_under p l
     → used ≡ min (below - first) g
     → used ≡ min (fan p.settings) (size_under p l - j * fan p.settings)
 used-is p l j below first used g g_is first_is below_is is =

@@ -2,11 +2,11 @@
 use Rattle.std.proofs.Common.{◌≡◌, ℕ, ◌+◌, ◌-◌, ◌*◌, List, take, drop, arith, ◌∙◌, ap}
 use Rattle.std.specs.Prelude.{not}
 use Rattle.std.specs.Str.{bytes_eq}
-use Rattle.verity_plan.specs.Settings.{Settings, digest_len, slot_width}
+use Rattle.verity_plan.specs.Settings.{TreeSettingsFields, digest_len, slot_width}
 use Rattle.verity_tree.specs.Verdicts.{digest_in}
 use Rattle.verity_tree.proofs.part.slot_differs.Goals as goal
 
-cut_is : (s : Settings) (bytes : List ℕ) (slot width len : ℕ) → width ≡ slot_width s → len ≡ digest_len s
+cut_is : (s : TreeSettingsFields) (bytes : List ℕ) (slot width len : ℕ) → width ≡ slot_width s → len ≡ digest_len s
     → take (slot * width + len - slot * width) (drop (slot * width) bytes) ≡ digest_in s bytes slot
 cut_is s bytes slot width len width_is len_is =
     let count : slot * width + len - slot * width ≡ digest_len s = omega (arith, len_is) in
@@ -17,9 +17,9 @@ pub returns : goal.returns
 returns c =
     let s = c.args.plan.now.settings in
     let slot = c.args.slot in
-    let computed = cut_is s c.args.computed.now slot c.slot_width.result c.digest_len-len.result c.slot_width.ensures
+    let computed = cut_is s c.args.computed.now slot c.slot_width.result c.digest_len-len.result (c.slot_width.ensures.value ∙ ap slot_width c.settings.ensures)
     c.digest_len-len.ensures in
-    let on_device = cut_is s c.args.stored.now slot c.slot_width.result c.digest_len-len.result c.slot_width.ensures
+    let on_device = cut_is s c.args.stored.now slot c.slot_width.result c.digest_len-len.result (c.slot_width.ensures.value ∙ ap slot_width c.settings.ensures)
     c.digest_len-len.ensures in
     let cut = λ (bytes : List ℕ). take
     (slot * c.slot_width.result + c.digest_len-len.result - slot * c.slot_width.result)

@@ -1,4 +1,5 @@
 use Rattle.std.proofs.Common.{◌≡◌, ℕ, ◌*◌, ◌/◌, ◌%◌, ◌^◌, ◌<◌, ◌≤◌, below_more, length, arith, ap, sym, ◌∙◌, refl}
+use Rattle.verity_tree.proofs.OpenBlockLemmas.{hash-by}
 use Rattle.std.proofs.lemmas.Slice.Eq.{bytes_eq-Decides}
 use Rattle.verity_tree.specs.Paths.{HoldsAt, chain}
 use Rattle.verity_plan.specs.PlanCounts.{level_count_of}
@@ -52,7 +53,7 @@ loop-level-preserved c =
       quotient = ap (λ (n : ℕ). n / c.fan-fan.result) c.loop-level.invariant.quotient
           ∙ ap (λ (n : ℕ). i / fan p.settings ^ l / n) c.fan-fan.ensures.value
           ∙ sym (quotient-next (fan p.settings) i l);
-      digest_is = c.hash-digest-in-loop-level.ensures
+      digest_is = hash-by _ _ _ _ c.settings-in-loop-level.ensures c.hash-digest-in-loop-level.ensures
           ∙ ap (hash p.settings) (above ∙ sym (chain-more p.settings c.args.block.now path l));
       below = below_more (HoldsAt p i c.args.block.now path c.args.root.now) l c.loop-level.invariant.below here;
     }

@@ -6,7 +6,7 @@ use Rattle.std.specs.Int.{div_ceil}
 use Rattle.std.specs.Fork.{slice_chunk}
 use Rattle.verity_hash.specs.Hashing.{with_zeros}
 use Rattle.verity_plan.proofs.CountLemmas.{mul-lt_div_ceil}
-use Rattle.verity_plan.specs.Settings.{Settings, IsValid, hash}
+use Rattle.verity_plan.specs.Settings.{TreeSettingsFields, IsValid, hash}
 use Rattle.verity_plan.proofs.FanLemmas.{some_data}
 use Rattle.verity_tree.specs.Levels.{block_at}
 use Rattle.verity_tree.specs.Steps.PlainRoots.{digest_of_block}
@@ -14,7 +14,7 @@ use Rattle.verity_tree.proofs.LevelLemmas.{map-hash-cut, take-bytes, mapped_more
 use Rattle.verity_tree.proofs.plain_root.digests_of.Goals as goal
 
 -- each block begins within the bytes
-begins-within : (s : Settings) → IsValid s → (bytes : List ℕ) (size i count : ℕ) → size ≡ s.data_block
+begins-within : (s : TreeSettingsFields) → IsValid s → (bytes : List ℕ) (size i count : ℕ) → size ≡ s.data_block
     → count ≡ div_ceil (length bytes) size → i < count → i * size < length bytes
 begins-within s valid bytes size i count size_is count_is below =
     mul-lt_div_ceil (length bytes) size i (omega (arith, size_is, some_data s valid)) (omega (arith, count_is, below))

@@ -2,10 +2,10 @@
 use Rattle.std.proofs.Common.{◌≡◌, ◌<◌, ℕ, List, map, length, IfOk, arith, sym, ◌∙◌, ap, subst}
 use Rattle.std.proofs.lemmas.List.{length-map}
 use Rattle.std.specs.Int.{div_ceil}
-use Rattle.verity_plan.specs.Settings.{Settings, hash}
+use Rattle.verity_plan.specs.Settings.{TreeSettingsFields, hash}
 use Rattle.verity_tree.specs.Levels.{cut, data_blocks}
 use Rattle.verity_tree.specs.Steps.PlainRoots.{root_of_digests}
-use Rattle.verity_plan.specs.Plans.{Planned, IsPlanned}
+use Rattle.verity_plan.specs.Plans.{PlanFields, IsPlan}
 use Rattle.verity_plan.proofs.FanLemmas.{fan-two}
 use Rattle.verity_tree.proofs.LevelLemmas.{length-cut}
 use Rattle.verity_tree.proofs.RootLemmas.{root-digests}
@@ -13,18 +13,18 @@ use Rattle.verity_tree.proofs.DataBlockLemmas.{blocks-some}
 use Rattle.verity_tree.proofs.plain_root.root_by_levels.Goals as goal
 
 -- the digests are those of the plan's data blocks
-digests-are : (p : Planned) → IsPlanned p → (s : Settings) (bytes : List ℕ) (digests : List (List ℕ)) → s ≡ p.settings
+digests-are : (p : PlanFields) → IsPlan p → (s : TreeSettingsFields) (bytes : List ℕ) (digests : List (List ℕ)) → s ≡ p.settings
     → length bytes ≡ p.wanted
     → digests ≡ map (hash s) (cut s (div_ceil (length bytes) s.data_block) (length bytes) bytes)
     → digests ≡ map (hash p.settings) (data_blocks p bytes)
 digests-are p planned s bytes digests same all is =
     is
-    ∙ ap (λ (t : Settings). map (hash t) (cut t (div_ceil (length bytes) t.data_block) (length bytes) bytes)) same
+    ∙ ap (λ (t : TreeSettingsFields). map (hash t) (cut t (div_ceil (length bytes) t.data_block) (length bytes) bytes)) same
     ∙ ap (λ (n : ℕ). map (hash p.settings) (cut p.settings (div_ceil n p.settings.data_block) n bytes)) all
     ∙ ap (λ (n : ℕ). map (hash p.settings) (cut p.settings n p.wanted bytes)) (sym planned.blocks_are)
 
 -- there are some
-blocks-are-some : (p : Planned) → IsPlanned p → (bytes : List ℕ) → 0 < length (data_blocks p bytes)
+blocks-are-some : (p : PlanFields) → IsPlan p → (bytes : List ℕ) → 0 < length (data_blocks p bytes)
 blocks-are-some p planned bytes = omega (arith, length-cut p.settings p.blocks p.wanted bytes, blocks-some p planned)
 
 pub root_of_digests-requires : goal.root_of_digests-requires
@@ -46,7 +46,7 @@ returns c =
     let planned = c.wanted-wanted.ensures.planned in
     let bytes = c.args.bytes.now in
     let digests = digests-are p planned _ bytes _ c.settings-settings.ensures c.requires c.in_ok-digests.ensures in
-    let same = ap (λ (s : Settings). root_of_digests s c.in_ok-digests.digests.items) c.settings-settings.ensures
+    let same = ap (λ (s : TreeSettingsFields). root_of_digests s c.in_ok-digests.digests.items) c.settings-settings.ensures
     ∙ ap (root_of_digests p.settings) digests
     ∙ sym (root-digests p.settings (data_blocks p bytes) (fan-two p.settings planned.valid)
     (blocks-are-some p planned bytes)) in

@@ -1,6 +1,6 @@
 use Rattle.std.proofs.Common.{ap, arith, ℕ, ◌-◌, ◌/◌, ◌<◌, ◌≡◌, ◌≤◌}
 use Rattle.std.proofs.Math.Nat.{mul-le-mul}
-use Rattle.verity_plan.specs.Plans.{Planned, IsPlanned}
+use Rattle.verity_plan.specs.Plans.{PlanFields, IsPlan}
 use Rattle.verity_plan.proofs.FanLemmas.{hash_most, some_data}
 use Rattle.verity_plan.proofs.IndexLemmas.{quotient-below}
 use Rattle.verity_plan.proofs.PlanLemmas.{levels_few}
@@ -12,7 +12,7 @@ nonzero_div-i c =
     omega (arith, c.data_block.ensures, some_data p.settings c.blocks-blocks.ensures.planned.valid)
 
 -- the last byte is in a data block of the plan
-last-below : (p : Planned) (count size : ℕ) → IsPlanned p → 0 < count → count ≤ p.wanted → size ≡ p.settings.data_block
+last-below : (p : PlanFields) (count size : ℕ) → IsPlan p → 0 < count → count ≤ p.wanted → size ≡ p.settings.data_block
     → (count - 1) / size < p.blocks
 last-below p count size planned some most same =
     let below : count - 1 < p.wanted = omega (arith, some, most) in

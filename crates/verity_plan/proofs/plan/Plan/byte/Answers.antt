@@ -1,5 +1,5 @@
 use Rattle.std.proofs.Common.{ℕ, ◌*◌, arith, ap, ◌∙◌, subst}
-use Rattle.verity_plan.specs.Plans.{IsPlanned}
+use Rattle.verity_plan.specs.Plans.{IsPlan}
 use Rattle.verity_plan.specs.PlanCounts.{place_of}
 use Rattle.verity_plan.proofs.PlanLemmas.{byte-room}
 use Rattle.verity_plan.proofs.plan.Plan.byte.Goals as goal
@@ -7,7 +7,7 @@ use Rattle.verity_plan.proofs.plan.Plan.byte.Goals as goal
 pub overflow_mul-result : goal.overflow_mul-result
 overflow_mul-result c =
     let p = c.args.self.now in
-    let planned = subst IsPlanned c.self.view_is c.self.invariant.planned in
+    let planned = subst IsPlan c.self.view_is c.self.invariant.planned in
     let size = c.from.ensures ∙ c.hash_block.ensures.value ∙ ap (λ q. q.settings.hash_block) c.self.view_is in
     omega (
       arith,
@@ -19,7 +19,7 @@ overflow_mul-result c =
 pub returns-clause-room : goal.returns-clause-room
 returns-clause-room c =
     let p = c.args.self.now in
-    let planned = subst IsPlanned c.self.view_is c.self.invariant.planned in
+    let planned = subst IsPlan c.self.view_is c.self.invariant.planned in
     let size = c.from.ensures ∙ c.hash_block.ensures.value ∙ ap (λ q. q.settings.hash_block) c.self.view_is in
     omega (
       arith,

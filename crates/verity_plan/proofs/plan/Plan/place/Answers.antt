@@ -1,6 +1,6 @@
 use Rattle.std.proofs.Common.{◌≡◌, ℕ, ◌+◌, ◌-◌, ◌<◌, arith, ◌∙◌, ap, subst}
 use Rattle.std.specs.Int.{div_ceil}
-use Rattle.verity_plan.specs.Plans.{level_size, blocks_from, IsPlanned}
+use Rattle.verity_plan.specs.Plans.{level_size, blocks_from, IsPlan}
 use Rattle.verity_plan.specs.PlanCounts.{level_count_of}
 use Rattle.verity_plan.specs.Settings.{fan}
 use Rattle.verity_plan.proofs.PlaceLemmas.{blocks_from-level, PlacesAreOnce-all}
@@ -12,7 +12,7 @@ overflow_add-below-end c =
     omega (
       arith,
       c.requires.level_below,
-      levels_few c.args.self.now (subst IsPlanned c.self.view_is c.self.invariant.planned),
+      levels_few c.args.self.now (subst IsPlan c.self.view_is c.self.invariant.planned),
     )
 
 pub overflow_sub-start : goal.overflow_sub-start
@@ -55,7 +55,7 @@ loop-below-preserved c =
 pub overflow_add-result : goal.overflow_add-result
 overflow_add-result c =
     let p = c.args.self.now in
-    let planned = subst IsPlanned c.self.view_is c.self.invariant.planned in
+    let planned = subst IsPlan c.self.view_is c.self.invariant.planned in
     let past : c.loop-below.below ≡ c.args.level + 1 =
     omega (arith, c.loop-below.auto.below-end, c.loop-below-test.false) in
     let start : c.loop-below.start ≡ p.base + blocks_from (fan p.settings) p.blocks (c.args.level + 1)

@@ -1,7 +1,7 @@
 use Rattle.std.proofs.Common.{◌≡◌, ℕ, ◌+◌, ◌*◌, ◌<◌, arith, sym, ◌∙◌, ap, inl, inr}
 use Rattle.std.proofs.Math.Nat.{mul-le-mul_right}
 use Rattle.verity_io.specs.Writing.{most_bytes}
-use Rattle.verity_plan.specs.Plans.{level_count, blocks_from, Planned, end_place_of}
+use Rattle.verity_plan.specs.Plans.{level_count, blocks_from, PlanFields, end_place_of}
 use Rattle.verity_plan.proofs.FanLemmas.{some_data, two_slots, digest_len_of-pos}
 use Rattle.verity_plan.proofs.PlanLemmas.{checked_plan-large, past-quotient, within-quotient, base-le-end, has_room-data}
 use Rattle.verity_plan.proofs.PlanLemmas.{has_room-hash, some_wanted}
@@ -10,7 +10,7 @@ use Rattle.verity_plan.proofs.plan.Plan.try_new.Goals as goal
 pub returns-then-blocks-most_blocks : goal.returns-then-blocks-most_blocks
 returns-then-blocks-most_blocks c =
     let s = c.args.settings.now in
-    let p : Planned = record { settings = s; blocks = c.args.blocks; wanted = c.args.wanted; base = c.args.base } in
+    let p : PlanFields = record { settings = s; blocks = c.args.blocks; wanted = c.args.wanted; base = c.args.base } in
     let some : 0 < c.args.blocks = omega (arith, c.if-blocks-eq0.false) in
     let data_is : c.from-most_blocks.result ≡ s.data_block = c.from-most_blocks.ensures ∙ c.data_block.ensures.value in
     let hash_is : c.from-most_end.result ≡ s.hash_block = c.from-most_end.ensures ∙ c.hash_block.ensures.value in
@@ -36,30 +36,30 @@ returns-then-blocks-most_blocks c =
 pub returns-then-end-most_end : goal.returns-then-end-most_end
 returns-then-end-most_end c =
     let s = c.args.settings.now in
-    let p : Planned = record { settings = s; blocks = c.args.blocks; wanted = c.args.wanted; base = c.args.base } in
+    let p : PlanFields = record { settings = s; blocks = c.args.blocks; wanted = c.args.wanted; base = c.args.base } in
     let some : 0 < c.args.blocks = omega (arith, c.if-blocks-eq0.false) in
     let hash_is : c.from-most_end.result ≡ s.hash_block = c.from-most_end.ensures ∙ c.hash_block.ensures.value in
     let hash_some : 0 < c.from-most_end.result =
     omega (arith, hash_is, two_slots s c.hash_block.ensures.valid, digest_len_of-pos s.algorithm) in
-    let end_is : c.args.base + c.levels_above-above.result.blocks ≡ end_place_of p =
-    ap (λ (n : ℕ). c.args.base + n) (c.levels_above-above.ensures.blocks
+    let end_is : c.args.base + c.levels_above-tree.result.blocks ≡ end_place_of p =
+    ap (λ (n : ℕ). c.args.base + n) (c.levels_above-tree.ensures.blocks
     ∙ ap (λ (f : ℕ). blocks_from f c.args.blocks 0 (level_count f c.args.blocks)) c.fan.ensures.value) in
     sym (checked_plan-large p some (has_room-hash p
     (omega (
       arith,
       past-quotient most_bytes c.from-most_end.result _ hash_some c.if-end-most_end.true,
-      ap (λ (n : ℕ). (c.args.base + c.levels_above-above.result.blocks) * n) hash_is,
+      ap (λ (n : ℕ). (c.args.base + c.levels_above-tree.result.blocks) * n) hash_is,
       ap (λ (n : ℕ). n * s.hash_block) end_is,
     ))))
 
 pub invariant_of-result : goal.invariant_of-result
 invariant_of-result c =
     let s = c.args.settings.now in
-    let p : Planned = record { settings = s; blocks = c.args.blocks; wanted = c.args.wanted; base = c.args.base } in
+    let p : PlanFields = record { settings = s; blocks = c.args.blocks; wanted = c.args.wanted; base = c.args.base } in
     let data_is : c.from-most_blocks.result ≡ s.data_block = c.from-most_blocks.ensures ∙ c.data_block.ensures.value in
     let hash_is : c.from-most_end.result ≡ s.hash_block = c.from-most_end.ensures ∙ c.hash_block.ensures.value in
-    let end_is : c.args.base + c.levels_above-above.result.blocks ≡ end_place_of p =
-    ap (λ (n : ℕ). c.args.base + n) (c.levels_above-above.ensures.blocks
+    let end_is : c.args.base + c.levels_above-tree.result.blocks ≡ end_place_of p =
+    ap (λ (n : ℕ). c.args.base + n) (c.levels_above-tree.ensures.blocks
     ∙ ap (λ (f : ℕ). blocks_from f c.args.blocks 0 (level_count f c.args.blocks)) c.fan.ensures.value) in
     record {
       planned = record {
@@ -74,11 +74,11 @@ invariant_of-result c =
         hash_most = omega (
           arith,
           within-quotient most_bytes c.from-most_end.result _ c.if-end-most_end.false,
-          ap (λ (n : ℕ). (c.args.base + c.levels_above-above.result.blocks) * n) hash_is,
+          ap (λ (n : ℕ). (c.args.base + c.levels_above-tree.result.blocks) * n) hash_is,
           ap (λ (n : ℕ). n * s.hash_block) end_is,
         );
       };
-      levels_are = c.levels_above-above.ensures.levels
+      levels_are = c.levels_above-tree.ensures.levels
           ∙ ap (λ (f : ℕ). level_count f c.args.blocks) c.fan.ensures.value;
       end_is = end_is;
     }

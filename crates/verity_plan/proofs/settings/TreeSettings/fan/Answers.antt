@@ -1,6 +1,6 @@
 use Rattle.std.proofs.Common.{ℕ, ◌≤◌, ◌*◌, sym, ◌∙◌, ap, subst}
 use Rattle.std.proofs.lemmas.Nat.{one_shl}
-use Rattle.verity_plan.specs.Settings.{Settings, fan, slot_width, slot_count}
+use Rattle.verity_plan.specs.Settings.{TreeSettingsFields, fan, slot_width, slot_count}
 use Rattle.verity_plan.proofs.FitLemmas.{fan-fits}
 use Rattle.verity_plan.proofs.FanLemmas.{slot_count-quotient}
 use Rattle.verity_plan.proofs.settings.TreeSettings.fan.Goals as goal
@@ -16,5 +16,5 @@ returns-clause-value c =
     ∙ ap fan c.self.view_is
 
 pub returns-clause-fits : goal.returns-clause-fits
-returns-clause-fits c = let view = c.self.view_is in subst (λ (s : Settings). fan s * slot_width s ≤ s.hash_block) view
+returns-clause-fits c = let view = c.self.view_is in subst (λ (s : TreeSettingsFields). fan s * slot_width s ≤ s.hash_block) view
     (fan-fits _ c.self.invariant)

@@ -2,7 +2,7 @@ use Rattle.std.proofs.Common.{◌≡◌, ℕ, ◌<◌, length, take, Option, Som
 use Rattle.std.specs.Prelude.{SomeIff}
 use Rattle.verity_hash.specs.declared.digest.Digest.{Digest}
 use Rattle.verity_plan.specs.Settings.{hash}
-use Rattle.verity_tree.proofs.OpenBlockLemmas.{length-hash}
+use Rattle.verity_tree.proofs.OpenBlockLemmas.{length-hash, hash-by}
 use Rattle.verity_tree.proofs.FirstBlockLemmas.{with_zeros-whole}
 use Rattle.verity_tree.proofs.PieceOfBytesLemmas.{with_zeros-filled, block-whole, block-partial}
 use Rattle.verity_tree.proofs.feeding.current.current_digest.Goals as goal
@@ -22,7 +22,7 @@ returns-then-at-eq0-clause-digest c = λ bytes some most at holds.
     ∙ ap (hash s) (sym (with_zeros-whole s.data_block bytes whole))
 
 pub returns-clause-size : goal.returns-clause-size
-returns-clause-size c = ap length c.hash.ensures ∙ length-hash c.args.plan.now.settings _
+returns-clause-size c = ap length (hash-by _ _ _ _ c.settings.ensures c.hash.ensures) ∙ length-hash c.args.plan.now.settings _
 
 pub returns-clause-digest : goal.returns-clause-digest
 returns-clause-digest c = λ bytes some most at holds.
@@ -30,7 +30,7 @@ returns-clause-digest c = λ bytes some most at holds.
     let more : 0 < c.args.at = omega arith in
     let here : length bytes ≡ c.args.at =
     block-partial (length bytes) s.data_block most (omega (arith, more, at)) ∙ at in
-    c.hash.ensures
+    (hash-by _ _ _ _ c.settings.ensures c.hash.ensures)
     ∙ ap (hash s)
     (with_zeros-filled s.data_block c.args.at bytes c.args.current.now c.fill.new.self c.requires.room here most
     (holds.partial (omega (arith, here, c.requires.at))) (c.fill.ensures.after (λ y e. e)))

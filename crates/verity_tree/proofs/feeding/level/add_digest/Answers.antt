@@ -1,7 +1,7 @@
 use Rattle.std.proofs.Common.{◌≡◌, ℕ, ◌+◌, ◌-◌, ◌*◌, ◌%◌, ◌<◌, true, leb, length, arith, ap, ◌∙◌, sym}
 use Rattle.std.proofs.Common.{inl, inr, subst}
 use Rattle.std.proofs.lemmas.Bool.Decides.{leb_tells}
-use Rattle.verity_plan.specs.Settings.{fan}
+use Rattle.verity_plan.specs.Settings.{fan, slot_width}
 use Rattle.verity_tree.proofs.ClosedLevelLemmas.{Adds-full, Adds-room, length-part, put-is_with}
 use Rattle.verity_tree.proofs.OpenBlockSteps.{slot-room, slots-all, slots-left}
 use Rattle.verity_tree.proofs.feeding.level.add_digest.Goals as goal
@@ -15,7 +15,7 @@ put_slot-requires c =
     let wide : m * c.hash_block-size.result + c.hash_block-size.result - m * c.hash_block-size.result ≡ s.hash_block =
     omega (arith, size) in
     slot-room s c.index_above.result c.fan-fan.result c.slot_width.result (length c.args.digest.now) _
-    c.fan-fan.ensures.value c.slot_width.ensures c.requires.size
+    c.fan-fan.ensures.value (c.slot_width.ensures.value ∙ ap slot_width c.settings.ensures) c.requires.size
     (length-part s.hash_block m _ _ c.args.opened.now from wide c.requires.room) c.fan-fan.ensures.two
     c.fan-fan.ensures.fits
 
@@ -41,7 +41,7 @@ returns-then-slot-fan-clause-adds c = λ blocks levels many inside room h.
     room from wide
     (c.put_slot.auto.block ∙ length-part s.hash_block m _ _ c.args.opened.now from wide c.requires.room)
     (put-is_with s blocks c.args.i m levels index c.fan-fan.result c.slot_width.result _ _ c.args.opened.now
-    c.put_slot.new.block c.args.digest.now c.fan-fan.ensures.value c.slot_width.ensures c.fan-fan.ensures.two
+    c.put_slot.new.block c.args.digest.now c.fan-fan.ensures.value (c.slot_width.ensures.value ∙ ap slot_width c.settings.ensures) c.fan-fan.ensures.two
     c.fan-fan.ensures.fits below inside c.index_above.ensures from wide c.put_slot.ensures h) h
 
 pub returns-else-slot-fan-clause-adds : goal.returns-else-slot-fan-clause-adds
@@ -63,5 +63,5 @@ returns-else-slot-fan-clause-adds c = λ blocks levels many inside room h.
     room from wide
     (c.put_slot.auto.block ∙ length-part s.hash_block m _ _ c.args.opened.now from wide c.requires.room)
     (put-is_with s blocks c.args.i m levels index c.fan-fan.result c.slot_width.result _ _ c.args.opened.now
-    c.put_slot.new.block c.args.digest.now c.fan-fan.ensures.value c.slot_width.ensures c.fan-fan.ensures.two
+    c.put_slot.new.block c.args.digest.now c.fan-fan.ensures.value (c.slot_width.ensures.value ∙ ap slot_width c.settings.ensures) c.fan-fan.ensures.two
     c.fan-fan.ensures.fits below inside c.index_above.ensures from wide c.put_slot.ensures h) h

@@ -2,11 +2,11 @@ use Rattle.std.proofs.Common.{◌≡◌, ℕ, ◌+◌, ◌-◌, ◌*◌, length,
 use Rattle.verity_plan.specs.Settings.{hash}
 use Rattle.verity_plan.proofs.FanLemmas.{fan-some}
 use Rattle.verity_tree.proofs.ClosedLevelLemmas.{IsCarrying-up, length-part}
-use Rattle.verity_tree.proofs.OpenBlockLemmas.{length-hash}
+use Rattle.verity_tree.proofs.OpenBlockLemmas.{length-hash, hash-by}
 use Rattle.verity_tree.proofs.feeding.level.close_block.Goals as goal
 
 pub returns-clause-size : goal.returns-clause-size
-returns-clause-size c = ap length c.hash-digest.ensures ∙ length-hash c.args.plan.now.settings _
+returns-clause-size c = ap length (hash-by _ _ _ _ c.settings.ensures c.hash-digest.ensures) ∙ length-hash c.args.plan.now.settings _
 
 pub returns-clause-closes : goal.returns-clause-closes
 returns-clause-closes c = λ blocks i levels inside room h.
@@ -20,6 +20,6 @@ returns-clause-closes c = λ blocks i levels inside room h.
     room from wide
     (c.fill.ensures.after (λ y e. e)
     ∙ ap (λ (n : ℕ). replicate n 0) (length-part s.hash_block m _ _ c.args.opened.now from wide c.requires.room))
-    (c.hash-digest.ensures
+    ((hash-by _ _ _ _ c.settings.ensures c.hash-digest.ensures)
     ∙ ap (λ (n : ℕ). hash s (take n (drop (m * c.hash_block-size.result) c.args.opened.now))) wide
     ∙ ap (λ (n : ℕ). hash s (take s.hash_block (drop n c.args.opened.now))) from) h

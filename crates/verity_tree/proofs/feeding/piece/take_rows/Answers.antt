@@ -7,13 +7,13 @@ use Rattle.verity_plan.specs.Settings.{fan, hash}
 use Rattle.verity_plan.proofs.FanLemmas.{fan-some, some_data}
 use Rattle.verity_tree.specs.ClosingOrder.{closed_after}
 use Rattle.verity_tree.specs.ClosingOrder.{blocks_before}
-use Rattle.verity_tree.proofs.OpenBlockLemmas.{length-hash}
+use Rattle.verity_tree.proofs.OpenBlockLemmas.{length-hash, hash-by}
 use Rattle.verity_tree.proofs.PieceOfBytesLemmas.{HasFed-rows, blocks_before-whole, closed_after-none}
 use Rattle.verity_tree.proofs.feeding.piece.take_rows.Goals as goal
 
 pub add_rows-requires-clause-sizes : goal.add_rows-requires-clause-sizes
 add_rows-requires-clause-sizes c = λ r low.
-    ap length (c.hash_rows-digests.ensures r (omega (arith, low))) ∙ length-hash c.args.plan.now.settings _
+    ap length (hash-by _ _ _ _ c.settings.ensures (c.hash_rows-digests.ensures r (omega (arith, low)))) ∙ length-hash c.args.plan.now.settings _
 
 pub keep_digest-requires-clause-size : goal.keep_digest-requires-clause-size
 keep_digest-requires-clause-size c =
@@ -23,7 +23,7 @@ keep_digest-requires-clause-size c =
     ap length
     (get_or_default c.hash_rows-digests.result (count - 1) c.index-digests-count.result []
     (omega (arith, long, some, c.rows_from-count.ensures.most))
-    ∙ c.hash_rows-digests.ensures (count - 1) (omega (arith, some)))
+    ∙ hash-by _ _ _ _ c.settings.ensures (c.hash_rows-digests.ensures (count - 1) (omega (arith, some))))
     ∙ length-hash c.args.plan.now.settings _
 
 pub returns-clause-some : goal.returns-clause-some
@@ -98,7 +98,7 @@ returns-clause-fed c = λ levels fed few room whole stands.
     c.keep_digest.new.current digests (omega (arith, one, c.rows_from-count.ensures.batch.below)) whole wide
     (omega (arith, whole, wide, fits, c.requires.most))
     (λ r low.
-    c.hash_rows-digests.ensures r (omega (arith, low, one))
+    hash-by _ _ _ _ c.settings.ensures (c.hash_rows-digests.ensures r (omega (arith, low, one)))
     ∙ ap (λ (b : ℕ). hash s (slice_chunk taken b r)) c.data_block-size.ensures)
     (λ blocks many each before. c.add_rows.ensures blocks levels many few room each before)
     (c.keep_digest.ensures

@@ -1,5 +1,6 @@
 -- The digest of the block that is left is the root hash.
 use Rattle.std.proofs.Common.{◌≡◌, ℕ, suc, ◌+◌, ◌-◌, ◌*◌, ◌%◌, ◌<◌, List, length, take, drop, arith, sym, ◌∙◌, ap}
+use Rattle.verity_tree.proofs.OpenBlockLemmas.{hash-by}
 use Rattle.std.proofs.Common.{subst}
 use Rattle.std.specs.Fork.{slice_chunk}
 use Rattle.verity_plan.specs.PlanCounts.{level_count_of}
@@ -48,7 +49,7 @@ returns c = λ levels fed all h.
     let one : level_count_of p ≡ suc top = omega (arith, next) in
     let stands : IsHandingOut p levels top fed c.args.opened.now =
     subst (λ (n : ℕ). Stands p levels fed n c.args.opened.now c.args.current.now) one h in
-    c.hash.ensures
+    (hash-by _ _ _ _ c.settings.ensures c.hash.ensures)
     ∙ ap (hash s) (top-range c.args.opened.now c.levels-levels.result c.hash_block-size.result top s.hash_block
     (c.levels-levels.ensures ∙ next) c.hash_block-size.ensures)
     ∙ top-root p levels top fed c.args.opened.now c.blocks-blocks.ensures.planned next all stands

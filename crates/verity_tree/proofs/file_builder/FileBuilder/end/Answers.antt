@@ -2,9 +2,9 @@ use Rattle.std.proofs.Common.{List, ap, arith, false, length, refl, subst, sym, 
 use Rattle.std.proofs.lemmas.Bool.Decides.{nat_tests}
 use Rattle.std.specs.Prelude.{Ok, nat_eq}
 use Rattle.verity_plan.proofs.CountLemmas.{mul_le}
-use Rattle.verity_plan.specs.Plans.{IsPlanned, Planned, plan_for_bytes}
+use Rattle.verity_plan.specs.Plans.{IsPlan, PlanFields, plan_for_bytes}
 use Rattle.verity_plan.specs.PlanCounts.{most_level_count}
-use Rattle.verity_plan.specs.Settings.{Settings}
+use Rattle.verity_plan.specs.Settings.{TreeSettingsFields}
 use Rattle.verity_tree.specs.Levels.{root_of_file, data_blocks, root}
 use Rattle.verity_tree.specs.Steps.Feeding.{HasFed}
 use Rattle.verity_tree.proofs.FeedingLemmas.{FilePlan-is, IsFedFile-parted, file_levels, file_room}
@@ -20,16 +20,16 @@ close_all-requires-clause-opened c =
     omega (arith, mul_le _ _ plan.settings.hash_block most, room)
 
 -- the root hash of a file's bytes
-file_root-some : (s : Settings) (plan : Planned) (size : ℕ) (fed : List ℕ) → IsPlanned plan
+file_root-some : (s : TreeSettingsFields) (plan : PlanFields) (size : ℕ) (fed : List ℕ) → IsPlan plan
     → Ok plan ≡ plan_for_bytes s size 0 → length fed ≡ size
     → root plan.settings (data_blocks plan fed) ≡ root_of_file s (length fed) fed
 file_root-some s plan size fed planned is had =
     let asked : Ok plan ≡ plan_for_bytes s (length fed) 0 =
     subst (λ (n : ℕ). Ok plan ≡ plan_for_bytes s n 0) (sym had) is in
     let same = FilePlan-is plan s (length fed) asked in
-    let some : 0 < length fed = omega (arith, planned.some, ap (λ (p : Planned). p.wanted) same) in
+    let some : 0 < length fed = omega (arith, planned.some, ap (λ (p : PlanFields). p.wanted) same) in
     let tested : nat_eq (length fed) 0 ≡ false = grind (arith, nat_tests, some) in
-    ap (λ (p : Planned). root p.settings (data_blocks p fed)) same ∙ rw tested refl
+    ap (λ (p : PlanFields). root p.settings (data_blocks p fed)) same ∙ rw tested refl
 
 pub returns-in-Ok-clause-root : goal.returns-in-Ok-clause-root
 returns-in-Ok-clause-root c = λ fed h.
@@ -45,7 +45,7 @@ returns-in-Ok-clause-root c = λ fed h.
     c.close_all.ensures levels fed (file_levels plan s count planned c.in-Ok.ensures)
     (file_room plan s count levels _ c.in-Ok.ensures
     (c.split_at_mut-opened.ensures.front_len ∙ c.open_length.ensures.value))
-    (h.count ∙ sym (ap (λ (p : Planned). p.wanted) same))
-    (subst (λ (t : Settings). HasFed t levels fed c.split_at_mut-opened.result.0.now c.split_at_mut-opened.result.1.now)
-    (sym (ap (λ (p : Planned). p.settings) same)) stood)
+    (h.count ∙ sym (ap (λ (p : PlanFields). p.wanted) same))
+    (subst (λ (t : TreeSettingsFields). HasFed t levels fed c.split_at_mut-opened.result.0.now c.split_at_mut-opened.result.1.now)
+    (sym (ap (λ (p : PlanFields). p.settings) same)) stood)
     ∙ file_root-some s plan count fed planned c.in-Ok.ensures h.count

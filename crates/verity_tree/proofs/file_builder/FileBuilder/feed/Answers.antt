@@ -4,9 +4,9 @@ use Rattle.std.proofs.lemmas.List.{append-nil}
 use Rattle.std.specs.Prelude.{Err, None, Result, Some, if◌then◌else◌}
 use Rattle.verity_io.specs.Writing.{most_bytes}
 use Rattle.verity_plan.proofs.CountLemmas.{mul_le}
-use Rattle.verity_plan.specs.Plans.{Planned, plan_for_bytes}
+use Rattle.verity_plan.specs.Plans.{PlanFields, plan_for_bytes}
 use Rattle.verity_plan.specs.PlanCounts.{most_level_count}
-use Rattle.verity_plan.specs.Settings.{Settings}
+use Rattle.verity_plan.specs.Settings.{TreeSettingsFields}
 use Rattle.verity_plan.specs.declared.plan_fault.PlanFault.{PlanFault}
 use Rattle.verity_plan.specs.declared.plan_fault.PlanFault.TheVariants.{NoData}
 use Rattle.verity_tree.specs.Feeding.{IsFedFile, is_too_large}
@@ -21,7 +21,7 @@ pub returns-in_default-clause-fault : goal.returns-in_default-clause-fault
 returns-in_default-clause-fault c =
     let count = c.args.self.now.fed + length c.args.piece.now in
     let past : most_bytes < count = omega (arith, c.in_default.ensures) in
-    sym (ap (λ (r : Result Planned PlanFault). if is_too_large r then Some TooLarge else None)
+    sym (ap (λ (r : Result PlanFields PlanFault). if is_too_large r then Some TooLarge else None)
     (FilePlan-large c.args.self.now.settings count c.data_block-block.ensures.valid past))
 
 pub feed_all-requires-clause-opened : goal.feed_all-requires-clause-opened
@@ -40,20 +40,20 @@ returns-in-Ok-clause-fed c = λ fed h.
     let levels = most_level_count s in
     let size = c.split_at_mut-opened.ensures.front_len ∙ c.open_length.ensures.value in
     let same : plan.settings ≡ s =
-    ap (λ (p : Planned). p.settings) (FilePlan-is plan s c.in-Some.count c.in-Ok.ensures) in
+    ap (λ (p : PlanFields). p.settings) (FilePlan-is plan s c.in-Some.count c.in-Ok.ensures) in
     let stood = IsFedFile-parted c.args.self.now _ c.args.memory.now c.split_at_mut-opened.result.0.now
     c.split_at_mut-opened.result.1.now fed c.open_length.ensures.value c.split_at_mut-opened.ensures.front
     c.split_at_mut-opened.ensures.back h in
     let stands = c.feed_all.ensures levels fed
     (file_levels plan s c.in-Some.count c.blocks-blocks.ensures.planned c.in-Ok.ensures)
     (file_room plan s c.in-Some.count levels _ c.in-Ok.ensures size) h.count
-    (subst (λ (t : Settings). HasFed t levels fed c.split_at_mut-opened.result.0.now c.split_at_mut-opened.result.1.now)
+    (subst (λ (t : TreeSettingsFields). HasFed t levels fed c.split_at_mut-opened.result.0.now c.split_at_mut-opened.result.1.now)
     (sym same) stood) in
     record {
       count = omega (arith, length-append fed c.args.piece.now, h.count, c.in-Some.ensures);
       stands = joined (λ (xs ys : List ℕ). HasFed s levels (fed ++ c.args.piece.now) xs ys) (levels * s.hash_block)
           c.feed_all.new.opened c.feed_all.new.current (c.feed_all.auto.opened ∙ size)
-          (subst (λ (t : Settings). HasFed t levels (fed ++ c.args.piece.now) c.feed_all.new.opened c.feed_all.new.current)
+          (subst (λ (t : TreeSettingsFields). HasFed t levels (fed ++ c.args.piece.now) c.feed_all.new.opened c.feed_all.new.current)
           same stands);
     }
 

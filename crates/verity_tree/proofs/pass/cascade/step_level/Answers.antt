@@ -1,8 +1,9 @@
 use Rattle.std.proofs.Common.{◌≡◌, ℕ, ◌/◌, List, length, ap, ◌∙◌, arith, sym, subst, inl, inr, replicate}
-use Rattle.verity_plan.specs.Settings.{hash, fan}
+use Rattle.verity_tree.specs.Steps.PassFaults.{StopsAtBlock}
+use Rattle.verity_plan.specs.Settings.{hash, fan, slot_width}
 use Rattle.verity_io.specs.Writing.{put, Spoiled}
 use Rattle.verity_plan.proofs.FitLemmas.{hash_block-some}
-use Rattle.verity_tree.proofs.OpenBlockLemmas.{length-hash}
+use Rattle.verity_tree.proofs.OpenBlockLemmas.{length-hash, hash-by}
 use Rattle.verity_tree.proofs.OpenBlockSteps.{slot-room, open_block_with-put, slots-all, slots-left}
 use Rattle.verity_tree.specs.Steps.ClosedBlocks.{IsHashBlockFault, closed_block}
 use Rattle.verity_plan.specs.Plans.{start_byte_of}
@@ -17,7 +18,7 @@ put_slot-requires g c =
     slot-room c.args.job.now.plan.settings c.args.next.now.index c.fan-fan.result c.slot_width.result
     (length c.args.next.now.digest.now)
     (length c.args.bytes.now)
-    c.fan-fan.ensures.value c.slot_width.ensures c.requires.digest c.requires.size c.fan-fan.ensures.two
+    c.fan-fan.ensures.value (c.slot_width.ensures.value ∙ ap slot_width c.settings.ensures) c.requires.digest c.requires.size c.fan-fan.ensures.two
     c.fan-fan.ensures.fits
 
 pub returns-then-not-next-clause-level : goal.returns-then-not-next-clause-level
@@ -29,7 +30,7 @@ returns-then-not-next-clause-level g c = record {
       open_block_with-put c.args.job.now.plan.settings below c.args.next.now.index c.fan-fan.result c.slot_width.result
       c.args.bytes.now
       c.put_slot.new.block c.args.next.now.digest.now
-      c.fan-fan.ensures.value c.slot_width.ensures c.fan-fan.ensures.two c.fan-fan.ensures.fits c.put_slot.ensures next;
+      c.fan-fan.ensures.value (c.slot_width.ensures.value ∙ ap slot_width c.settings.ensures) c.fan-fan.ensures.two c.fan-fan.ensures.fits c.put_slot.ensures next;
 }
 
 pub returns-in-Ok-clause-level : goal.returns-in-Ok-clause-level
@@ -41,12 +42,12 @@ returns-in-Ok-clause-level g c = record {
         c.fan-fan.ensures.two w.if-slot-fan.false)
   ];
   zeros = c.fill.ensures.after (λ y e. e) ∙ ap (λ (n : ℕ). replicate n 0) (c.put_slot.auto.block ∙ c.requires.size);
-  len = ap length c.hash-above.ensures ∙ length-hash c.args.job.now.plan.settings c.put_slot.new.block;
-  hashed = λ below next. c.hash-above.ensures ∙ ap (hash c.args.job.now.plan.settings)
+  len = ap length (hash-by _ _ _ _ c.settings-in-Ok.ensures c.hash-above.ensures) ∙ length-hash c.args.job.now.plan.settings c.put_slot.new.block;
+  hashed = λ below next. hash-by _ _ _ _ c.settings-in-Ok.ensures c.hash-above.ensures ∙ ap (hash c.args.job.now.plan.settings)
       (open_block_with-put c.args.job.now.plan.settings below c.args.next.now.index c.fan-fan.result c.slot_width.result
       c.args.bytes.now
       c.put_slot.new.block c.args.next.now.digest.now
-      c.fan-fan.ensures.value c.slot_width.ensures c.fan-fan.ensures.two c.fan-fan.ensures.fits c.put_slot.ensures
+      c.fan-fan.ensures.value (c.slot_width.ensures.value ∙ ap slot_width c.settings.ensures) c.fan-fan.ensures.two c.fan-fan.ensures.fits c.put_slot.ensures
       next);
 }
 
@@ -74,7 +75,7 @@ returns-in-Ok-clause-device g c = λ tells below next.
     (open_block_with-put s below c.args.next.now.index c.fan-fan.result c.slot_width.result c.args.bytes.now
     c.put_slot.new.block
     c.args.next.now.digest.now
-    c.fan-fan.ensures.value c.slot_width.ensures c.fan-fan.ensures.two c.fan-fan.ensures.fits c.put_slot.ensures next)
+    c.fan-fan.ensures.value (c.slot_width.ensures.value ∙ ap slot_width c.settings.ensures) c.fan-fan.ensures.two c.fan-fan.ensures.fits c.put_slot.ensures next)
 
 pub returns-in-Err-clause-device : goal.returns-in-Err-clause-device
 returns-in-Err-clause-device g c = λ tells.
@@ -102,7 +103,7 @@ returns-in-Ok-clause-compared g c = λ compare tells.
           ∙ open_block_with-put s below c.args.next.now.index c.fan-fan.result c.slot_width.result c.args.bytes.now
           c.put_slot.new.block
           c.args.next.now.digest.now
-          c.fan-fan.ensures.value c.slot_width.ensures c.fan-fan.ensures.two c.fan-fan.ensures.fits c.put_slot.ensures
+          c.fan-fan.ensures.value (c.slot_width.ensures.value ∙ ap slot_width c.settings.ensures) c.fan-fan.ensures.two c.fan-fan.ensures.fits c.put_slot.ensures
           next,
     )
 
@@ -122,9 +123,14 @@ returns-in-Err-clause-compared g c = λ compare tells.
           (open_block_with-put s below c.args.next.now.index c.fan-fan.result c.slot_width.result c.args.bytes.now
           c.put_slot.new.block
           c.args.next.now.digest.now
-          c.fan-fan.ensures.value c.slot_width.ensures c.fan-fan.ensures.two c.fan-fan.ensures.fits c.put_slot.ensures
+          c.fan-fan.ensures.value (c.slot_width.ensures.value ∙ ap slot_width c.settings.ensures) c.fan-fan.ensures.two c.fan-fan.ensures.fits c.put_slot.ensures
           next)
           (subst (λ (n : ℕ). IsHashBlockFault p
           (closed_block c.args.level (c.args.next.now.index / n) c.put_slot.new.block) before
           c.in-Err.fault) c.fan-fan.ensures.value stop.1),
     )
+
+pub returns-in-Err-clause-fault : goal.returns-in-Err-clause-fault
+returns-in-Err-clause-fault g c =
+    subst (λ (n : ℕ). StopsAtBlock c.args.job.now.task c.args.level (c.args.next.now.index / n) c.in-Err.fault)
+    c.fan-fan.ensures.value c.in-Err.ensures.fault

@@ -2,17 +2,17 @@ use Rattle.std.proofs.Common.{◌≡◌, ℕ, ◌-◌, ◌*◌, ◌<◌, min, Li
 use Rattle.verity_io.specs.Reading.{HasRead}
 use Rattle.verity_tree.specs.Reading.{bytes_of}
 use Rattle.verity_tree.specs.Steps.DataBlocks.{StopsBy, TakesDataBlock}
-use Rattle.verity_plan.specs.Plans.{Planned, IsPlanned}
+use Rattle.verity_plan.specs.Plans.{PlanFields, IsPlan}
 use Rattle.verity_plan.specs.PlanCounts.{level_count_of}
 use Rattle.verity_tree.specs.declared.pass.data_block.BlockFault.{BlockFault}
 use Rattle.verity_tree.specs.declared.pass.data_block.BlockFault.TheVariants.{Short, Failed}
 use Rattle.verity_tree.proofs.OnePassLemmas.{HasOpenBlocks-after}
-use Rattle.verity_tree.proofs.OpenBlockLemmas.{length-hash}
+use Rattle.verity_tree.proofs.OpenBlockLemmas.{length-hash, hash-by}
 use Rattle.verity_tree.proofs.DataBlockLemmas.{data-next, failed-within, short-within}
 use Rattle.verity_tree.proofs.pass.data_block.take_data_block.Goals as goal
 
 -- a source that stopped within the block
-stops : (p : Planned) → IsPlanned p → (i data_len b : ℕ) (bytes rest after : List ℕ) (fault : BlockFault)
+stops : (p : PlanFields) → IsPlan p → (i data_len b : ℕ) (bytes rest after : List ℕ) (fault : BlockFault)
     → b ≡ p.settings.data_block → i < p.blocks
     → data_len ≡ min b (p.wanted - i * b) → HasRead (bytes_of p i) bytes rest → StopsBy fault data_len rest after
     → TakesDataBlock p i bytes (Err fault) after
@@ -22,7 +22,7 @@ stops p planned i data_len b bytes rest after Failed e below w read_before h =
     failed-within p planned i data_len b bytes rest after e below w read_before h
 
 pub returns-in-Ok-clause-size : goal.returns-in-Ok-clause-size
-returns-in-Ok-clause-size g c = ap length c.hash.ensures ∙ length-hash c.args.plan.now.settings _
+returns-in-Ok-clause-size g c = ap length (hash-by _ _ _ _ c.settings.ensures c.hash.ensures) ∙ length-hash c.args.plan.now.settings _
 
 pub returns-in-Ok-clause-opened : goal.returns-in-Ok-clause-opened
 returns-in-Ok-clause-opened g c = λ blocks stands.
@@ -58,7 +58,7 @@ returns-in-Ok-clause-read g c = λ tells bytes read_before.
     c.read_data_block.new.block c.hash.result
     c.data_block-size.ensures c.requires.below w (omega (arith, a, c.data_block-size.ensures, c.requires.room))
     c.read_data_block.auto.block read_before
-    (c.in-Ok.ensures.bytes tells) c.hash.ensures
+    (c.in-Ok.ensures.bytes tells) (hash-by _ _ _ _ c.settings.ensures c.hash.ensures)
 
 pub returns-in-Err-clause-read : goal.returns-in-Err-clause-read
 returns-in-Err-clause-read g c = λ tells bytes read_before.

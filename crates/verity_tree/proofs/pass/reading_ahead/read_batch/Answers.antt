@@ -2,14 +2,14 @@ use Rattle.std.proofs.Common.{◌≡◌, ◌≢◌, ◌⊎◌, ℕ, zero, suc, �
 use Rattle.std.proofs.Common.{ap}
 use Rattle.std.proofs.Common.{◌∙◌, inl, inr}
 use Rattle.std.specs.Fork.{slice_chunk}
-use Rattle.verity_plan.specs.Plans.{Planned}
+use Rattle.verity_plan.specs.Plans.{PlanFields}
 use Rattle.verity_plan.specs.Settings.{hash}
 use Rattle.verity_tree.specs.Levels.{data_blocks}
 use Rattle.verity_tree.specs.Steps.OpenBlocks.{level_digest}
 use Rattle.verity_tree.specs.Steps.ReadingAhead.{HasSizes, HasNext, ReadsCount, IsBatch}
 use Rattle.verity_tree.specs.declared.pass.data_block.BlockFault.{BlockFault}
-use Rattle.verity_tree.specs.declared.pass.reading_ahead.Ahead.{Ahead}
-use Rattle.verity_tree.proofs.OpenBlockLemmas.{length-hash}
+use Rattle.verity_tree.specs.declared.pass.reading_ahead.DigestsAhead.{DigestsAhead}
+use Rattle.verity_tree.proofs.OpenBlockLemmas.{length-hash, hash-by}
 use Rattle.verity_tree.proofs.ReadingAheadLemmas.{some-fault}
 use Rattle.verity_tree.proofs.pass.reading_ahead.read_batch.Goals as goal
 
@@ -27,7 +27,7 @@ count-some : (n : ℕ) → (n ≡ 0) ⊎ (0 < n)
 count-some zero = inl refl
 count-some (suc n) = inr (omega arith)
 
-has_next : (p : Planned) (i count n : ℕ) (ahead : Ahead) → 0 < count → count ≤ 8 → IsBatch p i count
+has_next : (p : PlanFields) (i count n : ℕ) (ahead : DigestsAhead) → 0 < count → count ≤ 8 → IsBatch p i count
     → ReadsCount count n ahead.fault → ahead.first ≡ i → ahead.end ≡ i + n → HasSizes p ahead → HasNext p i ahead
 has_next p i count n ahead some most batch read first end sizes =
     let within : n ≤ count = most-read count n ahead.fault read in
@@ -75,13 +75,14 @@ returns-clause-next g c =
     c.read_rows-read.ensures.many refl refl
     (λ r lt.
     ap length
+    (hash-by _ _ _ _ c.settings.ensures
     (c.hash_rows.ensures r
     (omega (
       arith,
       lt,
       most-read c.args.count c.read_rows-read.result.0 c.read_rows-read.result.1
           c.read_rows-read.ensures.many,
-    )))
+    ))))
     ∙ length-hash p.settings _)
 
 pub returns-clause-ahead : goal.returns-clause-ahead
@@ -95,7 +96,7 @@ returns-clause-ahead g c = λ tells bytes read_before.
           let r = k - c.args.i in
           let low : r < n = omega (arith, from, lt) in
           let back : c.args.i + r ≡ k = omega (arith, from) in
-          c.hash_rows.ensures r (omega (arith, low, most))
+          hash-by _ _ _ _ c.settings.ensures (c.hash_rows.ensures r (omega (arith, low, most)))
           ∙ ap (λ (b : ℕ). hash p.settings (slice_chunk rows b r)) c.data_block.ensures
           ∙ c.read_rows-read.ensures.rows tells bytes read_before r low
           ∙ ap (λ (m : ℕ). level_digest p.settings (data_blocks p bytes) m 0) back;

@@ -3,7 +3,7 @@ use Rattle.std.proofs.Common.{Ok, Err, Result}
 use borrow.Rule.Slice.PartMut.{put_mid}
 use Rattle.std.specs.Fork.{slice_chunk}
 use Rattle.verity_io.specs.Reading.{HasRead}
-use Rattle.verity_plan.specs.Plans.{Planned, IsPlanned}
+use Rattle.verity_plan.specs.Plans.{PlanFields, IsPlan}
 use Rattle.verity_plan.specs.Settings.{hash}
 use Rattle.verity_tree.specs.Reading.{bytes_of}
 use Rattle.verity_tree.specs.Steps.DataBlocks.{ReadsBlock}
@@ -15,7 +15,7 @@ use Rattle.verity_hash.proofs.RowLemmas.{rows-within}
 use Rattle.verity_tree.proofs.ReadingAheadLemmas.{row-kept}
 use Rattle.verity_tree.proofs.pass.reading_ahead.read_row.Goals as goal
 
-reads : (p : Planned) → IsPlanned p → (i row data_len b a : ℕ) (bytes rest after rows new : List ℕ)
+reads : (p : PlanFields) → IsPlan p → (i row data_len b a : ℕ) (bytes rest after rows new : List ℕ)
     (result : Result Unit BlockFault) → b ≡ p.settings.data_block → a ≡ row * p.settings.data_block → i < p.blocks
     → data_len ≡ min b (p.wanted - i * b) → a + b ≤ length rows → length new ≡ length (take (a + b - a) (drop a rows))
     → HasRead (bytes_of p i) bytes rest

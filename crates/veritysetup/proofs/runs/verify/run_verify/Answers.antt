@@ -1,9 +1,17 @@
+use Rattle.std.proofs.Common.{subst, Result}
 use Rattle.verity_tree.proofs.HoldsLemmas.{right-holds_enough}
+use Rattle.veritysetup.specs.Runs.Verify.{Verifies}
+use Rattle.veritysetup.specs.declared.fault.Fault.{Fault}
 use Rattle.veritysetup.proofs.runs.verify.run_verify.Goals as goal
 
-pub returns-in-Ok-clause-verified : goal.returns-in-Ok-clause-verified
-returns-in-Ok-clause-verified g c = λ zero source_told device_told.
-    let compared = c.in-Ok.ensures.verdict source_told device_told in
+pub returns-clause-verified : goal.returns-clause-verified
+returns-clause-verified g c = λ zero source_told device_told.
+    let input = c.args.input.now in
+    let device = g.D.Device.content c.args.device.now in
+    let source = g.S.Source.remaining c.args.source.now in
+    let rest = g.S.Source.remaining c.verify.new.source in
+    let compared = subst (λ (outcome : Result (Unit {0}) Fault). Verifies input device source rest outcome)
+    (c.end_run.ensures.done zero) (c.verify.ensures.verdict source_told device_told) in
     record {
       plan = compared.plan;
       root = compared.root;
@@ -11,3 +19,14 @@ returns-in-Ok-clause-verified g c = λ zero source_told device_told.
       holds = right-holds_enough compared.plan _ _ compared.root compared.read.enough compared.verdict;
       read = compared.read;
     }
+
+pub returns-clause-run : goal.returns-clause-run
+returns-clause-run g c = record {
+  outcome = c.verify.result;
+  possible = c.verify.ensures.possible;
+  status_is = c.end_run.ensures.status;
+  verdict = c.verify.ensures.verdict;
+  message = c.end_run.ensures.message;
+  source_counted = c.verify.ensures.source_count;
+  device_counted = c.verify.ensures.device_count;
+}

@@ -1,22 +1,22 @@
 use Rattle.std.proofs.Common.{◌≡◌, ◌∙◌, ap, refl, List, ℕ, ◌++◌, Option}
 use Rattle.verity_format.specs.Superblocks.{SuperblockFields}
 use Rattle.verity_hash.specs.Hashing.{name_of}
-use Rattle.verity_plan.specs.Settings.{Settings}
+use Rattle.verity_plan.specs.Settings.{TreeSettingsFields}
 use Rattle.veritysetup.specs.Texts.ReportSteps.{with_hash, with_device, with_sizes}
 use Rattle.veritysetup.specs.Texts.Reports.{salt_text, title, root_line, report_text}
 use Rattle.veritysetup.proofs.texts.reports.report_with.Goals as goal
 
 -- the report from the texts after each of its parts
-by_parts : (path uuid name salt : List ℕ) (v : SuperblockFields) (tree : Settings) (root : Option (List ℕ))
+by_parts : (path uuid name salt : List ℕ) (v : SuperblockFields) (tree : TreeSettingsFields) (root : Option (List ℕ))
     (first second third fourth last : List ℕ)
     → tree ≡ v.tree → name ≡ name_of tree.algorithm → salt ≡ salt_text tree.salt
     → first ≡ title path → second ≡ with_device first uuid v → third ≡ with_sizes second tree
     → fourth ≡ with_hash third name salt → last ≡ fourth ++ root_line root → last ≡ report_text path uuid v root
 unfolding report_text
 by_parts path uuid name salt v tree root first second third fourth last a b c d e f g h =
-    let named = b ∙ ap (λ (t : Settings). name_of t.algorithm) a in
-    let salted = c ∙ ap (λ (t : Settings). salt_text t.salt) a in
-    let sized = f ∙ ap (λ (t : Settings). with_sizes second t) a in
+    let named = b ∙ ap (λ (t : TreeSettingsFields). name_of t.algorithm) a in
+    let salted = c ∙ ap (λ (t : TreeSettingsFields). salt_text t.salt) a in
+    let sized = f ∙ ap (λ (t : TreeSettingsFields). with_sizes second t) a in
     let whole : fourth ≡ with_hash (with_sizes (with_device (title path) uuid v) v.tree)
     (name_of v.tree.algorithm) (salt_text v.tree.salt) =
     rw (g, sized, e, d, named, salted) refl in

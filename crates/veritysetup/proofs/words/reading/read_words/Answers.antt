@@ -8,17 +8,17 @@ use Rattle.clap.proofs.OnLiterals.{clap_on_literals}
 use Rattle.command_line.specs.Arguments.{Defines}
 use Rattle.command_line.proofs.Causes.{caused, fails_by}
 use Rattle.command_line.proofs.Named.{IsOneOf, met_is_own, met_of, none_of, sub_names}
-use Rattle.veritysetup.specs.Words.CommandLines.{command_text, dump_app, format_app, verify_app, veritysetup_app, with_offset_rule, with_tree_rules}
+use Rattle.veritysetup.specs.Words.CommandLines.{command_text, dump_app, format_app, verify_app, veritysetup_app}
 use Rattle.veritysetup.specs.declared.words.command_name.CommandName.TheVariants.{Format, Dump, Verify}
 use Rattle.command_line.specs.declared.words.line_fault.LineFault.TheVariants.{Memory, Refused}
 use Rattle.veritysetup.proofs.words.reading.read_words.Goals as goal
 
 app_is_simple : is_simple veritysetup_app ≡ true
-unfolding clap_on_literals veritysetup_app format_app dump_app verify_app with_tree_rules with_offset_rule
+unfolding clap_on_literals veritysetup_app format_app dump_app verify_app
 app_is_simple = refl
 
 app_is_free : is_simple_and_free veritysetup_app ≡ true
-unfolding clap_on_literals veritysetup_app format_app dump_app verify_app with_tree_rules with_offset_rule
+unfolding clap_on_literals veritysetup_app format_app dump_app verify_app
 app_is_free = refl
 
 help_is_off : veritysetup_app.top.disable_help_subcommand ≡ true
@@ -26,7 +26,7 @@ unfolding veritysetup_app
 help_is_off = refl
 
 names : sub_names veritysetup_app ≡ map command_text (Format ∷ Dump ∷ Verify ∷ [])
-unfolding veritysetup_app format_app dump_app verify_app with_tree_rules with_offset_rule
+unfolding veritysetup_app format_app dump_app verify_app
 names = refl
 
 subcommand_is : (c : Command) (m : ArgMatches) (words : List Text) (name : Text) (rows : List Row) → Defines veritysetup_app c

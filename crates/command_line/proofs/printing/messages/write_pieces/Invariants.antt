@@ -1,8 +1,0 @@
-use Rattle.std.proofs.Common.{take}
-use Rattle.std.specs.List.{flat_map}
-use Rattle.std.specs.Io.KnownBytes.{Appends}
-use Rattle.command_line.proofs.printing.messages.write_pieces.Given as goal
-
-abbrev pub invariant-loop-piece : goal.invariant-loop-piece
-invariant-loop-piece g l =
-    Appends (g.W.Write.contents l.fn.msgs) (g.W.Write.contents l.msgs) (flat_map (λ p. p.now) (take l.piece-index l.pieces))

@@ -1,4 +1,0 @@
-//! Printing texts and messages.
-
-pub(crate) mod messages;
-pub(crate) mod print_fault;

@@ -1,0 +1,4 @@
+//! Writing texts and messages.
+
+pub(crate) mod messages;
+pub(crate) mod print_fault;

@@ -1,0 +1,162 @@
+//! How a run ends: the fault that ends it early, with its status and its message.
+ghost use Rattle.std.specs.Prelude.{◌≡◌, ◌≤◌, IfErr, IfSome, IsOk, IsTrue};
+ghost use Rattle.std.specs.Io.KnownBytes.{Appends};
+ghost use Rattle.command_line.specs.Writing.{AppendsPrefix};
+ghost use Rattle.fsverity.specs.Texts.Messages.{digest_message, output_fault_message, run_fault_message};
+
+use crate::texts::messages::OUTPUT_UNWRITTEN;
+use crate::words::usage::USAGE;
+use crate::{
+    DigestFault, FsOptionFault, LineFault, OUT_OF_MEMORY, OutputFault, PrintFault, RunFault,
+    digest_message, option_message,
+};
+use command_line::{WordsFault, not_utf8_message, write_message, write_pieces, write_text};
+use std::alloc::Global;
+use std::io::Write;
+
+/// Why a run of the program ends early, the file's name beside the fault of a file. `RunFault` and `OutputFault` are
+/// types of their own since the contract of a run rests on what each excludes: a run over files writes no tree and no
+/// descriptor, and a run with output files begins with an opened file.
+#[derive(Debug, Drop)]
+pub(crate) enum Fault<'a> {
+    /// The words of the command line can't be read, or there is no memory for a list of them.
+    Words(WordsFault),
+    /// The command line is refused, or there is no memory for the copies of its words.
+    Line(LineFault),
+    /// An option is refused.
+    Option(FsOptionFault),
+    /// A run over files ended at the file of this name; or an input or output file, or the null device, can't be
+    /// opened.
+    File(RunFault, &'a str),
+    /// A run over the file of this name, with output files, stopped.
+    Outputs(OutputFault, &'a str),
+}
+
+ghost use Rattle.fsverity.specs.Faults.{message_of, result_status, status_of};
+
+/// The status of a run that did all that was asked for.
+const STATUS_DONE: u8 = 0;
+
+/// The status of a file that fails, of output that can't be written, and of out of memory.
+const STATUS_FAILED: u8 = 1;
+
+/// The status of a refused command line or option.
+const STATUS_REFUSED: u8 = 2;
+
+/// Ends a run: the message of its fault goes to `msgs`, as far as memory and `msgs` allow. The answer is the status.
+pub(crate) fn end_run<M: Write>(alloc: Global, outcome: Result<(), Fault<'_>>, msgs: &mut M) -> u8
+    ensures status { result ≡ result_status outcome.entry }
+    ensures most { result ≤ 2 }
+    ensures quiet { result ≡ 0 → IsOk outcome.entry × (msgs.new ≡ msgs.old) }
+    ensures message { IfErr outcome.entry (λ fault. IfSome (message_of fault)
+        (λ text. AppendsPrefix text (M.contents msgs.old) (M.contents msgs.new))) }
+{
+    match outcome {
+        Ok(()) => STATUS_DONE,
+        Err(fault) => {
+            fault.write_message(alloc, msgs);
+            fault.status()
+        }
+    }
+}
+
+impl Fault<'_> {
+    /// The status with which the program ends.
+    fn status(&self) -> u8
+        ensures value { result ≡ status_of self.now }
+        ensures least { 1 ≤ result }
+        ensures most { result ≤ 2 }
+    {
+        match self {
+            Fault::Words(WordsFault::NotUtf8(_, _)) => STATUS_REFUSED,
+            Fault::Words(WordsFault::Memory) => STATUS_FAILED,
+            Fault::Line(LineFault::Refused(_)) => STATUS_REFUSED,
+            Fault::Line(LineFault::Memory) => STATUS_FAILED,
+            Fault::Option(_) => STATUS_REFUSED,
+            Fault::File(_, _) => STATUS_FAILED,
+            Fault::Outputs(_, _) => STATUS_FAILED,
+        }
+    }
+
+    /// Writes the message, as far as memory and the writer allow: clap's text and the usage, or a message of this
+    /// program.
+    fn write_message<M: Write>(&self, alloc: Global, msgs: &mut M)
+        ensures { IfSome (message_of self.now)
+            (λ text. AppendsPrefix text (M.contents msgs.old) (M.contents msgs.new)) }
+    {
+        match self {
+            Fault::Words(WordsFault::NotUtf8(number, word)) => {
+                write_message(not_utf8_message(alloc, *number, word.as_slice()), msgs);
+            }
+            Fault::Words(WordsFault::Memory) => {
+                write_text(OUT_OF_MEMORY, msgs);
+            }
+            Fault::Line(LineFault::Memory) => {
+                write_text(OUT_OF_MEMORY, msgs);
+            }
+            Fault::Line(fault) => fault.write_message(USAGE, msgs),
+            Fault::Option(fault) => {
+                write_text(option_message(fault), msgs);
+            }
+            Fault::File(fault, name) => {
+                write_file_message(alloc, fault, name, msgs);
+            }
+            Fault::Outputs(fault, name) => {
+                write_outputs_message(alloc, fault, name, msgs);
+            }
+        }
+    }
+}
+
+/// Writes why a run over files ended at the file of this name, as far as memory and the writer allow. The message that
+/// a file can't be opened needs no memory. The answer says whether the writer took all of it.
+fn write_file_message<M: Write>(alloc: Global, fault: &RunFault, name: &str, msgs: &mut M) -> bool
+    ensures whole { IsTrue result
+        → Appends (M.contents msgs.old) (M.contents msgs.new) (run_fault_message fault.now name.now) }
+    ensures prefix { AppendsPrefix (run_fault_message fault.now name.now) (M.contents msgs.old) (M.contents msgs.new) }
+{
+    match fault {
+        RunFault::NotOpened => write_pieces(&["fsverity: cannot open ", name, ".\n"], msgs),
+        RunFault::Digest(fault) => write_digest_message(alloc, fault, name, msgs),
+        RunFault::NotWritten => write_text(OUTPUT_UNWRITTEN, msgs),
+    }
+}
+
+/// Writes why a run with output files stopped at the file of this name, as far as memory and the writer allow. The
+/// answer says whether the writer took all of it.
+fn write_outputs_message<M: Write>(
+    alloc: Global,
+    fault: &OutputFault,
+    name: &str,
+    msgs: &mut M,
+) -> bool
+    ensures whole { IsTrue result
+        → Appends (M.contents msgs.old) (M.contents msgs.new) (output_fault_message fault.now name.now) }
+    ensures prefix { AppendsPrefix (output_fault_message fault.now name.now)
+        (M.contents msgs.old) (M.contents msgs.new) }
+{
+    match fault {
+        OutputFault::Digest(fault) => write_digest_message(alloc, fault, name, msgs),
+        OutputFault::Descriptor(_) => write_text("fsverity: cannot write descriptor.\n", msgs),
+        OutputFault::Line(PrintFault::Memory) => write_text(OUT_OF_MEMORY, msgs),
+        OutputFault::Line(PrintFault::Output(_)) => write_text(OUTPUT_UNWRITTEN, msgs),
+    }
+}
+
+/// Writes why the file of this name has no digest, as far as memory and the writer allow. The message of out of memory
+/// needs none. The answer says whether the writer took all of it.
+fn write_digest_message<M: Write>(
+    alloc: Global,
+    fault: &DigestFault,
+    name: &str,
+    msgs: &mut M,
+) -> bool
+    ensures whole { IsTrue result
+        → Appends (M.contents msgs.old) (M.contents msgs.new) (digest_message fault.now name.now) }
+    ensures prefix { AppendsPrefix (digest_message fault.now name.now) (M.contents msgs.old) (M.contents msgs.new) }
+{
+    match fault {
+        DigestFault::Memory => write_text(OUT_OF_MEMORY, msgs),
+        fault => write_message(digest_message(alloc, fault, name), msgs),
+    }
+}

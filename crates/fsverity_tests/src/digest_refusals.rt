@@ -1,0 +1,141 @@
+//! What the program fsverity refuses, which leaves all files as they are: words, options, and names of files.
+use crate::digest_program::{NULL_DEVICE, TWO_READ, disk, run, said_by};
+use memory_runtime::{Call, MemoryRuntime};
+use std::test::Fail;
+
+/// The text of a command line without a command. It ends with the usage.
+const NO_COMMAND: &str = "error: 'fsverity' requires a subcommand but one was not provided
+  [subcommands: digest]
+
+Usage: fsverity digest [--hash-alg NAME] [--block-size BYTES] [--salt HEX]
+           [--compact] [--for-builtin-sig] [--out-merkle-tree FILE]
+           [--out-descriptor FILE] FILE...
+";
+
+/// The text of a command line that ends without a value. The program adds the usage to clap's text.
+const NO_VALUE: &str = "error: a value is required for '--salt <salt>' but none was supplied
+
+Usage: fsverity digest [--hash-alg NAME] [--block-size BYTES] [--salt HEX]
+           [--compact] [--for-builtin-sig] [--out-merkle-tree FILE]
+           [--out-descriptor FILE] FILE...
+";
+
+/// What is opened if the block device is the input file, and no other.
+const BLOCK_DEVICE_READ: &str =
+    "/dev/null: read\n/dev/null: read\n/dev/null: read\nblock_device: read\n";
+
+/// Command lines, the message, and what is opened: nothing, if the line or an option is refused with status 2. Of files
+/// there are a missing one and a folder as the input file; an output file that is the input file, or the other output
+/// file; a folder as an output file; a new file for both.
+const REFUSED: [(&str, &str, &str); 17] = [
+    ("fsverity", NO_COMMAND, ""),
+    ("fsverity digest two --salt", NO_VALUE, ""),
+    (
+        "fsverity digest two --salt ab --salt ab",
+        "error: the argument '--salt <salt>' cannot be used multiple times
+
+Usage: fsverity digest [--hash-alg NAME] [--block-size BYTES] [--salt HEX]
+           [--compact] [--for-builtin-sig] [--out-merkle-tree FILE]
+           [--out-descriptor FILE] FILE...
+",
+        "",
+    ),
+    (
+        "fsverity digest two --block-size 4095",
+        "fsverity: block size is not valid.\n",
+        "",
+    ),
+    (
+        "fsverity digest --out-descriptor made two empty",
+        "fsverity: output files need exactly one input file.\n",
+        "",
+    ),
+    (
+        "fsverity digest missing",
+        "fsverity: cannot open missing.\n",
+        "/dev/null: read\n/dev/null: read\n/dev/null: read\nmissing: read\n",
+    ),
+    (
+        "fsverity digest folder",
+        "fsverity: cannot open folder.\n",
+        "/dev/null: read\n/dev/null: read\n/dev/null: read\nfolder: read\n",
+    ),
+    (
+        "fsverity digest --out-merkle-tree two --out-descriptor made two",
+        "fsverity: cannot open two.\n",
+        TWO_READ,
+    ),
+    (
+        "fsverity digest --out-merkle-tree other --out-descriptor soft two",
+        "fsverity: cannot open soft.\n",
+        TWO_READ,
+    ),
+    (
+        "fsverity digest --out-descriptor soft --out-merkle-tree hard two",
+        "fsverity: cannot open hard.\n",
+        TWO_READ,
+    ),
+    (
+        "fsverity digest --out-merkle-tree other_soft --out-descriptor other two",
+        "fsverity: cannot open other.\n",
+        TWO_READ,
+    ),
+    (
+        "fsverity digest --out-descriptor other --out-merkle-tree other two",
+        "fsverity: cannot open other.\n",
+        TWO_READ,
+    ),
+    (
+        "fsverity digest --out-merkle-tree folder --out-descriptor second_folder two",
+        "fsverity: cannot open folder.\n",
+        TWO_READ,
+    ),
+    (
+        "fsverity digest --out-merkle-tree made --out-descriptor folder two",
+        "fsverity: cannot open folder.\n",
+        TWO_READ,
+    ),
+    (
+        "fsverity digest --out-merkle-tree node block_device",
+        "fsverity: cannot open node.\n",
+        BLOCK_DEVICE_READ,
+    ),
+    (
+        "fsverity digest --out-merkle-tree block_device --out-descriptor node two",
+        "fsverity: cannot open node.\n",
+        TWO_READ,
+    ),
+    (
+        "fsverity digest --out-merkle-tree new --out-descriptor new two",
+        "fsverity: cannot open new.\n",
+        "/dev/null: read\n/dev/null: read\n/dev/null: read\ntwo: read\nnew: write truncate create\n",
+    ),
+];
+
+/// No file changes: only a new one is opened to be written, and nothing is written to it.
+#[test]
+fn refusals_change_no_file(rt: HostRuntime) -> Result<(), Fail> {
+    let alloc = rt.alloc();
+    for &(words, text, opened) in &REFUSED {
+        let disk = disk(alloc, NULL_DEVICE)?;
+        let said = run(alloc, &disk, words);
+        let status = if opened.is_empty() { 2 } else { 1 };
+        let differs = said.differs(status, b"", text.as_bytes());
+        let all = disk.opened()?;
+        let found = (differs, all.as_str(), disk.calls(Call::Write)?);
+        assert_eq!(rt; found, (None, opened, 0), "at {words}");
+    }
+    Ok(())
+}
+
+#[test]
+fn a_word_that_is_not_utf8_is_refused(rt: HostRuntime) -> Result<(), Fail> {
+    let alloc = rt.alloc();
+    let disk = disk(alloc, NULL_DEVICE)?;
+    let mut runtime = MemoryRuntime::new(alloc, &disk, "fsverity digest");
+    runtime.last_word = Some(b"\xff");
+    let text = b"error: argument 2 is not UTF-8: \\xff\n";
+    let differs = said_by(alloc, &runtime).differs(2, b"", text);
+    assert_eq!(rt; (differs, disk.opened()?.as_str()), (None, ""));
+    Ok(())
+}
