@@ -8,17 +8,27 @@ CPU = $(shell ./processor.sh)
 TARGET = x86_64
 SHARED_CPU = x86-64-v2
 
-# Where `make install` puts things, and what it adds to the programs' names, so that they can stand beside Debian's.
+# Where `make install` puts things, what it adds to the programs' names, so that they can stand beside Debian's, and
+# whether what runs is stripped: yes or no.
 PREFIX = /usr/local
 DESTDIR =
+BINDIR = $(PREFIX)/bin
+SBINDIR = $(PREFIX)/sbin
+MANDIR = $(PREFIX)/share/man
+LIBDIR = $(PREFIX)/lib
+INCLUDEDIR = $(PREFIX)/include
 SUFFIX = -proved
+STRIP = no
 
-# How many seconds `make soak` runs, and with which seed; without one it draws one and prints it.
+# Where `make dist` puts the archive.
+DIST = dist
+
+# How many seconds `make soak` and `make search` run, and with which seed; without one they draw one and print it.
 SECONDS = 1800
 SEED =
 
 .PHONY: run programs library libraries test check gate wrong-bodies check-programs check-library out-of-memory interop \
-    soak kernel bench bench-feeding reproducible install uninstall clean help
+    soak search kernel bench bench-feeding reproducible install uninstall dist clean help
 
 # Proves and builds the one program that this needs, and prints the digest of a real file.
 run:
@@ -79,12 +89,16 @@ interop: programs
 soak: programs
 	tests/soak.sh SECONDS=$(SECONDS) SEED=$(SEED)
 
+# Random command lines of both programs beside Debian's, for differences of which docs/DIFFERENCES.md says nothing.
+search: programs
+	tests/search.sh SECONDS=$(SECONDS) SEED=$(SEED)
+
 # The Linux kernel opens the images, in a virtual machine. KERNEL=FILE and MODULES=FOLDER take a kernel that isn't in
 # /boot.
 kernel: programs
 	tests/kernel.sh
 
-# Measures the programs beside bare hashing and Debian's programs, and prints the tables of README.md.
+# Measures the programs beside bare hashing and Debian's programs, and prints the tables of docs/SPEED.md.
 bench: programs
 	./build.sh bench_bare bench_bare $(CPU)
 	bench/bench.sh
@@ -101,9 +115,20 @@ reproducible: programs
 # is built here, so that no proof runs as root.
 install uninstall: export PREFIX := $(PREFIX)
 install uninstall: export DESTDIR := $(DESTDIR)
+install uninstall: export BINDIR := $(BINDIR)
+install uninstall: export SBINDIR := $(SBINDIR)
+install uninstall: export MANDIR := $(MANDIR)
+install uninstall: export LIBDIR := $(LIBDIR)
+install uninstall: export INCLUDEDIR := $(INCLUDEDIR)
 install uninstall: export SUFFIX := $(SUFFIX)
+install uninstall: export STRIP := $(STRIP)
 install uninstall:
 	@./install.sh $@
+
+# Makes one archive of the sources as they were committed. The same commit gives the same bytes.
+dist: export DIST := $(DIST)
+dist:
+	@./dist.sh
 
 # Removes what was built, and what is kept of the proofs, so that all is proved anew.
 clean:
@@ -125,10 +150,13 @@ help:
 	@echo 'make out-of-memory   7 minutes +   refuses each request for memory in turn'
 	@echo 'make interop         10 minutes +  compares the programs with those of Debian, over all settings'
 	@echo 'make soak            30 minutes +  random runs of both programs, compared with other programs [SECONDS, SEED]'
+	@echo 'make search          30 minutes +  random command lines, for differences from Debian that no row names [SECONDS, SEED]'
 	@echo 'make kernel          10 minutes +  has the Linux kernel open the images, in a virtual machine [KERNEL, MODULES]'
 	@echo 'make bench           7 minutes +   measures speed and memory, beside bare hashing and the programs of Debian'
 	@echo 'make bench-feeding   1 minute +    measures the library that is fed with pieces of a file'
 	@echo 'make reproducible    5 minutes +   builds once more in another folder, and compares the programs'
-	@echo 'make install         seconds       installs programs, manual pages and completion [PREFIX, DESTDIR, SUFFIX]'
+	@echo 'make install         seconds       installs programs, manual pages and completion, and the library if it is built'
+	@echo '                                   [PREFIX, DESTDIR, SUFFIX, STRIP=yes, BINDIR, SBINDIR, MANDIR, LIBDIR, INCLUDEDIR]'
 	@echo 'make uninstall       seconds       removes what make install has installed; give it the same settings'
+	@echo 'make dist            seconds       makes an archive of the committed sources, with the version in its name [DIST]'
 	@echo 'make clean           seconds       removes what was built, and what is kept of the proofs'

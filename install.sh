@@ -1,21 +1,33 @@
 #!/bin/bash
 # install.sh install|uninstall: puts the programs of bin/, their manual pages and bash's completion of their words below
-# DESTDIR and PREFIX, with SUFFIX at the end of their names; or removes just these files. The pages and the completion
-# then speak of the programs by these names. If lib/ has the library for C, that goes there too, by its own names, with
-# its header, its page and what pkg-config says of it. Nothing is built here, so that no proof runs as root.
+# DESTDIR and PREFIX, with SUFFIX at the end of their names; or removes just these files. BINDIR, SBINDIR, MANDIR, LIBDIR
+# and INCLUDEDIR are folders in place of those below PREFIX, and DESTDIR stands before them too. With STRIP=yes the
+# programs and the shared library are stripped. The pages and the completion speak of the programs by these names. If
+# lib/ has the library for C, that goes there too, by its own names, with its header, its page and what pkg-config says
+# of it. Nothing is built here, so that no proof runs as root.
 set -euo pipefail
 cd "$(dirname "$0")"
-prefix=${DESTDIR-}${PREFIX-/usr/local}
+prefix=${PREFIX-/usr/local}
 suffix=${SUFFIX--proved}
 if [[ $suffix = *[!A-Za-z0-9._+-]* ]]; then
     echo "install.sh: SUFFIX may have letters, digits and . _ + - alone" >&2
     exit 1
 fi
-bin=$prefix/bin
-pages=$prefix/share/man
-completions=$prefix/share/bash-completion/completions
-libraries=$prefix/lib
-headers=$prefix/include
+case ${STRIP:=no} in
+yes | no) ;;
+*)
+    echo "install.sh: STRIP is yes or no" >&2
+    exit 1
+    ;;
+esac
+libdir=${LIBDIR:-$prefix/lib}
+includedir=${INCLUDEDIR:-$prefix/include}
+bin=${DESTDIR-}${BINDIR:-$prefix/bin}
+sbin=${DESTDIR-}${SBINDIR:-$prefix/sbin}
+pages=${DESTDIR-}${MANDIR:-$prefix/share/man}
+completions=${DESTDIR-}$prefix/share/bash-completion/completions
+libraries=${DESTDIR-}$libdir
+headers=${DESTDIR-}$includedir
 
 # Prints a page with the installed names in its headings, footer, examples and references.
 page() {
@@ -34,14 +46,28 @@ put() {
     install -m "$1" /dev/stdin "$2"
 }
 
+# put_built FILE: the same for what runs, stripped if that is wanted.
+put_built() {
+    install -d "$(dirname "$1")"
+    if [ "$STRIP" = yes ]; then install -s -m 755 /dev/stdin "$1"; else install -m 755 /dev/stdin "$1"; fi
+}
+
+# below_prefix FOLDER: prints a folder as pkg-config's file names it, by its variable if it lies below PREFIX.
+below_prefix() {
+    case $1 in
+    "$prefix"/*) echo "\${prefix}${1#"$prefix"}" ;;
+    *) echo "$1" ;;
+    esac
+}
+
 # pkg_config: prints what pkg-config is told of the library, with the version that its header has.
 pkg_config() {
     local version
     version=$(awk '/^#define VERITY_VERSION_/ { printf "%s%s", dot, $3; dot = "." }' include/verity.h)
     cat <<END
-prefix=${PREFIX-/usr/local}
-libdir=\${prefix}/lib
-includedir=\${prefix}/include
+prefix=$prefix
+libdir=$(below_prefix "$libdir")
+includedir=$(below_prefix "$includedir")
 
 Name: libverity
 Description: checks blocks of dm-verity and fs-verity, and builds their trees as data comes
@@ -53,7 +79,7 @@ END
 
 install_library() {
     put 644 "$libraries/libverity.a" <lib/libverity.a
-    put 755 "$libraries/libverity.so.1" <lib/libverity.so.1
+    put_built "$libraries/libverity.so.1" <lib/libverity.so.1
     ln -sfn libverity.so.1 "$libraries/libverity.so"
     pkg_config | put 644 "$libraries/pkgconfig/verity.pc"
     put 644 "$headers/verity.h" <include/verity.h
@@ -66,9 +92,10 @@ install_all() {
         exit 1
     fi
     local name section
+    put_built "$bin/fsverity$suffix" <bin/fsverity
+    put_built "$sbin/veritysetup$suffix" <bin/veritysetup
     for name in fsverity.1 veritysetup.8; do
         section=${name#*.} name=${name%.*}
-        put 755 "$bin/$name$suffix" <"bin/$name"
         page "man/$name.$section" | put 644 "$pages/man$section/$name$suffix.$section"
         completion "completions/$name" | put 644 "$completions/$name$suffix"
     done
@@ -80,7 +107,7 @@ install_all() {
 
 uninstall_all() {
     rm -f "$bin/fsverity$suffix" "$pages/man1/fsverity$suffix.1" "$completions/fsverity$suffix"
-    rm -f "$bin/veritysetup$suffix" "$pages/man8/veritysetup$suffix.8" "$completions/veritysetup$suffix"
+    rm -f "$sbin/veritysetup$suffix" "$pages/man8/veritysetup$suffix.8" "$completions/veritysetup$suffix"
     rm -f "$libraries/libverity.a" "$libraries/libverity.so" "$libraries/libverity.so.1" "$libraries/pkgconfig/verity.pc"
     rm -f "$headers/verity.h" "$pages/man3/verity.3"
 }

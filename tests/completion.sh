@@ -43,6 +43,17 @@ options() {
     offers '--hash-block-size --hash-offset' veritysetup format --hash sha1 --has
     offers '--hash-block-size' veritysetup verify --hash = sha1 --hash-offset 512 --hash-
     offers '--compact' fsverity digest --compact
+    # After -- there are files alone, and the options and values of one command aren't those of another.
+    offers '' veritysetup format --hash sha1 -- --
+    offers '' veritysetup verify -- --hash sha
+    offers '' fsverity digest one -- --
+    offers '' fsverity digest -- --hash-alg sha
+    offers '' veritysetup dump --hash sha
+    offers '' veritysetup verify --uuid = x
+    offers '' veritysetup open --
+    offers '' veritysetup open --format 0
+    offers '' fsverity sign --
+    offers '' fsverity sign --hash-alg sha
     offers '' fsverity digest --compact --compa
 }
 
@@ -79,6 +90,14 @@ files() {
     offers "$scratch/files/image" fsverity digest --out-merkle-tree "$scratch/files/i"
     offers "$scratch/files/image" fsverity digest --out-descriptor = "$scratch/files/i"
     offers '' fsverity digest "$scratch/files/none"
+    offers "$scratch/files/image" fsverity digest -- --compact "$scratch/files/i"
+    offers "$scratch/files/image" veritysetup format -- "$scratch/files/i"
+    offers "$scratch/files/image" fsverity sign "$scratch/files/i"
+    : >"$scratch/files/--salt"
+    cd "$scratch/files" || exit 1
+    offers '--salt' fsverity digest -- --s
+    offers '--salt' veritysetup verify -- --s
+    cd - >/dev/null || exit 1
 }
 
 # Each value that is offered is one that the program takes.

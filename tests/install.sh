@@ -1,8 +1,8 @@
 #!/bin/bash
 # Runs `make install` into folders, with a space in their names too, and compares the files there, their modes and bytes
-# with what README.md says; man finds the pages there, and they and the completion speak of the installed names. If the
-# library for C is built, it is installed too, and a program is built by what pkg-config says of it. After
-# `make uninstall` just these files are gone.
+# with what docs/BUILDING.md says; man finds the pages there, and they and the completion speak of the installed names.
+# If the library for C is built, it is installed too, and a program is built by what pkg-config says of it. After
+# `make uninstall` just these files are gone. `make dist` gives the same bytes of the same commit.
 set -u
 cd "$(dirname "$0")/.."
 . tests/lib/checks.sh
@@ -45,33 +45,46 @@ completes() {
 # library_files PREFIX: the files of the library with their modes, if it is built.
 library_files() {
     if [ ! -e lib/libverity.a ] || [ ! -e lib/libverity.so.1 ]; then return; fi
-    printf '%s\n' "644 $1/include/verity.h" "644 $1/lib/libverity.a" "755 $1/lib/libverity.so.1" \
-        "644 $1/lib/pkgconfig/verity.pc" "644 $1/share/man/man3/verity.3"
+    printf '%s\n' "644 ${includes:-$1/include}/verity.h" "644 ${libraries:-$1/lib}/libverity.a" \
+        "755 ${libraries:-$1/lib}/libverity.so.1" "644 ${libraries:-$1/lib}/pkgconfig/verity.pc" \
+        "644 ${manuals:-$1/share/man}/man3/verity.3"
 }
 
 # installs FOLDER PREFIX SUFFIX WORD..: `make install` with these words puts the six files there, and those of the
-# library, and nothing else.
+# library, and nothing else. `programs`, `admin`, `manuals`, `libraries` and `includes` are the folders of the programs
+# of section 1 and 8, of the pages, the library and the header, if they aren't those below PREFIX.
 installs() {
-    local folder=$scratch/$1 prefix=$2 suffix=$3 share
+    local folder=$scratch/$1 prefix=$2 suffix=$3 share pages
     shift 3
+    pages=${manuals:-$prefix/share/man}
     (umask 022 && make -s install DESTDIR="$folder" "$@") >"$scratch/.made" 2>&1 </dev/null
     is_text "$folder: what make says" '' "$scratch/.made"
     same "$folder: files" "$({
-        printf '755 %s\n' "$prefix/bin/fsverity$suffix" "$prefix/bin/veritysetup$suffix"
+        printf '755 %s\n' "${programs:-$prefix/bin}/fsverity$suffix" "${admin:-$prefix/sbin}/veritysetup$suffix"
         printf '644 %s\n' "$prefix/share/bash-completion/completions/"{fsverity,veritysetup}"$suffix" \
-            "$prefix/share/man/man1/fsverity$suffix.1" "$prefix/share/man/man8/veritysetup$suffix.8"
+            "$pages/man1/fsverity$suffix.1" "$pages/man8/veritysetup$suffix.8"
         library_files "$prefix"
     } | sort -k 2)" "$(listed "$folder")"
-    same_bytes "$folder: fsverity" bin/fsverity "$folder/$prefix/bin/fsverity$suffix"
-    same_bytes "$folder: veritysetup" bin/veritysetup "$folder/$prefix/bin/veritysetup$suffix"
-    share=$folder/$prefix/share
-    speaks fsverity.1 "$share/man/man1/fsverity$suffix.1" "$suffix"
-    speaks veritysetup.8 "$share/man/man8/veritysetup$suffix.8" "$suffix"
+    if [[ " $* " != *' STRIP=yes '* ]]; then
+        same_bytes "$folder: fsverity" bin/fsverity "$folder/${programs:-$prefix/bin}/fsverity$suffix"
+        same_bytes "$folder: veritysetup" bin/veritysetup "$folder/${admin:-$prefix/sbin}/veritysetup$suffix"
+    fi
+    share=$folder/$prefix/share pages=$folder/$pages
+    speaks fsverity.1 "$pages/man1/fsverity$suffix.1" "$suffix"
+    speaks veritysetup.8 "$pages/man8/veritysetup$suffix.8" "$suffix"
     completes "$share/bash-completion/completions/fsverity$suffix" "fsverity$suffix"
     completes "$share/bash-completion/completions/veritysetup$suffix" "veritysetup$suffix"
     if command -v mandoc >/dev/null; then
-        same "$folder: mandoc -T lint" '' "$(mandoc -T lint -W warning "$share"/man/man[1-8]/* 2>/dev/null)"
+        same "$folder: mandoc -T lint" '' "$(mandoc -T lint -W warning "$pages"/man[1-8]/* 2>/dev/null)"
     fi
+}
+
+# is_stripped FILE INSTALLED: an installed program or library is that of bin/ or lib/ without its symbols.
+is_stripped() {
+    cp "$1" "$scratch/without_symbols"
+    strip "$scratch/without_symbols"
+    same_bytes "$2: as strip leaves it" "$scratch/without_symbols" "$2"
+    same "$2: symbols" 0 "$(readelf -S "$2" | grep -c '\.symtab')"
 }
 
 # uninstalls FOLDER WORD..: `make uninstall` removes what was installed, and nothing that stands beside it.
@@ -92,15 +105,15 @@ uninstalls() {
 # links FOLDER PREFIX: a program is built by what pkg-config says of the installed library, against the shared one by its
 # short name, and runs with it.
 links() {
-    local folder=$scratch/$1 prefix=$2 words
+    local folder=$scratch/$1 words lib=$scratch/$1/${libraries:-$2/lib}
     printf '%s\n' '#include <verity.h>' 'int main(void) { struct verity_params params;' \
         'return verity_read_superblock((const uint8_t *)"", 1, 0, &params) != VERITY_SHORT_SUPERBLOCK; }' >"$scratch/user.c"
-    words=$(PKG_CONFIG_PATH=$folder/$prefix/lib/pkgconfig PKG_CONFIG_SYSROOT_DIR=$folder pkg-config --cflags --libs verity)
-    same "$folder: libverity.so" libverity.so.1 "$(readlink "$folder/$prefix/lib/libverity.so")"
+    words=$(PKG_CONFIG_PATH=$lib/pkgconfig PKG_CONFIG_SYSROOT_DIR=$folder pkg-config --cflags --libs verity)
+    same "$folder: libverity.so" libverity.so.1 "$(readlink "$lib/libverity.so")"
     # shellcheck disable=SC2086
     runs "$folder: a program is built" 0 '' '' cc "$scratch/user.c" $words -o "$scratch/user"
-    runs "$folder: it runs" 0 '' '' env LD_LIBRARY_PATH="$folder/$prefix/lib" "$scratch/user"
-    same "$folder: version" "$version" "$(PKG_CONFIG_PATH=$folder/$prefix/lib/pkgconfig pkg-config --modversion verity)"
+    runs "$folder: it runs" 0 '' '' env LD_LIBRARY_PATH="$lib" "$scratch/user"
+    same "$folder: version" "$version" "$(PKG_CONFIG_PATH=$lib/pkgconfig pkg-config --modversion verity)"
 }
 
 # finds_page FOLDER SECTION NAME: man finds the installed page.
@@ -112,6 +125,24 @@ version=$(sed -nE 's/^## ([0-9.]+) .*/\1/p' CHANGELOG.md | head -n 1)
 installs plain usr/local -proved
 installs named usr '' PREFIX=/usr SUFFIX=
 installs 'a space  and "quotes"' 'opt/our programs' -x.y PREFIX='/opt/our programs' SUFFIX=-x.y
+# Folders as packagers set them: one word each, in place of those below PREFIX.
+packaged=(PREFIX=/usr SUFFIX= BINDIR=/usr/tools SBINDIR=/usr/bin 'MANDIR=/usr/man pages'
+    LIBDIR=/usr/lib/x86_64-linux-gnu INCLUDEDIR=/opt/headers)
+programs=usr/tools admin=usr/bin manuals='usr/man pages' libraries=usr/lib/x86_64-linux-gnu includes=opt/headers \
+    installs packaged usr '' "${packaged[@]}"
+if command -v strip >/dev/null && command -v readelf >/dev/null; then
+    installs stripped usr/local -proved STRIP=yes
+    is_stripped bin/fsverity "$scratch/stripped/usr/local/bin/fsverity-proved"
+    is_stripped bin/veritysetup "$scratch/stripped/usr/local/sbin/veritysetup-proved"
+    printf a >"$scratch/one"
+    runs 'a stripped program' 0 "sha256:bce75948b9e7510293f8f2720412af9697c1479281323f3f220623fb8e94b557 $scratch/one" '' \
+        "$scratch/stripped/usr/local/bin/fsverity-proved" digest "$scratch/one"
+    if [ -e lib/libverity.a ] && [ -e lib/libverity.so.1 ]; then
+        is_stripped lib/libverity.so.1 "$scratch/stripped/usr/local/lib/libverity.so.1"
+    fi
+else
+    echo 'left out: stripped programs: strip or readelf is not installed'
+fi
 if man --version 2>/dev/null | grep -q '^man [0-9]'; then
     finds_page "$scratch/plain/usr/local/share/man" 1 fsverity-proved
     finds_page "$scratch/plain/usr/local/share/man" 8 veritysetup-proved
@@ -121,6 +152,10 @@ fi
 if [ -e lib/libverity.a ] && [ -e lib/libverity.so.1 ]; then
     if command -v pkg-config >/dev/null && command -v cc >/dev/null; then
         links plain usr/local
+        links stripped usr/local
+        libraries=usr/lib/x86_64-linux-gnu links packaged usr
+        same 'folders of their own: pkg-config' '-I/opt/headers ' \
+            "$(PKG_CONFIG_PATH="$scratch/packaged/usr/lib/x86_64-linux-gnu/pkgconfig" pkg-config --cflags verity | sed 's/ *$/ /')"
         same 'a space: pkg-config' "-L/opt/our\\ programs/lib -lverity " \
             "$(PKG_CONFIG_PATH="$scratch/a space  and \"quotes\"/opt/our programs/lib/pkgconfig" pkg-config --libs verity | sed 's/ *$/ /')"
     else
@@ -131,11 +166,36 @@ uninstalls plain
 same 'libverity.so after uninstall' '' "$(find "$scratch/plain" -name libverity.so)"
 uninstalls named PREFIX=/usr SUFFIX=
 uninstalls 'a space  and "quotes"' PREFIX='/opt/our programs' SUFFIX=-x.y
+uninstalls packaged "${packaged[@]}"
+if [ -e "$scratch/stripped" ]; then uninstalls stripped STRIP=yes; fi
 runs 'a suffix with a slash' 2 '' any make -s --no-print-directory install DESTDIR="$scratch/none" SUFFIX=/x
 absent 'a suffix with a slash' "$scratch/none"
+runs 'a STRIP that is neither yes nor no' 2 '' any make -s --no-print-directory install DESTDIR="$scratch/none" STRIP=1
+absent 'a STRIP that is neither yes nor no' "$scratch/none"
 # Without programs in bin/ nothing is installed: here, over copies of what makes them.
 mkdir "$scratch/empty"
 cp Makefile install.sh "$scratch/empty"
 runs 'without programs' 2 '' any make -s -C "$scratch/empty" --no-print-directory install DESTDIR="$scratch/none"
 absent 'without programs' "$scratch/none"
+
+# The archive of the sources: the same bytes from a clone, later and with other settings, and what was committed.
+if [ -e .git ] && command -v git >/dev/null; then
+    name=verity-$(awk '/^#define VERITY_VERSION_/ { printf "%s%s", dot, $3; dot = "." }' <(git show HEAD:include/verity.h))
+    if git show HEAD:CHANGELOG.md | grep -qx '## Not yet released'; then name+=+$(git rev-parse HEAD | cut -c 1-12); fi
+    runs 'make dist' 0 "$scratch/dist/$name.tar.gz" '' make -s --no-print-directory dist DIST="$scratch/dist"
+    git clone -q . "$scratch/clone" 2>/dev/null
+    git -C "$scratch/clone" config tar.umask 0077
+    sleep 1
+    (umask 077 && TZ=Asia/Tokyo make -s -C "$scratch/clone" --no-print-directory dist) >"$scratch/.made" 2>&1
+    is_text 'make dist, of a clone' "dist/$name.tar.gz" "$scratch/.made"
+    same_bytes 'make dist, twice' "$scratch/dist/$name.tar.gz" "$scratch/clone/dist/$name.tar.gz"
+    mkdir "$scratch/unpacked"
+    tar -xzf "$scratch/dist/$name.tar.gz" -C "$scratch/unpacked"
+    same 'make dist: its folder' "$name" "$(ls "$scratch/unpacked")"
+    rm -rf "$scratch/clone/dist" "$scratch/clone/.git"
+    runs 'make dist: what was committed' 0 '' '' diff -r "$scratch/clone" "$scratch/unpacked/$name"
+    runs 'make dist, without a repository' 2 '' any make -s -C "$scratch/unpacked/$name" --no-print-directory dist
+else
+    echo 'left out: the archive of the sources: git or the repository is not here'
+fi
 finish

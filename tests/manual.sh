@@ -23,6 +23,11 @@ page_examples() {
     '
 }
 
+# last_example PAGE: the last of a page's examples, in the same form.
+last_example() {
+    page_examples "$1" | awk '/^\$ blocks=/ { shown = 1 } shown'
+}
+
 # blanked: messages, one a line, with `_` for each name or number in them.
 blanked() {
     sed -E 's/\b(DATA|HASH|NAME|PATH|ROOT|WORD|[A-Z])\b/_/g' | sort -u
@@ -82,6 +87,7 @@ mkdir "$scratch/bin" "$scratch/run" "$scratch/run/files"
 ln -s "$(realpath "$BIN")"/{fsverity,veritysetup} "$scratch/bin"
 PATH=$scratch/bin:$PATH
 for page in veritysetup.8 fsverity.1; do page_examples "man/$page" >"$scratch/$page"; done
+last_example man/veritysetup.8 >"$scratch/one_file"
 cd "$scratch/run" || exit 1
 if command -v openssl >/dev/null; then
     openssl req -newkey rsa:2048 -nodes -keyout key.pem -x509 -out cert.pem -subj /CN=test 2>/dev/null
@@ -90,6 +96,16 @@ for page in veritysetup.8 fsverity.1; do
     run_examples "man/$page" "$scratch/$page"
     if [ "$examples" -ge 4 ]; then pass; else fail "man/$page" "found: $examples examples"; fi
 done
+# Data and tree in one file: whoever does that twice gets the same file size and the same number of blocks.
+if [ -e image.ext4 ]; then
+    size=$(stat -c %s image.ext4)
+    for time in second third; do
+        run_examples "man/veritysetup.8, the $time time" "$scratch/one_file"
+        same "one file, the $time time: examples" 4 "$examples"
+        same "one file, the $time time: its size" "$size" "$(stat -c %s image.ext4)"
+        same "one file, the $time time: data blocks" 16384 "$(awk '/^Data blocks:/{print $3}' report)"
+    done
+fi
 # The signed bytes are the formatted digest's.
 if [ -e one.sig ]; then
     bytes "$(fsverity digest --compact --for-builtin-sig one)" >expected

@@ -25,10 +25,13 @@ same 'the number of commands in README.md' "$commands" "$examples"
 cd - >/dev/null || exit 1
 
 # What the documents name is there: targets of the Makefile, and other documents.
-for target in $(grep -ohE '(^    |`)make [a-z-]+' README.md CONTRIBUTING.md | sed 's/.*make //' | sort -u); do
+documents=(README.md CONTRIBUTING.md docs/*.md)
+for target in $(grep -ohE '(^    |`)make [a-z-]+' "${documents[@]}" | sed 's/.*make //' | sort -u); do
     if make -n "$target" >/dev/null 2>&1; then pass; else fail "make $target" 'a document names it'; fi
 done
-for file in $(sed -nE 's/.*\]\(([^)#]+)\).*/\1/p' README.md CONTRIBUTING.md | sort -u); do
-    if [ -e "$file" ]; then pass; else fail "$file" 'a document names it'; fi
+for document in "${documents[@]}"; do
+    for file in $(grep -oE '\]\([^)#]+' "$document" | sed 's/^](//' | sort -u); do
+        if [ -e "$(dirname "$document")/$file" ]; then pass; else fail "$file" "$document names it"; fi
+    done
 done
 finish

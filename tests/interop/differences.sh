@@ -1,23 +1,18 @@
 #!/bin/bash
 # Checks docs/DIFFERENCES.md: for each row of its tables both programs are run, ours and Debian's, and do what their
-# columns say. A row without checks fails, and so do checks without a row, and a row of README.md's table that isn't one
-# of these.
+# columns say. A row without checks fails, and so do checks without a row.
 set -u
 cd "$(dirname "$0")/../.."
 . tests/lib/checks.sh
-. tests/lib/images.sh
+. tests/lib/stated_images.sh
 . tests/lib/loops.sh
+. tests/lib/debian.sh
 has_program fsverity
 has_program veritysetup
 needs_other veritysetup cryptsetup-bin
 needs_other fsverity fsverity
 
-# The versions that the tables speak of.
-versions="$(veritysetup --version | cut -d' ' -f2) $(fsverity --version | cut -d' ' -f2)"
-if [ "$versions" != '2.6.1 v1.5' ]; then
-    echo "$0: the tables are about cryptsetup 2.6.1 and fsverity 1.5, and these are $versions"
-    exit $LEFT_OUT
-fi
+needs_versions
 
 rows=()
 
@@ -87,13 +82,4 @@ table() {
 
 same 'rows without checks' '' "$(comm -23 <(table docs/DIFFERENCES.md) <(printf '%s\n' "${rows[@]}" | sort))"
 same 'checks without a row' '' "$(comm -13 <(table docs/DIFFERENCES.md) <(printf '%s\n' "${rows[@]}" | sort))"
-sed -n "/^## Beside Debian's programs/,/^## Building/p" README.md | grep '^| [^|]' >"$scratch/readme"
-while IFS= read -r line; do
-    if grep -qFx -- "$line" docs/DIFFERENCES.md; then
-        pass
-    else
-        fail 'a row of README.md' "not in docs/DIFFERENCES.md: $line"
-    fi
-done <"$scratch/readme"
-if [ -s "$scratch/readme" ]; then pass; else fail 'the table of README.md' 'it was not found'; fi
 finish

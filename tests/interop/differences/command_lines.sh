@@ -17,6 +17,15 @@ size 8192 "$their_hash"
 refused "$veritysetup" format --uuid x "$data" "$hash"
 absent "$row: HASH" "$hash"
 
+row '`--uuid` with `--no-superblock`'
+theirs 0 any '' veritysetup format --salt=ab --no-superblock --uuid x "$data" "$their_hash"
+refused "$veritysetup" format --salt=ab --no-superblock --uuid x "$data" "$hash"
+absent "$row: HASH" "$hash"
+rm "$their_hash"
+theirs 0 any '' veritysetup format --salt=ab --no-superblock --uuid "$UUID" "$data" "$their_hash"
+ours 0 any '' "$veritysetup" format --salt=ab --no-superblock --uuid "$UUID" "$data" "$hash"
+same_bytes "$row: HASH" "$their_hash" "$hash"
+
 row 'forms of a UUID'
 prints_uuid 0 "$UUID"
 prints_uuid 0 "${UUID^^}"
@@ -33,9 +42,40 @@ for name in sha256 sha512 sha384 sha224 sha1; do
     ours 0 any '' "$veritysetup" format --hash "$name" "$data" "$hash"
 done
 
-row 'the name of a hash function in capitals'
-theirs 0 any '' veritysetup format --hash SHA256 "$data" "$their_hash"
-refused "$veritysetup" format --hash SHA256 "$data" "$hash"
+row 'other spellings of a hash function, such as `SHA256`, `sha-256` or `sha2-256`'
+for name in SHA256 sha-256 SHA-1 sha-1 sha2-256 SHA2-512 2.16.840.1.101.3.4.2.1; do
+    rm -f "$hash" "$their_hash"
+    theirs 0 any '' veritysetup format --hash "$name" "$data" "$their_hash"
+    says "Hash algorithm:  ${TAB}$name"
+    refused "$veritysetup" format --hash "$name" "$data" "$hash"
+    absent "$row: HASH" "$hash"
+    theirs 0 any '' veritysetup dump "$their_hash"
+    says "Hash algorithm:  ${TAB}${name,,}"
+    case $name in
+    SHA256) ours 0 any '' "$veritysetup" dump "$their_hash" ;;
+    *) ours 1 '' 'Superblock hash algorithm is not supported.' "$veritysetup" dump "$their_hash" ;;
+    esac
+done
+
+row '`veritysetup`: a number with a sign or white space before it, such as `+4096` or `'\'' 4096'\''`'
+for front in + ' ' "$TAB" ' +'; do
+    for option in --data-block-size=X4096 --hash-block-size=X4096 --data-blocks=X1 --hash-offset=X512 --format=X1; do
+        rm -f "$hash" "$their_hash" "$scratch/plain_hash"
+        theirs 0 any '' veritysetup format "${fixed[@]}" "${option/X/$front}" "$data" "$their_hash"
+        ours 0 any '' "$veritysetup" format "${fixed[@]}" "${option/X/}" "$data" "$scratch/plain_hash"
+        if [ "$option" != --data-blocks=X1 ]; then same_bytes "$row: $option" "$their_hash" "$scratch/plain_hash"; fi
+        refused "$veritysetup" format "${fixed[@]}" "${option/X/$front}" "$data" "$hash"
+        absent "$row: HASH" "$hash"
+    done
+done
+# 1 and 512, less two to the power of 64.
+theirs 0 any '' veritysetup format --data-blocks=-18446744073709551615 "$data" "$their_hash"
+says "Data blocks:     ${TAB}1"
+theirs 1 '' any veritysetup format --data-blocks=-1 "$data" "$their_hash"
+theirs 0 any '' veritysetup format --hash-offset=-18446744073709551104 "$data" "$their_hash"
+for option in --data-blocks=-18446744073709551615 --data-blocks=-1 --hash-offset=-18446744073709551104; do
+    refused "$veritysetup" format "$option" "$data" "$hash"
+done
 
 row 'block sizes above the page size'
 large=$(($(getconf PAGE_SIZE) * 2))
@@ -88,10 +128,47 @@ theirs 0 any '' veritysetup format --hash sha1 --hash sha512 "$data" "$their_has
 says "Hash algorithm:  ${TAB}sha512"
 refused "$veritysetup" format --hash sha1 --hash sha512 "$data" "$hash"
 
-row 'options before the command'
+row 'options before the command, as in `veritysetup --hash-offset=4096 format A A`'
 theirs 0 any '' veritysetup --hash sha512 format "$data" "$their_hash"
 says "Hash algorithm:  ${TAB}sha512"
 refused "$veritysetup" --hash sha512 format "$data" "$hash"
+for program in veritysetup "$veritysetup"; do
+    sample 8192 >"$scratch/A"
+    cp "$scratch/A" "$scratch/before"
+    if [ "$program" = veritysetup ]; then
+        theirs 0 any '' veritysetup --hash-offset=4096 --data-blocks=1 format "$scratch/A" "$scratch/A"
+        same "$row: the superblock" verity "$(tail -c +4097 "$scratch/A" | head -c 6)"
+    else
+        refused "$veritysetup" --hash-offset=4096 --data-blocks=1 format "$scratch/A" "$scratch/A"
+        same_bytes "$row: here" "$scratch/before" "$scratch/A"
+    fi
+done
+theirs 0 any '' veritysetup -- format "$data" "$their_hash"
+refused "$veritysetup" -- format "$data" "$hash"
+
+row '`veritysetup`: a value that begins with `-`, as a word of its own, such as `--data-blocks -1`'
+theirs 0 any '' veritysetup format --data-blocks -18446744073709551615 "$data" "$their_hash"
+says "Data blocks:     ${TAB}1"
+refused "$veritysetup" format --data-blocks -18446744073709551615 "$data" "$hash"
+# A - alone is taken by both.
+theirs 0 any '' veritysetup format --salt - "$data" "$their_hash"
+ours 0 any '' "$veritysetup" format --salt - "$data" "$hash"
+
+row '`dump` with another option than `--hash-offset`'
+both_format
+for option in --hash=sha512 --format=0 --data-block-size=512 --hash-block-size=512 --data-blocks=1 --salt=zz --uuid=x \
+    --no-superblock; do
+    theirs 0 any '' veritysetup dump "$option" "$hash"
+    says "Hash algorithm:  ${TAB}sha256"
+    refused "$veritysetup" dump "$option" "$hash"
+done
+
+row '`verify` with `--uuid`'
+both_format
+for text in x "$UUID"; do
+    theirs 0 '' '' veritysetup verify --uuid "$text" "$data" "$hash" "$root"
+    refused "$veritysetup" verify --uuid "$text" "$data" "$hash" "$root"
+done
 
 row 'more words than the command has'
 both_format

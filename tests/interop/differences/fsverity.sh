@@ -36,13 +36,32 @@ refused "$fsverity" digest --block-size 1048576 "$input"
 
 row 'a refused salt length, or a block size below twice the digest'
 for option in --block-size=32 "--salt=$(printf '%066d' 0)"; do
-    theirs 1 '' any fsverity digest "$option" "$input"
-    refused "$fsverity" digest "$option" "$input"
+    theirs 1 '' any fsverity digest "$option" --out-descriptor "$scratch/made" "$input"
+    size 0 "$scratch/made"
+    refused "$fsverity" digest "$option" --out-descriptor "$scratch/unmade" "$input"
+    absent "$row: here" "$scratch/unmade"
+    rm "$scratch/made"
 done
 
-row 'a block size with a sign, such as `+4096`'
-theirs 0 any '' fsverity digest --block-size=+4096 "$input"
-refused "$fsverity" digest --block-size=+4096 "$input"
+row 'a block size with a sign or white space before it, such as `+4096` or `'\'' 4096'\''`'
+expected=$(fsverity digest --block-size=512 "$input")
+for text in +512 ' 512' "${TAB}512" $'\n512' ' +512'; do
+    theirs 0 "$expected" '' fsverity digest --block-size="$text" "$input"
+    refused "$fsverity" digest --block-size="$text" "$input"
+done
+
+row 'the number of a hash function, such as `--hash-alg=1`'
+for text in 1 2 01 +1 ' 2'; do
+    name=sha256
+    case $text in *2) name=sha512 ;; esac
+    theirs 0 "$(fsverity digest --hash-alg=$name "$input")" '' fsverity digest --hash-alg="$text" "$input"
+    refused "$fsverity" digest --hash-alg="$text" "$input"
+done
+# There are no other numbers, so no digest's length in bits either.
+for text in 3 256 512; do
+    theirs 1 '' any fsverity digest --hash-alg="$text" "$input"
+    refused "$fsverity" digest --hash-alg="$text" "$input"
+done
 
 row '`fsverity`: the report can'\''t be written, as on a full device'
 theirs 0 '' '' bash -c 'fsverity digest "$1" >/dev/full' - "$input"
@@ -80,12 +99,25 @@ same_bytes "$row: Debian's" "$scratch/parts" "$scratch/all"
 refused "$fsverity" digest --out-descriptor "$scratch/unmade" "$input" "$scratch/first"
 absent "$row: here" "$scratch/unmade"
 
-row 'an input that can'\''t be opened'
-theirs 1 '' any fsverity digest --out-descriptor "$scratch/made" "$scratch/missing"
-size 0 "$scratch/made"
-ours 1 '' "fsverity: cannot open $scratch/missing." \
-    "$fsverity" digest --out-descriptor "$scratch/unmade" "$scratch/missing"
-absent "$row: here" "$scratch/unmade"
+row 'an option that is refused, after an output file'
+for option in --salt=x --block-size=100 --hash-alg=no; do
+    cp "$input" "$scratch/made"
+    cp "$input" "$scratch/unmade"
+    theirs 2 '' any fsverity digest --out-descriptor "$scratch/made" "$option" "$input"
+    size 0 "$scratch/made"
+    refused "$fsverity" digest --out-descriptor "$scratch/unmade" "$option" "$input"
+    same_bytes "$row: here" "$input" "$scratch/unmade"
+    rm "$scratch/made" "$scratch/unmade"
+done
+
+row 'an input that can'\''t be opened, or a folder'
+for file in missing folder; do
+    theirs 1 '' any fsverity digest --out-descriptor "$scratch/made" "$scratch/$file"
+    size 0 "$scratch/made"
+    ours 1 '' "fsverity: cannot open $scratch/$file." \
+        "$fsverity" digest --out-descriptor "$scratch/unmade" "$scratch/$file"
+    absent "$row: here" "$scratch/unmade"
+done
 
 row 'an output file that can'\''t be opened'
 theirs 2 '' any fsverity digest --out-descriptor "$scratch/none/file" "$input"
@@ -101,6 +133,18 @@ absent "$row: here" "$scratch/first_unmade"
 row 'a shortened option, such as `--hash-al`'
 theirs 0 any '' fsverity digest --hash-al=sha512 "$input"
 refused "$fsverity" digest --hash-al=sha512 "$input"
+
+row '`fsverity`: a value that begins with `-`, as a word of its own, such as `--out-descriptor -x`'
+(
+    cd "$scratch" || exit 1
+    fsverity digest --out-descriptor -x input >/dev/null
+)
+size 256 "$scratch/-x"
+rm "$scratch/-x"
+ours 2 '' any env -C "$scratch" "$(realpath "$fsverity")" digest --out-descriptor -x input
+absent "$row: here" "$scratch/-x"
+ours 0 any '' env -C "$scratch" "$(realpath "$fsverity")" digest --out-descriptor=-x input
+size 256 "$scratch/-x"
 
 row 'a flag given twice, such as `--compact --compact`'
 theirs 0 any '' fsverity digest --compact --compact "$input"

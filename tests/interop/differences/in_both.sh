@@ -26,6 +26,15 @@ row 'options of `verify` other than `--hash-offset`, with a superblock'
 both_format
 both 0 '' veritysetup verify --hash no --salt x --data-blocks 0 --data-block-size 768 "$data" HASH "$root"
 
+row 'several faults at once'
+both 1 '' veritysetup format --uuid x --data-blocks 18 "$data" HASH
+if [ -s "$their_hash" ]; then pass; else fail "$row: Debian's" 'HASH has not been made'; fi
+absent "$row: HASH" "$hash"
+rm "$their_hash"
+theirs 1 '' any veritysetup format --salt x "$scratch/folder/none" "$their_hash"
+ours 4 '' "Cannot open $scratch/folder/none." "$veritysetup" format --salt x "$scratch/folder/none" "$hash"
+rm -f "$their_hash"
+
 row 'a tail of DATA that is shorter than a block'
 both_format
 mv "$hash" "$scratch/image"

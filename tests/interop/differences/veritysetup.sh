@@ -37,20 +37,53 @@ makes_none() {
     absent "$row: HASH" "$hash"
 }
 
-row 'a single data block, on a fresh hash device'
-for pair in '512 512' '1024 1024' '4096 4096' '8192 4096'; do
-    rm -f "$hash" "$their_hash"
-    theirs 0 any '' veritysetup format "${fixed[@]}" --hash-block-size "${pair% *}" "$one" "$their_hash"
-    size "${pair#* }" "$their_hash"
-    ours 0 any '' "$veritysetup" format "${fixed[@]}" --hash-block-size "${pair% *}" "$one" "$hash"
-    size 512 "$hash"
-done
+# single_block HASH-BLOCK OFFSET OLD-SIZE THEIR-SIZE OUR-SIZE: both put the superblock of one block into a HASH of some
+# old bytes, which stay; what comes beyond them are zeros, up to these sizes.
+single_block() {
+    local file
+    sample "$3" >"$hash"
+    cp "$hash" "$their_hash"
+    theirs 0 any '' veritysetup format "${fixed[@]}" --hash-block-size "$1" --hash-offset "$2" "$one" "$their_hash"
+    ours 0 any '' "$veritysetup" format "${fixed[@]}" --hash-block-size "$1" --hash-offset "$2" "$one" "$hash"
+    size "$4" "$their_hash"
+    size "$5" "$hash"
+    for file in "$hash" "$their_hash"; do
+        sample "$3" >"$scratch/expected"
+        truncate -s "$(stat -c %s "$file")" "$scratch/expected"
+        dd if="$file" of="$scratch/expected" bs=512 skip=$(($2 / 512)) seek=$(($2 / 512)) count=1 conv=notrunc status=none
+        same_bytes "$row: $*: bytes of ${file##*/} outside the superblock" "$scratch/expected" "$file"
+        same "$row: $*: superblock of ${file##*/}" verity "$(tail -c +$(($2 + 1)) "$file" | head -c 6)"
+    done
+}
 
-row 'a single data block, on a fresh hash device, at an offset of 512'
-theirs 1 '' any veritysetup format "${fixed[@]}" --hash-offset 512 "$one" "$their_hash"
-size 0 "$their_hash"
-ours 0 any '' "$veritysetup" format "${fixed[@]}" --hash-offset 512 "$one" "$hash"
-size 1024 "$hash"
+row 'a single data block, HASH new or ending within the superblock'\''s hash block'
+for old in 0 100 512; do
+    single_block 512 0 $old 512 512
+    single_block 1024 0 $old 1024 512
+    single_block 4096 0 $old 4096 512
+    single_block 8192 0 $old 4096 512
+    single_block 4096 4096 $old 8192 4608
+    single_block 8192 8192 $old 12288 8704
+done
+# Bytes that were there stay in both.
+single_block 4096 0 600 4096 600
+single_block 4096 0 4095 4096 4095
+single_block 4096 4096 5000 8192 5000
+single_block 4096 512 1100 4096 1100
+single_block 4096 0 4100 4100 4100
+single_block 4096 512 4608 4608 4608
+
+row 'a single data block, at an offset within a hash block, HASH new or ending before the superblock would'
+for pair in '4096 512' '4096 3584' '8192 512' '1024 512' '4096 4608'; do
+    for old in 0 100 512; do
+        sample $old >"$their_hash"
+        cp "$their_hash" "$hash"
+        theirs 1 '' any veritysetup format "${fixed[@]}" --hash-block-size "${pair% *}" --hash-offset "${pair#* }" "$one" "$their_hash"
+        size $old "$their_hash"
+        ours 0 any '' "$veritysetup" format "${fixed[@]}" --hash-block-size "${pair% *}" --hash-offset "${pair#* }" "$one" "$hash"
+        size $((${pair#* } + 512)) "$hash"
+    done
+done
 
 row 'a hash offset within a hash block, without a superblock'
 sample 600 >"$their_hash"
@@ -60,6 +93,18 @@ if cmp -s -n 512 "$their_hash" "$hash"; then fail "$row: Debian's" 'the bytes be
 refused "$veritysetup" format --salt=ab --no-superblock --hash-offset 512 "$data" "$hash"
 sample 600 >"$scratch/expected"
 same_bytes "$row: here" "$scratch/expected" "$hash"
+
+row '`--hash-offset` above 9223372036854775807'
+both_format
+{ sample 9000 && head -c 512 "$hash"; } >"$scratch/at_end"
+# Two to the power of 64, less 512.
+theirs 0 any '' veritysetup dump --hash-offset 18446744073709551104 "$scratch/at_end"
+says "Data blocks:     ${TAB}17"
+refused "$veritysetup" dump --hash-offset 18446744073709551104 "$scratch/at_end"
+refused "$veritysetup" verify --hash-offset 18446744073709551104 "$data" "$scratch/at_end" "$root"
+refused "$veritysetup" format --hash-offset 18446744073709551104 "$data" "$scratch/none"
+refused "$veritysetup" format --hash-offset 9223372036854775808 "$data" "$scratch/none"
+absent "$row: here" "$scratch/none"
 
 row '`--data-blocks 0`'
 theirs 0 any '' veritysetup format --data-blocks 0 "$data" "$their_hash"
@@ -131,11 +176,27 @@ row '`verify`: DATA ends too early'
 head -c 65541 "$data" >"$scratch/short"
 theirs 1 '' 'Verification of data area failed.' veritysetup verify "$scratch/short" "$scratch/image" "$root"
 ours 4 '' 'Data ends before the end of block 16.' "$veritysetup" verify "$scratch/short" "$scratch/image" "$root"
+flip "$scratch/short" 9000 1
+theirs 2 '' any veritysetup verify "$scratch/short" "$scratch/image" "$root"
+says 'Verification failed at position 8192.'
+ours 4 '' 'Data ends before the end of block 16.' "$veritysetup" verify "$scratch/short" "$scratch/image" "$root"
 
 row '`verify` without a superblock and without `--salt`'
 both_format --no-superblock
 theirs 2 '' any veritysetup verify --no-superblock "$data" "$hash" "$root"
 refused "$veritysetup" verify --no-superblock "$data" "$hash" "$root"
+
+row '`verify` with a superblock: no number, or one too large to be taken, for an option other than `--hash-offset`'
+both_format
+for option in --format --data-block-size --hash-block-size --data-blocks; do
+    texts=('' x 4K 0x1 ' 1 ' 18446744073709551616)
+    # All but the number of blocks have 32 bits.
+    if [ "$option" != --data-blocks ]; then texts+=(4294967296); fi
+    for text in "${texts[@]}"; do
+        theirs 1 '' any veritysetup verify "$option=$text" "$data" "$hash" "$root"
+        ours 0 '' '' "$veritysetup" verify "$option=$text" "$data" "$hash" "$root"
+    done
+done
 
 row 'a superblock that is refused'
 with_changed_byte 7 01 'is not a valid' 'No verity superblock.'
@@ -148,7 +209,7 @@ with_changed_byte 81 02 'VERITY header corrupted.' 'Superblock salt size 513 is 
 
 row 'a superblock of 0 data blocks'
 cp "$scratch/image" "$hash"
-set_byte "$hash" 72 00
+set_byte "$hash" $DATA_BLOCKS_AT 00
 theirs 0 any '' veritysetup dump "$hash"
 theirs 0 '' '' veritysetup verify "$data" "$hash" "$root"
 refused "$veritysetup" dump "$hash"
@@ -156,7 +217,7 @@ refused "$veritysetup" verify "$data" "$hash" "$root"
 
 row 'a superblock of more data than there can be'
 cp "$scratch/image" "$hash"
-set_byte "$hash" 79 80
+set_byte "$hash" $((DATA_BLOCKS_AT + 7)) 80
 theirs 0 any '' veritysetup dump "$hash"
 ours 1 '' 'Data or hash area is too large.' "$veritysetup" dump "$hash"
 

@@ -1,0 +1,220 @@
+#!/usr/bin/env python3
+"""Runs both programs and Debian's on random command lines, and fails on a difference that no row of docs/DIFFERENCES.md
+covers.
+
+search.py [SEED=N] [SECONDS=N] [CASES=N] [WORKERS=N] [DOCUMENT=FILE] goes over cases 0, 1, .. until the time or the
+number is reached; search.py SEED=N CASE=N shows one. DOCUMENT stands in place of docs/DIFFERENCES.md. Seed and number
+of a case determine everything in it. The last line is 'N passed, M failed'.
+"""
+
+import os
+import random
+import re
+import shlex
+import shutil
+import subprocess
+import sys
+import tempfile
+import time
+import traceback
+from collections import Counter, namedtuple
+from multiprocessing import Process, SimpleQueue
+
+sys.dont_write_bytecode = True
+HERE = os.path.dirname(os.path.abspath(__file__))
+sys.path[1:1] = [os.path.join(HERE, "..", "soak"), os.path.join(HERE, "..", "lib")]
+
+from lines import random_case
+from rows import FILES, LINES, NAMED, ROWS, STATUS, UUID_LINE
+
+Outcome = namedtuple("Outcome", "status out err files")
+# How much of a file is read, more than any of these runs should make.
+MOST_READ = 2**25
+SHOWN = 20
+# What is counted besides the cases.
+FAILED, DIFFERENT = "failed", "different"
+
+
+def run(program, case, folder):
+    """Runs a program in a folder with the files of a case."""
+    os.chdir("/")
+    shutil.rmtree(folder, ignore_errors=True)
+    os.makedirs(os.path.join(folder, "folder"))
+    os.chdir(folder)
+    for name, content in case.scene.files.items():
+        with open(os.fsencode(name), "wb") as file:
+            file.write(content)
+    command = [os.fsencode(word) for word in [program, *case.words()]]
+    try:
+        ended = subprocess.run(command, stdin=subprocess.DEVNULL, capture_output=True, timeout=60)
+    except subprocess.TimeoutExpired:
+        return Outcome("none within a minute", "", "", {})
+    files = {}
+    for name in os.listdir():
+        if name != "folder":
+            with open(os.fsencode(name), "rb") as file:
+                files[name] = file.read(MOST_READ)
+    out, err = (text.decode(errors="replace") for text in (ended.stdout, ended.stderr))
+    return Outcome(ended.returncode, out, err, files)
+
+
+def without_drawn(case, outcome):
+    """An outcome without what is drawn: salt and root hash if no salt is given, and the UUID if none is."""
+    out, files = outcome.out, dict(outcome.files)
+    if case.command() != "format" or outcome.status:
+        return outcome
+    if not case.has("salt"):
+        out = re.sub(r"^((Salt|Root hash): +\t).*$", r"\1drawn", out, flags=re.MULTILINE)
+    if not case.has("uuid") and not case.has("no-superblock"):
+        out = re.sub(r"^(UUID: +\t).*$", r"\1drawn", out, flags=re.MULTILINE)
+    for name, content in files.items():
+        if content == case.scene.files.get(name):
+            continue
+        if not case.has("salt"):
+            files[name] = bytes(len(content))
+        else:
+            # The UUID stands at the sixteenth byte of the superblock.
+            at = content.find(b"verity\0\0\1\0\0\0")
+            if at >= 0 and not case.has("uuid"):
+                files[name] = content[: at + 16] + bytes(16) + content[at + 32 :]
+    return outcome._replace(out=out, files=files)
+
+
+def differences(case, ours, theirs):
+    """In what two outcomes differ."""
+    found = {STATUS} if ours.status != theirs.status else set()
+    if UUID_LINE.sub("", ours.out) != UUID_LINE.sub("", theirs.out):
+        found.add(LINES)
+    if UUID_LINE.findall(ours.out) != UUID_LINE.findall(theirs.out):
+        found.add(NAMED)
+    if ours.files != theirs.files:
+        found.add(FILES)
+    return found
+
+
+def judge(case, folder, programs, rows):
+    """What no row covers, the rows that are needed, and both outcomes."""
+    ours = without_drawn(case, run(os.path.join(programs, case.program), case, folder))
+    theirs = without_drawn(case, run(shutil.which(case.program), case, folder))
+    found = differences(case, ours, theirs)
+    covered = {}
+    if found:
+        for program, text, covers in rows:
+            said = covers(case, ours, theirs) & found if program == case.program else set()
+            if said:
+                covered[text] = said
+    left = found - set().union(*covered.values())
+    without = lambda text: set().union(*(said for other, said in covered.items() if other != text))
+    return left, [text for text in covered if found - without(text)], ours, theirs
+
+
+def shown(case):
+    """The command of a case, as a shell takes it if all words are text."""
+    return shlex.join(os.fsencode(word).decode(errors="backslashreplace") for word in [case.program, *case.words()])
+
+
+def told(seed, which, case, left, ours, theirs):
+    """A case as it is shown."""
+    title = f"no row covers the {', '.join(sorted(left))}" if left else "every difference has a row"
+    lines = [f"tests/search.sh SEED={seed} CASE={which}: {title}", shown(case)[:600]]
+    for name, outcome in (("here", ours), ("Debian's", theirs)):
+        said = (outcome.err.strip() or outcome.out.strip()).split("\n")[-1][:150]
+        lines.append(f"{name}: status {outcome.status}; {said!r}; {sizes(outcome.files)}")
+    return "\n    ".join(lines + [f"before: {sizes(case.scene.files)}"])
+
+
+def sizes(files):
+    return ", ".join(f"{name!r} of {len(content)} bytes" for name, content in sorted(files.items()))
+
+
+def make_case(seed, which):
+    return random_case(f"{seed} {which}")
+
+
+def work(options, programs, folder, first, rows, results):
+    """Goes over each case of one worker. It hands back how many there were, how many failed, and the rows needed."""
+    counts, needed = Counter(), Counter()
+    end = time.monotonic() + options["SECONDS"]
+    for which in range(first, options["CASES"], options["WORKERS"]):
+        if time.monotonic() > end:
+            break
+        counts["cases"] += 1
+        try:
+            case = make_case(options["SEED"], which)
+            left, more, ours, theirs = judge(case, folder, programs, rows)
+        except Exception:
+            counts[FAILED] += 1
+            print(f"FAILED in the search itself: tests/search.sh SEED={options['SEED']} CASE={which}")
+            traceback.print_exc(file=sys.stdout)
+            continue
+        counts[DIFFERENT] += ours.status != theirs.status or bool(more)
+        needed.update(more)
+        if left:
+            counts[FAILED] += 1
+            if counts[FAILED] <= SHOWN:
+                print("FAILED " + told(options["SEED"], which, case, left, ours, theirs), flush=True)
+    results.put((counts, needed))
+
+
+def go_over(options, programs, folder, rows):
+    """Goes over the cases, with several workers."""
+    results = SimpleQueue()
+    workers = []
+    for first in range(options["WORKERS"]):
+        place = os.path.join(folder, str(first))
+        workers.append(Process(target=work, args=(options, programs, place, first, rows, results)))
+        workers[-1].start()
+    counts, needed = Counter(), Counter()
+    for _ in workers:
+        more, rows_needed = results.get()
+        counts += more
+        needed += rows_needed
+    for worker in workers:
+        worker.join()
+    return counts, needed
+
+
+def stated(document):
+    """The rows that a document has, by their first cells; those of the search that it lacks cover nothing."""
+    with open(document, encoding="utf-8") as file:
+        cells = set(re.findall(r"^\| ([^|]+) \|", file.read(), re.MULTILINE))
+    return [each for each in ROWS if each[1] in cells]
+
+
+def main():
+    options = {"SEED": 1, "SECONDS": 60, "CASES": 10**9, "WORKERS": min(2, os.cpu_count() or 1), "CASE": None}
+    document = os.path.join(HERE, "..", "..", "docs", "DIFFERENCES.md")
+    for word in sys.argv[1:]:
+        name, _, value = word.partition("=")
+        if name == "DOCUMENT":
+            document = value
+        elif name in options and value:
+            options[name] = int(value)
+        elif name == "SEED":
+            options[name] = random.SystemRandom().randrange(10**9)
+    rows = stated(document)
+    programs = os.path.abspath(os.environ.get("BIN", "bin"))
+    room = "/dev/shm" if os.path.isdir("/dev/shm") else None
+    with tempfile.TemporaryDirectory(prefix="search-", dir=room) as folder:
+        if options["CASE"] is not None:
+            case = make_case(options["SEED"], options["CASE"])
+            left, needed, ours, theirs = judge(case, os.path.join(folder, "case"), programs, rows)
+            print(told(options["SEED"], options["CASE"], case, left, ours, theirs))
+            print("rows needed: " + "; ".join(needed))
+            counts = Counter({"cases": 1, FAILED: int(bool(left))})
+        else:
+            started = time.monotonic()
+            counts, needed = go_over(options, programs, folder, rows)
+            for text, count in needed.most_common():
+                print(f"{count:8} {text}")
+            seconds = time.monotonic() - started
+            print(f"{counts['cases']:8} cases of seed {options['SEED']} in {seconds:.0f} seconds,")
+            print(f"{counts[DIFFERENT]:8} of them with differences, which need {len(needed)} of {len(rows)} rows")
+        os.chdir("/")
+    passed = counts["cases"] - counts[FAILED]
+    print(f"{passed} passed, {counts[FAILED]} failed")
+    sys.exit(1 if counts[FAILED] or not passed else 0)
+
+
+if __name__ == "__main__":
+    main()
