@@ -15,6 +15,7 @@ DESTDIR =
 BINDIR = $(PREFIX)/bin
 SBINDIR = $(PREFIX)/sbin
 MANDIR = $(PREFIX)/share/man
+BASHCOMPDIR = $(PREFIX)/share/bash-completion/completions
 LIBDIR = $(PREFIX)/lib
 INCLUDEDIR = $(PREFIX)/include
 SUFFIX = -proved
@@ -118,6 +119,7 @@ install uninstall: export DESTDIR := $(DESTDIR)
 install uninstall: export BINDIR := $(BINDIR)
 install uninstall: export SBINDIR := $(SBINDIR)
 install uninstall: export MANDIR := $(MANDIR)
+install uninstall: export BASHCOMPDIR := $(BASHCOMPDIR)
 install uninstall: export LIBDIR := $(LIBDIR)
 install uninstall: export INCLUDEDIR := $(INCLUDEDIR)
 install uninstall: export SUFFIX := $(SUFFIX)
@@ -156,7 +158,8 @@ help:
 	@echo 'make bench-feeding   1 minute +    measures the library that is fed with pieces of a file'
 	@echo 'make reproducible    5 minutes +   builds once more in another folder, and compares the programs'
 	@echo 'make install         seconds       installs programs, manual pages and completion, and the library if it is built'
-	@echo '                                   [PREFIX, DESTDIR, SUFFIX, STRIP=yes, BINDIR, SBINDIR, MANDIR, LIBDIR, INCLUDEDIR]'
+	@echo '                                   [PREFIX, DESTDIR, SUFFIX, STRIP=yes, BINDIR, SBINDIR, MANDIR, BASHCOMPDIR, LIBDIR,'
+	@echo '                                   INCLUDEDIR]'
 	@echo 'make uninstall       seconds       removes what make install has installed; give it the same settings'
 	@echo 'make dist            seconds       makes an archive of the committed sources, with the version in its name [DIST]'
 	@echo 'make clean           seconds       removes what was built, and what is kept of the proofs'

@@ -1,10 +1,10 @@
 #!/bin/bash
 # install.sh install|uninstall: puts the programs of bin/, their manual pages and bash's completion of their words below
-# DESTDIR and PREFIX, with SUFFIX at the end of their names; or removes just these files. BINDIR, SBINDIR, MANDIR, LIBDIR
-# and INCLUDEDIR are folders in place of those below PREFIX, and DESTDIR stands before them too. With STRIP=yes the
-# programs and the shared library are stripped. The pages and the completion speak of the programs by these names. If
-# lib/ has the library for C, that goes there too, by its own names, with its header, its page and what pkg-config says
-# of it. Nothing is built here, so that no proof runs as root.
+# DESTDIR and PREFIX, with SUFFIX at the end of their names; or removes just these files. BINDIR, SBINDIR, MANDIR,
+# BASHCOMPDIR, LIBDIR and INCLUDEDIR are folders in place of those below PREFIX, and DESTDIR stands before them too. A
+# folder that is there keeps its mode. With STRIP=yes the programs and the shared library are stripped. The pages and the
+# completion speak of the programs by these names. If lib/ has the library for C, that goes there too, by its own names,
+# with its header, its page and what pkg-config says of it. Nothing is built here, so that no proof runs as root.
 set -euo pipefail
 cd "$(dirname "$0")"
 prefix=${PREFIX-/usr/local}
@@ -20,12 +20,21 @@ yes | no) ;;
     exit 1
     ;;
 esac
+for name in PREFIX BINDIR SBINDIR MANDIR BASHCOMPDIR LIBDIR INCLUDEDIR; do
+    case ${!name-/} in
+    '' | /*) ;;
+    *)
+        echo "install.sh: $name has to begin with /" >&2
+        exit 1
+        ;;
+    esac
+done
 libdir=${LIBDIR:-$prefix/lib}
 includedir=${INCLUDEDIR:-$prefix/include}
 bin=${DESTDIR-}${BINDIR:-$prefix/bin}
 sbin=${DESTDIR-}${SBINDIR:-$prefix/sbin}
 pages=${DESTDIR-}${MANDIR:-$prefix/share/man}
-completions=${DESTDIR-}$prefix/share/bash-completion/completions
+completions=${DESTDIR-}${BASHCOMPDIR:-$prefix/share/bash-completion/completions}
 libraries=${DESTDIR-}$libdir
 headers=${DESTDIR-}$includedir
 
@@ -40,15 +49,20 @@ completion() {
     sed -E "s/^complete .* (fsverity|veritysetup)\$/&$suffix/" "$1"
 }
 
+# make_folder FOLDER: makes a folder, unless it is there.
+make_folder() {
+    if [ ! -d "$1" ]; then install -d "$1"; fi
+}
+
 # put MODE FILE: makes a file of standard input.
 put() {
-    install -d "$(dirname "$2")"
+    make_folder "$(dirname "$2")"
     install -m "$1" /dev/stdin "$2"
 }
 
 # put_built FILE: the same for what runs, stripped if that is wanted.
 put_built() {
-    install -d "$(dirname "$1")"
+    make_folder "$(dirname "$1")"
     if [ "$STRIP" = yes ]; then install -s -m 755 /dev/stdin "$1"; else install -m 755 /dev/stdin "$1"; fi
 }
 
@@ -99,6 +113,10 @@ install_all() {
         page "man/$name.$section" | put 644 "$pages/man$section/$name$suffix.$section"
         completion "completions/$name" | put 644 "$completions/$name$suffix"
     done
+    # Up to version 1.3.0 it went to the folder of section 1.
+    if [ "$bin" != "$sbin" ] && [ -e "$bin/veritysetup$suffix" ]; then
+        echo "$bin/veritysetup$suffix is of an older version, perhaps: remove it, for the new one is in $sbin" >&2
+    fi
     if [ -e lib/libverity.a ] && [ -e lib/libverity.so.1 ]; then install_library; fi
     if [ -e lib/libverity.a ] && [ ! -e lib/libverity.so.1 ]; then
         echo "libverity.so.1 isn't built, so the library is left out" >&2
@@ -108,6 +126,8 @@ install_all() {
 uninstall_all() {
     rm -f "$bin/fsverity$suffix" "$pages/man1/fsverity$suffix.1" "$completions/fsverity$suffix"
     rm -f "$sbin/veritysetup$suffix" "$pages/man8/veritysetup$suffix.8" "$completions/veritysetup$suffix"
+    # A header of this name may be another library's.
+    if ! grep -qsx 'Name: libverity' "$libraries/pkgconfig/verity.pc"; then return; fi
     rm -f "$libraries/libverity.a" "$libraries/libverity.so" "$libraries/libverity.so.1" "$libraries/pkgconfig/verity.pc"
     rm -f "$headers/verity.h" "$pages/man3/verity.3"
 }

@@ -123,10 +123,11 @@ def small():
 
 
 def peak(words):
-    """The most memory that a command held, in KiB."""
+    """The most memory that a command, which runs in the folder for what is measured, held, in KiB."""
     if os.path.exists(at("made")):
         os.remove(at("made"))
-    subprocess.run(["/usr/bin/time", "-o", at("peak"), "-f", "%M", *words], stdout=subprocess.DEVNULL, check=True)
+    command = ["/usr/bin/time", "-o", at("peak"), "-f", "%M", *words]
+    subprocess.run(command, stdout=subprocess.DEVNULL, check=True, cwd=SCRATCH)
     with open(at("peak"), encoding="ascii") as it:
         return it.read().strip()
 
@@ -146,6 +147,15 @@ def memory():
                     row.append(peak([programs["fsverity"], command, data]))
         rows.append(row)
     table(["Peak memory, KiB", "here, 1 MiB of data:", "here, 1 GiB:", "Debian's, 1 MiB:", "Debian's, 1 GiB:"], rows)
+    name = "a-name-of-25-characters__"
+    with open(at(name), "w", encoding="ascii") as it:
+        it.write("a")
+    counts = (1, 10000, 60000)
+    rows = [
+        [f"`fsverity digest`, {who}"] + [peak([programs["fsverity"], "digest", *[name] * count]) for count in counts]
+        for who, programs in (("here", OURS), ("Debian's", DEBIANS))
+    ]
+    table(["Peak memory, KiB", "one name:", "10,000 names of 25 characters:", "60,000 names:"], rows)
 
 
 def version(name):

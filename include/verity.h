@@ -110,7 +110,7 @@
 #include <stdint.h>
 
 #define VERITY_VERSION_MAJOR 1
-#define VERITY_VERSION_MINOR 3
+#define VERITY_VERSION_MINOR 4
 #define VERITY_VERSION_PATCH 0
 
 #ifdef __cplusplus

@@ -1,6 +1,7 @@
 #!/bin/bash
 # Completes words of both programs by the functions that bash calls for them, and compares what they offer with the
-# programs' own usage and the manual's values. BIN=FOLDER takes the programs of another folder.
+# programs' own usage and the manual's values; and in a bash of its own, on a terminal of script. BIN=FOLDER takes the
+# programs of another folder.
 set -u
 cd "$(dirname "$0")/.."
 . tests/lib/checks.sh
@@ -79,25 +80,55 @@ values() {
     offers '' fsverity digest --salt a
 }
 
+# completed LINE WORD..: typed into a bash of its own with a tab behind it, the line is completed, so that its program gets
+# these words.
+completed() {
+    local line=$1
+    shift
+    printf '<%s>' "$@" >"$scratch/expected_words"
+    : >"$scratch/words"
+    printf '%s\t\nexit\n' "$line" | SHELL=/bin/bash timeout 20 script --quiet --return \
+        --command "bash --noprofile --rcfile '$scratch/rc' -i" /dev/null >"$scratch/terminal" 2>&1
+    same "completed: $line" "$(cat "$scratch/expected_words")" "$(cat "$scratch/words")"
+}
+
+# Names of files, which bash completes by itself: with blanks, quotes and a tilde, in each place where a file may stand.
 files() {
+    local name top=$PWD
+    if ! script --quiet --return --command true /dev/null >/dev/null 2>&1 </dev/null; then
+        echo "left out: names of files: script is not installed, or can't make a terminal here"
+        return
+    fi
     mkdir "$scratch/files"
+    {
+        echo 'HISTFILE= PS1= PS2='
+        echo "HOME='$scratch/files'"
+        echo "cd '$scratch/files'"
+        for name in fsverity veritysetup; do
+            echo ". '$top/completions/$name'"
+            echo "$name() { printf '<%s>' \"\$@\" >'$scratch/words'; }"
+        done
+    } >"$scratch/rc"
     : >"$scratch/files/a name"
     : >"$scratch/files/image"
-    offers "$scratch/files/image" veritysetup format --hash sha1 "$scratch/files/i"
-    offers "$scratch/files/image" veritysetup verify "$scratch/data" "$scratch/files/i"
-    offers "$scratch/files/image" veritysetup dump --hash-offset 512 "$scratch/files/i"
-    offers "$scratch/files/a name" fsverity digest --compact "$scratch/files/a"
-    offers "$scratch/files/image" fsverity digest --out-merkle-tree "$scratch/files/i"
-    offers "$scratch/files/image" fsverity digest --out-descriptor = "$scratch/files/i"
-    offers '' fsverity digest "$scratch/files/none"
-    offers "$scratch/files/image" fsverity digest -- --compact "$scratch/files/i"
-    offers "$scratch/files/image" veritysetup format -- "$scratch/files/i"
-    offers "$scratch/files/image" fsverity sign "$scratch/files/i"
     : >"$scratch/files/--salt"
-    cd "$scratch/files" || exit 1
-    offers '--salt' fsverity digest -- --s
-    offers '--salt' veritysetup verify -- --s
-    cd - >/dev/null || exit 1
+    completed 'veritysetup format --hash sha1 im' format --hash sha1 image
+    completed 'veritysetup verify data im' verify data image
+    completed 'veritysetup dump --hash-offset 512 im' dump --hash-offset 512 image
+    completed 'fsverity digest --compact a\ n' digest --compact 'a name'
+    completed 'fsverity digest --compact "a n' digest --compact 'a name'
+    completed 'veritysetup dump a' dump 'a name'
+    completed 'fsverity digest --out-merkle-tree ~/im' digest --out-merkle-tree "$scratch/files/image"
+    completed 'fsverity digest --out-descriptor=im' digest --out-descriptor=image
+    completed 'fsverity digest none' digest none
+    completed 'fsverity digest -- --compact im' digest -- --compact image
+    completed 'veritysetup format -- im' format -- image
+    completed 'fsverity sign im' sign image
+    completed 'fsverity digest -- --s' digest -- --salt
+    completed 'veritysetup verify -- --s' verify -- --salt
+    # And words that aren't names of files.
+    completed 'veritysetup verify --data-block-size=163' verify --data-block-size=16384
+    completed 'fsverity dig' digest
 }
 
 # Each value that is offered is one that the program takes.

@@ -51,17 +51,18 @@ library_files() {
 }
 
 # installs FOLDER PREFIX SUFFIX WORD..: `make install` with these words puts the six files there, and those of the
-# library, and nothing else. `programs`, `admin`, `manuals`, `libraries` and `includes` are the folders of the programs
-# of section 1 and 8, of the pages, the library and the header, if they aren't those below PREFIX.
+# library, and nothing else. `programs`, `admin`, `manuals`, `words`, `libraries` and `includes` are the folders of the
+# programs of section 1 and 8, of the pages, the completion, the library and the header, if they aren't those below
+# PREFIX.
 installs() {
-    local folder=$scratch/$1 prefix=$2 suffix=$3 share pages
+    local folder=$scratch/$1 prefix=$2 suffix=$3 completions pages
     shift 3
-    pages=${manuals:-$prefix/share/man}
+    pages=${manuals:-$prefix/share/man} completions=${words:-$prefix/share/bash-completion/completions}
     (umask 022 && make -s install DESTDIR="$folder" "$@") >"$scratch/.made" 2>&1 </dev/null
     is_text "$folder: what make says" '' "$scratch/.made"
     same "$folder: files" "$({
         printf '755 %s\n' "${programs:-$prefix/bin}/fsverity$suffix" "${admin:-$prefix/sbin}/veritysetup$suffix"
-        printf '644 %s\n' "$prefix/share/bash-completion/completions/"{fsverity,veritysetup}"$suffix" \
+        printf '644 %s\n' "$completions/"{fsverity,veritysetup}"$suffix" \
             "$pages/man1/fsverity$suffix.1" "$pages/man8/veritysetup$suffix.8"
         library_files "$prefix"
     } | sort -k 2)" "$(listed "$folder")"
@@ -69,11 +70,11 @@ installs() {
         same_bytes "$folder: fsverity" bin/fsverity "$folder/${programs:-$prefix/bin}/fsverity$suffix"
         same_bytes "$folder: veritysetup" bin/veritysetup "$folder/${admin:-$prefix/sbin}/veritysetup$suffix"
     fi
-    share=$folder/$prefix/share pages=$folder/$pages
+    completions=$folder/$completions pages=$folder/$pages
     speaks fsverity.1 "$pages/man1/fsverity$suffix.1" "$suffix"
     speaks veritysetup.8 "$pages/man8/veritysetup$suffix.8" "$suffix"
-    completes "$share/bash-completion/completions/fsverity$suffix" "fsverity$suffix"
-    completes "$share/bash-completion/completions/veritysetup$suffix" "veritysetup$suffix"
+    completes "$completions/fsverity$suffix" "fsverity$suffix"
+    completes "$completions/veritysetup$suffix" "veritysetup$suffix"
     if command -v mandoc >/dev/null; then
         same "$folder: mandoc -T lint" '' "$(mandoc -T lint -W warning "$pages"/man[1-8]/* 2>/dev/null)"
     fi
@@ -85,6 +86,13 @@ is_stripped() {
     strip "$scratch/without_symbols"
     same_bytes "$2: as strip leaves it" "$scratch/without_symbols" "$2"
     same "$2: symbols" 0 "$(readelf -S "$2" | grep -c '\.symtab')"
+}
+
+# asks_for FILE: of a program, the libraries that it needs and the newest glibc that it asks for.
+asks_for() {
+    local library
+    for library in $(readelf -d "$1" | sed -n 's/.*(NEEDED).*\[\(.*\)\]/\1/p'); do printf '%s ' "$library"; done
+    readelf -V "$1" | grep -o 'GLIBC_[0-9.]*' | sort -uV | tail -n 1
 }
 
 # uninstalls FOLDER WORD..: `make uninstall` removes what was installed, and nothing that stands beside it.
@@ -126,10 +134,23 @@ installs plain usr/local -proved
 installs named usr '' PREFIX=/usr SUFFIX=
 installs 'a space  and "quotes"' 'opt/our programs' -x.y PREFIX='/opt/our programs' SUFFIX=-x.y
 # Folders as packagers set them: one word each, in place of those below PREFIX.
-packaged=(PREFIX=/usr SUFFIX= BINDIR=/usr/tools SBINDIR=/usr/bin 'MANDIR=/usr/man pages'
+packaged=(PREFIX=/usr SUFFIX= BINDIR=/usr/tools SBINDIR=/usr/bin 'MANDIR=/usr/man pages' BASHCOMPDIR=/etc/bash_completion.d
     LIBDIR=/usr/lib/x86_64-linux-gnu INCLUDEDIR=/opt/headers)
-programs=usr/tools admin=usr/bin manuals='usr/man pages' libraries=usr/lib/x86_64-linux-gnu includes=opt/headers \
-    installs packaged usr '' "${packaged[@]}"
+programs=usr/tools admin=usr/bin manuals='usr/man pages' words=etc/bash_completion.d libraries=usr/lib/x86_64-linux-gnu \
+    includes=opt/headers installs packaged usr '' "${packaged[@]}"
+# A folder that is there keeps its mode, and one that is made has the usual one.
+mkdir -p "$scratch/kept/usr/local/"{bin,sbin,share/man/man1}
+chmod 2775 "$scratch/kept/usr/local/"{bin,sbin}
+chmod 700 "$scratch/kept/usr/local/share/man/man1"
+installs kept usr/local -proved
+same 'modes of folders' '2775 2775 700 755' \
+    "$(cd "$scratch/kept/usr/local" && stat -c %a bin sbin share/man/man1 share/man/man8 | tr '\n' ' ' | sed 's/ $//')"
+# Up to version 1.3.0 veritysetup was in the other folder.
+: >"$scratch/kept/usr/local/bin/veritysetup-proved"
+runs 'an older veritysetup' 0 '' \
+    "$scratch/kept/usr/local/bin/veritysetup-proved is of an older version, perhaps: remove it, for the new one is in $scratch/kept/usr/local/sbin" \
+    make -s --no-print-directory install DESTDIR="$scratch/kept"
+rm "$scratch/kept/usr/local/bin/veritysetup-proved"
 if command -v strip >/dev/null && command -v readelf >/dev/null; then
     installs stripped usr/local -proved STRIP=yes
     is_stripped bin/fsverity "$scratch/stripped/usr/local/bin/fsverity-proved"
@@ -137,6 +158,9 @@ if command -v strip >/dev/null && command -v readelf >/dev/null; then
     printf a >"$scratch/one"
     runs 'a stripped program' 0 "sha256:bce75948b9e7510293f8f2720412af9697c1479281323f3f220623fb8e94b557 $scratch/one" '' \
         "$scratch/stripped/usr/local/bin/fsverity-proved" digest "$scratch/one"
+    for name in fsverity veritysetup; do
+        same "$name: what docs/BUILDING.md says that it needs" "libc.so.6 GLIBC_2.34" "$(asks_for "bin/$name")"
+    done
     if [ -e lib/libverity.a ] && [ -e lib/libverity.so.1 ]; then
         is_stripped lib/libverity.so.1 "$scratch/stripped/usr/local/lib/libverity.so.1"
     fi
@@ -167,11 +191,24 @@ same 'libverity.so after uninstall' '' "$(find "$scratch/plain" -name libverity.
 uninstalls named PREFIX=/usr SUFFIX=
 uninstalls 'a space  and "quotes"' PREFIX='/opt/our programs' SUFFIX=-x.y
 uninstalls packaged "${packaged[@]}"
+uninstalls kept
+# Without the library's own file of pkg-config, a header of its name is another library's.
+mkdir -p "$scratch/other/usr/local/"{include,lib}
+: >"$scratch/other/usr/local/include/verity.h"
+: >"$scratch/other/usr/local/lib/libverity.so"
+runs "another library's files" 0 '' '' make -s --no-print-directory uninstall DESTDIR="$scratch/other"
+same "another library's files stay" '644 usr/local/include/verity.h 644 usr/local/lib/libverity.so ' "$(listed "$scratch/other" | tr '\n' ' ')"
 if [ -e "$scratch/stripped" ]; then uninstalls stripped STRIP=yes; fi
 runs 'a suffix with a slash' 2 '' any make -s --no-print-directory install DESTDIR="$scratch/none" SUFFIX=/x
 absent 'a suffix with a slash' "$scratch/none"
 runs 'a STRIP that is neither yes nor no' 2 '' any make -s --no-print-directory install DESTDIR="$scratch/none" STRIP=1
 absent 'a STRIP that is neither yes nor no' "$scratch/none"
+for variable in PREFIX BINDIR MANDIR; do
+    runs "a $variable that doesn't begin with /" 2 '' any \
+        make -s --no-print-directory install DESTDIR="$scratch/none" "$variable=usr"
+    same "a $variable that doesn't begin with /: why" "install.sh: $variable has to begin with /" "$(head -n 1 "$scratch/.err")"
+    absent "a $variable that doesn't begin with /" "$scratch/none"
+done
 # Without programs in bin/ nothing is installed: here, over copies of what makes them.
 mkdir "$scratch/empty"
 cp Makefile install.sh "$scratch/empty"
@@ -185,8 +222,14 @@ if [ -e .git ] && command -v git >/dev/null; then
     runs 'make dist' 0 "$scratch/dist/$name.tar.gz" '' make -s --no-print-directory dist DIST="$scratch/dist"
     git clone -q . "$scratch/clone" 2>/dev/null
     git -C "$scratch/clone" config tar.umask 0077
+    mkdir -p "$scratch/home/.config/git"
+    printf '%s\n' '* text eol=crlf' 'docs export-ignore' >"$scratch/home/.config/git/attributes"
     sleep 1
-    (umask 077 && TZ=Asia/Tokyo make -s -C "$scratch/clone" --no-print-directory dist) >"$scratch/.made" 2>&1
+    (
+        umask 077
+        export TZ=Asia/Tokyo HOME=$scratch/home XDG_CONFIG_HOME=$scratch/home/.config GZIP=--rsyncable
+        make -s -C "$scratch/clone" --no-print-directory dist
+    ) >"$scratch/.made" 2>&1
     is_text 'make dist, of a clone' "dist/$name.tar.gz" "$scratch/.made"
     same_bytes 'make dist, twice' "$scratch/dist/$name.tar.gz" "$scratch/clone/dist/$name.tar.gz"
     mkdir "$scratch/unpacked"

@@ -23,6 +23,8 @@ cd "$scratch/run" || exit 1
 run_examples README.md "$scratch/examples"
 same 'the number of commands in README.md' "$commands" "$examples"
 cd - >/dev/null || exit 1
+same 'the version that README.md says' "$(sed -nE 's/^## ([0-9.]+) .*/\1/p' CHANGELOG.md | head -n 1)" \
+    "$(sed -nE 's/.*This is version ([0-9.]+[0-9]).*/\1/p' README.md)"
 
 # What the documents name is there: targets of the Makefile, and other documents.
 documents=(README.md CONTRIBUTING.md docs/*.md)

@@ -2,7 +2,7 @@
 # Random command lines, run by both programs and by Debian's: fails on a difference that no row of docs/DIFFERENCES.md
 # covers. The code is in tests/search/; tests/interop/differences.sh checks each row by itself.
 #
-#   tests/search.sh                a minute of the cases of seed 1
+#   tests/search.sh                a minute of the cases of seed 1, after it is seen that rows are missed
 #   tests/search.sh SEED=N SECONDS=N [CASES=N] [WORKERS=N] [DOCUMENT=FILE]
 #   tests/search.sh SEED=N CASE=N  shows one case, as a failed one is printed
 set -u
@@ -16,4 +16,32 @@ needs_other veritysetup cryptsetup-bin
 needs_other fsverity fsverity
 needs_versions
 export BIN
-tests/search/search.py "$@"
+if [ $# -gt 0 ]; then
+    tests/search/search.py "$@"
+    exit
+fi
+
+# lacks TEXT: without the row that begins with this text the search fails.
+lacks() {
+    grep -vF "| $1 |" docs/DIFFERENCES.md >"$scratch/document"
+    tests/search/search.py SEED=1 SECONDS=60 CASES=1200 DOCUMENT="$scratch/document" >"$scratch/said"
+    same "without the row '$1': status" 1 $?
+    if grep -q '^FAILED .*: no row covers the ' "$scratch/said"; then
+        pass
+    else
+        fail "without the row '$1'" "$(tail -n 5 "$scratch/said")"
+    fi
+}
+
+lacks 'the number of a hash function, such as `--hash-alg=1`'
+lacks '`--uuid` with `--no-superblock`'
+lacks 'mode of a new output file'
+lacks 'the report of `format` and `dump`'
+tests/search/search.py SEED=1 SECONDS=60 | tee "$scratch/said"
+if [[ $(tail -n 1 "$scratch/said") =~ ^([0-9]+)\ passed,\ ([0-9]+)\ failed$ ]]; then
+    checked=$((checked + BASH_REMATCH[1] + BASH_REMATCH[2]))
+    failed=$((failed + BASH_REMATCH[2]))
+else
+    fail 'the search' 'it did not say how many cases passed'
+fi
+finish

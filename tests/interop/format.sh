@@ -6,6 +6,7 @@
 set -u
 cd "$(dirname "$0")/../.."
 . tests/lib/checks.sh
+. tests/lib/layouts.sh
 . tests/lib/settings.sh
 has_program veritysetup
 needs_other veritysetup cryptsetup-bin
@@ -33,7 +34,7 @@ compare() {
         return
     fi
     # The other program pads the superblock of a single data block to a whole block.
-    if [ "$5" -eq 1 ]; then truncate -s 512 "$peer"; fi
+    if [ "$5" -eq 1 ]; then truncate -s "$SUPERBLOCK_SIZE" "$peer"; fi
     same_bytes "$name: image" "$peer" "$own"
 
     root=$(sed -n 's/^Root hash:[[:space:]]*//p' "$scratch/own.txt")
@@ -54,7 +55,7 @@ covers() {
     rm -f "$own" "$peer"
     veritysetup format "${options[@]}" "$data" "$peer" >"$scratch/peer.txt" 2>&1
     "$BIN/veritysetup" format "${options[@]}" "$data" "$own" >"$scratch/own.txt" 2>&1
-    if [ "$1" -eq 1 ]; then truncate -s 512 "$peer"; fi
+    if [ "$1" -eq 1 ]; then truncate -s "$SUPERBLOCK_SIZE" "$peer"; fi
     same_bytes "$name: image" "$peer" "$own"
     same "$name: root hash" "$(sed -n 's/^Root hash:[[:space:]]*//p' "$scratch/peer.txt")" \
         "$(sed -n 's/^Root hash:[[:space:]]*//p' "$scratch/own.txt")"

@@ -5,6 +5,7 @@ import posixpath
 import random
 from collections import namedtuple
 
+from layouts import SUPERBLOCK_SIZE
 from reading import Scene
 from trees import Settings, Tree, put
 from veritysetup_expected import NAMES, superblock
@@ -42,6 +43,9 @@ def words_of(part):
 
 class Case:
     """A program, the parts of its line, the files it runs on, and how much in it is odd: no more can be wrong."""
+
+    # With what umask it is run.
+    umask = 0o022
 
     def __init__(self, program, parts, scene, odd):
         self.program, self.scene, self.odd = program, scene, odd
@@ -147,7 +151,7 @@ def format_case(rng):
     scene = Scene({DATA: content})
     if chance(rng, 0.3):
         scene.files[HASH] = rng.randbytes(rng.choice([0, 100, 512, 600, 4096, 4700, 9000, 30000]))
-    at = rng.choice([0, 0, 0, 1, 2, 8, 16]) * (chosen.hash_block if bare else 512)
+    at = rng.choice([0, 0, 0, 1, 2, 8, 16]) * (chosen.hash_block if bare else SUPERBLOCK_SIZE)
     names = [DATA, HASH]
     if chance(rng, 0.05):
         names, at = [DATA, DATA], -(-len(content) // 8192) * 8192
@@ -163,9 +167,9 @@ def image_case(rng):
     chosen = settings(rng)
     chosen = chosen._replace(count=max(chosen.count, 1))
     bare = chance(rng, 0.3)
-    at = rng.choice([0, 0, 1, 8]) * (chosen.hash_block if bare else 512)
+    at = rng.choice([0, 0, 1, 8]) * (chosen.hash_block if bare else SUPERBLOCK_SIZE)
     data = bytearray(rng.randbytes(chosen.count * chosen.data_block))
-    tree = Tree(chosen, -(-(at if bare else at + 512) // chosen.hash_block), bytes(data))
+    tree = Tree(chosen, -(-(at if bare else at + SUPERBLOCK_SIZE) // chosen.hash_block), bytes(data))
     device = bytearray(tree.on(b""))
     if not bare:
         put(device, at, superblock(chosen, bytes(range(16))))
@@ -173,8 +177,8 @@ def image_case(rng):
     rng.odd += kind < 4
     if kind == 0:
         data[rng.randrange(len(data))] ^= 1
-    elif kind == 1 and len(device) > at + 512:
-        device[rng.randrange(at + 512, len(device))] ^= 1
+    elif kind == 1 and len(device) > at + SUPERBLOCK_SIZE:
+        device[rng.randrange(at + SUPERBLOCK_SIZE, len(device))] ^= 1
     elif kind == 2 and device:
         del device[rng.randrange(len(device)) :]
     elif kind == 3:
@@ -270,6 +274,7 @@ def random_case(text):
     for _ in range(rng.choice([0, 0, 0, 1, 1, 2])):
         if case.parts:
             case = changed(rng, case)
+    case.umask = rng.choice([0o022, 0o022, 0o002, 0o000, 0o077])
     # No program is let loose outside its folder.
     assert all(not posixpath.isabs(word) for word in case.words())
     return case

@@ -5,8 +5,8 @@ first cell."""
 import posixpath
 import re
 
-STATUS, LINES, NAMED, FILES = "status", "lines", "line of the UUID", "files"
-ALL = {STATUS, LINES, NAMED, FILES}
+STATUS, LINES, NAMED, FILES, MODES = "status", "lines", "line of the UUID", "files", "modes of new files"
+ALL = {STATUS, LINES, NAMED, FILES, MODES}
 UUID_LINE = re.compile(r"^(UUID: +\t)(.*)\n", re.MULTILINE)
 NUMBERS = ["format", "data-block-size", "hash-block-size", "data-blocks", "hash-offset"]
 FLAGS = ["no-superblock", "compact", "for-builtin-sig"]
@@ -277,6 +277,15 @@ def is_not_opened(case, ours, theirs):
     return (ours.status, theirs.status) == (4, 1) and says(ours, "Cannot open")
 
 
+@outcome_row("veritysetup", "mode of a new HASH", {MODES})
+def is_made_by_umask(case, ours, theirs):
+    return all(made_by(case, ours, 0o666)) and all(made_by(case, theirs, 0o600))
+
+
+def made_by(case, outcome, mode):
+    return [made == mode & ~case.umask for made in outcome.modes.values()]
+
+
 # Reports.
 
 
@@ -345,6 +354,11 @@ def is_output_missing(case, ours, theirs):
 @outcome_row("fsverity", "a folder as the second output file", {FILES})
 def is_second_missing(case, ours, theirs):
     return ours.status == 1 and says(theirs, "for writing: (Is a directory|No such file)")
+
+
+@outcome_row("fsverity", "mode of a new output file", {MODES})
+def is_written_by_all(case, ours, theirs):
+    return all(made_by(case, ours, 0o666)) and all(made_by(case, theirs, 0o644))
 
 
 # In both.

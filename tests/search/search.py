@@ -12,6 +12,7 @@ import random
 import re
 import shlex
 import shutil
+import stat
 import subprocess
 import sys
 import tempfile
@@ -24,10 +25,13 @@ sys.dont_write_bytecode = True
 HERE = os.path.dirname(os.path.abspath(__file__))
 sys.path[1:1] = [os.path.join(HERE, "..", "soak"), os.path.join(HERE, "..", "lib")]
 
+from layouts import SIGNATURE, SUPERBLOCK_FIELDS
 from lines import random_case
-from rows import FILES, LINES, NAMED, ROWS, STATUS, UUID_LINE
+from rows import FILES, LINES, MODES, NAMED, ROWS, STATUS, UUID_LINE
 
-Outcome = namedtuple("Outcome", "status out err files")
+# What a run did: its status and what it printed, and then the files by name with their bytes, and the modes of those that
+# it made.
+Outcome = namedtuple("Outcome", "status out err files modes")
 # How much of a file is read, more than any of these runs should make.
 MOST_READ = 2**25
 SHOWN = 20
@@ -46,16 +50,18 @@ def run(program, case, folder):
             file.write(content)
     command = [os.fsencode(word) for word in [program, *case.words()]]
     try:
-        ended = subprocess.run(command, stdin=subprocess.DEVNULL, capture_output=True, timeout=60)
+        ended = subprocess.run(command, stdin=subprocess.DEVNULL, capture_output=True, timeout=60, umask=case.umask)
     except subprocess.TimeoutExpired:
-        return Outcome("none within a minute", "", "", {})
-    files = {}
+        return Outcome("none within a minute", "", "", {}, {})
+    files, modes = {}, {}
     for name in os.listdir():
         if name != "folder":
+            if name not in case.scene.files:
+                modes[name] = stat.S_IMODE(os.stat(os.fsencode(name)).st_mode)
             with open(os.fsencode(name), "rb") as file:
                 files[name] = file.read(MOST_READ)
     out, err = (text.decode(errors="replace") for text in (ended.stdout, ended.stderr))
-    return Outcome(ended.returncode, out, err, files)
+    return Outcome(ended.returncode, out, err, files, modes)
 
 
 def without_drawn(case, outcome):
@@ -73,10 +79,10 @@ def without_drawn(case, outcome):
         if not case.has("salt"):
             files[name] = bytes(len(content))
         else:
-            # The UUID stands at the sixteenth byte of the superblock.
-            at = content.find(b"verity\0\0\1\0\0\0")
-            if at >= 0 and not case.has("uuid"):
-                files[name] = content[: at + 16] + bytes(16) + content[at + 32 :]
+            start = content.find(SIGNATURE + b"\1\0\0\0")
+            if start >= 0 and not case.has("uuid"):
+                at, size = SUPERBLOCK_FIELDS["uuid"]
+                files[name] = content[: start + at] + bytes(size) + content[start + at + size :]
     return outcome._replace(out=out, files=files)
 
 
@@ -89,6 +95,8 @@ def differences(case, ours, theirs):
         found.add(NAMED)
     if ours.files != theirs.files:
         found.add(FILES)
+    if any(mode != theirs.modes.get(name, mode) for name, mode in ours.modes.items()):
+        found.add(MODES)
     return found
 
 
@@ -110,7 +118,8 @@ def judge(case, folder, programs, rows):
 
 def shown(case):
     """The command of a case, as a shell takes it if all words are text."""
-    return shlex.join(os.fsencode(word).decode(errors="backslashreplace") for word in [case.program, *case.words()])
+    words = shlex.join(os.fsencode(word).decode(errors="backslashreplace") for word in [case.program, *case.words()])
+    return f"umask {case.umask:03o}; {words}"
 
 
 def told(seed, which, case, left, ours, theirs):
@@ -119,7 +128,8 @@ def told(seed, which, case, left, ours, theirs):
     lines = [f"tests/search.sh SEED={seed} CASE={which}: {title}", shown(case)[:600]]
     for name, outcome in (("here", ours), ("Debian's", theirs)):
         said = (outcome.err.strip() or outcome.out.strip()).split("\n")[-1][:150]
-        lines.append(f"{name}: status {outcome.status}; {said!r}; {sizes(outcome.files)}")
+        modes = "".join(f", {file!r} with mode {mode:03o}" for file, mode in sorted(outcome.modes.items()))
+        lines.append(f"{name}: status {outcome.status}; {said!r}; {sizes(outcome.files)}{modes}")
     return "\n    ".join(lines + [f"before: {sizes(case.scene.files)}"])
 
 

@@ -130,6 +130,23 @@ ours 1 '' "fsverity: cannot open $scratch/folder." \
     "$fsverity" digest --out-merkle-tree "$scratch/first_unmade" --out-descriptor "$scratch/folder" "$input"
 absent "$row: here" "$scratch/first_unmade"
 
+row 'mode of a new output file'
+for mask in 000 002 022 077; do
+    for side in theirs ours; do
+        program=fsverity
+        if [ "$side" = ours ]; then program=$fsverity; fi
+        rm -f "$scratch/new_tree" "$scratch/new_descriptor"
+        # shellcheck disable=SC2016
+        "$side" 0 any '' bash -c 'umask "$1"; shift; exec "$@"' - $mask "$program" digest \
+            --out-merkle-tree "$scratch/new_tree" --out-descriptor "$scratch/new_descriptor" "$input"
+        mode=0666
+        if [ "$side" = theirs ]; then mode=0644; fi
+        for name in new_tree new_descriptor; do
+            same "$row: $side, $name with a umask of $mask" "$(printf %o $((mode & ~0$mask)))" "$(stat -c %a "$scratch/$name")"
+        done
+    done
+done
+
 row 'a shortened option, such as `--hash-al`'
 theirs 0 any '' fsverity digest --hash-al=sha512 "$input"
 refused "$fsverity" digest --hash-al=sha512 "$input"
