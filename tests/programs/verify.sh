@@ -72,6 +72,13 @@ areas() {
     done
     runs 'verify with a superblock reads no other option' 0 '' '' \
         "$veritysetup" verify --hash md5 --salt x --data-blocks 0 "$data" "$image" "$root"
+    # What pins the parameters: all of them as options, and the offset of the tree behind the superblock.
+    runs 'verify by pinned parameters' 0 '' '' \
+        "$veritysetup" verify "${options[@]}" --salt=- --data-blocks 17 --hash-offset 512 "$data" "$image" "$root"
+    runs 'verify by pinned parameters: another salt' 2 '' any \
+        "$veritysetup" verify "${options[@]}" --salt=00 --data-blocks 17 --hash-offset 512 "$data" "$image" "$root"
+    runs 'verify by pinned parameters: another number of blocks' 2 '' any \
+        "$veritysetup" verify "${options[@]}" --salt=- --data-blocks 16 --hash-offset 512 "$data" "$image" "$root"
 
     tail -c +513 "$image" >"$tree"
     runs 'verify without a superblock' 0 '' '' "$veritysetup" verify "${options[@]}" --salt=- "$data" "$tree" "$root"
