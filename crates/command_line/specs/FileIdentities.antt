@@ -3,12 +3,12 @@
 use Rattle.std.specs.Prelude.{◌≡◌, ◌⊎◌, ℕ, List, Option, Some, None, IsSome, if◌then◌else◌}
 use Rattle.command_line.specs.declared.files.identity.FileIdentity.{FileIdentity}
 use Rattle.command_line.specs.declared.files.identity.FileIdentity.TheVariants.{Regular, BlockDevice}
-use Rattle.command_line.specs.declared.files.identity.FileStatus.{FileStatus}
+use Rattle.command_line.specs.declared.files.identity.StatFields.{StatFields}
 
--- the identity of a file with this status
-abbrev pub identity_of : FileStatus → Option FileIdentity
-identity_of status = if status.is_regular then Some (Regular status.device status.inode)
-    else if status.is_block_device then Some (BlockDevice status.number)
+-- the identity of a file of which the system says this
+abbrev pub identity_of : StatFields → Option FileIdentity
+identity_of fields = if fields.is_regular then Some (Regular fields.device fields.inode)
+    else if fields.is_block_device then Some (BlockDevice fields.number)
     else None
 
 -- two paths are equal, or the system says that they lead to one file

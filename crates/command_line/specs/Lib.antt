@@ -4,5 +4,5 @@ pub mod LineFaults
 pub mod Writing
 pub mod NullFiles
 pub mod SystemWords
-pub mod Progress
+pub mod InnerStreams
 pub mod FileIdentities

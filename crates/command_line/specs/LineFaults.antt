@@ -7,11 +7,6 @@ use Rattle.clap.specs.declared.error.ErrorKind.TheVariants.{OutOfMemory}
 use Rattle.command_line.specs.declared.words.line_fault.LineFault.{LineFault}
 use Rattle.command_line.specs.declared.words.line_fault.LineFault.TheVariants.{Refused, Memory}
 
--- there is no memory for the copies; this leaves out lines that clap refuses, even if clap itself had no memory
-abbrev pub IsMemory : LineFault → Type 0
-IsMemory (Refused e) = ⊥
-IsMemory Memory = Unit {0}
-
 -- there is no memory, for clap or for the copies
 abbrev pub LacksMemory : LineFault → Type 0
 LacksMemory (Refused e) = kind_of e ≡ OutOfMemory

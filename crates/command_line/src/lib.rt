@@ -9,7 +9,7 @@ mod words;
 mod writing;
 
 pub use files::identity::{
-    FileIdentity, FileStatus, Identities, are_same_file, paths_are_same_file,
+    FileIdentity, Identities, StatFields, are_same_file, paths_are_same_file,
 };
 pub use files::null_files::{NULL_DEVICE, NullFiles};
 pub use files::opening::{is_folder, open_measured, open_readable, open_writable};

@@ -1,5 +1,5 @@
 //! What the system says of files: two names of one file are found, and other files are told apart.
-use command_line::{FileIdentity, FileStatus, Identities, are_same_file};
+use command_line::{FileIdentity, Identities, StatFields, are_same_file};
 use std::fs::File;
 use std::os::unix::fs::MetadataExt;
 use std::rt::Files;
@@ -56,7 +56,7 @@ const NULL_NUMBER: u64 = 0x103;
 #[test]
 fn a_device_has_its_own_number(rt: HostRuntime) -> Result<(), Fail> {
     let metadata = rt.metadata("/dev/null")?;
-    let status = FileStatus {
+    let status = StatFields {
         is_regular: false,
         is_block_device: false,
         device: metadata.dev(),
@@ -64,7 +64,7 @@ fn a_device_has_its_own_number(rt: HostRuntime) -> Result<(), Fail> {
         number: NULL_NUMBER,
     };
     let found = (
-        FileStatus::of_metadata(&metadata),
+        StatFields::of_metadata(&metadata),
         metadata.dev() == NULL_NUMBER,
     );
     assert_eq!(rt; found, (status, false));

@@ -17,7 +17,7 @@ pub enum FileIdentity {
 
 /// What the system says of a file (stat(2), "st_mode", "st_dev", "st_ino", "st_rdev").
 #[derive(Clone, Copy, Debug, PartialEq, Eq)]
-pub struct FileStatus {
+pub struct StatFields {
     /// Whether it is a regular file.
     pub is_regular: bool,
     /// Whether it is a block device.
@@ -30,11 +30,11 @@ pub struct FileStatus {
     pub number: u64,
 }
 
-impl FileStatus {
-    /// The status in a file's metadata.
-    pub fn of_metadata(metadata: &Metadata) -> FileStatus {
+impl StatFields {
+    /// What a file's metadata say.
+    pub fn of_metadata(metadata: &Metadata) -> StatFields {
         let kind = metadata.file_type();
-        FileStatus {
+        StatFields {
             is_regular: kind.is_file(),
             is_block_device: kind.is_block_device(),
             device: metadata.dev(),
@@ -45,18 +45,18 @@ impl FileStatus {
 }
 
 impl FileIdentity {
-    /// The identity of a file with this status; `None` if it is neither a regular file nor a block device.
-    pub fn of_status(status: &FileStatus) -> Option<FileIdentity>
-        ensures { result ≡ identity_of status.now }
+    /// The identity of a file of which the system says this; `None` if it is neither a regular file nor a block device.
+    pub fn of_stat(fields: &StatFields) -> Option<FileIdentity>
+        ensures { result ≡ identity_of fields.now }
     {
-        if status.is_regular {
+        if fields.is_regular {
             Some(FileIdentity::Regular {
-                device: status.device,
-                inode: status.inode,
+                device: fields.device,
+                inode: fields.inode,
             })
-        } else if status.is_block_device {
+        } else if fields.is_block_device {
             Some(FileIdentity::BlockDevice {
-                number: status.number,
+                number: fields.number,
             })
         } else {
             None
@@ -65,7 +65,7 @@ impl FileIdentity {
 
     /// The identity of a file with these metadata; `None` if it is neither a regular file nor a block device.
     pub fn of_metadata(metadata: &Metadata) -> Option<FileIdentity> {
-        FileIdentity::of_status(&FileStatus::of_metadata(metadata))
+        FileIdentity::of_stat(&StatFields::of_metadata(metadata))
     }
 }
 

@@ -1,6 +1,6 @@
 //! The line that shows the progress of long work.
 ghost use Rattle.std.specs.Prelude.{◌≡◌};
-ghost use Rattle.command_line.specs.Progress.{inner_writer};
+ghost use Rattle.command_line.specs.InnerStreams.{inner_writer};
 
 use crate::progress::progress_runtime::ProgressRuntime;
 use std::cell::Cell;

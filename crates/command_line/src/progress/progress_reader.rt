@@ -1,6 +1,6 @@
 //! A reader that shows its progress.
 ghost use Rattle.std.specs.Prelude.{◌≡◌};
-ghost use Rattle.command_line.specs.Progress.{inner_reader};
+ghost use Rattle.command_line.specs.InnerStreams.{inner_reader};
 
 use crate::progress::progress_line::ProgressLine;
 use crate::progress::progress_runtime::ProgressRuntime;
@@ -10,7 +10,7 @@ use std::time::Instant;
 
 /// How much of a reader's bytes was read.
 #[derive(Drop)]
-struct Progress<'a, R> {
+struct ReadSoFar<'a, R> {
     line: &'a ProgressLine<'a, R>,
     /// How many bytes were read, and how many there are.
     done: u64,
@@ -22,14 +22,14 @@ struct Progress<'a, R> {
     start: Option<Instant>,
 }
 
-impl<'a, R: ProgressRuntime> Progress<'a, R> {
+impl<'a, R: ProgressRuntime> ReadSoFar<'a, R> {
     /// Nothing is read yet. The line is written if there is a terminal and there are more bytes than four steps.
     fn new(line: &'a ProgressLine<'a, R>, total: u64) -> Self {
         let (step, start) = match line.step() {
             Some(step) if step.saturating_mul(4) < total => (Some(step), line.now()),
             _ => (None, None),
         };
-        Progress {
+        ReadSoFar {
             line,
             done: 0,
             total,
@@ -57,7 +57,7 @@ impl<'a, R: ProgressRuntime> Progress<'a, R> {
 #[derive(Drop)]
 pub struct ProgressReader<'a, R, F> {
     inner: F,
-    progress: Progress<'a, R>,
+    so_far: ReadSoFar<'a, R>,
 }
 
 impl<'a, R: ProgressRuntime, F: Read> ProgressReader<'a, R, F> {
@@ -67,7 +67,7 @@ impl<'a, R: ProgressRuntime, F: Read> ProgressReader<'a, R, F> {
     {
         ProgressReader {
             inner,
-            progress: Progress::new(line, total),
+            so_far: ReadSoFar::new(line, total),
         }
     }
 }
@@ -76,10 +76,10 @@ impl<R: ProgressRuntime, F: Read> Read for ProgressReader<'_, R, F> {
     ghost remaining = { λ s. F.remaining s.inner };
 
     fn read(&mut self, buf: &mut [u8]) -> io::Result<usize> {
-        let outcome = self.inner.read(buf);
-        if let Ok(count) = &outcome {
-            self.progress.advance(*count);
+        let result = self.inner.read(buf);
+        if let Ok(count) = &result {
+            self.so_far.advance(*count);
         }
-        outcome
+        result
     }
 }

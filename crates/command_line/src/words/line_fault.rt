@@ -1,6 +1,5 @@
 //! Why a command line is refused.
-ghost use Rattle.std.specs.Prelude.{◌≡◌, ◌↔◌, IsTrue};
-ghost use Rattle.command_line.specs.LineFaults.{IsMemory};
+ghost use Rattle.std.specs.Prelude.{◌≡◌};
 
 use clap::error::ErrorKind;
 use std::alloc::AllocError;
@@ -21,16 +20,6 @@ pub enum LineFault {
 ghost use Rattle.command_line.specs.declared.words.line_fault.LineFault.{LineFault};
 
 impl LineFault {
-    /// Whether there was not enough memory for the copies of the words.
-    pub fn is_memory(&self) -> bool
-        ensures { IsTrue result ↔ IsMemory self.now }
-    {
-        match self {
-            LineFault::Refused(_) => false,
-            LineFault::Memory => true,
-        }
-    }
-
     /// Writes why the line is refused, as far as the writer takes it: clap's text, and then the usage if that text ends
     /// without it, as for an option without a value at the end of the line.
     pub fn write_message<W: Write>(&self, usage: &str, msgs: &mut W) {
