@@ -8,3 +8,4 @@ pub mod GivenBack
 pub mod VerifySteps
 pub mod HashDevice
 pub mod StoredSuperblock
+pub mod OnlyRead

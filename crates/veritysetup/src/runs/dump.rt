@@ -1,8 +1,8 @@
 //! The run of dump.
 ghost use Rattle.std.specs.Prelude.{◌≡◌};
-ghost use Rattle.verity_io.specs.Counting.{Counts, TheDevice, change, failed_at};
-ghost use Rattle.veritysetup.specs.Faults.{side_of};
+ghost use Rattle.verity_io.specs.Counting.{change};
 ghost use Rattle.veritysetup.specs.Runs.Dump.{DumpRun, DumpsTo};
+ghost use Rattle.veritysetup.specs.Runs.OnlyRead.{IsOnlyRead};
 ghost use Rattle.veritysetup.specs.Texts.TextChanges.{text_change};
 
 use crate::fault::{Fault, end_run};
@@ -21,11 +21,9 @@ pub(crate) fn dump<D: Device, O: Write>(
     device: &mut D,
     out: &mut O,
 ) -> Result<(), Fault<'static>>
-    ensures told { D.tells device.old → D.tells device.new }
-    ensures stands { D.tells device.old → D.content device.new ≡ D.content device.old }
+    ensures only_read { IsOnlyRead D.tells D.content D.failures device.old device.new result }
     ensures printed { DumpsTo offset hash_path.now (change D.tells D.content D.failures device.old device.new) result
         (O.contents out.old) (O.contents out.new) }
-    ensures count { Counts (failed_at side_of TheDevice result) (D.failures device.old) (D.failures device.new) }
 {
     let superblock = match stored_superblock(device, offset) {
         Ok(superblock) => superblock,

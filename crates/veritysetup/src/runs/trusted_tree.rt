@@ -1,7 +1,6 @@
 //! What a stored tree is compared by.
-ghost use Rattle.std.specs.Prelude.{◌≡◌, IfErr};
-ghost use Rattle.verity_io.specs.Counting.{Counts, TheDevice, failed_at};
-ghost use Rattle.veritysetup.specs.Faults.{side_of};
+ghost use Rattle.std.specs.Prelude.{IfErr};
+ghost use Rattle.veritysetup.specs.Runs.OnlyRead.{IsOnlyRead};
 ghost use Rattle.veritysetup.specs.Runs.Verify.{IsInputFault};
 ghost use Rattle.veritysetup.specs.Runs.VerifySteps.{IsTrustedTree, IsStoredTree};
 
@@ -28,11 +27,9 @@ pub fn read_trusted_tree<D: Device>(
     device: &mut D,
     input: &VerifyInput,
 ) -> Result<TrustedTree, Fault<'static>>
-    ensures told { D.tells device.old → D.tells device.new }
-    ensures stands { D.tells device.old → D.content device.new ≡ D.content device.old }
+    ensures only_read { IsOnlyRead D.tells D.content D.failures device.old device.new result }
     ensures trusted { D.tells device.old → IsTrustedTree input.now (D.content device.old) result }
     ensures possible { IfErr result IsInputFault }
-    ensures count { Counts (failed_at side_of TheDevice result) (D.failures device.old) (D.failures device.new) }
 {
     match *input {
         VerifyInput::Stored { offset, root } => read_stored_tree(device, offset, root),
@@ -52,11 +49,9 @@ fn read_stored_tree<D: Device>(
     offset: u64,
     root: &str,
 ) -> Result<TrustedTree, Fault<'static>>
-    ensures told { D.tells device.old → D.tells device.new }
-    ensures stands { D.tells device.old → D.content device.new ≡ D.content device.old }
+    ensures only_read { IsOnlyRead D.tells D.content D.failures device.old device.new result }
     ensures trusted { D.tells device.old → IsStoredTree offset root.now (D.content device.old) result }
     ensures possible { IfErr result IsInputFault }
-    ensures count { Counts (failed_at side_of TheDevice result) (D.failures device.old) (D.failures device.new) }
 {
     let superblock = match stored_superblock(device, offset) {
         Ok(superblock) => superblock,

@@ -1,7 +1,8 @@
 //! The run of verify.
 ghost use Rattle.std.specs.Prelude.{◌≡◌, IfErr};
-ghost use Rattle.verity_io.specs.Counting.{Counts, TheDevice, TheSource, change, failed_at};
+ghost use Rattle.verity_io.specs.Counting.{Counts, TheSource, change, failed_at};
 ghost use Rattle.veritysetup.specs.Faults.{side_of};
+ghost use Rattle.veritysetup.specs.Runs.OnlyRead.{IsOnlyRead};
 ghost use Rattle.veritysetup.specs.Runs.Verify.{IsVerifyFault, Verifies, VerifyRun};
 ghost use Rattle.veritysetup.specs.Runs.Verified.{IsVerified};
 
@@ -20,13 +21,11 @@ pub(crate) fn verify<S: Source, D: Device>(
     device: &mut D,
 ) -> Result<(), Fault<'static>>
     ensures source_told { S.tells source.old → S.tells source.new }
-    ensures device_told { D.tells device.old → D.tells device.new }
-    ensures stands { D.tells device.old → D.content device.new ≡ D.content device.old }
+    ensures only_read { IsOnlyRead D.tells D.content D.failures device.old device.new result }
     ensures verdict { S.tells source.old → D.tells device.old →
         Verifies input.now (D.content device.old) (S.remaining source.old) (S.remaining source.new) result }
     ensures possible { IfErr result IsVerifyFault }
     ensures source_count { Counts (failed_at side_of TheSource result) (S.failures source.old) (S.failures source.new) }
-    ensures device_count { Counts (failed_at side_of TheDevice result) (D.failures device.old) (D.failures device.new) }
 {
     let TrustedTree { plan, root } = match read_trusted_tree(device, input) {
         Ok(tree) => tree,

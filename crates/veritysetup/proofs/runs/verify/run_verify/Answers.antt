@@ -28,5 +28,5 @@ returns-clause-run g c = record {
   verdict = c.verify.ensures.verdict;
   message = c.end_run.ensures.message;
   source_counted = c.verify.ensures.source_count;
-  device_counted = c.verify.ensures.device_count;
+  device_counted = c.verify.ensures.only_read.counted;
 }
