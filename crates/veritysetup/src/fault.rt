@@ -37,14 +37,13 @@ const STATUS_FAILED: u8 = 4;
 /// Why a run ends early.
 #[derive(Drop)]
 pub enum Fault<'a> {
-    /// The words of the command line can't be read: one is not UTF-8, or there is no memory for them.
+    /// The words of the command line can't be read: one is not UTF-8, or there is no memory for them or for a list of
+    /// their texts.
     Words(WordsFault),
     /// The command line is refused, by `clap` and with this usage, or there is no memory for the copies of its words.
     Line(LineFault, &'a str),
     /// The command line is accepted, but without a file that it must have. `clap` lets no such line pass.
     IncompleteLine,
-    /// There is no memory for the texts of the words.
-    Memory,
     /// The file could not be opened, or its length could not be found.
     Unopened(&'a str),
     /// The system does not keep what was written to the file.
@@ -82,7 +81,6 @@ impl Fault<'_> {
             Fault::Line(LineFault::Refused(_), _) => STATUS_REFUSED,
             Fault::Line(LineFault::Memory, _) => STATUS_NO_MEMORY,
             Fault::IncompleteLine => STATUS_REFUSED,
-            Fault::Memory => STATUS_NO_MEMORY,
             Fault::Unopened(_) => STATUS_FAILED,
             Fault::Unwritten(_) => STATUS_FAILED,
             Fault::NoRandomBytes => STATUS_FAILED,
@@ -118,7 +116,6 @@ impl Fault<'_> {
                 false
             }
             Fault::IncompleteLine => write_text(INCOMPLETE_LINE, msgs),
-            Fault::Memory => write_text(OUT_OF_MEMORY, msgs),
             Fault::Unopened(path) => write_pieces(&["Cannot open ", path, ".\n"], msgs),
             Fault::Unwritten(path) => write_pieces(&["Cannot write ", path, ".\n"], msgs),
             Fault::NoRandomBytes => write_text(NO_RANDOM_BYTES, msgs),

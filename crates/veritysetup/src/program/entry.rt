@@ -13,7 +13,8 @@ use crate::words::reading::read_words;
 use crate::words::usage::usage_of;
 use crate::{CommandName, Line};
 use command_line::{
-    Identities, NULL_DEVICE, NullFiles, ProgressLine, ProgressRuntime, given_words, texts_of,
+    Identities, NULL_DEVICE, NullFiles, ProgressLine, ProgressRuntime, WordsFault, given_words,
+    texts_of,
 };
 use std::alloc::AllocGlobal;
 use std::env::Env;
@@ -52,7 +53,7 @@ fn read_line<R: Env + AllocGlobal>(rt: &R) -> Result<Line, Fault<'static>> {
     };
     let texts = match texts_of(rt.alloc(), words.as_slice()) {
         Ok(texts) => texts,
-        Err(_) => return Err(Fault::Memory),
+        Err(_) => return Err(Fault::Words(WordsFault::Memory)),
     };
     match read_words(rt.alloc(), texts.as_slice()) {
         Ok(line) => Ok(line),
