@@ -7,8 +7,9 @@ ghost use Rattle.veritysetup.specs.Faults.{status_of};
 
 use crate::options::option_fault::OptionFault;
 use crate::texts::messages::{
-    INCOMPLETE_LINE, NO_RANDOM_BYTES, OUT_OF_MEMORY, OUTPUT_UNWRITTEN, SUPERBLOCK_UNREAD,
-    SUPERBLOCK_UNWRITTEN, build_message, compare_message, option_message, super_message,
+    CANNOT_OPEN, CANNOT_WRITE, INCOMPLETE_LINE, LINE_END, NO_RANDOM_BYTES, OUT_OF_MEMORY,
+    OUTPUT_UNWRITTEN, SUPERBLOCK_UNREAD, SUPERBLOCK_UNWRITTEN, build_message, compare_message,
+    option_message, super_message,
 };
 use command_line::{
     LineFault, PrintFault, WordsFault, not_utf8_message, write_message, write_pieces, write_text,
@@ -116,8 +117,8 @@ impl Fault<'_> {
                 false
             }
             Fault::IncompleteLine => write_text(INCOMPLETE_LINE, msgs),
-            Fault::Unopened(path) => write_pieces(&["Cannot open ", path, ".\n"], msgs),
-            Fault::Unwritten(path) => write_pieces(&["Cannot write ", path, ".\n"], msgs),
+            Fault::Unopened(path) => write_pieces(&[CANNOT_OPEN, path, LINE_END], msgs),
+            Fault::Unwritten(path) => write_pieces(&[CANNOT_WRITE, path, LINE_END], msgs),
             Fault::NoRandomBytes => write_text(NO_RANDOM_BYTES, msgs),
             Fault::Option(fault) => write_message(option_message(alloc, fault), msgs),
             Fault::SuperblockUnread => write_text(SUPERBLOCK_UNREAD, msgs),

@@ -20,6 +20,15 @@ pub const OUT_OF_MEMORY: &str = "Out of memory.\n";
 /// The command line is accepted, but without a file that it must have.
 pub const INCOMPLETE_LINE: &str = "error: the command line is not complete\n";
 
+/// What stands before the path of a file that can't be opened.
+pub const CANNOT_OPEN: &str = "Cannot open ";
+
+/// What stands before the path of a file that the system does not keep as it was written.
+pub const CANNOT_WRITE: &str = "Cannot write ";
+
+/// What stands after such a path.
+pub const LINE_END: &str = ".\n";
+
 /// There are no random bytes.
 pub const NO_RANDOM_BYTES: &str = "Cannot get random bytes.\n";
 
