@@ -14,7 +14,12 @@ use std::rt::Files;
 use verity_tree::FileDevice;
 
 /// Prints what the superblock of a hash device says. A refused option opens no file.
-pub fn dump_file<'a, R, O>(rt: &R, line: &Line, hash: &'a str, out: &mut O) -> Result<(), Fault<'a>>
+pub fn dump_file<'a, R, O>(
+    rt: &R,
+    line: &Line,
+    hash_path: &'a str,
+    out: &mut O,
+) -> Result<(), Fault<'a>>
 where
     R: Files + AllocGlobal,
     O: Write,
@@ -26,8 +31,14 @@ where
         Ok(offset) => offset,
         Err(fault) => return Err(Fault::Option(fault)),
     };
-    match open_readable(rt, hash) {
-        Ok(file) => dump(rt.alloc(), offset, hash, &mut FileDevice::new(file), out),
-        Err(_) => Err(Fault::Unopened(hash)),
+    match open_readable(rt, hash_path) {
+        Ok(file) => dump(
+            rt.alloc(),
+            offset,
+            hash_path,
+            &mut FileDevice::new(file),
+            out,
+        ),
+        Err(_) => Err(Fault::Unopened(hash_path)),
     }
 }

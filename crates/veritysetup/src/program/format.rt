@@ -84,7 +84,7 @@ fn format_by<'a, R, O>(
     rt: &R,
     options: &FormatOptions<'_>,
     data_file: DataFile<'_, R, R::File>,
-    hash: &'a str,
+    hash_path: &'a str,
     out: &mut O,
 ) -> Result<(), Fault<'a>>
 where
@@ -97,7 +97,7 @@ where
         (λ _. out.new ≡ out.old) }
 {
     match settings_of(&options.raw, data_file.length, options.random.as_ref()) {
-        Ok(settings) => format_opened(rt, &settings, data_file, hash, out),
+        Ok(settings) => format_opened(rt, &settings, data_file, hash_path, out),
         Err(fault) => Err(Fault::Option(fault)),
     }
 }
@@ -108,7 +108,7 @@ fn format_opened<'a, R, O>(
     rt: &R,
     settings: &Settings,
     data_file: DataFile<'_, R, R::File>,
-    hash: &'a str,
+    hash_path: &'a str,
     out: &mut O,
 ) -> Result<(), Fault<'a>>
 where
@@ -123,7 +123,7 @@ where
         return Err(Fault::Build(BuildFault::SourceShort(block)));
     }
     let source = data_file.source(settings.plan().wanted());
-    make_hash_device(rt, settings, source, hash, out)
+    make_hash_device(rt, settings, source, hash_path, out)
 }
 
 /// The first data block that is not whole in data of this size, if the plan wants more.
@@ -144,7 +144,7 @@ fn make_hash_device<'a, R, S, O>(
     rt: &R,
     settings: &Settings,
     source: S,
-    hash: &'a str,
+    hash_path: &'a str,
     out: &mut O,
 ) -> Result<(), Fault<'a>>
 where
@@ -154,17 +154,24 @@ where
     ensures { Grows (O.contents out.old) (O.contents out.new) }
 {
     let mut source = source;
-    let is_new = is_unknown(rt, hash);
-    let mut device = match open_writable(rt, hash) {
+    let is_new = is_unknown(rt, hash_path);
+    let mut device = match open_writable(rt, hash_path) {
         Ok(file) => FileDevice::new(file),
-        Err(_) => return Err(Fault::Unopened(hash)),
+        Err(_) => return Err(Fault::Unopened(hash_path)),
     };
-    match format(rt.alloc(), settings, hash, &mut source, &mut device, out) {
+    match format(
+        rt.alloc(),
+        settings,
+        hash_path,
+        &mut source,
+        &mut device,
+        out,
+    ) {
         Ok(()) => {}
         Err(fault) => return Err(fault),
     }
-    match sync_hash_device(rt, &device, hash, is_new) {
+    match sync_hash_device(rt, &device, hash_path, is_new) {
         Ok(()) => Ok(()),
-        Err(Failed) => Err(Fault::Unwritten(hash)),
+        Err(Failed) => Err(Fault::Unwritten(hash_path)),
     }
 }

@@ -70,7 +70,7 @@ fn verify_by<'a, R>(
     rt: &R,
     raw: &RawOptions,
     data_file: DataFile<'_, R, R::File>,
-    hash: &'a str,
+    hash_path: &'a str,
 ) -> Result<(), Fault<'a>>
 where
     R: Files + ProgressRuntime + AllocGlobal,
@@ -79,7 +79,7 @@ where
     match settings_of(raw, data_file.length, None) {
         Ok(settings) => {
             let source = data_file.source(settings.plan().wanted());
-            verify_source(rt, &VerifyInput::Given(&settings), source, hash)
+            verify_source(rt, &VerifyInput::Given(&settings), source, hash_path)
         }
         Err(fault) => Err(Fault::Option(fault)),
     }
@@ -90,15 +90,15 @@ fn verify_source<'a, R, S>(
     rt: &R,
     input: &VerifyInput,
     source: S,
-    hash: &'a str,
+    hash_path: &'a str,
 ) -> Result<(), Fault<'a>>
 where
     R: Files + AllocGlobal,
     S: Source + Drop,
 {
     let mut source = source;
-    match open_readable(rt, hash) {
+    match open_readable(rt, hash_path) {
         Ok(file) => verify(rt.alloc(), input, &mut source, &mut FileDevice::new(file)),
-        Err(_) => Err(Fault::Unopened(hash)),
+        Err(_) => Err(Fault::Unopened(hash_path)),
     }
 }

@@ -43,15 +43,15 @@ fn settings_report(
     alloc: Global,
     settings: &Settings,
     root: &Digest,
-    path: &str,
+    hash_path: &str,
 ) -> Result<String, AllocError>
-    ensures { IfOk result (λ s. string_bytes s ≡ format_report settings.now path.now root.now) }
+    ensures { IfOk result (λ s. string_bytes s ≡ format_report settings.now hash_path.now root.now) }
 {
     let superblock = settings.superblock();
     if settings.has_superblock() {
-        report(alloc, &superblock, Some(root), path)
+        report(alloc, &superblock, Some(root), hash_path)
     } else {
-        report_bare(alloc, &superblock, Some(root), path)
+        report_bare(alloc, &superblock, Some(root), hash_path)
     }
 }
 
