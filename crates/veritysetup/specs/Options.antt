@@ -1,6 +1,5 @@
 -- From the texts of a line's options to settings.
 pub mod OptionTexts
 pub mod Choices
-pub mod ChoiceSteps
 pub mod Settings
 pub mod Uuids

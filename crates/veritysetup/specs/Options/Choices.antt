@@ -5,6 +5,8 @@ use Rattle.std.specs.Prelude.{ℕ, ◌/◌, ◌&&◌, Bool, not, nat_lt, List, O
 use Rattle.std.specs.Prelude.{if◌then◌else◌}
 use Rattle.verity_plan.specs.Settings.{TreeSettingsFields, rule_of}
 use Rattle.verity_plan.specs.CheckedSettings.{type_of_number}
+use Rattle.verity_plan.specs.declared.hash_type.HashType.{HashType}
+use Rattle.verity_hash.specs.declared.algorithm.Algorithm.{Algorithm}
 use Rattle.command_line.specs.Options.{algorithm_or_default, default_block_size, ◌>>=◌}
 use Rattle.veritysetup.specs.Options.OptionTexts.{OptionTexts, superblock_uuid, block_size_of, number_if_given}
 use Rattle.veritysetup.specs.Options.OptionTexts.{number_option, root_if_given, salt_or_random, uuid_or_random}
@@ -20,7 +22,22 @@ use Rattle.verity_plan.specs.declared.plan_fault.PlanFault.{PlanFault}
 use Rattle.verity_plan.specs.declared.plan_fault.PlanFault.TheVariants as plan
 use Rattle.veritysetup.specs.Options.Settings.{SettingsFields}
 
--- the plan, or why there is none; in one file the hash area doesn't begin within the covered data
+-- what the tree is made by, with this salt if there is one, or the first fault of block sizes and salt
+abbrev pub tree_of : Algorithm → HashType → ℕ → ℕ → Option (List ℕ) → Result TreeSettingsFields OptionFault
+tree_of algorithm hash_type data_size hash_size given = do
+  data_block ← ok_or (block_size_of data_size) (BadBlockSize DataBlockSize)
+  hash_block ← ok_or (block_size_of hash_size) (BadBlockSize HashBlockSize)
+  salt ← ok_or given BadSalt
+  Ok (record {
+    algorithm = algorithm;
+    rule = rule_of hash_type;
+    salt = salt;
+    data_block = data_block;
+    hash_block = hash_block;
+  })
+
+-- the plan, or why there is none. If data and hash area are in one file, the hash area must not begin within the
+-- covered data
 abbrev pub accepted_plan : Bool → ℕ → Result PlanFields PlanFault → Result PlanFields OptionFault
 accepted_plan same_file offset (Ok planned) = if same_file && nat_lt offset planned.wanted then Err Overlap else Ok planned
 accepted_plan same_file offset (Err plan.NoData) = Err NoData
@@ -38,21 +55,12 @@ settings_of texts length random = do
   bytes ← number_option HashOffset 0 texts.hash_offset
   algorithm ← ok_or (algorithm_or_default texts.hash) UnknownHash
   hash_type ← ok_or (type_of_number format) BadHashType
-  data_block ← ok_or (block_size_of data_size) (BadBlockSize DataBlockSize)
-  hash_block ← ok_or (block_size_of hash_size) (BadBlockSize HashBlockSize)
-  salt ← ok_or (salt_or_random texts.salt random) BadSalt
+  tree ← tree_of algorithm hash_type data_size hash_size (salt_or_random texts.salt random)
   uuid ← ok_or (uuid_or_random texts.uuid random) BadUuid
   let superblock = not texts.no_superblock
-  offset ← ok_or (multiple_of (offset_unit superblock hash_block) bytes) BadHashOffset
-  let tree : TreeSettingsFields = record {
-    algorithm = algorithm;
-    rule = rule_of hash_type;
-    salt = salt;
-    data_block = data_block;
-    hash_block = hash_block;
-  }
+  offset ← ok_or (multiple_of (offset_unit superblock tree.hash_block) bytes) BadHashOffset
   planned ← accepted_plan texts.same_file offset
-      (plan_at tree (unwrap_or blocks (length / data_block)) offset superblock)
+      (plan_at tree (unwrap_or blocks (length / tree.data_block)) offset superblock)
   root ← ok_or (root_if_given algorithm texts.root) BadRoot
   Ok (record {
     hash_type = hash_type;

@@ -1,8 +1,7 @@
 //! The tree that the options choose: what it is made by, and its plan.
 ghost use Rattle.std.specs.Prelude.{◌≡◌, IfOk};
 ghost use Rattle.verity_plan.specs.Settings.{rule_of};
-ghost use Rattle.veritysetup.specs.Options.Choices.{accepted_plan};
-ghost use Rattle.veritysetup.specs.Options.ChoiceSteps.{tree_of};
+ghost use Rattle.veritysetup.specs.Options.Choices.{accepted_plan, tree_of};
 ghost use Rattle.veritysetup.specs.Options.OptionTexts.{block_size_of};
 
 use crate::options::option_fault::{OptionFault, OptionName};
