@@ -80,7 +80,7 @@ plan-back s whole has =
 
 -- ---- the root hash
 
--- the digits of a root hash are read as it
+-- the digits of a root hash are read back
 root-back : (s : TreeSettingsFields) (blocks : List (List ℕ))
     → read_root s.algorithm (encode_lower (root s blocks)) ≡ Some (root s blocks)
 unfolding root hash
@@ -286,7 +286,7 @@ both_true : (x y : Bool) → (x && y) ≡ true → (x ≡ true) × (y ≡ true)
 both_true true y e = (refl, e)
 both_true false y e = cc
 
--- so many whole blocks are so many
+-- n whole blocks fill n blocks
 whole-blocks : (n size : ℕ) → 0 < size → div_ceil (n * size) size ≡ n
 whole-blocks n size some =
     let k = div_ceil (n * size) size in

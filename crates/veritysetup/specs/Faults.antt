@@ -1,5 +1,5 @@
--- How a run ends: done, or at its first fault. The status and the message of each fault, and whose call it was
--- (veritysetup(8); statuses and messages are this project's own).
+-- How a run ends: done, or at its first fault. The status and the message of each fault, and, if a call failed, whose
+-- call it was (veritysetup(8); statuses and messages are this project's own).
 use Rattle.std.specs.Prelude.{◌≤◌, ℕ, List, Option, Some, None, Result, Ok, Err, IfSome}
 use Rattle.std.specs.Io.KnownBytes.{Keeps}
 use Rattle.command_line.specs.Writing.{AppendsPrefix}
@@ -96,7 +96,7 @@ message_of (fault.Compare cause) = Some (compare_message cause)
 message_of fault.SuperblockUnwritten = Some unwritten_superblock_message
 message_of (fault.Report cause) = Some (print_message cause)
 
--- whose call, of a source or a device, failed
+-- whose call failed, the source's or the device's, if the fault is a failed call
 abbrev pub side_of : Fault → Option Side
 side_of (fault.Build cause) = building.side_of cause
 side_of (fault.Compare cause) = comparing.side_of cause

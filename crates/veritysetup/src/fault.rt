@@ -97,7 +97,7 @@ impl Fault<'_> {
         }
     }
 
-    /// Writes the message of the fault. The answer says whether the writer took all of it; of `clap`'s text it isn't
+    /// Writes the message of the fault. The answer says whether the writer took all of it. For `clap`'s text that isn't
     /// known, and the answer is false.
     fn write_message<M: Write>(&self, alloc: Global, msgs: &mut M) -> bool
         ensures whole { IsTrue result → IfSome (message_of self.now)

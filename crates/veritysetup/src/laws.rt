@@ -15,8 +15,8 @@ ghost use Rattle.veritysetup.specs.Runs.Verify.{Verifies};
 ghost use Rattle.veritysetup.specs.declared.fault.Fault.{Fault};
 ghost use Rattle.veritysetup.specs.declared.runs.verify_input.VerifyInput.{VerifyInput};
 
-/// A device is formatted, as status 0 says it, exactly if it is the one that writing each hash block in closing order and
-/// then the superblock leaves. So just one device is that.
+/// A device is formatted, as status 0 says it, exactly if it is what is left when each hash block is written in closing
+/// order, and then the superblock. So there is just one such device.
 pub fn formatted_devices_are_written()
     ensures { (s : SettingsFields) (source before after : List ℕ) → IsPlan s.plan → PartsAgree s → length s.uuid ≡ 16
         → s.plan.wanted ≤ length source

@@ -71,7 +71,7 @@ settings_of texts length random = do
     root = root;
   })
 
--- the byte at which the superblock stands that a command reads, by the option's text; by default the first byte of the
+-- by the option's text, the byte at which the superblock stands that a command reads; by default the first byte of the
 -- hash device
 abbrev pub offset_of : Option (List ℕ) → Result ℕ OptionFault
 offset_of text = do

@@ -49,7 +49,7 @@ option_texts raw = record {
 abbrev pub number_option : OptionName → ℕ → Option (List ℕ) → Result ℕ OptionFault
 number_option name default text = ok_or (number_or default text) (BadNumber name)
 
--- a number that may be missing; none if the text is no number
+-- the number of a text that may be missing; there is no answer if the text is no number
 abbrev pub number_if_given : Option (List ℕ) → Option (Option ℕ)
 number_if_given None = Some None
 number_if_given (Some text) = option_map (λ number. Some number) (number_of text)
@@ -68,7 +68,7 @@ salt_or_random None None = None
 abbrev pub no_uuid : List ℕ
 no_uuid = replicate 16 0
 
--- a UUID; by default that of the 16 random bytes after those, and zeros if there are no random bytes
+-- a UUID; by default that of the 16 random bytes after the salt's, and zeros if there are no random bytes
 abbrev pub uuid_or_random : Option (List ℕ) → Option (List ℕ) → Option (List ℕ)
 uuid_or_random (Some text) random = parsed text
 uuid_or_random None (Some random) = Some (random_uuid (take 16 (drop 32 random)))
@@ -79,7 +79,7 @@ abbrev pub superblock_uuid : Bool → List ℕ → List ℕ
 superblock_uuid true uuid = uuid
 superblock_uuid false uuid = no_uuid
 
--- a root hash that may be missing; none if the text is no digest of the algorithm
+-- the root hash of a text that may be missing; there is no answer if the text is no digest of the algorithm
 abbrev pub root_if_given : Algorithm → Option (List ℕ) → Option (Option (List ℕ))
 root_if_given algorithm None = Some None
 root_if_given algorithm (Some text) = option_map (λ root. Some root) (read_root algorithm text)

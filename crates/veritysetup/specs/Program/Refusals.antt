@@ -1,4 +1,4 @@
--- How a command ends that refuses an option of its line, or data that ends too soon.
+-- How a command ends if it refuses an option of its line, or data that ends too soon.
 -- For the private steps; not needed to read a public contract.
 use Rattle.std.specs.Prelude.{◌≡◌, ℕ, Result, Err, option_map, string_bytes}
 use Rattle.verity_tree.specs.declared.building.BuildFault.TheVariants as build
@@ -12,10 +12,10 @@ use Rattle.veritysetup.specs.declared.words.line.Line.{Line}
 abbrev pub line_offset : Line → Result ℕ OptionFault
 line_offset line = offset_of (option_map string_bytes line.hash_offset)
 
--- with the fault of the option
+-- the command ends with the fault of the option
 abbrev pub EndsRefused : Result (Unit {0}) Fault → OptionFault → Type 0
 EndsRefused result cause = result ≡ Err (fault.Option cause)
 
--- with the data block that is not whole
+-- the command ends with the fault that this data block is not whole
 abbrev pub EndsShort : Result (Unit {0}) Fault → ℕ → Type 0
 EndsShort result block = result ≡ Err (fault.Build (build.SourceShort block))

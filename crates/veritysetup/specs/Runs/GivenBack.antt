@@ -1,4 +1,4 @@
--- What verify is given: for the laws that it accepts what format leaves, and that data that it accepts are true.
+-- What verify is given. Two laws speak of it: verify accepts what format leaves, and data that verify accepts are true.
 use Rattle.std.specs.Prelude.{◌≡◌, ℕ, true, List, Some}
 use Rattle.hex.specs.Hex.{encode_lower}
 use Rattle.verity_plan.specs.Plans.{IsPlan}
@@ -6,8 +6,8 @@ use Rattle.veritysetup.specs.Options.Settings.{SettingsFields}
 use Rattle.veritysetup.specs.declared.runs.verify_input.VerifyInput.{VerifyInput}
 use Rattle.veritysetup.specs.declared.runs.verify_input.VerifyInput.TheVariants.{Stored, Given}
 
--- the place of the superblock that format wrote and the digits of the root hash, as its report has them; or, whether
--- there is a superblock or not, settings with the same plan and the root hash
+-- the offset of the superblock that format wrote, and the digits of the root hash as the report of format has them; or
+-- settings with the same plan and the root hash, whether there is a superblock or not
 abbrev pub IsGivenBack : VerifyInput → SettingsFields → List ℕ → Type 0
 IsGivenBack (Stored offset text) s root = (s.superblock ≡ true) × (offset ≡ s.offset) × (text.now ≡ encode_lower root)
 IsGivenBack (Given settings) s root = (settings.now.plan ≡ s.plan) × (settings.now.root ≡ Some root)

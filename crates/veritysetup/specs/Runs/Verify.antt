@@ -17,7 +17,7 @@ use Rattle.veritysetup.specs.declared.runs.verify_input.VerifyInput.{VerifyInput
 use Rattle.veritysetup.specs.declared.runs.verify_input.VerifyInput.TheVariants.{Stored, Given}
 use Rattle.veritysetup.specs.Runs.Verified.{Trusts}
 
--- the faults before anything is compared: there is no superblock, the hash area that it describes is too large, or the
+-- the faults before anything is compared: no superblock is read, the hash area that one describes is too large, or the
 -- text is no root hash
 abbrev pub IsInputFault : Fault → Type 0
 IsInputFault (fault.Option option.TooLarge) = Unit {0}
@@ -30,7 +30,8 @@ IsVerifyFault fault.Store = Unit {0}
 IsVerifyFault (fault.Compare cause) = Unit {0}
 IsVerifyFault other = IsInputFault other
 
--- the superblock at this offset describes some data, so if there is no plan the hash area is too large
+-- there is no plan for what the superblock at this offset describes. It always describes some data, so the hash area is
+-- too large
 pub record IsTooLarge (offset : ℕ) (device : List ℕ) : Type 0 where
   pub fields : SuperblockFields
   pub superblock : IsSuperblock (superblock_at offset device) fields
@@ -45,7 +46,7 @@ pub record IsBadRoot (offset : ℕ) (text device : List ℕ) : Type 0 where
   pub plan_is : plan_at fields.tree fields.blocks offset true ≡ Ok plan
   pub no_root : read_root fields.tree.algorithm text ≡ None
 
--- why nothing is compared: the superblock is read, then the plan is made, then the text is read
+-- why nothing is compared, the first of these: no superblock is read, there is no plan, the text is no root hash
 abbrev pub RefusesStored : ℕ → List ℕ → List ℕ → Fault → Type 0
 RefusesStored offset text device (fault.Option option.TooLarge) = IsTooLarge offset device
 RefusesStored offset text device (fault.Option option.BadRoot) = IsBadRoot offset text device
@@ -65,7 +66,7 @@ pub record Compares (input : VerifyInput) (device before after : List ℕ) (resu
   pub verdict : Judges plan device before root result
   pub read : CompareReads plan result before after
 
--- the verdict, and how much was read of the source: nothing before there is a store
+-- the verdict, and how much was read of the source: nothing, if the run ends before there is a store
 abbrev pub Verifies : VerifyInput → List ℕ → List ℕ → List ℕ → Result (Unit {0}) Fault → Type 0
 Verifies input device before after (Ok done) = Compares input device before after (Ok tt)
 Verifies input device before after (Err fault.Store) =

@@ -1,4 +1,4 @@
--- The command lines of `veritysetup` (veritysetup(8)), in the words of clap, and what a line of it holds.
+-- The command lines of `veritysetup` (veritysetup(8)), in the words of clap, and what the code's `Line` holds of one.
 use Rattle.std.specs.Prelude.{◌≡◌, Option, Some, None, List, [], ◌∷◌, ◌++◌, codes, map, option_map, string_bytes}
 use Rattle.clap.specs.Words.{App, Row, Text, first_of}
 use Rattle.command_line.specs.Arguments.{flag_of, flag_rule, named_app, option_rule, program_app, word_rule}

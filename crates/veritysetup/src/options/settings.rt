@@ -1,5 +1,5 @@
-//! What format makes a hash device by, and verify without a superblock compares by: hash type, UUID, where the hash area
-//! begins, the plan of the tree, and a root hash.
+//! What format makes a hash device by, and what verify compares it by if there is no superblock: hash type, UUID, where
+//! the hash area begins, the plan of the tree, and a root hash.
 ghost use Rattle.std.specs.Prelude.{◌≡◌, option_map};
 ghost use Rattle.veritysetup.specs.Options.Settings.{PartsAgree};
 ghost use Rattle.veritysetup.specs.Options.Choices.{settings_of};

@@ -37,7 +37,7 @@ pub fn tree_of(
     }
 }
 
-/// This number as the size of a block. One of 2^32 or more is none, and neither is 0, which stands for it.
+/// This number as the size of a block. A number of 2^32 or more becomes 0, since neither is the size of a block.
 fn block_size(number: u64) -> u32
     ensures { block_size_of result ≡ block_size_of number }
 {

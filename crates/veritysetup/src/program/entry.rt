@@ -61,8 +61,8 @@ fn read_line<R: Env + AllocGlobal>(rt: &R) -> Result<Line, Fault<'static>> {
     }
 }
 
-/// Carries out the command of a line. A standard stream may be closed. So that no file of the command gets its number,
-/// the null device is opened once for each stream first.
+/// Carries out the command of a line. Before that, the null device is opened once for each standard stream: a stream
+/// may be closed, and no file of the command is to get its number.
 fn run_line<'a, R, O>(
     rt: &R,
     progress: &ProgressLine<'_, R>,

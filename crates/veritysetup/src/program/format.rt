@@ -35,8 +35,8 @@ struct FormatOptions<'a> {
 }
 
 /// Makes the hash device of a data file. HASH is opened only once the options are read and DATA is known to be
-/// long enough, so neither a refused option nor short data leaves a new file. Before it is opened the system is asked
-/// whether it is DATA by another name.
+/// long enough, so neither a refused option nor short data leaves a new file. Before that, the system is asked whether
+/// HASH is DATA by another name.
 pub fn format_files<'a, R, O>(
     rt: &R,
     progress: &ProgressLine<'_, R>,
@@ -103,7 +103,7 @@ where
 }
 
 /// Makes the hash device of an opened data file. If more data is wanted than there is, HASH is not opened, and the
-/// first data block that isn't whole is named.
+/// fault names the first data block that isn't whole.
 fn format_opened<'a, R, O>(
     rt: &R,
     settings: &Settings,
@@ -126,7 +126,7 @@ where
     make_hash_device(rt, settings, source, hash_path, out)
 }
 
-/// The first data block that is not whole in data of this size, if the plan wants more.
+/// The number of the first data block that is not whole in data of this size, if the plan wants more data.
 fn missing_block(plan: &Plan, size: u64) -> Option<u64>
     ensures enough { IfNone result (plan.now.wanted ≤ size) }
     ensures short { IfSome result (λ block. (size < plan.now.wanted)

@@ -7,9 +7,9 @@ use std::path::Path;
 use std::rt::Files;
 use verity_tree::{Failed, FileDevice};
 
-/// Whether the system doesn't say what is at this path: there is nothing, so that a file made there is new, or it
-/// refuses to say, as where access is denied. A file that can be opened there all the same counts as new too, and then
-/// its folder is synced once more than needed.
+/// Whether the system doesn't say what is at this path. Either there is nothing, so a file that is made there is new;
+/// or the system refuses to say, as where access is denied. If a file is there then, and can be opened all the same,
+/// it counts as new too, and its folder is synced without need.
 pub(crate) fn is_unknown<R: Files>(rt: &R, path: &str) -> bool {
     rt.metadata(path).is_err()
 }

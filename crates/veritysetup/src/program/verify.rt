@@ -18,8 +18,9 @@ use std::alloc::AllocGlobal;
 use std::rt::Files;
 use verity_tree::{FileDevice, Source};
 
-/// Verifies a hash device against a data file and a root hash. With a superblock no option but the hash offset is
-/// looked at, before any file is opened; without one all are, once DATA's length is known and before HASH is opened.
+/// Verifies a hash device against a data file and a root hash. With a superblock only the hash offset is read of the
+/// options, before any file is opened. Without one all options are read, once DATA's length is known and before HASH is
+/// opened.
 pub fn verify_files<'a, R>(
     rt: &R,
     progress: &ProgressLine<'_, R>,

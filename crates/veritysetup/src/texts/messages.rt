@@ -107,7 +107,7 @@ pub fn build_message(alloc: Global, fault: &BuildFault) -> Result<String, AllocE
     }
 }
 
-/// The message of a comparison that could not be made, or that found a difference.
+/// The message of a comparison that could not be finished, or that found a difference.
 pub fn compare_message(alloc: Global, fault: &CompareFault) -> Result<String, AllocError>
     ensures { IfOk result (λ s. string_bytes s ≡ compare_message fault.now) }
 {

@@ -24,7 +24,7 @@ plan_is s count None q e = by_test _ e
     by_test true e = cc
     by_test false e = cc
 
--- a plan that stands apart was made
+-- a plan that is accepted is the one that was made
 apart-is : (same_file : Bool) (offset : ℕ) (r : Result PlanFields PlanFault) (q : PlanFields)
     → Ok q ≡ accepted_plan same_file offset r → Ok q ≡ r
 apart-is same_file offset (Ok p) q e =
