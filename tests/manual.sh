@@ -38,11 +38,20 @@ listed() {
     section "$1" DIAGNOSTICS | sed -n 's/^\.It \(.*\.\)$/\1/p' | blanked
 }
 
-# meant CRATE: the messages in a crate's sources: texts that end with a full stop and a new line, alone or in pieces.
+# meant CRATE: the messages in a crate's sources: texts that end with a full stop and a new line, alone or in pieces, of
+# which a constant may stand for one.
 meant() {
-    find crates/"$1"/src -name '*.rt' -exec sed -E 's/^ *\/\/.*//' {} + |
+    find crates/"$1"/src -name '*.rt' -exec sed -E 's/^ *\/\/.*//' {} + | awk '
+        { lines[NR] = $0 }
+        /const [A-Z_]+: &str = ".*";$/ { split($0, parts, /const |: &str = |;$/); texts[parts[2]] = parts[3] }
+        END {
+            for (number = 1; number <= NR; number++) {
+                if (lines[number] ~ /write_pieces\(/) { for (name in texts) gsub(name, texts[name], lines[number]) }
+                print lines[number]
+            }
+        }' |
         sed -nE -e 's/write_pieces\(&\["([^"]*)", [a-z]+, "([^"]*)"\]/"\1_\2"/' -e 's/.*"([^"]*)\\n".*/\1/p' |
-        sed -E 's/\{[^}]*\}/_/g' | grep '\.$' | sort -u
+        sed -E 's/\{[^}]*\}/_/g' | grep '.\.$' | sort -u
 }
 
 # expected_statuses PROGRAM: messages of a program after their statuses, as the soak expects them.
