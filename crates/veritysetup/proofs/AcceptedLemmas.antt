@@ -27,7 +27,7 @@ use Rattle.verity_tree.specs.Levels.{block_at, cut, data_blocks, root}
 use Rattle.verity_tree.specs.TreeOnDevice.{HoldsTree, tree_block}
 use Rattle.veritysetup.specs.Options.Settings.{SettingsFields, read_root}
 use Rattle.veritysetup.specs.Runs.Formatted.{IsFormattedDevice, root_above}
-use Rattle.veritysetup.specs.Runs.GivenBack.{IsGivenBack, IsGivenPlanned}
+use Rattle.veritysetup.specs.Runs.GivenBack.{IsGivenBack, IsPlanIfGiven}
 use Rattle.veritysetup.specs.Runs.HashDevice.{superblock_at, superblock_for}
 use Rattle.veritysetup.specs.Runs.Verified.{Describes, IsVerified, Trusts}
 use Rattle.veritysetup.specs.declared.runs.verify_input.VerifyInput.{VerifyInput}
@@ -331,7 +331,7 @@ blocks-planned s blocks base plan valid made = by_test (blocks == 0) refl made
     by_test false test e = by_room (has_room wanted_plan) refl test e
 
 -- and so can the plan that verify goes by
-pub trusted-planned : (input : VerifyInput) (device : List ℕ) (plan : PlanFields) (digest : List ℕ) → IsGivenPlanned input
+pub trusted-planned : (input : VerifyInput) (device : List ℕ) (plan : PlanFields) (digest : List ℕ) → IsPlanIfGiven input
     → Trusts input device plan digest → IsPlan plan
 trusted-planned (Given settings) device plan digest planned trusted = subst IsPlan (sym trusted.0) planned
 trusted-planned (Stored offset text) device plan digest planned trusted =

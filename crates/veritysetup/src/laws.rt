@@ -8,7 +8,7 @@ ghost use Rattle.veritysetup.specs.Faults.{result_status, status_refused, status
 ghost use Rattle.veritysetup.specs.Options.Settings.{PartsAgree, SettingsFields};
 ghost use Rattle.veritysetup.specs.Runs.Format.{formatted_device};
 ghost use Rattle.veritysetup.specs.Runs.Formatted.{IsFormatted, IsFormattedDevice, root_above};
-ghost use Rattle.veritysetup.specs.Runs.GivenBack.{IsGivenBack, IsGivenPlanned};
+ghost use Rattle.veritysetup.specs.Runs.GivenBack.{IsGivenBack, IsPlanIfGiven};
 ghost use Rattle.veritysetup.specs.Runs.HashDevice.{superblock_at, superblock_for};
 ghost use Rattle.veritysetup.specs.Runs.Verified.{IsVerified};
 ghost use Rattle.veritysetup.specs.Runs.Verify.{Verifies};
@@ -52,7 +52,7 @@ pub fn formatted_devices_are_verified()
 /// every covered byte; or their trees show a collision of the hash function.
 pub fn verified_data_are_true()
     ensures { (input : VerifyInput) (device x rest y : List ℕ) (verified : IsVerified input device x rest)
-        → IsGivenPlanned input → verified.plan.wanted ≤ length y
+        → IsPlanIfGiven input → verified.plan.wanted ≤ length y
         → root verified.plan.settings (data_blocks verified.plan y) ≡ verified.root
         → (take verified.plan.wanted x ≡ take verified.plan.wanted y)
         ⊎ TreesCollide verified.plan.settings (data_blocks verified.plan x) (data_blocks verified.plan y) }

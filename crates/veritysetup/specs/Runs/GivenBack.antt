@@ -12,7 +12,7 @@ abbrev pub IsGivenBack : VerifyInput → SettingsFields → List ℕ → Type 0
 IsGivenBack (Stored offset text) s root = (s.superblock ≡ true) × (offset ≡ s.offset) × (text.now ≡ encode_lower root)
 IsGivenBack (Given settings) s root = (settings.now.plan ≡ s.plan) × (settings.now.root ≡ Some root)
 
--- settings that verify is given have a plan that can be carried out, as all `Settings` of the code have
-abbrev pub IsGivenPlanned : VerifyInput → Type 0
-IsGivenPlanned (Stored offset text) = Unit {0}
-IsGivenPlanned (Given settings) = IsPlan settings.now.plan
+-- if verify is given settings, their plan can be carried out, as that of all `Settings` of the code can
+abbrev pub IsPlanIfGiven : VerifyInput → Type 0
+IsPlanIfGiven (Stored offset text) = Unit {0}
+IsPlanIfGiven (Given settings) = IsPlan settings.now.plan

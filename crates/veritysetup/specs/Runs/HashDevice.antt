@@ -5,7 +5,7 @@ use Rattle.verity_format.specs.Superblocks.{SuperblockFields}
 use Rattle.verity_plan.specs.Plans.{superblock_size}
 use Rattle.veritysetup.specs.Options.Settings.{SettingsFields}
 
--- the bytes that a superblock is read from: of its length, from the offset on, or fewer if the device ends before
+-- the bytes that a superblock is read from: as many as one has, from the offset on, or fewer if the device ends before
 abbrev pub superblock_at : ℕ → List ℕ → List ℕ
 superblock_at offset device = take superblock_size (drop offset device)
 
