@@ -30,9 +30,9 @@ abbrev pub IsLargeAt : TreeSettingsFields → List (Option (List ℕ)) → ℕ �
 IsLargeAt s files f =
     (bytes : List ℕ) × (slice_get files f ≡ Some (Some bytes)) × (is_too_large s (length bytes) ≡ true)
 
--- why a run ends at file f: it is absent and nothing before it was, or a count rose; it is there and too large; it
--- ended early, as no file does whose bytes are told; or memory, a read or the writer failed, and then the file is there
--- and not too large. There is no device
+-- why a run ends at file f. NotOpened: f is the first absent file, or a call failed. TooLarge: f is there and too large.
+-- SourceShort: only if the bytes aren't told. SourceFailed, Memory, NotWritten: f is there and not too large, and at
+-- SourceFailed a call failed. DeviceFailed: never, for there is no device
 abbrev pub HasReason : TreeSettingsFields → OpenerChange → ℕ → RunFault → Type 0
 HasReason s opener f NotOpened =
     (opener.told × (slice_get opener.files f ≡ Some None) × (first_without_digest s opener.files ≡ f))
