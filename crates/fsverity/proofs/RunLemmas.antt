@@ -2,7 +2,7 @@
 use Rattle.std.proofs.Common.{◌≡◌, ◌≢◌, ℕ, zero, suc, ◌+◌, ◌<◌, ◌≤◌, List, [], ◌∷◌, ◌++◌, length, take, Bool, true}
 use Rattle.std.proofs.Common.{false, inl, inr, Option, Some, None, Result, Ok, Err, refl, ap, sym, subst, ◌∙◌, not}
 use Rattle.std.proofs.Common.{add-one, append-nil, arith}
-use Rattle.std.specs.Prelude.{◌↔◌, ◌⊎◌, IfErr, IfSome, IsErr, IsErrAnd, IsOk, OnOk, slice_get}
+use Rattle.std.specs.Prelude.{◌↔◌, ◌⊎◌, IfErr, IsErr, IsErrAnd, OnOk, slice_get}
 use Rattle.std.proofs.lemmas.Option.{get_or_from_slice_get}
 use Rattle.std.specs.List.{prefix_len}
 use Rattle.std.specs.Io.KnownBytes.{Appends, Keeps}
@@ -10,7 +10,7 @@ use Rattle.command_line.specs.Writing.{AppendsPrefix}
 use Rattle.verity_io.proofs.KnownLemmas.{appends_twice}
 use Rattle.verity_plan.specs.Settings.{TreeSettingsFields}
 use Rattle.fsverity.proofs.FormLemmas.{Keeps-same}
-use Rattle.fsverity.specs.Faults.{message_of, result_status, status_failed, status_of}
+use Rattle.fsverity.specs.Faults.{IsTold, result_status, status_failed, status_of}
 use Rattle.fsverity.specs.Texts.Lines.{line}
 use Rattle.fsverity.specs.Texts.Messages.{run_fault_message}
 use Rattle.fsverity.specs.Openers.Opening.{OpenerChange}
@@ -161,9 +161,9 @@ stops_run s run step f NotWritten told same index within le after one =
     λ t. before_first_without_digest s run.files f (rw (same, index) at (one (told.0 t))) (within t)
 
 -- what holds of a run that is done
-pub of_done : {P : Type 0} (outcome : Result (Unit {0}) Fault) → IsOk outcome → OnOk outcome P → P
-of_done (Ok unit) ok holds = holds
-of_done (Err fault) ok holds = cc
+pub of_done : {P : Type 0} (outcome : Result (Unit {0}) Fault) → outcome ≡ Ok tt → OnOk outcome P → P
+of_done (Ok unit) done holds = holds
+of_done (Err fault) done holds = cc
 
 -- a run whose faults are failures is done or failed
 pub status_either : (outcome : Result (Unit {0}) Fault) → IfErr outcome (λ fault. status_of fault ≡ status_failed) →
@@ -175,8 +175,7 @@ status_either (Err fault) fails = inr fails
 pub ended_with : (run : DigestInput) (opener : OpenerChange) (out out' msgs msgs' : Option (List ℕ))
     (outcome : Result (Unit {0}) Fault) (status : ℕ) → status ≡ result_status outcome → status ≡ 1 →
     IfErr outcome (StopsRun run opener out out') →
-    IfErr outcome (λ fault. IfSome (message_of fault) (λ text. AppendsPrefix text msgs msgs')) →
-    EndsAt run opener out out' msgs msgs'
+    IsTold outcome msgs msgs' → EndsAt run opener out out' msgs msgs'
 ended_with run opener out out' msgs msgs' (Ok unit) status is one stops message =
     let none : status ≡ 0 = is in
     absurd (omega (arith, none, one))

@@ -1,9 +1,13 @@
--- The faults with which the program `fsverity` ends early: the status and the message of each, and whose call it was.
--- This project's own.
-use Rattle.std.specs.Prelude.{ℕ, List, Option, Some, None, Result, Ok, Err}
-use Rattle.command_line.specs.declared.words.line_fault.LineFault.TheVariants as line
+-- How a run ends: done, or at its first fault. The status and the message of each fault, and whose call it was
+-- (fsverity(1); statuses and messages are this project's own).
+use Rattle.std.specs.Prelude.{◌≤◌, ℕ, List, Option, Some, None, Result, Ok, Err, IfSome}
+use Rattle.std.specs.Io.KnownBytes.{Keeps}
+use Rattle.command_line.specs.Writing.{AppendsPrefix}
+use Rattle.command_line.specs.SystemWords.{not_utf8_message}
 use Rattle.command_line.specs.declared.words.system_words.WordsFault.TheVariants as words
-use Rattle.fsverity.specs.Texts.Messages.{option_message, out_of_memory, output_fault_message, run_fault_message, words_message}
+use Rattle.command_line.specs.declared.words.line_fault.LineFault.TheVariants as line
+use Rattle.verity_io.specs.Counting.{Side, TheSource, TheDevice, TheOpener}
+use Rattle.fsverity.specs.Texts.Messages.{memory_message, option_message, output_fault_message, run_fault_message}
 use Rattle.fsverity.specs.declared.fault.Fault.{Fault}
 use Rattle.fsverity.specs.declared.fault.Fault.TheVariants as fault
 use Rattle.fsverity.specs.declared.runs.digest_fault.DigestFault.{DigestFault}
@@ -11,19 +15,22 @@ use Rattle.fsverity.specs.declared.runs.digest_fault.DigestFault.TheVariants.{To
 use Rattle.fsverity.specs.declared.runs.digest_fault.DigestFault.TheVariants.{DeviceFailed, Memory}
 use Rattle.fsverity.specs.declared.runs.run_fault.RunFault.{RunFault}
 use Rattle.fsverity.specs.declared.runs.run_fault.RunFault.TheVariants as run
-use Rattle.verity_io.specs.Counting.{Side, TheSource, TheDevice, TheOpener}
 
--- the status of a run that did all that was asked for
+-- all is done
 abbrev pub status_done : ℕ
 status_done = 0
 
--- the status of a file that fails, of output that can't be written, and of out of memory
+-- a file can't be opened, read or written, it has no digest, output can't be written, or there is no memory
 abbrev pub status_failed : ℕ
 status_failed = 1
 
--- the status of a refused command line or option
+-- the command line or an option is refused
 abbrev pub status_refused : ℕ
 status_refused = 2
+
+-- one of these
+abbrev pub IsStatus : ℕ → Type 0
+IsStatus status = status ≤ status_refused
 
 -- the status of a fault
 abbrev pub status_of : Fault → ℕ
@@ -35,16 +42,12 @@ status_of (fault.Option cause) = status_refused
 status_of (fault.File cause name) = status_failed
 status_of (fault.Outputs cause name) = status_failed
 
--- the status of a run, by how it ended
-abbrev pub result_status : Result (Unit {0}) Fault → ℕ
-result_status (Ok unit) = status_done
-result_status (Err cause) = status_of cause
-
--- the message of a fault; the text by which clap refuses a command line is clap's own, and has no definition here
+-- the message of a fault; clap's own text, for a line that it refuses, has no definition here
 abbrev pub message_of : Fault → Option (List ℕ)
-message_of (fault.Words cause) = Some (words_message cause)
+message_of (fault.Words (words.NotUtf8 number word)) = Some (not_utf8_message number word.items)
+message_of (fault.Words words.Memory) = Some memory_message
 message_of (fault.Line (line.Refused error)) = None
-message_of (fault.Line line.Memory) = Some out_of_memory
+message_of (fault.Line line.Memory) = Some memory_message
 message_of (fault.Option cause) = Some (option_message cause)
 message_of (fault.File cause name) = Some (run_fault_message cause name.now)
 message_of (fault.Outputs cause name) = Some (output_fault_message cause name.now)
@@ -62,3 +65,13 @@ abbrev pub run_side : RunFault → Option Side
 run_side run.NotOpened = Some TheOpener
 run_side (run.Digest cause) = side_of cause
 run_side run.NotWritten = None
+
+-- the status of a run, by how it ended
+abbrev pub result_status : Result (Unit {0}) Fault → ℕ
+result_status (Ok done) = status_done
+result_status (Err cause) = status_of cause
+
+-- what a run tells, by how it ended: nothing if all is done, and otherwise the fault's message, or its first bytes
+abbrev pub IsTold : Result (Unit {0}) Fault → Option (List ℕ) → Option (List ℕ) → Type 0
+IsTold (Ok done) before after = Keeps before after
+IsTold (Err cause) before after = IfSome (message_of cause) (λ text. AppendsPrefix text before after)

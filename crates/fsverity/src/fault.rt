@@ -1,10 +1,11 @@
-//! How a run ends: the fault that ends it early, with its status and its message.
-ghost use Rattle.std.specs.Prelude.{◌≡◌, ◌≤◌, IfErr, IfSome, IsOk, IsTrue};
+//! Every way in which a run ends early, with its status and its message.
+ghost use Rattle.std.specs.Prelude.{◌≡◌, ◌<◌, Ok, IfSome, IsTrue};
 ghost use Rattle.std.specs.Io.KnownBytes.{Appends};
 ghost use Rattle.command_line.specs.Writing.{AppendsPrefix};
+ghost use Rattle.fsverity.specs.Faults.{IsStatus, IsTold, message_of, result_status, status_of};
 ghost use Rattle.fsverity.specs.Texts.Messages.{digest_message, output_fault_message, run_fault_message};
 
-use crate::texts::messages::OUTPUT_UNWRITTEN;
+use crate::texts::messages::{CANNOT_OPEN, DESCRIPTOR_UNWRITTEN, OUTPUT_UNWRITTEN};
 use crate::words::usage::USAGE;
 use crate::{
     DigestFault, FsOptionFault, LineFault, OUT_OF_MEMORY, OutputFault, PrintFault, RunFault,
@@ -14,14 +15,23 @@ use command_line::{WordsFault, not_utf8_message, write_message, write_pieces, wr
 use std::alloc::Global;
 use std::io::Write;
 
-/// Why a run of the program ends early, the file's name beside the fault of a file. `RunFault` and `OutputFault` are
-/// types of their own since the contract of a run rests on what each excludes: a run over files writes no tree and no
+/// All is done.
+const STATUS_DONE: u8 = 0;
+
+/// A file can't be opened, read or written, it has no digest, output can't be written, or there is no memory.
+const STATUS_FAILED: u8 = 1;
+
+/// The command line or an option is refused.
+const STATUS_REFUSED: u8 = 2;
+
+/// Why a run ends early. The file's name stands beside the fault of a file. `RunFault` and `OutputFault` are types of
+/// their own since the contract of a run rests on what each excludes: a run over files writes no tree and no
 /// descriptor, and a run with output files begins with an opened file.
 #[derive(Debug, Drop)]
 pub(crate) enum Fault<'a> {
-    /// The words of the command line can't be read, or there is no memory for a list of them.
+    /// The words of the command line can't be read: one is not UTF-8, or there is no memory for them or their texts.
     Words(WordsFault),
-    /// The command line is refused, or there is no memory for the copies of its words.
+    /// The command line is refused, by `clap`, or there is no memory for the copies of its words.
     Line(LineFault),
     /// An option is refused.
     Option(FsOptionFault),
@@ -32,40 +42,12 @@ pub(crate) enum Fault<'a> {
     Outputs(OutputFault, &'a str),
 }
 
-ghost use Rattle.fsverity.specs.Faults.{message_of, result_status, status_of};
-
-/// The status of a run that did all that was asked for.
-const STATUS_DONE: u8 = 0;
-
-/// The status of a file that fails, of output that can't be written, and of out of memory.
-const STATUS_FAILED: u8 = 1;
-
-/// The status of a refused command line or option.
-const STATUS_REFUSED: u8 = 2;
-
-/// Ends a run: the message of its fault goes to `msgs`, as far as memory and `msgs` allow. The answer is the status.
-pub(crate) fn end_run<M: Write>(alloc: Global, outcome: Result<(), Fault<'_>>, msgs: &mut M) -> u8
-    ensures status { result ≡ result_status outcome.entry }
-    ensures most { result ≤ 2 }
-    ensures quiet { result ≡ 0 → IsOk outcome.entry × (msgs.new ≡ msgs.old) }
-    ensures message { IfErr outcome.entry (λ fault. IfSome (message_of fault)
-        (λ text. AppendsPrefix text (M.contents msgs.old) (M.contents msgs.new))) }
-{
-    match outcome {
-        Ok(()) => STATUS_DONE,
-        Err(fault) => {
-            fault.write_message(alloc, msgs);
-            fault.status()
-        }
-    }
-}
-
 impl Fault<'_> {
-    /// The status with which the program ends.
+    /// The status that the run ends with.
     fn status(&self) -> u8
         ensures value { result ≡ status_of self.now }
-        ensures least { 1 ≤ result }
-        ensures most { result ≤ 2 }
+        ensures known { IsStatus result }
+        ensures early { 0 < result }
     {
         match self {
             Fault::Words(WordsFault::NotUtf8(_, _)) => STATUS_REFUSED,
@@ -78,32 +60,28 @@ impl Fault<'_> {
         }
     }
 
-    /// Writes the message, as far as memory and the writer allow: clap's text and the usage, or a message of this
-    /// program.
-    fn write_message<M: Write>(&self, alloc: Global, msgs: &mut M)
-        ensures { IfSome (message_of self.now)
+    /// Writes the message of the fault, as far as memory and the writer allow. The answer says whether the writer took
+    /// all of it; of `clap`'s text it isn't known, and the answer is false.
+    fn write_message<M: Write>(&self, alloc: Global, msgs: &mut M) -> bool
+        ensures whole { IsTrue result → IfSome (message_of self.now)
+            (Appends (M.contents msgs.old) (M.contents msgs.new)) }
+        ensures prefix { IfSome (message_of self.now)
             (λ text. AppendsPrefix text (M.contents msgs.old) (M.contents msgs.new)) }
     {
         match self {
-            Fault::Words(WordsFault::NotUtf8(number, word)) => {
-                write_message(not_utf8_message(alloc, *number, word.as_slice()), msgs);
+            Fault::Words(WordsFault::NotUtf8(number, word)) => write_message(
+                not_utf8_message(alloc, *number, word.as_slice()),
+                msgs,
+            ),
+            Fault::Words(WordsFault::Memory) => write_text(OUT_OF_MEMORY, msgs),
+            Fault::Line(LineFault::Memory) => write_text(OUT_OF_MEMORY, msgs),
+            Fault::Line(fault) => {
+                fault.write_message(USAGE, msgs);
+                false
             }
-            Fault::Words(WordsFault::Memory) => {
-                write_text(OUT_OF_MEMORY, msgs);
-            }
-            Fault::Line(LineFault::Memory) => {
-                write_text(OUT_OF_MEMORY, msgs);
-            }
-            Fault::Line(fault) => fault.write_message(USAGE, msgs),
-            Fault::Option(fault) => {
-                write_text(option_message(fault), msgs);
-            }
-            Fault::File(fault, name) => {
-                write_file_message(alloc, fault, name, msgs);
-            }
-            Fault::Outputs(fault, name) => {
-                write_outputs_message(alloc, fault, name, msgs);
-            }
+            Fault::Option(fault) => write_text(option_message(fault), msgs),
+            Fault::File(fault, name) => write_file_message(alloc, fault, name, msgs),
+            Fault::Outputs(fault, name) => write_outputs_message(alloc, fault, name, msgs),
         }
     }
 }
@@ -116,7 +94,7 @@ fn write_file_message<M: Write>(alloc: Global, fault: &RunFault, name: &str, msg
     ensures prefix { AppendsPrefix (run_fault_message fault.now name.now) (M.contents msgs.old) (M.contents msgs.new) }
 {
     match fault {
-        RunFault::NotOpened => write_pieces(&["fsverity: cannot open ", name, ".\n"], msgs),
+        RunFault::NotOpened => write_pieces(&[CANNOT_OPEN, name, ".\n"], msgs),
         RunFault::Digest(fault) => write_digest_message(alloc, fault, name, msgs),
         RunFault::NotWritten => write_text(OUTPUT_UNWRITTEN, msgs),
     }
@@ -137,7 +115,7 @@ fn write_outputs_message<M: Write>(
 {
     match fault {
         OutputFault::Digest(fault) => write_digest_message(alloc, fault, name, msgs),
-        OutputFault::Descriptor(_) => write_text("fsverity: cannot write descriptor.\n", msgs),
+        OutputFault::Descriptor(_) => write_text(DESCRIPTOR_UNWRITTEN, msgs),
         OutputFault::Line(PrintFault::Memory) => write_text(OUT_OF_MEMORY, msgs),
         OutputFault::Line(PrintFault::Output(_)) => write_text(OUTPUT_UNWRITTEN, msgs),
     }
@@ -158,5 +136,23 @@ fn write_digest_message<M: Write>(
     match fault {
         DigestFault::Memory => write_text(OUT_OF_MEMORY, msgs),
         fault => write_message(digest_message(alloc, fault, name), msgs),
+    }
+}
+
+/// Ends a run: writes the message of its fault, if there is one, as far as memory and `msgs` allow, and gives the
+/// status.
+pub(crate) fn end_run<M: Write>(alloc: Global, outcome: Result<(), Fault<'_>>, msgs: &mut M) -> u8
+    ensures status { result ≡ result_status outcome.entry }
+    ensures message { IsTold outcome.entry (M.contents msgs.old) (M.contents msgs.new) }
+    ensures known { IsStatus result }
+    ensures done { result ≡ 0 → outcome.entry ≡ Ok tt }
+    ensures quiet { result ≡ 0 → msgs.new ≡ msgs.old }
+{
+    match outcome {
+        Ok(()) => STATUS_DONE,
+        Err(fault) => {
+            fault.write_message(alloc, msgs);
+            fault.status()
+        }
     }
 }

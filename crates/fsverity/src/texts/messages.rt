@@ -5,10 +5,17 @@ ghost use Rattle.fsverity.specs.Texts.Messages.{digest_message, option_message};
 use crate::{DigestFault, FsOptionFault};
 use std::alloc::{AllocError, Global};
 
-/// The message of out of memory. It is a constant, since there is no memory to make it.
+/// There is no memory. The text is fixed, so that it needs none.
 pub const OUT_OF_MEMORY: &str = "fsverity: out of memory.\n";
 
-/// The message for a line of a file that is not written whole.
+/// How the message of a file that can't be opened begins; the file's name follows. It is made of pieces, so that it
+/// needs no memory.
+pub(crate) const CANNOT_OPEN: &str = "fsverity: cannot open ";
+
+/// The descriptor is not written whole.
+pub(crate) const DESCRIPTOR_UNWRITTEN: &str = "fsverity: cannot write descriptor.\n";
+
+/// The line of a file is not written whole.
 pub(crate) const OUTPUT_UNWRITTEN: &str = "fsverity: cannot write output.\n";
 
 /// The message of a refused option: one line, with its newline.
