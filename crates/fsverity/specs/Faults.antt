@@ -6,13 +6,13 @@ use Rattle.command_line.specs.Writing.{AppendsPrefix}
 use Rattle.command_line.specs.SystemWords.{not_utf8_message}
 use Rattle.command_line.specs.declared.words.system_words.WordsFault.TheVariants as words
 use Rattle.command_line.specs.declared.words.line_fault.LineFault.TheVariants as line
-use Rattle.verity_io.specs.Counting.{Side, TheSource, TheDevice, TheOpener}
+use Rattle.verity_io.specs.Counting.{Side, TheOpener}
+use Rattle.fsverity.specs.Runs.FileDigest as digesting
 use Rattle.fsverity.specs.Texts.Messages.{memory_message, option_message, output_fault_message, run_fault_message}
 use Rattle.fsverity.specs.declared.fault.Fault.{Fault}
 use Rattle.fsverity.specs.declared.fault.Fault.TheVariants as fault
-use Rattle.fsverity.specs.declared.runs.digest_fault.DigestFault.{DigestFault}
-use Rattle.fsverity.specs.declared.runs.digest_fault.DigestFault.TheVariants.{TooLarge, SourceShort, SourceFailed}
-use Rattle.fsverity.specs.declared.runs.digest_fault.DigestFault.TheVariants.{DeviceFailed, Memory}
+use Rattle.fsverity.specs.declared.runs.output_fault.OutputFault.{OutputFault}
+use Rattle.fsverity.specs.declared.runs.output_fault.OutputFault.TheVariants as output
 use Rattle.fsverity.specs.declared.runs.run_fault.RunFault.{RunFault}
 use Rattle.fsverity.specs.declared.runs.run_fault.RunFault.TheVariants as run
 
@@ -52,19 +52,22 @@ message_of (fault.Option cause) = Some (option_message cause)
 message_of (fault.File cause name) = Some (run_fault_message cause name.now)
 message_of (fault.Outputs cause name) = Some (output_fault_message cause name.now)
 
--- whose call failed, if a file has no digest for that
-abbrev pub side_of : DigestFault → Option Side
-side_of TooLarge = None
-side_of (SourceShort i) = None
-side_of (SourceFailed i) = Some TheSource
-side_of (DeviceFailed level block) = Some TheDevice
-side_of Memory = None
-
--- the same for a run over files; an absent file isn't opened either
+-- whose call failed, in a run over files; an absent file isn't opened either
 abbrev pub run_side : RunFault → Option Side
 run_side run.NotOpened = Some TheOpener
-run_side (run.Digest cause) = side_of cause
+run_side (run.Digest cause) = digesting.side_of cause
 run_side run.NotWritten = None
+
+-- whose call failed, in a run with output files
+abbrev pub output_side : OutputFault → Option Side
+output_side (output.Digest cause) = digesting.side_of cause
+output_side other = None
+
+-- whose call, of a source, a device or an opener, failed
+abbrev pub side_of : Fault → Option Side
+side_of (fault.File cause name) = run_side cause
+side_of (fault.Outputs cause name) = output_side cause
+side_of cause = None
 
 -- the status of a run, by how it ended
 abbrev pub result_status : Result (Unit {0}) Fault → ℕ

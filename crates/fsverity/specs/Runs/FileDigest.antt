@@ -3,6 +3,7 @@
 use Rattle.std.specs.Prelude.{◌≡◌, ℕ, ◌+◌, ◌*◌, ◌/◌, ◌<◌, ◌≤◌, ◌==◌, min, List, [], length, Option}
 use Rattle.std.specs.Prelude.{Some, None, IsNone, MatchOption, Result, Err, MatchResult, if◌then◌else◌}
 use Rattle.verity_format.specs.Descriptors.{descriptor_bytes, digest_of_file}
+use Rattle.verity_io.specs.Counting.{Side, TheDevice, TheSource}
 use Rattle.verity_io.specs.Reading.{HasRead}
 use Rattle.verity_tree.specs.Levels.{data_blocks, root_of_file}
 use Rattle.verity_tree.specs.Building.{BuildsOnDevice}
@@ -40,6 +41,14 @@ pub record IsDigestOfSource (s : TreeSettingsFields) (size : ℕ) (told : Type 0
 -- the descriptor of the first size bytes, and the file digest
 abbrev pub IsFileDigest : TreeSettingsFields → ℕ → List ℕ → FileDigest → Type 0
 IsFileDigest s size bytes made = IsDigestOfRoot s size (root_of_file s size bytes) made
+
+-- whose call failed, if a file has no digest for that
+abbrev pub side_of : DigestFault → Option Side
+side_of TooLarge = None
+side_of (SourceShort i) = None
+side_of (SourceFailed i) = Some TheSource
+side_of (DeviceFailed level block) = Some TheDevice
+side_of Memory = None
 
 -- the fault of building the tree, if it is one
 abbrev pub build_fault : DigestFault → Option BuildFault

@@ -3,17 +3,19 @@
 use Rattle.std.specs.Prelude.{◌≡◌, ◌↔◌, ℕ, ◌<◌, Bool, MatchBool, List, [], length, take, Option, Result, Ok, Err}
 use Rattle.std.specs.Prelude.{IsTrue}
 use Rattle.std.specs.Io.KnownBytes.{Appends, Keeps}
-use Rattle.command_line.specs.Writing.{AppendsPrefix, WritesText}
+use Rattle.std.specs.Borrow.{Bor}
+use Rattle.command_line.specs.Writing.{WritesText}
 use Rattle.verity_format.specs.Descriptors.{descriptor_bytes, digest_of_file}
 use Rattle.verity_io.specs.Counting.{Change, Counts, TheDevice, TheSource, failed_at}
 use Rattle.verity_io.specs.Reading.{HasRead}
 use Rattle.verity_plan.specs.Settings.{TreeSettingsFields, digest_len}
-use Rattle.fsverity.specs.Faults.{side_of, status_done, status_failed}
+use Rattle.fsverity.specs.Faults.{IsTold, result_status, side_of}
 use Rattle.fsverity.specs.Runs.FileDigest.{FaultsIn, Stands, with_tree}
 use Rattle.fsverity.specs.Runs.Digested.{descriptor_of, is_too_large}
 use Rattle.verity_tree.specs.Levels.{root_of_file}
 use Rattle.fsverity.specs.Texts.Lines.{line}
-use Rattle.fsverity.specs.Texts.Messages.{output_fault_message}
+use Rattle.fsverity.specs.declared.fault.Fault.{Fault}
+use Rattle.fsverity.specs.declared.fault.Fault.TheVariants as ending
 use Rattle.fsverity.specs.declared.runs.digest_fault.DigestFault.{DigestFault}
 use Rattle.fsverity.specs.declared.runs.digest_fault.DigestFault.TheVariants.{TooLarge}
 use Rattle.fsverity.specs.declared.texts.digest_lines.Form.{Form}
@@ -67,15 +69,10 @@ pub record WriterChange : Type 0 where
 abbrev pub Outcome : Type 0
 Outcome = Result (Unit {0}) OutputFault
 
--- the status of an outcome
-abbrev pub outcome_status : Outcome → ℕ
-outcome_status (Ok unit) = status_done
-outcome_status (Err fault) = status_failed
-
--- the message of an outcome
-abbrev pub outcome_message : Outcome → List ℕ → List ℕ
-outcome_message (Ok unit) name = []
-outcome_message (Err fault) name = output_fault_message fault name
+-- the same, with the file's name beside the fault
+abbrev pub named_outcome : Bor (List ℕ) → Outcome → Result (Unit {0}) Fault
+named_outcome name (Ok unit) = Ok unit
+named_outcome name (Err fault) = Err (ending.Outputs fault name)
 
 -- the digest's part of an outcome
 abbrev pub digest_result : Outcome → Result (Unit {0}) DigestFault
@@ -134,14 +131,16 @@ pub record WritesOutputs (task : OutputTask) (outcome : Outcome) (told : Type 0)
 -- a run: one outcome says what became of the source, the tree's device and the writers
 pub record OutputRun (task : OutputTask) (status : ℕ) (source tree : Change) (writers : WriterChange) : Type 0 where
   pub outcome : Outcome
-  pub status_is : status ≡ outcome_status outcome
+  pub name : Bor (List ℕ)
+  pub name_is : name.now ≡ task.name
+  pub status_is : status ≡ result_status (named_outcome name outcome)
   pub too_large : (digest_result outcome ≡ Err TooLarge) ↔ IsTrue (is_too_large task.settings task.size)
   pub read : source.told → Reads task (digest_result outcome) source.before source.after
   pub stands : source.told → tree.told → WritesTree task source.before (digest_result outcome) tree.before tree.after
   pub outputs_written : WritesOutputs task outcome source.told source.before writers.outputs
-  pub message : AppendsPrefix (outcome_message outcome task.name) writers.msgs_before writers.msgs_after
-  pub source_counted : Counts (failed_at side_of TheSource (digest_result outcome)) source.failures_before source.failures_after
-  pub tree_counted : Counts (failed_at side_of TheDevice (digest_result outcome)) tree.failures_before tree.failures_after
+  pub told : IsTold (named_outcome name outcome) writers.msgs_before writers.msgs_after
+  pub source_counted : Counts (failed_at side_of TheSource (named_outcome name outcome)) source.failures_before source.failures_after
+  pub tree_counted : Counts (failed_at side_of TheDevice (named_outcome name outcome)) tree.failures_before tree.failures_after
 
 -- what status 0 means: the file was read once, and what is wanted is written
 pub record IsWritten (task : OutputTask) (source tree : Change) (outputs : OutputChange) : Type 0 where

@@ -20,9 +20,8 @@ pub struct FileDigest {
 
 ghost use Rattle.verity_plan.specs.Settings.{digest_len};
 ghost use Rattle.verity_io.specs.Counting.{Counts, TheDevice, TheSource, failed_at};
-ghost use Rattle.fsverity.specs.Faults.{side_of};
 ghost use Rattle.fsverity.specs.Runs.FileDigest.{GivesDigest, ComesBeforeReading, IsDigestOfSource, IsDigestOfRoot};
-ghost use Rattle.fsverity.specs.Runs.FileDigest.{Stands};
+ghost use Rattle.fsverity.specs.Runs.FileDigest.{Stands, side_of};
 ghost use Rattle.fsverity.specs.Runs.Digested.{is_too_large};
 ghost use Rattle.fsverity.specs.Runs.DigestSteps.{GivesRoot};
 

@@ -3,8 +3,8 @@ ghost use Rattle.std.specs.Prelude.{◌≡◌, ◌↔◌, ◌⊎◌, length, fal
 ghost use Rattle.verity_hash.specs.declared.salting.SaltRule.TheVariants.{PaddedBefore};
 ghost use Rattle.verity_plan.specs.Settings.{digest_len};
 ghost use Rattle.verity_io.specs.Counting.{Counts, TheDevice, TheSource, change, failed_at};
-ghost use Rattle.fsverity.specs.Faults.{side_of};
-ghost use Rattle.fsverity.specs.Runs.FileDigest.{GivesDigest, IsDigestOfSource};
+ghost use Rattle.fsverity.specs.Faults.{output_side};
+ghost use Rattle.fsverity.specs.Runs.FileDigest.{GivesDigest, IsDigestOfSource, side_of};
 ghost use Rattle.fsverity.specs.Runs.Digested.{is_too_large};
 ghost use Rattle.fsverity.specs.Runs.Outputs.{IsWritten, OutputRun, Reads, WritesOutputs, WritesTree, digest_result};
 ghost use Rattle.fsverity.specs.Runs.Outputs.{output_change, output_task};
@@ -100,10 +100,8 @@ pub(crate) fn write_outputs<S: Source, D: Device, W: Write, O: Write>(
         (D.content tree.old) (D.content tree.new) }
     ensures written { WritesOutputs (task_of task.now) result (S.tells source.old) (S.remaining source.old)
         (output_change W.contents O.contents descriptor.old descriptor.new out.old out.new) }
-    ensures source_count { Counts (failed_at side_of TheSource (digest_result result))
-        (S.failures source.old) (S.failures source.new) }
-    ensures tree_count { Counts (failed_at side_of TheDevice (digest_result result))
-        (D.failures tree.old) (D.failures tree.new) }
+    ensures source_count { Counts (failed_at output_side TheSource result) (S.failures source.old) (S.failures source.new) }
+    ensures tree_count { Counts (failed_at output_side TheDevice result) (D.failures tree.old) (D.failures tree.new) }
 {
     let made = match digest_for_task(alloc, task, source, tree) {
         Ok(made) => made,
