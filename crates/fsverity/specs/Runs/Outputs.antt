@@ -14,6 +14,7 @@ use Rattle.fsverity.specs.Runs.FileDigest.{FaultsIn, Stands, with_tree}
 use Rattle.fsverity.specs.Runs.Digested.{descriptor_of, is_too_large}
 use Rattle.verity_tree.specs.Levels.{root_of_file}
 use Rattle.fsverity.specs.Texts.Lines.{line}
+use Rattle.fsverity.specs.Texts.TextChanges.{OutputChange, WriterChange}
 use Rattle.fsverity.specs.declared.fault.Fault.{Fault}
 use Rattle.fsverity.specs.declared.fault.Fault.TheVariants as ending
 use Rattle.fsverity.specs.declared.runs.digest_fault.DigestFault.{DigestFault}
@@ -42,28 +43,6 @@ output_task settings form name size wants_tree wants_descriptor = record {
   wants_tree = wants_tree;
   wants_descriptor = wants_descriptor;
 }
-
--- what the writers of the descriptor and the line hold before and after, if that is known
-pub record OutputChange : Type 0 where
-  pub descriptor_before : Option (List ℕ)
-  pub descriptor_after : Option (List ℕ)
-  pub out_before : Option (List ℕ)
-  pub out_after : Option (List ℕ)
-
--- what these functions, which read the contents of a writer, say of them before and after
-abbrev pub output_change : {W O : Type 0} → (W → Option (List ℕ)) → (O → Option (List ℕ)) → W → W → O → O → OutputChange
-output_change descriptor_contents out_contents descriptor_old descriptor_new out_old out_new = record {
-  descriptor_before = descriptor_contents descriptor_old;
-  descriptor_after = descriptor_contents descriptor_new;
-  out_before = out_contents out_old;
-  out_after = out_contents out_new;
-}
-
--- the same, and what the writer of the messages holds
-pub record WriterChange : Type 0 where
-  pub outputs : OutputChange
-  pub msgs_before : Option (List ℕ)
-  pub msgs_after : Option (List ℕ)
 
 -- how a run ends: with all written, or with its first fault
 abbrev pub Outcome : Type 0

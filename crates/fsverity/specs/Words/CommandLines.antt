@@ -1,10 +1,7 @@
 -- The command line of `fsverity` (fsverity(1)), in the words of clap, and what a line holds.
-use Rattle.std.specs.Prelude.{◌≡◌, ◌||◌, Bool, Option, Some, Result, List, [], ◌∷◌, length, is_some, codes, map, option_map, unwrap_or, string_bytes}
+use Rattle.std.specs.Prelude.{◌≡◌, Option, Some, List, [], ◌∷◌, codes, map, option_map, unwrap_or, string_bytes}
 use Rattle.clap.specs.Words.{App, Row, Text, all_of, first_of}
 use Rattle.command_line.specs.Arguments.{flag_of, flag_rule, named_app, option_rule, program_app, words_rule}
-use Rattle.verity_plan.specs.Settings.{TreeSettingsFields}
-use Rattle.fsverity.specs.Options.Settings.{digest_settings}
-use Rattle.fsverity.specs.declared.options.option_fault.FsOptionFault.{FsOptionFault}
 use Rattle.fsverity.specs.declared.words.line.Line.{Line}
 
 -- the command `digest`
@@ -31,12 +28,3 @@ pub record HoldsRows (rows : List Row) (line : Line) : Type 0 where
 -- the words name a command, and the line holds its rows
 abbrev pub HoldsCommand : Option (Text × List Row) → Line → Type 0
 HoldsCommand met line = (p : Text × List Row) × (met ≡ Some p) × HoldsRows p.1 line
-
--- whether the line names an output file
-abbrev pub names_output : Line → Bool
-names_output line = is_some line.out_merkle_tree || is_some line.out_descriptor
-
--- the settings that a line's options give, or the first option that is refused
-abbrev pub line_settings : Line → Result TreeSettingsFields FsOptionFault
-line_settings line = digest_settings (option_map string_bytes line.hash_alg) (option_map string_bytes line.block_size)
-    (option_map string_bytes line.salt) (length line.files.items) (names_output line)

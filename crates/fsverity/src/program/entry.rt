@@ -2,8 +2,7 @@
 ghost use Rattle.std.specs.Prelude.{◌≡◌, ◌≤◌, Err, IfErr, IfOk, OnOk, false, map, string_bytes};
 ghost use Rattle.verity_hash.specs.declared.salting.SaltRule.TheVariants.{PaddedBefore};
 ghost use Rattle.fsverity.specs.Faults.{status_failed, status_of};
-ghost use Rattle.fsverity.specs.Program.{CarriesOut, PrintsLines};
-ghost use Rattle.fsverity.specs.Words.CommandLines.{line_settings, names_output};
+ghost use Rattle.fsverity.specs.Program.{CarriesOut, PrintsLines, line_settings, names_output};
 ghost use Rattle.fsverity.specs.declared.fault.Fault.TheVariants as ending;
 
 use crate::fault::{Fault, end_run};

@@ -7,7 +7,8 @@ ghost use Rattle.fsverity.specs.Faults.{output_side};
 ghost use Rattle.fsverity.specs.Runs.FileDigest.{GivesDigest, IsDigestOfSource, side_of};
 ghost use Rattle.fsverity.specs.Runs.Digested.{is_too_large};
 ghost use Rattle.fsverity.specs.Runs.Outputs.{IsWritten, OutputRun, Reads, WritesOutputs, WritesTree, digest_result};
-ghost use Rattle.fsverity.specs.Runs.Outputs.{output_change, output_task};
+ghost use Rattle.fsverity.specs.Runs.Outputs.{output_task};
+ghost use Rattle.fsverity.specs.Texts.TextChanges.{output_change};
 ghost use Rattle.fsverity.specs.declared.runs.digest_fault.DigestFault.TheVariants.{TooLarge};
 
 use crate::fault::{Fault, end_run};

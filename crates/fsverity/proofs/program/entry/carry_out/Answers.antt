@@ -1,8 +1,7 @@
 use Rattle.std.proofs.Common.{◌≡◌, IfOk, Result, false, subst}
 use Rattle.std.specs.Prelude.{OnOk}
 use Rattle.verity_plan.specs.Settings.{TreeSettingsFields}
-use Rattle.fsverity.specs.Program.{CarriesOut}
-use Rattle.fsverity.specs.Words.CommandLines.{names_output}
+use Rattle.fsverity.specs.Program.{CarriesOut, names_output}
 use Rattle.fsverity.specs.declared.options.option_fault.FsOptionFault.{FsOptionFault}
 use Rattle.fsverity.proofs.program.entry.carry_out.Goals as goal
 
