@@ -1,2 +1,3 @@
 -- The settings that a command line's options give.
 pub mod Settings
+pub mod SettingSteps

@@ -5,7 +5,7 @@ use Rattle.verity_hash.specs.Hashing.{digest_len_of}
 use Rattle.verity_hash.specs.declared.algorithm.Algorithm.{Algorithm}
 use Rattle.verity_hash.specs.declared.salting.SaltRule.TheVariants.{PaddedBefore}
 use Rattle.verity_plan.specs.Settings.{TreeSettingsFields, is_block_size, is_of_fsverity, least_block, most_salt}
-use Rattle.command_line.specs.Options.{algorithm_or_default, default_block_size, number_of, salt_of, ◌>>=◌}
+use Rattle.command_line.specs.Options.{algorithm_or_default, default_block_size, number_or, salt_of, ◌>>=◌}
 use Rattle.fsverity.specs.declared.options.option_fault.FsOptionFault.{FsOptionFault}
 use Rattle.fsverity.specs.declared.options.option_fault.FsOptionFault.TheVariants.{UnknownHash, BadBlockSize, BadSalt, OneFileOnly}
 
@@ -24,8 +24,7 @@ checked_block_size algorithm size =
 
 -- the block size of these digits, by default 4096; none outside the limits
 abbrev pub block_size_of : Algorithm → Option (List ℕ) → Option ℕ
-block_size_of algorithm None = checked_block_size algorithm default_block_size
-block_size_of algorithm (Some digits) = option_and_then (checked_block_size algorithm) (number_of digits)
+block_size_of algorithm text = option_and_then (checked_block_size algorithm) (number_or default_block_size text)
 
 -- the salt of these digits, by default empty; none if they are no salt of fs-verity
 abbrev pub salt_bytes_of : Option (List ℕ) → Option (List ℕ)
