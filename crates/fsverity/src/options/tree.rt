@@ -1,6 +1,5 @@
 //! The tree that the options choose: what it is made by.
 ghost use Rattle.std.specs.Prelude.{◌≡◌, IfOk, option_and_then};
-ghost use Rattle.verity_hash.specs.declared.algorithm.Algorithm.{Algorithm as SomeAlgorithm};
 ghost use Rattle.verity_hash.specs.declared.salting.SaltRule.TheVariants.{PaddedBefore};
 ghost use Rattle.fsverity.specs.Options.Settings.{checked_block_size};
 ghost use Rattle.fsverity.specs.Options.SettingSteps.{tree_of};
@@ -34,7 +33,7 @@ pub fn tree_of(
 /// This number as the size of a block. One of 2^32 or more is none, and neither is 0, which stands for it and for a text
 /// that is no number.
 fn block_size(number: Option<u64>) -> u32
-    ensures { (algorithm : SomeAlgorithm) → checked_block_size algorithm result
+    ensures { (algorithm : Algorithm) → checked_block_size algorithm result
         ≡ option_and_then (checked_block_size algorithm) number }
 {
     match number {

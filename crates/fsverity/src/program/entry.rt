@@ -7,9 +7,7 @@ ghost use Rattle.fsverity.specs.declared.fault.Fault.TheVariants as ending;
 use crate::fault::{Fault, end_run};
 use crate::program::digest::digest_files_of_line;
 use crate::{Line, digest_settings, read_words};
-use command_line::{
-    Identities, ProgressLine, ProgressRuntime, WordsFault, given_words, texts_of,
-};
+use command_line::{Identities, ProgressLine, ProgressRuntime, WordsFault, given_words, texts_of};
 use std::env::Env;
 use std::io::Write;
 

@@ -153,6 +153,6 @@ pub fn run_digest<O: Opener, W: Write, M: Write>(
         (opener_change O.tells O.files O.next O.failures opener.old opener.new)
         (W.contents out.old) (W.contents out.new) (M.contents msgs.old) (M.contents msgs.new) }
 {
-    let outcome = write_lines(alloc, settings, form, names, opener, out);
-    end_run(alloc, outcome, msgs)
+    let result = write_lines(alloc, settings, form, names, opener, out);
+    end_run(alloc, result, msgs)
 }

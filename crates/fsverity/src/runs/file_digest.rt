@@ -1,6 +1,12 @@
 //! The digest of a file.
 ghost use Rattle.std.specs.Prelude.{◌≡◌, ◌↔◌, ◌<◌, length, false, IsTrue, IsOk, IfOk, IfErr};
 ghost use Rattle.verity_hash.specs.declared.salting.SaltRule.TheVariants.{PaddedBefore};
+ghost use Rattle.verity_plan.specs.Settings.{digest_len};
+ghost use Rattle.verity_io.specs.Counting.{Counts, TheDevice, TheSource, failed_at};
+ghost use Rattle.fsverity.specs.Runs.FileDigest.{GivesDigest, ComesBeforeReading, IsDigestOfSource, IsDigestOfRoot};
+ghost use Rattle.fsverity.specs.Runs.FileDigest.{Stands, side_of};
+ghost use Rattle.fsverity.specs.Runs.Digested.{is_too_large};
+ghost use Rattle.fsverity.specs.Runs.DigestSteps.{GivesRoot};
 ghost use Rattle.fsverity.specs.declared.runs.digest_fault.DigestFault.TheVariants.{TooLarge};
 
 use crate::DigestFault;
@@ -17,13 +23,6 @@ pub struct FileDigest {
     /// The descriptor of 256 bytes (Linux kernel, fs-verity page, "fs-verity descriptor").
     pub descriptor: [u8; 256],
 }
-
-ghost use Rattle.verity_plan.specs.Settings.{digest_len};
-ghost use Rattle.verity_io.specs.Counting.{Counts, TheDevice, TheSource, failed_at};
-ghost use Rattle.fsverity.specs.Runs.FileDigest.{GivesDigest, ComesBeforeReading, IsDigestOfSource, IsDigestOfRoot};
-ghost use Rattle.fsverity.specs.Runs.FileDigest.{Stands, side_of};
-ghost use Rattle.fsverity.specs.Runs.Digested.{is_too_large};
-ghost use Rattle.fsverity.specs.Runs.DigestSteps.{GivesRoot};
 
 /// The digest of the first `size` bytes of a source, which are read once: the hash of the file's descriptor (Linux
 /// kernel, fs-verity page, "File digest computation").

@@ -9,6 +9,7 @@ ghost use Rattle.fsverity.specs.Runs.Digested.{is_too_large};
 ghost use Rattle.fsverity.specs.Runs.Outputs.{IsWritten, OutputRun, Reads, WritesOutputs, WritesTree, digest_result};
 ghost use Rattle.fsverity.specs.Runs.Outputs.{output_task};
 ghost use Rattle.fsverity.specs.Texts.TextChanges.{output_change};
+ghost use Rattle.fsverity.specs.Runs.OutputSteps.{PutsDescriptor, task_of};
 ghost use Rattle.fsverity.specs.declared.runs.digest_fault.DigestFault.TheVariants.{TooLarge};
 
 use crate::fault::{Fault, end_run};
@@ -16,7 +17,7 @@ use crate::texts::line_writing::write_line;
 use crate::{DigestFault, FileDigest, Form, OutputFault, digest_file, digest_file_with_tree};
 use std::alloc::Global;
 use std::io::Write;
-use verity_format::{PutFault, put_all};
+use verity_io::{PutFault, put_all};
 use verity_tree::{Device, Source, TreeSettings};
 
 /// What a run is asked for: the digest and the line of a file, and its tree and its descriptor if they are wanted.
@@ -29,8 +30,6 @@ pub(crate) struct OutputTask<'a> {
     pub wants_tree: bool,
     pub wants_descriptor: bool,
 }
-
-ghost use Rattle.fsverity.specs.Runs.OutputSteps.{PutsDescriptor, task_of};
 
 /// The digest of a file. Its tree is written if it is wanted.
 fn digest_for_task<S: Source, D: Device>(
