@@ -1,6 +1,6 @@
 -- A run of `fsverity digest` over one file with output files (fsverity(1), "--out-merkle-tree", "--out-descriptor"):
 -- the tree, then the descriptor, then the line. Nothing that comes after the first fault is written.
-use Rattle.std.specs.Prelude.{◌≡◌, ◌↔◌, ℕ, ◌<◌, Bool, MatchBool, List, [], length, take, Option, Result, Ok, Err}
+use Rattle.std.specs.Prelude.{◌≡◌, ◌↔◌, ℕ, ◌<◌, Bool, MatchBool, List, length, take, Option, Result, Ok, Err}
 use Rattle.std.specs.Prelude.{IsTrue}
 use Rattle.std.specs.Io.KnownBytes.{Appends, Keeps}
 use Rattle.std.specs.Borrow.{Bor}
