@@ -1,5 +1,5 @@
 //! The output files of a run.
-ghost use Rattle.std.specs.Prelude.{◌≡◌, ◌⊎◌, ◌||◌, None, Some, IfErr, IfOk, IfSome, IsSome, IsTrue, false, is_some};
+ghost use Rattle.std.specs.Prelude.{◌≡◌, ◌⊎◌, ◌||◌, None, Some, IfErr, IfOk, IfSome, is_some};
 ghost use Rattle.std.specs.Prelude.{option_map, option_copied, string_bytes, true};
 ghost use Rattle.std.specs.Fs.{new_options, with_create, with_truncate, with_write};
 
