@@ -1,3 +1,2 @@
 -- The settings that a command line's options give.
 pub mod Settings
-pub mod SettingSteps

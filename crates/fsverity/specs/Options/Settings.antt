@@ -13,35 +13,34 @@ use Rattle.fsverity.specs.declared.options.option_fault.FsOptionFault.TheVariant
 abbrev pub algorithm_of_fsverity : Algorithm → Option Algorithm
 algorithm_of_fsverity algorithm = if is_of_fsverity algorithm then Some algorithm else None
 
--- the algorithm of this name, by default SHA-256; none if fs-verity doesn't have it
-abbrev pub algorithm_of : Option (List ℕ) → Option Algorithm
-algorithm_of name = option_and_then algorithm_of_fsverity (algorithm_or_default name)
-
 -- the block size itself, if it is within the limits
 abbrev pub checked_block_size : Algorithm → ℕ → Option ℕ
 checked_block_size algorithm size =
     if is_block_size (least_block PaddedBefore (digest_len_of algorithm)) size then Some size else None
 
--- the block size of these digits, by default 4096; none outside the limits
-abbrev pub block_size_of : Algorithm → Option (List ℕ) → Option ℕ
-block_size_of algorithm text = option_and_then (checked_block_size algorithm) (number_or default_block_size text)
-
 -- the salt of these digits, by default empty; none if they are no salt of fs-verity
 abbrev pub salt_bytes_of : Option (List ℕ) → Option (List ℕ)
 salt_bytes_of text = salt_of (most_salt PaddedBefore) (unwrap_or text [])
+
+-- what the tree is made by, with this block size and this salt if they are numbers and salts, or the first fault of
+-- algorithm, block size and salt
+abbrev pub tree_of : Algorithm → Option ℕ → Option (List ℕ) → Result TreeSettingsFields FsOptionFault
+tree_of algorithm size given = do
+  known ← ok_or (algorithm_of_fsverity algorithm) UnknownHash
+  block ← ok_or (option_and_then (checked_block_size known) size) BadBlockSize
+  salt ← ok_or given BadSalt
+  Ok (record {
+    algorithm = known;
+    rule = PaddedBefore;
+    salt = salt;
+    data_block = block;
+    hash_block = block;
+  })
 
 -- the settings, or the first option that is refused, for so many input files and for an output file or none
 abbrev pub digest_settings : Option (List ℕ) → Option (List ℕ) → Option (List ℕ) → ℕ → Bool
     → Result TreeSettingsFields FsOptionFault
 digest_settings hash_alg block_size salt files out_files = do
-  algorithm ← ok_or (algorithm_of hash_alg) UnknownHash
-  block ← ok_or (block_size_of algorithm block_size) BadBlockSize
-  bytes ← ok_or (salt_bytes_of salt) BadSalt
-  if out_files && nat_lt 1 files then Err OneFileOnly
-      else Ok (record {
-        algorithm = algorithm;
-        rule = PaddedBefore;
-        salt = bytes;
-        data_block = block;
-        hash_block = block;
-      })
+  algorithm ← ok_or (algorithm_or_default hash_alg) UnknownHash
+  tree ← tree_of algorithm (number_or default_block_size block_size) (salt_bytes_of salt)
+  if out_files && nat_lt 1 files then Err OneFileOnly else Ok tree

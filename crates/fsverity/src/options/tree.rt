@@ -1,8 +1,7 @@
 //! The tree that the options choose: what it is made by.
 ghost use Rattle.std.specs.Prelude.{◌≡◌, IfOk, option_and_then};
 ghost use Rattle.verity_hash.specs.declared.salting.SaltRule.TheVariants.{PaddedBefore};
-ghost use Rattle.fsverity.specs.Options.Settings.{checked_block_size};
-ghost use Rattle.fsverity.specs.Options.SettingSteps.{tree_of};
+ghost use Rattle.fsverity.specs.Options.Settings.{checked_block_size, tree_of};
 
 use crate::FsOptionFault;
 use verity_hash::{Algorithm, ShortBytes};
