@@ -13,8 +13,11 @@ if git show "$commit:CHANGELOG.md" | grep -qx '## Not yet released'; then versio
 name=verity-$version
 archive=${DIST:-dist}/$name.tar.gz
 mkdir -p "${DIST:-dist}"
-# What the user and the system have set for archives changes nothing.
-GIT_ATTR_NOSYSTEM=1 git -c tar.umask=0022 -c core.autocrlf=false -c core.attributesFile=/dev/null archive --format=tar \
-    --prefix="$name/" "$commit" | env -u GZIP gzip -9 -n >"$archive.new"
+# What the user, the system and this clone have set for archives changes nothing: a clone of its own has no settings.
+bare=$(mktemp -d)
+trap 'rm -rf "$bare"' EXIT
+git clone -q --bare --shared --template= . "$bare"
+GIT_ATTR_NOSYSTEM=1 git -C "$bare" -c tar.umask=0022 -c core.autocrlf=false -c core.attributesFile=/dev/null archive \
+    --format=tar --prefix="$name/" "$commit" | env -u GZIP gzip -9 -n >"$archive.new"
 mv "$archive.new" "$archive"
 echo "$archive"

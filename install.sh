@@ -114,8 +114,8 @@ install_all() {
         completion "completions/$name" | put 644 "$completions/$name$suffix"
     done
     # Up to version 1.3.0 it went to the folder of section 1.
-    if [ "$bin" != "$sbin" ] && [ -e "$bin/veritysetup$suffix" ]; then
-        echo "$bin/veritysetup$suffix is of an older version, perhaps: remove it, for the new one is in $sbin" >&2
+    if ! [ "$bin" -ef "$sbin" ] && [ -e "$bin/veritysetup$suffix" ]; then
+        echo "$bin/veritysetup$suffix may be of an older version: remove it then, for the new one is in $sbin" >&2
     fi
     if [ -e lib/libverity.a ] && [ -e lib/libverity.so.1 ]; then install_library; fi
     if [ -e lib/libverity.a ] && [ ! -e lib/libverity.so.1 ]; then

@@ -150,12 +150,12 @@ def memory():
     name = "a-name-of-25-characters__"
     with open(at(name), "w", encoding="ascii") as it:
         it.write("a")
-    counts = (1, 10000, 60000)
+    counts = (1, 10000, 50000)
     rows = [
         [f"`fsverity digest`, {who}"] + [peak([programs["fsverity"], "digest", *[name] * count]) for count in counts]
         for who, programs in (("here", OURS), ("Debian's", DEBIANS))
     ]
-    table(["Peak memory, KiB", "one name:", "10,000 names of 25 characters:", "60,000 names:"], rows)
+    table(["Peak memory, KiB", "one name:", "10,000 names of 25 characters:", "50,000 names:"], rows)
 
 
 def version(name):

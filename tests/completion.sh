@@ -120,6 +120,9 @@ files() {
     completed 'veritysetup dump a' dump 'a name'
     completed 'fsverity digest --out-merkle-tree ~/im' digest --out-merkle-tree "$scratch/files/image"
     completed 'fsverity digest --out-descriptor=im' digest --out-descriptor=image
+    mkdir "$scratch/files/alone"
+    : >"$scratch/files/alone/only"
+    completed $'cd alone\nfsverity digest --out-descriptor=' digest --out-descriptor=only
     completed 'fsverity digest none' digest none
     completed 'fsverity digest -- --compact im' digest -- --compact image
     completed 'veritysetup format -- im' format -- image

@@ -148,9 +148,15 @@ same 'modes of folders' '2775 2775 700 755' \
 # Up to version 1.3.0 veritysetup was in the other folder.
 : >"$scratch/kept/usr/local/bin/veritysetup-proved"
 runs 'an older veritysetup' 0 '' \
-    "$scratch/kept/usr/local/bin/veritysetup-proved is of an older version, perhaps: remove it, for the new one is in $scratch/kept/usr/local/sbin" \
+    "$scratch/kept/usr/local/bin/veritysetup-proved may be of an older version: remove it then, for the new one is in $scratch/kept/usr/local/sbin" \
     make -s --no-print-directory install DESTDIR="$scratch/kept"
 rm "$scratch/kept/usr/local/bin/veritysetup-proved"
+# Where one folder has both names, the one that was just installed isn't an older one.
+mkdir -p "$scratch/linked/usr/local/bin"
+ln -s bin "$scratch/linked/usr/local/sbin"
+runs 'sbin is bin' 0 '' '' make -s --no-print-directory install DESTDIR="$scratch/linked"
+same_bytes 'sbin is bin: veritysetup' bin/veritysetup "$scratch/linked/usr/local/bin/veritysetup-proved"
+runs 'sbin is bin, once more' 0 '' '' make -s --no-print-directory install DESTDIR="$scratch/linked"
 if command -v strip >/dev/null && command -v readelf >/dev/null; then
     installs stripped usr/local -proved STRIP=yes
     is_stripped bin/fsverity "$scratch/stripped/usr/local/bin/fsverity-proved"
@@ -193,17 +199,22 @@ uninstalls 'a space  and "quotes"' PREFIX='/opt/our programs' SUFFIX=-x.y
 uninstalls packaged "${packaged[@]}"
 uninstalls kept
 # Without the library's own file of pkg-config, a header of its name is another library's.
-mkdir -p "$scratch/other/usr/local/"{include,lib}
+mkdir -p "$scratch/other/usr/local/"{include,lib/pkgconfig}
 : >"$scratch/other/usr/local/include/verity.h"
 : >"$scratch/other/usr/local/lib/libverity.so"
+others="$(listed "$scratch/other")"
 runs "another library's files" 0 '' '' make -s --no-print-directory uninstall DESTDIR="$scratch/other"
-same "another library's files stay" '644 usr/local/include/verity.h 644 usr/local/lib/libverity.so ' "$(listed "$scratch/other" | tr '\n' ' ')"
+same "another library's files stay" "$others" "$(listed "$scratch/other")"
+echo 'Name: another verity' >"$scratch/other/usr/local/lib/pkgconfig/verity.pc"
+others="$(listed "$scratch/other")"
+runs "another library's files, with its file of pkg-config" 0 '' '' make -s --no-print-directory uninstall DESTDIR="$scratch/other"
+same "another library's files stay, with its file of pkg-config" "$others" "$(listed "$scratch/other")"
 if [ -e "$scratch/stripped" ]; then uninstalls stripped STRIP=yes; fi
 runs 'a suffix with a slash' 2 '' any make -s --no-print-directory install DESTDIR="$scratch/none" SUFFIX=/x
 absent 'a suffix with a slash' "$scratch/none"
 runs 'a STRIP that is neither yes nor no' 2 '' any make -s --no-print-directory install DESTDIR="$scratch/none" STRIP=1
 absent 'a STRIP that is neither yes nor no' "$scratch/none"
-for variable in PREFIX BINDIR MANDIR; do
+for variable in PREFIX BINDIR SBINDIR MANDIR BASHCOMPDIR LIBDIR INCLUDEDIR; do
     runs "a $variable that doesn't begin with /" 2 '' any \
         make -s --no-print-directory install DESTDIR="$scratch/none" "$variable=usr"
     same "a $variable that doesn't begin with /: why" "install.sh: $variable has to begin with /" "$(head -n 1 "$scratch/.err")"
@@ -224,6 +235,8 @@ if [ -e .git ] && command -v git >/dev/null; then
     git -C "$scratch/clone" config tar.umask 0077
     mkdir -p "$scratch/home/.config/git"
     printf '%s\n' '* text eol=crlf' 'docs export-ignore' >"$scratch/home/.config/git/attributes"
+    mkdir -p "$scratch/clone/.git/info"
+    echo 'tests export-ignore' >"$scratch/clone/.git/info/attributes"
     sleep 1
     (
         umask 077

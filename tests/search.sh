@@ -24,7 +24,7 @@ fi
 # lacks TEXT: without the row that begins with this text the search fails.
 lacks() {
     grep -vF "| $1 |" docs/DIFFERENCES.md >"$scratch/document"
-    tests/search/search.py SEED=1 SECONDS=60 CASES=1200 DOCUMENT="$scratch/document" >"$scratch/said"
+    tests/search/search.py SEED=1 SECONDS=300 CASES=1200 DOCUMENT="$scratch/document" >"$scratch/said"
     same "without the row '$1': status" 1 $?
     if grep -q '^FAILED .*: no row covers the ' "$scratch/said"; then
         pass

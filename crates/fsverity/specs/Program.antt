@@ -1,4 +1,5 @@
 -- The program over any runtime: the settings that a command line chooses, and what one without output files prints.
+-- For the private steps; not needed to read a public contract.
 use Rattle.std.specs.Prelude.{◌||◌, Bool, ℕ, List, [], Option, Result, is_some, length, map, option_map, string_bytes}
 use Rattle.std.specs.Io.KnownBytes.{Appends}
 use Rattle.verity_plan.specs.Settings.{TreeSettingsFields}
