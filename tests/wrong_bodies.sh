@@ -1,165 +1,87 @@
 #!/bin/bash
-# Each wrong body is refused, for a contract that it doesn't meet (tests/wrong_bodies.py). First it is seen that a body
-# which shows nothing counts as failed, unless it is given only names of crates.
+# Each wrong body is refused, for a contract that it doesn't meet (tests/wrong_bodies/wrong_bodies.py). First it is seen
+# that a body which shows nothing counts as failed, unless words are given.
 set -u
 cd "$(dirname "$0")/.."
 . tests/lib/checks.sh
 needs rt 'none: the Rattle toolchain'
 needs python3 python3
-if [ $# -gt 0 ]; then exec tests/wrong_bodies.py "$@"; fi
+if [ $# -gt 0 ]; then exec tests/wrong_bodies/wrong_bodies.py "$@"; fi
+. tests/wrong_bodies/small.sh
 
-# A repository of one crate with its tests. Most of its wrong bodies show nothing, each in another way.
-mkdir -p "$scratch"/small/{tests,crates/small/{src,proofs/two_more,must-fail,wrong-bodies},crates/small_tests/src}
-cp tests/wrong_bodies.py "$scratch/small/tests"
-cp HANDLES "$scratch/small"
-cd "$scratch/small" || exit 1
-printf 'small:\nsmall_tests: small\n' >crates.txt
-cat >crates/small/src/lib.rt <<'END'
-//! Small sums.
-#![tactic(auto)]
+# try WORD..: tries the bodies of the small repository.
+try() { (cd "$small" && XDG_CACHE_HOME=$scratch/kept tests/wrong_bodies/wrong_bodies.py "$@" 2>&1); }
 
-ghost use Rattle.std.specs.Prelude.{◌≡◌, ◌+◌, ◌≤◌};
+# count_is NUMBER: the number of its bodies.
+count_is() { sed -i "s/^small .*/small $1/" "$small/tests/wrong_bodies/counts"; }
 
-/// One more.
-pub fn one_more(number: u8) -> u16
-    ensures { result ≡ number + 1 }
-{
-    u16::from(number) + 1
-}
-
-/// The next number.
-pub fn next(number: u8) -> u16
-    ensures { result ≡ number + 1 }
-{
-    1 + u16::from(number)
-}
-
-/// Two more.
-pub fn two_more(number: u8) -> u16
-    ensures { result ≡ number + 2 }
-{
-    one_more(number) + 1
-}
-
-/// A number that is no greater than either of two.
-pub fn at_most(one: u8, other: u8) -> u8
-    ensures first { result ≤ one }
-    ensures second { result ≤ other }
-{
-    if one < other { one } else { other }
-}
-END
-cat >crates/small/proofs/two_more/Answers.antt <<'END'
-use Rattle.std.proofs.Common.{arith}
-use Rattle.small.proofs.two_more.Goals as goal
-
-pub returns : goal.returns
-returns c = omega (arith, c.one_more.ensures)
-END
-cat >crates/small_tests/src/lib.rt <<'END'
-//! Tests of small.
-#![tactic(auto)]
-
-use small::at_most;
-
-#[test]
-fn the_lesser_is_at_most_each(rt: HostRuntime) {
-    assert_eq!(rt; at_most(1, 2), 1);
-}
-END
-cat >crates/small/must-fail/adds_two.edit <<'END'
-# adds_two
-file: src/lib.rt
-old:     u16::from(number) + 1
-new:     u16::from(number) + 2
-END
-cat >crates/small/wrong-bodies/lib.edit <<'END'
-file: src/lib.rt
-
-# adds_none
-old:     1 + u16::from(number)
-new:     1 + u16::from(number).saturating_sub(1)
-# right: 1 + u16::from(number).saturating_sub(0)
-
-# means_the_same
-old: if one < other
-new: if one <= other
-
-# zero_is_at_most_each
-old: { one } else
-new: { 0 } else
-
-# zero_of_the_tests
-old: { one } else
-new: { 0 } else
-# test: small_tests
-
-# passes_its_tests
-old: one < other
-new: one <= other
-# test: small_tests
-
-# does_not_fit
-old: if one > other
-new: if one < other
-
-# text_in_place_of_a_number
-old:     u16::from(number) + 1
-new:     u16::from(number) + "1"
-
-# goes_where_no_proof_follows
-old:     one_more(number) + 1
-new:     next(number) + 1
-# right:     one_more(number) + 1 * 1
-
-# has_no_right_twin
-old:     1 + u16::from(number)
-new:     2 + 1 * u16::from(number)
-
-# its_twin_goes_where_no_proof_follows
-old:     one_more(number) + 1
-new:     one_more(number) + 2 * 1
-# right:     next(number) + 1
-END
-sort >expected <<'END'
-FAILED small means_the_same: at_most is still proved
-FAILED small zero_is_at_most_each: at_most is still proved
-FAILED small passes_its_tests: all tests of small_tests pass
-FAILED small does_not_fit: crates/small/wrong-bodies/lib.edit:26: it doesn't fit
-FAILED small text_in_place_of_a_number: it doesn't compile
-FAILED small goes_where_no_proof_follows: only a proof names what went away
-FAILED small has_no_right_twin: crates/small/wrong-bodies/lib.edit:39: it changes more than a value, and has no right twin
-FAILED small its_twin_goes_where_no_proof_follows, right twin: it isn't proved
-refused small adds_two: one_more
-refused small adds_none: next
-refused small has_no_right_twin: next
-refused small its_twin_goes_where_no_proof_follows: two_more
-caught small zero_of_the_tests: by the_lesser_is_at_most_each of small_tests
-7 passed, 8 failed
-END
-try() { XDG_CACHE_HOME=$scratch/kept tests/wrong_bodies.py "$@" 2>&1; }
-try >said
+gate_log=${GATE_LOG:-}
+unset GATE_LOG
+small=$scratch/small
+small_repository "$small"
+small_lines >"$scratch/expected"
+try >"$scratch/said"
 same 'bodies that show nothing count as failed: status' 1 $?
 while IFS= read -r line; do
-    if grep -qF -- "$line" said; then pass; else fail "bodies that show nothing: $line" "$(cat said)"; fi
-done <expected
-same 'bodies that show nothing: lines' "$(wc -l <expected)" "$(wc -l <said)"
-# What passed is kept, until what it rests on is another.
-try >again
-same 'what passed is kept' "$(sort said)" "$(sed '/ of these are kept /d; s/, before$//' again | sort)"
-same 'all that passed is kept' '7 of these are kept from earlier runs' "$(grep ' of these are kept ' again)"
-sed -i 's/One more/One more than a number/' crates/small/src/lib.rt
-try --only adds_ >again
-same 'what rests on another text is tried' '3 passed, 0 failed' "$(tail -n 1 again)"
-same 'and nothing of it is kept' 0 "$(grep -c ', before$' again)"
-cd "$OLDPWD" || exit 1
+    same "bodies that show nothing: a line '$line'" 1 "$(grep -cF -- "$line" "$scratch/said")"
+done <"$scratch/expected"
+# Each right twin that is proved passes too, without a line, and so does each body for tests that the prover proves, and
+# the number of bodies.
+same 'bodies that show nothing: lines' "$(wc -l <"$scratch/expected")" "$(grep -cE '^(refused|caught|FAILED) ' "$scratch/said")"
+failures=$(grep -c '^FAILED ' "$scratch/expected")
+passes=$(($(grep -cv '^FAILED ' "$scratch/expected") + 11))
+same 'bodies that show nothing: counts' "$passes passed, $failures failed" "$(tail -n 1 "$scratch/said")"
+if [ "$failed" -gt 0 ]; then cat "$scratch/said"; fi
+if said=$(tests/wrong_bodies/lines.py); then pass; else fail 'what is read off lines' "$said"; fi
 
-tests/wrong_bodies.py | tee "$scratch/said"
+# What passed is kept, until what it rests on is another: also in a folder of sources that is named as one of what is built.
+try --only adds_ >"$scratch/again"
+same 'what passed is kept' '4 passed, 0 failed' "$(tail -n 1 "$scratch/again")"
+same 'what passed is kept: lines' "$(grep '^refused small adds_' "$scratch/said" | sort)" \
+    "$(grep '^refused small adds_' "$scratch/again" | sed 's/, before$//' | sort)"
+same 'what passed is kept, but not what the gate tries' '2 of these are kept from earlier runs' "$(grep ' are kept ' "$scratch/again")"
+for file in src/lib.rt src/out/mod.rt; do
+    sed -i '1s/$/ They are few./' "$small/crates/small/$file"
+    try --only adds_none >"$scratch/again"
+    same "what rests on another text in $file is tried" '3 passed, 0 failed' "$(tail -n 1 "$scratch/again")"
+    same "and nothing of it is kept: $file" 0 "$(grep -c ', before$' "$scratch/again")"
+done
+
+# The number of bodies has to be the one that is written down, or a line says why one is gone.
+count=$(sed 's/^small //' "$small/tests/wrong_bodies/counts")
+counts="small: $count bodies and 0 that are gone, where tests/wrong_bodies/counts counts"
+for number in $((count + 1)) $((count - 1)); do
+    count_is "$number"
+    try --only adds_none >"$scratch/again"
+    same "$count bodies, where $number are counted: status" 1 $?
+    same "$count bodies, where $number are counted" 1 "$(grep -cF "FAILED $counts $number: " "$scratch/again")"
+done
+count_is $((count + 1))
+echo 'gone small adds_three: it meant the same as adds_two' >>"$small/tests/wrong_bodies/counts"
+try --only adds_none >"$scratch/again"
+same 'a body that is gone for a reason' '3 passed, 0 failed' "$(tail -n 1 "$scratch/again")"
+
+# A crate that isn't proved as it stands has failed, and so it has if the gate dies that would prove it.
+: >"$scratch/gate.log"
+echo 4194305 >"$scratch/gate.log.process"
+GATE_LOG=$scratch/gate.log try --anew --only adds_none >"$scratch/again"
+same 'a gate that has died' 1 "$(grep -c "^FAILED small: it isn't proved as it stands$" "$scratch/again")"
+sed -i 's/^    number$/    number.saturating_sub(1)/' "$small/crates/small/src/out/mod.rt"
+try --only adds_none >"$scratch/again"
+same 'a crate that is not proved' 1 "$(grep -c "^FAILED small: it isn't proved as it stands$" "$scratch/again")"
+mv "$small/crates/small/wrong-bodies" "$scratch/wrong-bodies"
+try --only adds_none >"$scratch/again"
+same 'an emptied folder' 1 "$(grep -c '^FAILED small: 4 bodies and 1 that are gone, ' "$scratch/again")"
+same 'a word that no body has' 1 "$(grep -c '^FAILED adds_none: no body has this word in its name$' "$scratch/again")"
+
+if [ -n "$gate_log" ]; then export GATE_LOG=$gate_log; fi
+tests/wrong_bodies/wrong_bodies.py | tee "$scratch/said"
 status=${PIPESTATUS[0]}
-if [[ $(tail -n 1 "$scratch/said") =~ ^([0-9]+)\ passed,\ ([0-9]+)\ failed$ ]]; then
+last=$(tail -n 1 "$scratch/said")
+if [[ $last =~ ^([0-9]+)\ passed,\ ([0-9]+)\ failed$ ]] && [ $((status == 0)) = $((BASH_REMATCH[2] == 0)) ]; then
     checked=$((checked + BASH_REMATCH[1] + BASH_REMATCH[2]))
     failed=$((failed + BASH_REMATCH[2]))
 else
-    fail 'tests/wrong_bodies.py' "ended with status $status"
+    fail 'tests/wrong_bodies/wrong_bodies.py' "ended with status $status"
 fi
 finish

@@ -1,0 +1,415 @@
+# A repository of a small crate and its tests, most of whose wrong bodies show nothing, each in another way. Sourced by
+# tests/wrong_bodies.sh, which sees that each of them counts as failed.
+
+# small_repository FOLDER: makes it.
+small_repository() {
+    local crate=$1/crates/small
+    mkdir -p "$1/tests/wrong_bodies" "$crate"/{src/out,proofs/two_more,must-fail,wrong-bodies} "$1/crates/small_tests/src"
+    cp tests/wrong_bodies/*.py "$1/tests/wrong_bodies"
+    cp HANDLES "$1"
+    printf 'small:\nsmall_tests: small\n' >"$1/crates.txt"
+    small_code >"$crate/src/lib.rt"
+    cat >"$crate/src/out/mod.rt" <<'END'
+//! What is given out.
+
+ghost use Rattle.std.specs.Prelude.{◌≡◌};
+
+/// The same number.
+pub fn given(number: u8) -> u8
+    ensures { result ≡ number }
+{
+    number
+}
+END
+    cat >"$crate/proofs/two_more/Answers.antt" <<'END'
+use Rattle.std.proofs.Common.{arith}
+use Rattle.small.proofs.two_more.Goals as goal
+
+pub returns : goal.returns
+returns c = omega (arith, c.one_more.ensures)
+END
+    small_tests >"$1/crates/small_tests/src/lib.rt"
+    small_bodies >"$crate/wrong-bodies/lib.edit"
+    cat >"$crate/must-fail/adds_two.edit" <<'END'
+# adds_two
+file: src/lib.rt
+old:     u16::from(number) + 1
+new:     u16::from(number) + 2
+END
+    cat >"$crate/must-fail/names_another_function.edit" <<'END'
+# names_another_function
+file: src/lib.rt
+old:     one_more(number) + 1
+new:     one_more(number) + 3
+# in: at_most
+END
+    cat >"$crate/must-fail/greater_by_two_with_its_twin.edit" <<'END'
+# greater_by_two_with_its_twin
+file: src/lib.rt
+old:     number + 1
+new:     number + (2 - 0)
+# right:     number + (2 - 1)
+END
+    cat >"$crate/must-fail/is_refused_in_a_second_function_too.edit" <<'END'
+# is_refused_in_a_second_function_too
+file: src/lib.rt
+old:     u16::from(number) + 1
+new:     u16::from(number) + 2
+old:     1 + u16::from(number)
+new:     2 + u16::from(number)
+# in: one_more
+END
+    echo "small $(cat "$crate"/{must-fail,wrong-bodies}/*.edit | grep -c '^# [a-z_]*$')" >"$1/tests/wrong_bodies/counts"
+}
+
+# small_code: the crate's functions.
+small_code() {
+    cat <<'END'
+//! Small sums.
+#![tactic(auto)]
+
+pub mod out;
+
+ghost use Rattle.std.specs.Prelude.{◌≡◌, ◌+◌, ◌<◌, ◌≤◌};
+
+/// How far it is to the next number.
+const STEP: u16 = 1;
+
+/// The lesser of two numbers.
+#[derive(Clone, Copy)]
+pub struct Least {
+    number: u8,
+}
+
+impl Least {
+    /// The lesser of two numbers.
+    pub fn of(one: u8, other: u8) -> Least {
+        Least {
+            number: at_most(one, other),
+        }
+    }
+
+    /// The number.
+    pub fn number(self) -> u8 {
+        self.number
+    }
+}
+
+/// The lesser of two numbers, as it is shown.
+pub fn shown(one: u8, other: u8) -> u8 {
+    Least::number(Least::of(one, other))
+}
+
+/// The same, the other way round.
+pub fn shown_again(one: u8, other: u8) -> u8 {
+    Least::number(Least::of(other, one))
+}
+
+/// One more.
+pub fn one_more(number: u8) -> u16
+    ensures { result ≡ number + 1 }
+{
+    u16::from(number) + 1
+}
+
+/// The next number.
+pub fn next(number: u8) -> u16
+    ensures { result ≡ number + 1 }
+{
+    1 + u16::from(number)
+}
+
+/// The same number.
+pub fn same(number: u8) -> u16
+    ensures { result ≡ number }
+{
+    u16::from(number) + 0
+}
+
+/// Two more.
+pub fn two_more(number: u8) -> u16
+    ensures { result ≡ number + 2 }
+{
+    one_more(number) + 1
+}
+
+/// A step from a number.
+pub fn step(number: u8) -> u16
+    ensures { result ≡ number + 1 }
+{
+    u16::from(number) + STEP
+}
+
+/// A step to a number.
+pub fn step_to(number: u8) -> u16
+    ensures { result ≡ number + 1 }
+{
+    STEP + u16::from(number)
+}
+
+/// A number that is greater.
+pub fn greater(number: u8) -> u8
+    requires { number < 255 }
+    ensures { number < result }
+{
+    number + 1
+}
+
+/// A number that is greater.
+pub fn greater_again(number: u8) -> u8
+    requires { number < 254 }
+    ensures { number < result }
+{
+    greater(number)
+}
+
+/// A number that is no greater than either of two.
+pub fn at_most(one: u8, other: u8) -> u8
+    ensures first { result ≤ one }
+    ensures second { result ≤ other }
+{
+    if one < other { one } else { other }
+}
+
+/// The same.
+pub fn lesser(left: u8, right: u8) -> u8
+    ensures first { result ≤ left }
+    ensures second { result ≤ right }
+{
+    if left < right { left } else { right }
+}
+
+/// The same.
+pub fn no_greater(a: u8, b: u8) -> u8
+    ensures first { result ≤ a }
+    ensures second { result ≤ b }
+{
+    if a < b { a } else { b }
+}
+
+/// The same.
+pub fn smaller(this: u8, that: u8) -> u8
+    ensures first { result ≤ this }
+    ensures second { result ≤ that }
+{
+    if this < that { this } else { that }
+}
+
+/// The same.
+pub fn minimum(x: u8, y: u8) -> u8
+    ensures first { result ≤ x }
+    ensures second { result ≤ y }
+{
+    if x < y { x } else { y }
+}
+END
+}
+
+# small_tests: the tests, of which the second is broken.
+small_tests() {
+    cat <<'END'
+//! Tests of small.
+#![tactic(auto)]
+
+use small::{at_most, lesser, minimum, no_greater};
+
+#[test]
+fn the_lesser_is_at_most_each(rt: HostRuntime) {
+    assert_eq!(rt; at_most(1, 2), 1);
+    assert_eq!(rt; lesser(1, 2), 1);
+    assert_eq!(rt; no_greater(1, 2), 1);
+}
+
+#[test]
+fn the_greater_is_at_most_each(rt: HostRuntime) {
+    assert_eq!(rt; minimum(1, 2), 2);
+}
+END
+}
+
+# small_bodies: its wrong bodies. Those that show something stand first.
+small_bodies() {
+    cat <<'END'
+file: src/lib.rt
+
+# adds_none
+old:     1 + u16::from(number)
+new:     1 + u16::from(number).saturating_sub(1)
+# right:     1 + u16::from(number).saturating_sub(0)
+
+# zero_of_the_tests
+old: { one } else
+new: { 0 } else
+# test: small_tests the_lesser_is_at_most_each
+
+# constant_of_two
+old: STEP: u16 = 1
+new: STEP: u16 = 2
+# in: step
+
+# two_functions_and_the_right_one
+old:     u16::from(number) + 0
+new:     u16::from(number) + 1
+old: if left < right
+new: if left <= right
+# in: same
+
+# number_in_place_of_the_least
+old: Least::number(Least::of(one, other))
+new: Least::number((at_most(one, other), Least::of(one, other)).0)
+# right: Least::number((at_most(one, other), Least::of(one, other)).1)
+# type: Least
+
+# means_the_same
+old: if x < y
+new: if x <= y
+
+# zero_is_at_most_each
+old: { this } else
+new: { 0 } else
+
+# passes_its_tests
+old: left < right
+new: left <= right
+# test: small_tests the_lesser_is_at_most_each
+
+# caught_by_a_broken_test
+old: { x } else
+new: { 0 } else
+# test: small_tests the_greater_is_at_most_each
+
+# caught_by_no_test
+old: if this < that
+new: if this <= that
+# test: small_tests there_is_no_such_test
+
+# refused_and_caught
+old: { a } else { b }
+new: { b } else { a }
+# test: small_tests the_lesser_is_at_most_each
+
+# does_not_fit
+old: if one > other
+new: if one < other
+
+# text_in_place_of_a_number
+old:     u16::from(number) + 1
+new:     u16::from(number) + "1"
+
+# goes_where_no_proof_follows
+old:     one_more(number) + 1
+new:     next(number) + 2
+# right:     next(number) + 1
+
+# has_no_right_twin
+old:     1 + u16::from(number)
+new:     2 + 1 * u16::from(number)
+
+# its_twin_is_wrong_too
+old:     u16::from(number) + 0
+new:     u16::from(number) + (1 - 0)
+# right:     u16::from(number) + (2 - 1)
+
+# its_twin_has_another_shape
+old: if one < other
+new: if other > one
+# right: if (one) < other
+
+# means_the_same_beside_a_constant
+old:     STEP + u16::from(number)
+new:     STEP + 1 * u16::from(number)
+# right:     STEP + 0x1 * u16::from(number)
+
+# greater_by_two
+old:     number + 1
+new:     number + 2
+
+# greater_than_the_greatest
+old:     greater(number)
+new:     greater(255)
+
+# two_functions
+old:     1 + u16::from(number)
+new:     0 + u16::from(number)
+old: if one < other
+new: if one <= other
+
+# two_functions_and_the_wrong_one
+old:     1 + u16::from(number)
+new:     0 + u16::from(number)
+old: if one < other
+new: if one <= other
+# in: at_most
+
+# names_no_function
+old: if left < right
+new: if left <= right
+# in: no_such_function
+
+# comment_in_place_of_code
+old: if left < right
+new: if left < left // right
+
+# words_of_the_contracts
+old: ghost use Rattle.std.specs
+new: ghost use Rattle.core.specs
+# in: step
+
+# contract_of_two_more
+old:     ensures { result ≡ number + 2 }
+new:     ensures { result ≡ number + 3 }
+
+# least_in_place_of_the_least
+old: Least::number(Least::of(other, one))
+new: Least::number((Least::of(one, other), Least::of(other, one)).0)
+# right: Least::number((Least::of(one, other), Least::of(other, one)).1)
+# type: Least
+
+# number_in_place_of_another_type
+old: Least::number(Least::of(one, other))
+new: Least::number((at_most(one, other), Least::of(one, other)).0)
+# right: Least::number((at_most(one, other), Least::of(one, other)).1)
+# type: Greatest
+END
+}
+
+# small_lines: what the script has to say of them: a piece of each line but the last one.
+small_lines() {
+    cat <<'END'
+refused small adds_two: one_more: 
+refused small adds_none: next: returns
+refused small constant_of_two: step: returns
+refused small greater_by_two_with_its_twin: greater: it is not proved that 
+refused small is_refused_in_a_second_function_too: one_more: returns
+refused small two_functions_and_the_right_one: same: returns
+refused small number_in_place_of_the_least: src/lib.rt:33:
+caught small zero_of_the_tests: the_lesser_is_at_most_each of small_tests
+caught small refused_and_caught: the_lesser_is_at_most_each of small_tests
+FAILED small means_the_same: minimum is still proved
+FAILED small zero_is_at_most_each: smaller is still proved
+FAILED small passes_its_tests: the_lesser_is_at_most_each of small_tests passes
+FAILED small caught_by_a_broken_test: the_greater_is_at_most_each of small_tests: it fails over the code as it stands
+FAILED small caught_by_no_test: there_is_no_such_test of small_tests: it doesn't run over the code as it stands
+FAILED small refused_and_caught, by the prover: it isn't proved, so no test has to catch it: no_greater: 
+FAILED small does_not_fit: crates/small/wrong-bodies/lib.edit:
+FAILED small text_in_place_of_a_number: it doesn't compile
+FAILED small goes_where_no_proof_follows: only a proof names what went away
+FAILED small goes_where_no_proof_follows, right twin: it isn't proved
+FAILED small has_no_right_twin: crates/small/wrong-bodies/lib.edit:
+FAILED small its_twin_is_wrong_too, right twin: it isn't proved
+FAILED small its_twin_has_another_shape: crates/small/wrong-bodies/lib.edit:
+FAILED small means_the_same_beside_a_constant: step_to is still proved
+FAILED small greater_by_two: it is refused, but not for a clause of its contract, and has no right twin: greater: overflow_
+FAILED small greater_than_the_greatest: it is refused, but not for a clause of its contract, and has no right twin: greater_again: greater-requires
+FAILED small two_functions: crates/small/wrong-bodies/lib.edit:
+FAILED small two_functions_and_the_wrong_one: at_most is still proved
+FAILED small names_no_function: crates/small/wrong-bodies/lib.edit:
+FAILED small comment_in_place_of_code: crates/small/wrong-bodies/lib.edit:
+FAILED small words_of_the_contracts: crates/small/wrong-bodies/lib.edit:
+FAILED small contract_of_two_more: crates/small/wrong-bodies/lib.edit:
+FAILED small least_in_place_of_the_least: it compiles
+FAILED small number_in_place_of_another_type: the error at its line doesn't name Greatest
+FAILED small names_another_function: at_most is still proved
+refused small its_twin_is_wrong_too: same: returns
+END
+}
