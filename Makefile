@@ -58,10 +58,10 @@ test:
 check: programs libraries
 	tests/all.sh --without-gate
 
-# The gate: every proof from nothing, the tests of the crates, the programs' stored runs, and each wrong body, which must
-# be refused in its own function for a contract that it doesn't meet.
+# The gate: every proof from nothing, the tests of the crates, the programs' stored runs, and beside it each wrong body,
+# which the prover has to refuse or a test has to catch.
 gate:
-	tests/run.sh tests/gate.sh tests/wrong_bodies.sh
+	tests/all.sh --gate-alone
 
 # The wrong bodies alone, of all crates or of one. With ANEW=yes also those that an earlier run has seen to pass.
 wrong-bodies:
@@ -143,10 +143,10 @@ help:
 	@echo 'make run             7 minutes     proves and builds fsverity, and prints the digest of a file'
 	@echo 'make programs        11 minutes    proves and builds bin/fsverity and bin/veritysetup [CPU]'
 	@echo 'make library         6 minutes     proves and builds the library for C [TARGET, CPU, SHARED_CPU]'
-	@echo 'make test            100 minutes   all tests: gate, the programs as a user runs them, documents, comparisons'
+	@echo 'make test            80 minutes    all tests: gate, the programs as a user runs them, documents, comparisons'
 	@echo 'make check           5 minutes +   all tests but the gate'
-	@echo 'make gate            90 minutes    every proof from nothing, tests of the crates, wrong bodies that must be refused'
-	@echo 'make wrong-bodies    an hour +     sees each wrong body refused in its own function [CRATE, ANEW]'
+	@echo 'make gate            70 minutes    every proof from nothing, tests of the crates, wrong bodies that must be refused'
+	@echo 'make wrong-bodies    40 minutes +  sees each wrong body refused in its own function [CRATE, ANEW]'
 	@echo 'make check-programs  30 seconds +  runs the programs as a user would'
 	@echo 'make check-library   5 minutes +   calls the library from C, and runs its examples'
 	@echo 'make out-of-memory   7 minutes +   refuses each request for memory in turn'

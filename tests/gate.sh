@@ -1,22 +1,44 @@
 #!/bin/bash
 # The gate, `rt ci`. To `rt` wrong bodies that don't fit the code, or don't compile, are no failure, though nothing is
-# tried then. Here they are one, for each crate that has such. If all passed, bin/gate.sum keeps of what sources, for
-# tests/wrong_bodies.py.
+# tried then. Here they are one, for each crate that has such. Behind what rt says of a crate stands how many of them it
+# has come to. If GATE_LOG names a file, all that rt prints goes there too, as it comes and unchanged, and when rt has
+# ended, a last line 'gate: ended with status N': tests/wrong_bodies.sh follows that file. GATE_LOG.process has the number
+# of this process, so that its death is noticed.
 set -u
 cd "$(dirname "$0")/.."
-. ./building.sh
 log=$(mktemp)
 trap 'rm -f "$log"' EXIT
-rm -f bin/gate.sum
-before=$(sources)
-rt ci 2>&1 | tee "$log"
+
+# crates_in PATH..: how many crates these files and folders lie in.
+crates_in() {
+    printf '%s\n' "$@" | grep -oE '^crates/[^/]+' | sort -u | wc -l
+}
+
+# numbers: passes on what rt says, line by line, and numbers the crates: those that are proved, or were in an earlier
+# run, those whose tests are proved, and those whose wrong bodies are tried.
+numbers() {
+    local line proved=0 tested=0 tried=0 crates tests edits
+    crates=$(crates_in crates/*/src)
+    tests=$(crates_in "$(grep -rlE '#\[.*\btest\b' --include='*.rt' crates/*/src)")
+    edits=$(crates_in crates/*/must-fail/*.edit)
+    while IFS= read -r line; do
+        if [[ $line =~ ^rt:\ [a-z0-9_]+\ (proved$|is\ kept) ]]; then
+            line+=" ($((++proved)) of $crates crates)"
+        elif [[ $line =~ ^rt:\ [a-z0-9_]+:\ its\ tests\ are\ proved$ ]]; then
+            line+=" ($((++tested)) of $tests crates with tests)"
+        elif [[ $line =~ ^rt:\ [a-z0-9_]+:\ trying\ its\ must-fail\ edits ]]; then
+            line+=" ($((++tried)) of $edits crates with edits)"
+        fi
+        printf '%s\n' "$line"
+    done
+}
+
+if [ -n "${GATE_LOG:-}" ]; then echo $$ >"$GATE_LOG.process"; fi
+rt ci 2>&1 | tee "$log" ${GATE_LOG:+"$GATE_LOG"} | numbers
 status=${PIPESTATUS[0]}
+if [ -n "${GATE_LOG:-}" ]; then echo "gate: ended with status $status" >>"$GATE_LOG"; fi
 untried=$(grep -c ': BAD EDIT: ' "$log")
 if [[ $(tail -n 1 "$log") =~ ^([0-9]+)\ passed,\ ([0-9]+)\ failed$ ]]; then
     echo "${BASH_REMATCH[1]} passed, $((BASH_REMATCH[2] + untried)) failed"
 fi
-[ "$status" -eq 0 ] && [ "$untried" -eq 0 ] || exit 1
-if [ "$before" = "$(sources)" ]; then
-    mkdir -p bin
-    echo "$before" >bin/gate.sum
-fi
+[ "$status" -eq 0 ] && [ "$untried" -eq 0 ]

@@ -1,48 +1,165 @@
 #!/bin/bash
-# tests/run.sh PART.. [-- PART..]: runs each part, a command line in one argument, and shows its output under a line
-# that says how far the run is. Parts after `--` run side by side, as many at once as there are processors, and each
-# one's output is shown whole, in the order of the parts. Each part has to end with a line 'N passed, M failed', and so
-# does the whole run, with the sums. The status is 1 if anything failed, or a part ended without that line. A part that
-# ends with status 77 was left out and says why itself.
+# tests/run.sh [--beside PART].. PART.. [-- PART..]: runs each part, a command line in one argument, and shows its
+# output under a line that says how far the run is. The first parts run one after another, and their output is shown as
+# it comes. Parts after `--` run side by side, as many at once as there are processors, and each one's output is shown
+# whole, in the order of the parts. A part after --beside begins with the first, and runs beside all others, at a lower
+# priority; its output is shown whole once it has ended.
+# Each part has to end with a line 'N passed, M failed', and so does the whole run, with the sums. The status is 1 if
+# anything failed, or a part ended without that line. A part says by lines 'left out: ..' what it has left out; one that
+# ends with status 77 was left out itself, and its last line says why. If MAY_BE_LEFT_OUT is set, it has patterns, each
+# on a line, and what none of them matches counts as failed if it is left out.
+# Once a minute, or every SAY_EVERY seconds, a line says which parts run, and what each one has printed last.
 set -u
 cd "$(dirname "$0")/.."
 logs=$(mktemp -d)
-trap 'for group in $(jobs -p); do kill -- "-$group"; kill -CONT -- "-$group"; done 2>/dev/null; rm -rf "$logs"' EXIT
+running=()
+
+# ends_all: ends what still runs, stopped parts too, and says nothing of it.
+ends_all() {
+    local group
+    exec 2>/dev/null
+    for group in "${running[@]}"; do
+        kill -- "-$group"
+        kill -CONT -- "-$group"
+    done
+    rm -rf "$logs"
+}
+
+trap ends_all EXIT
 trap 'exit 130' INT
 trap 'exit 143' TERM
+processors=$(nproc)
 passed=0
 failed=0
 left_out=()
 broken=()
 
-# The parts, and how many of them run alone.
+# The parts: up to the number `beside` those beside all others, and up to `alone` those that run one after another.
 parts=()
-alone=$#
+while [ "${1:-}" = --beside ]; do
+    parts+=("$2")
+    shift 2
+done
+beside=${#parts[@]}
+alone=$((beside + $#))
 for word in "$@"; do
     if [ "$word" = -- ]; then alone=${#parts[@]}; else parts+=("$word"); fi
 done
 
-# run INDEX: runs a part, whose output goes on, and writes its status and its seconds to a file.
+# run INDEX [WORD..]: runs a part, behind these words. Its status, its seconds and those of processor time go to a file,
+# and then its index to the pipe that `waits` reads.
 run() {
-    local started=$SECONDS status=0
+    local index=$1 status=0
+    shift
     # shellcheck disable=SC2086
-    ${parts[$1]} 2>&1 </dev/null || status=$?
-    echo "$status $((SECONDS - started))" >"$logs/$1.ended"
+    "$@" ${parts[$index]} 4>&- || status=$?
+    times >"$logs/$index.times"
+    echo "$status $((SECONDS - begun[index])) $(processor_seconds "$logs/$index.times")" >"$logs/$index.ended"
+    echo "$index" >&4
+}
+
+# processor_seconds FILE: the seconds that `times` gives in its second line, those of a shell's children.
+processor_seconds() {
+    tail -n 1 "$1" | tr ms '  ' | awk '{printf "%.0f\n", 60 * ($1 + $3) + $2 + $4}'
+}
+
+# begins INDEX [WORD..]: begins a part in the background, as a group of processes, so that one signal ends all of it.
+begins() {
+    begun[$1]=$SECONDS
+    : >"$logs/$1"
+    run "$@" >>"$logs/$1" 2>&1 </dev/null &
+    running[$1]=$!
+}
+
+# begins_next: begins the parts whose turn it is.
+begins_next() {
+    while [ "$next" -lt "${#parts[@]}" ] && has_place; do
+        begins "$next"
+        next=$((next + 1))
+    done
+}
+
+# has_place: whether the next part may begin. Those beside all others take no place.
+has_place() {
+    local index taken=0
+    for index in "${!running[@]}"; do
+        if [ "$index" -ge "$beside" ]; then taken=$((taken + 1)); fi
+    done
+    if [ "$next" -le "$alone" ]; then [ "$taken" -eq 0 ]; else [ "$taken" -lt "$processors" ]; fi
+}
+
+# waits: until a part ends, for a second at most. What was killed has said nothing.
+waits() {
+    local index
+    if read -r -t 1 index <&4; then unset "running[$index]"; fi
+    for index in "${!running[@]}"; do
+        kill -0 "${running[$index]}" 2>/dev/null || unset "running[$index]"
+    done
+}
+
+# shows: shows what can be shown by now, in the order of the parts.
+shows() {
+    while shows_beside && [ "$shown" -lt "$next" ]; do
+        if [ "$shown" -lt "$alone" ]; then shows_lines; fi
+        if [ -n "${running[$shown]:-}" ]; then return; fi
+        if [ "$shown" -lt "$alone" ]; then ends_lines; else shows_whole "$shown"; fi
+        shown=$((shown + 1))
+    done
+}
+
+# shows_beside: shows those beside all others that have ended, if no other part is half shown.
+shows_beside() {
+    local index
+    for ((index = 0; index < beside && half_shown == 0; index++)); do
+        if [ -z "${running[$index]:-}${counted[$index]:-}" ]; then shows_whole "$index"; fi
+    done
+}
+
+# shows_whole INDEX: shows and counts a part that has ended.
+shows_whole() {
+    title "$1"
+    cat "$logs/$1"
+    count "$1"
+}
+
+# shows_lines: shows the lines that the part which runs alone has printed since. `rest` is a line that isn't whole yet.
+shows_lines() {
+    local line
+    if [ $half_shown -eq 0 ]; then
+        half_shown=1 rest=
+        title "$shown"
+        exec 3<"$logs/$shown"
+    fi
+    while IFS= read -r line <&3; do
+        printf '%s\n' "$rest$line"
+        rest=
+    done
+    rest+=$line
+}
+
+# ends_lines: shows the rest of a part that ran alone, and counts it.
+ends_lines() {
+    if [ -n "$rest" ]; then printf '%s\n' "$rest"; fi
+    exec 3<&-
+    half_shown=0
+    count "$shown"
 }
 
 # title INDEX: the line over a part's output.
 title() {
-    printf '== %s of %s: %s\n' $(($1 + 1)) "${#parts[@]}" "${parts[$1]}"
+    titles=$((titles + 1))
+    echo "== $titles of ${#parts[@]}: ${parts[$1]}"
 }
 
 # count INDEX: adds what the last line of a part's output says, and keeps the lines of what it left out.
 count() {
-    local part=${parts[$1]} status=137 seconds=0 last good bad line
+    local part=${parts[$1]} status=137 seconds=0 used=0 last good bad line
+    counted[$1]=yes
     # What was killed has not written its status.
-    if [ -e "$logs/$1.ended" ]; then read -r status seconds <"$logs/$1.ended"; fi
-    echo "== $seconds seconds"
+    if [ -e "$logs/$1.ended" ]; then read -r status seconds used <"$logs/$1.ended"; fi
+    echo "== $seconds seconds, $used of processor time"
     last=$(tail -n 1 "$logs/$1")
-    while IFS= read -r line; do left_out+=("${line#left out: }"); done < <(grep '^left out: ' "$logs/$1")
+    while IFS= read -r line; do leaves_out "${line#left out: }"; done < <(grep '^left out: ' "$logs/$1")
     if [[ $last =~ ^([0-9]+)\ passed,\ ([0-9]+)\ failed$ ]]; then
         good=${BASH_REMATCH[1]} bad=${BASH_REMATCH[2]}
         passed=$((passed + good))
@@ -51,7 +168,7 @@ count() {
         # A status that says more than the count does is a failure of its own.
         if [ "$bad" -eq 0 ]; then failed=$((failed + 1)); fi
     elif [ "$status" -eq 77 ]; then
-        left_out+=("$last")
+        leaves_out "$last"
         return
     else
         failed=$((failed + 1))
@@ -59,41 +176,52 @@ count() {
     broken+=("$part (status $status)")
 }
 
-# shows_ended: shows and counts the parts that have ended, from `shown` on up to the first that still runs.
-shows_ended() {
-    while [ -e "$logs/$shown.ended" ]; do
-        title "$shown"
-        cat "$logs/$shown"
-        count "$shown"
-        shown=$((shown + 1))
-    done
+# leaves_out WHAT: keeps what was left out. It has failed if MAY_BE_LEFT_OUT is set, and none of its patterns matches.
+leaves_out() {
+    local pattern
+    while IFS= read -r pattern; do
+        # shellcheck disable=SC2053
+        if [ -n "$pattern" ] && [[ $1 == $pattern ]]; then
+            left_out+=("$1")
+            return
+        fi
+    done <<<"${MAY_BE_LEFT_OUT-*}"
+    failed=$((failed + 1))
+    broken+=("left out: $1")
 }
 
-# Each part is a group of processes, so that one signal ends all of it. It runs in the background, so that a signal to
-# this script need not wait for it.
-set -m
-for ((shown = 0; shown < alone && shown < ${#parts[@]}; shown++)); do
-    title "$shown"
-    { run "$shown" | tee "$logs/$shown"; } &
-    wait "$!"
-    count "$shown"
-done
-for ((next = shown; next < ${#parts[@]}; next++)); do
-    while [ "$(jobs -pr | wc -l)" -ge "$(nproc)" ]; do
-        wait -n
-        shows_ended
+# says_what_runs: once a minute, which parts run, and the last line of what each has printed, or its seconds.
+says_what_runs() {
+    local index last minutes=$((SECONDS / 60)) all=''
+    if [ $((SECONDS - said)) -lt "${SAY_EVERY:-60}" ] || [ ${#running[@]} -eq 0 ]; then return; fi
+    said=$SECONDS
+    for index in "${!running[@]}"; do
+        last=$(tail -n 1 "$logs/$index" | tr -d '[:cntrl:]')
+        if [ ${#last} -gt 70 ]; then last=${last:0:68}..; fi
+        all+=" | ${parts[$index]#env }: ${last:-$((SECONDS - begun[index])) seconds}"
     done
-    run "$next" >"$logs/$next" &
-done
-while [ -n "$(jobs -pr)" ]; do
-    wait -n
-    shows_ended
-done
-# What is left was killed, or has ended behind it.
-for (( ; shown < ${#parts[@]}; shown++)); do
-    title "$shown"
-    cat "$logs/$shown"
-    count "$shown"
+    if [ $minutes -eq 1 ]; then minutes+=' minute'; else minutes+=' minutes'; fi
+    echo "-- $minutes: ${all# | }"
+}
+
+set -m
+mkfifo "$logs/ended"
+exec 4<>"$logs/ended"
+begun=()
+counted=()
+next=$beside
+shown=$beside
+half_shown=0
+titles=0
+said=0
+for ((index = 0; index < beside; index++)); do begins "$index" nice -n 10; done
+while
+    begins_next
+    shows
+    [ ${#counted[@]} -lt ${#parts[@]} ]
+do
+    says_what_runs
+    waits
 done
 for line in "${left_out[@]}"; do echo "left out: $line"; done
 for part in "${broken[@]}"; do echo "FAILED: $part"; done

@@ -1,0 +1,432 @@
+#!/bin/bash
+# How the tests are run: tests/run.sh, tests/gate.sh, tests/all.sh and .ci/run, over small parts in a folder of their
+# own.
+set -u
+cd "$(dirname "$0")/.."
+. tests/lib/checks.sh
+. tests/lib/running.sh
+unset GATE_LOG MAY_BE_LEFT_OUT SAY_EVERY
+top=$PWD
+own_path=$PATH
+mkdir -p "$scratch"/here/{.ci,bin,tests}
+cp .ci/run "$scratch/here/.ci"
+cp tests/{all,gate,run}.sh "$scratch/here/tests"
+cd "$scratch/here" || exit 1
+
+# part FILE LINE..: makes a part, or another program, of these lines. In them `awaits FILE` waits for a file, for at
+# most half a minute.
+part() {
+    printf '%s\n' '#!/bin/bash' \
+        'awaits() { for ((i = 0; i < 600; i++)); do if [ -e "$1" ]; then return; fi; sleep 0.05; done; exit 9; }' \
+        "${@:2}" >"$1"
+    chmod +x "$1"
+}
+
+# ran NAME STATUS COMMAND..: a run ends with this status, within a minute. What it says goes to `said`, without the
+# times, and the lines of what runs to `minutes`.
+ran() {
+    local name=$1 status=$2 found=0
+    shift 2
+    timeout 60 "$@" >all 2>errors </dev/null || found=$?
+    same "$name: status" "$status" "$found"
+    grep '^-- ' all >minutes
+    sed -E '/^-- /d; s/^== [0-9]+ seconds, [0-9]+ of processor time$/== N seconds/' all >said
+}
+
+# says NAME TEXT: the run said this.
+says() {
+    is_text "$1" "$2" said
+}
+
+# ends NAME LINE..: these are the last lines of what the run said.
+ends() {
+    same "$1: how it ends" "$(printf '%s\n' "${@:2}")" "$(tail -n $(($# - 1)) said)"
+}
+
+# The number of processors, as tests/run.sh is told.
+processors() {
+    part bin/nproc "echo $1"
+}
+
+PATH=$PWD/bin:$PATH
+processors 2
+part one 'echo "one $1"' 'echo "1 passed, 0 failed"'
+part two 'printf "two\n2 passed, 0 failed\n"'
+part bad 'printf "1 passed, 2 failed\n"' 'exit 1'
+
+in_order() {
+    ran 'a run' 0 tests/run.sh './one word' ./two -- 'env A=b ./one' ./two
+    says 'a run' '== 1 of 4: ./one word
+one word
+1 passed, 0 failed
+== N seconds
+== 2 of 4: ./two
+two
+2 passed, 0 failed
+== N seconds
+== 3 of 4: env A=b ./one
+one 
+1 passed, 0 failed
+== N seconds
+== 4 of 4: ./two
+two
+2 passed, 0 failed
+== N seconds
+6 passed, 0 failed'
+    same 'a run of seconds says nothing in between' '' "$(cat minutes)"
+    ran 'nothing' 1 tests/run.sh
+    says 'nothing' '0 passed, 0 failed'
+}
+
+failures() {
+    part silent 'echo nothing of sums'
+    part more 'echo "3 passed, 0 failed"' 'exit 3'
+    part killed 'echo begun' 'kill -KILL 0'
+    ran 'failures' 1 tests/run.sh ./one ./bad ./killed -- ./silent ./missing ./more ./killed ./two
+    ends 'failures' 'FAILED: ./bad (status 1)' 'FAILED: ./killed (status 137)' 'FAILED: ./silent (status 0)' \
+        'FAILED: ./missing (status 127)' 'FAILED: ./more (status 3)' 'FAILED: ./killed (status 137)' '7 passed, 7 failed'
+    same 'what was killed has said' 2 "$(grep -c '^begun$' said)"
+}
+
+# Each part waits for what another one makes: so they run at once, or this fails.
+at_once() {
+    part a ': >a.made' 'awaits b.made' 'echo "1 passed, 0 failed"'
+    part b ': >b.made' 'awaits a.made' 'echo "1 passed, 0 failed"'
+    ran 'side by side' 0 tests/run.sh -- ./a ./b
+    rm -f ./*.made
+    part alone 'if [ -e busy ]; then exit 1; fi' ': >busy' 'sleep 0.3' 'rm busy' 'echo "1 passed, 0 failed"'
+    ran 'one after another' 0 tests/run.sh ./alone ./alone -- ./alone
+    processors 1
+    ran 'no more than there are processors' 0 tests/run.sh -- ./alone ./alone ./alone
+    processors 2
+}
+
+# The output of a part that runs alone is shown as it comes.
+as_it_comes() {
+    part slow 'echo now' 'awaits seen.made' 'printf "1 passed, 0 failed"'
+    starts tests/run.sh ./slow
+    if waits_for grep -q '^now$' "$scratch/.out"; then pass; else fail 'output is shown as it comes' 'it was not'; fi
+    : >seen.made
+    wait "$pid"
+    same 'a run whose part ends without a newline' '1 passed, 0 failed' "$(tail -n 1 "$scratch/.out")"
+    rm -f ./*.made
+}
+
+beside() {
+    # It begins with the first part, the last begins without waiting for it, and it takes no place of a processor.
+    processors 1
+    part beside ': >begun.made' 'awaits last.made' 'sleep 0.5' 'echo beside' 'echo "5 passed, 0 failed"'
+    part first 'awaits begun.made' 'echo first' 'echo "1 passed, 0 failed"'
+    part last ': >last.made' 'echo last' 'echo "1 passed, 0 failed"'
+    ran 'a part beside all others' 0 tests/run.sh --beside ./beside ./first -- ./two ./last
+    says 'a part beside all others' '== 1 of 4: ./first
+first
+1 passed, 0 failed
+== N seconds
+== 2 of 4: ./two
+two
+2 passed, 0 failed
+== N seconds
+== 3 of 4: ./last
+last
+1 passed, 0 failed
+== N seconds
+== 4 of 4: ./beside
+beside
+5 passed, 0 failed
+== N seconds
+9 passed, 0 failed'
+    processors 2
+    rm -f ./*.made
+    # One that ends early is shown once no other part is half shown.
+    part early 'echo early' 'echo "5 passed, 0 failed"' ': >early.made'
+    part long 'echo begins' 'awaits early.made' 'sleep 2' 'echo goes on' 'echo "1 passed, 0 failed"'
+    part waiting 'awaits early.made' 'echo "1 passed, 0 failed"'
+    ran 'one that ends early' 0 tests/run.sh --beside ./early ./long ./two
+    same 'one that ends early' '== 1 of 3: ./long|begins|goes on|== 2 of 3: ./early|early|== 3 of 3: ./two|two|' \
+        "$(grep -v 'passed\|seconds' said | tr '\n' '|')"
+    rm -f ./*.made
+}
+
+beside_fails() {
+    ran 'two beside all others, and one fails' 1 tests/run.sh --beside ./bad --beside ./two ./one -- ./one
+    ends 'two beside all others' 'FAILED: ./bad (status 1)' '5 passed, 2 failed'
+    ran 'one beside all others is killed' 1 tests/run.sh --beside ./killed ./one
+    ends 'one beside all others is killed' 'FAILED: ./killed (status 137)' '1 passed, 1 failed'
+    ran 'nothing beside it' 0 tests/run.sh --beside ./two
+    says 'nothing beside it' $'== 1 of 1: ./two\ntwo\n2 passed, 0 failed\n== N seconds\n2 passed, 0 failed'
+    part priority 'echo "at $(nice)"' 'echo "1 passed, 0 failed"'
+    ran 'priorities' 0 tests/run.sh --beside ./priority ./priority -- ./priority
+    same 'priorities' "$(printf 'at %s\n' "$(nice)" "$(nice)" "$(nice -n 10 nice)")" "$(grep '^at ' said | sort -k2n)"
+}
+
+# has_ended PART: a part that wrote its number has ended, in ten seconds. What nobody has waited for yet has ended too.
+has_ended() {
+    local tries state
+    for ((tries = 0; tries < 200; tries++)); do
+        state=$(sed -n 's/^State:[[:space:]]*\(.\).*/\1/p' "/proc/$(cat "$1.pid")/status" 2>/dev/null)
+        if [ "${state:-Z}" = Z ]; then return; fi
+        sleep 0.05
+    done
+    return 1
+}
+
+# signalled NAME COMMAND..: a run of ./forever and ./aside ends by a signal, and so do its parts. With a folder of its
+# own for what it makes, which is empty then.
+signalled() {
+    local name=$1 signal status
+    shift
+    mkdir made
+    for signal in TERM:143 INT:130; do
+        status=${signal#*:} signal=${signal%:*}
+        rm -f ./*.pid
+        starts env TMPDIR="$PWD/made" "$@"
+        waits_for test -e forever.pid -a -e aside.pid
+        kill -s "$signal" "$pid"
+        wait "$pid"
+        same "$name, $signal: status" "$status" $?
+        if has_ended forever && has_ended aside; then pass; else fail "$name, $signal" 'a part still runs'; fi
+        same "$name, $signal: files that are left" '' "$(ls made)"
+    done
+    rm -r made
+}
+
+signals() {
+    local name
+    for name in forever aside; do part "$name" "echo \$\$ >$name.new" "mv $name.new $name.pid" 'exec sleep 60'; done
+    signalled 'a run' tests/run.sh --beside ./aside ./forever
+    signalled 'a run of parts side by side' tests/run.sh -- ./aside ./forever
+    cp forever tests/gate.sh
+    cp aside tests/wrong_bodies.sh
+    signalled 'the gate alone' tests/all.sh --gate-alone
+    cp "$top/tests/gate.sh" tests
+}
+
+# With a line each second in place of one a minute.
+minutes() {
+    local long shown
+    long=$(printf 'word%.0s ' {1..30})
+    part quiet 'sleep 3.5' 'echo "1 passed, 0 failed"'
+    part wordy "printf '$long\nlast\tline %s' '$long'" 'sleep 3.5' 'echo' 'echo "1 passed, 0 failed"'
+    part short 'echo shown' 'sleep 2.5' 'echo "1 passed, 0 failed"'
+    SAY_EVERY=1 ran 'a line a minute' 0 tests/run.sh --beside ./quiet ./wordy -- 'env A=b ./short' ./short
+    shown=$(printf 'lastline %s' "$long" | head -c 68)
+    if grep -qxE -- "-- 0 minutes: \./quiet: [1-3] seconds \| \./wordy: $shown\.\." minutes; then
+        pass
+    else
+        fail 'a line a minute' "expected: what ./quiet and ./wordy do" "found:    $(cat minutes)"
+    fi
+    if grep -qxE -- '-- 0 minutes: A=b \./short: shown \| \./short: shown' minutes; then
+        pass
+    else
+        fail 'a line a minute, side by side' "found: $(cat minutes)"
+    fi
+    if [ "$(wc -l <minutes)" -ge 4 ]; then pass; else fail 'a line each second' "found: $(cat minutes)"; fi
+    same 'a line a minute: the other lines' "== 1 of 4: ./wordy|$long|last	line $long|== 2 of 4: ./quiet|\
+== 3 of 4: env A=b ./short|shown|== 4 of 4: ./short|shown|" "$(grep -v 'passed\|seconds' said | tr '\n' '|')"
+    ends 'a line a minute' '4 passed, 0 failed'
+}
+
+left_out() {
+    part some 'echo "left out: a thing: no tool"' 'echo "2 passed, 0 failed"'
+    part all77 'echo "./all77: no device"' 'exit 77'
+    ran 'left out' 0 tests/run.sh ./some -- ./all77
+    ends 'left out' 'left out: a thing: no tool' 'left out: ./all77: no device' '2 passed, 0 failed'
+    MAY_BE_LEFT_OUT='' ran 'nothing may be left out' 1 tests/run.sh ./some -- ./all77
+    ends 'nothing may be left out' 'FAILED: left out: a thing: no tool' 'FAILED: left out: ./all77: no device' \
+        '2 passed, 2 failed'
+    MAY_BE_LEFT_OUT=$'other\n*: no device' ran 'some may be left out' 1 tests/run.sh ./some -- ./all77
+    ends 'some may be left out' 'left out: ./all77: no device' 'FAILED: left out: a thing: no tool' '2 passed, 1 failed'
+    MAY_BE_LEFT_OUT=$'a thing: no tool\n*: no device' ran 'both may be left out' 0 tests/run.sh ./some -- ./all77
+    ends 'both may be left out' 'left out: a thing: no tool' 'left out: ./all77: no device' '2 passed, 0 failed'
+}
+
+# The gate over a made-up `rt`.
+gate() {
+    local lines=('== low' 'fn low::next: proved' 'rt: low proved' 'rt: low: its tests are proved'
+        'rt: top is kept: an earlier run' 'rt: top: trying its must-fail edits (3)' 'rt: odd NOT PROVED' 'rt: ok'
+        '5 passed, 0 failed')
+    mkdir -p crates/{low,top,odd}/src crates/top/must-fail
+    echo '#[test]' >crates/low/src/lib.rt
+    : >crates/top/must-fail/next.edit
+    part bin/rt "$(printf 'echo "%s"\n' "${lines[@]}")" 'exit ${RT_STATUS:-0}'
+    ran 'the gate' 0 tests/gate.sh
+    says 'the gate' '== low
+fn low::next: proved
+rt: low proved (1 of 3 crates)
+rt: low: its tests are proved (1 of 1 crates with tests)
+rt: top is kept: an earlier run (2 of 3 crates)
+rt: top: trying its must-fail edits (3) (1 of 1 crates with edits)
+rt: odd NOT PROVED
+rt: ok
+5 passed, 0 failed
+5 passed, 0 failed'
+    RT_STATUS=3 GATE_LOG=$PWD/log ran 'a gate that fails' 1 tests/gate.sh
+    is_text 'what a gate that fails logs' "$(printf '%s\n' "${lines[@]}" 'gate: ended with status 3')" log
+    part bin/rt 'echo "rt: must-fail/next.edit: BAD EDIT: it has no file"' 'echo "5 passed, 0 failed"'
+    GATE_LOG=$PWD/log ran 'a wrong body that does not fit' 1 tests/gate.sh
+    ends 'a wrong body that does not fit' '5 passed, 1 failed'
+    same 'a wrong body that does not fit: the log' 'gate: ended with status 0' "$(tail -n 1 log)"
+}
+
+# The log is seen as it is written: what `rt` says first is there while `rt` still waits.
+gate_log() {
+    part bin/rt 'echo "rt: low proved"' 'awaits seen.made' 'echo "1 passed, 0 failed"'
+    part tests/wrong_bodies.sh 'for ((i = 0; i < 600; i++)); do' \
+        'if grep -qx "rt: low proved" "$GATE_LOG"; then break; fi; sleep 0.05; done' ': >seen.made' \
+        'until tail -n 1 "$GATE_LOG" | grep -qx "gate: ended with status 0"; do sleep 0.05; done' \
+        'echo "$GATE_LOG" >log.name' 'echo "1 passed, 0 failed"'
+    ran 'the gate alone' 0 tests/all.sh --gate-alone
+    same 'the gate alone: parts' '== 1 of 2: tests/gate.sh|== 2 of 2: tests/wrong_bodies.sh|' \
+        "$(grep '^== [0-9]* of ' said | tr '\n' '|')"
+    ends 'the gate alone' '2 passed, 0 failed'
+    same "the gate's log is gone" no "$(if [ -e "$(cat log.name)" ]; then echo yes; else echo no; fi)"
+    part tests/gate.sh 'echo "1 passed, 1 failed"' 'exit 1'
+    part tests/wrong_bodies.sh 'echo "1 passed, 0 failed"'
+    ran 'the gate alone, which fails' 1 tests/all.sh --gate-alone
+    ran 'another word' 2 tests/all.sh --gate
+}
+
+# All tests, in name: each script but those that are no part is one, once for each processor if it tests programs.
+all_parts() {
+    local script
+    mkdir -p tests/{interop,programs,library}
+    for script in "$top"/tests/{,interop/,programs/,library/}*.sh; do
+        case $script in
+        */all.sh | */run.sh) ;;
+        *) part "${script#"$top/"}" 'echo "$0 ${BIN#bin}" >>ran' 'echo "1 passed, 0 failed"' ;;
+        esac
+    done
+    part processor.sh 'echo x86-64-v3'
+    ran 'all tests' 0 tests/all.sh
+    sort -u ran | cut -d' ' -f1 | uniq >names
+    printf '%s\n' tests/{,interop/,programs/,library/}*.sh | grep -v '/\(all\|run\).sh' | sort >scripts
+    same 'scripts that are no part of all tests' 'kernel library no_gate programs reproducible ' \
+        "$(comm -13 names scripts | sed 's|.*/||; s|\.sh$||' | tr '\n' ' ')"
+    same 'for which processors programs are tested' '/x86-64-v2 /x86-64-v3 ' \
+        "$(sed -n 's|^tests/programs/format.sh ||p' ran | sort | tr '\n' ' ')"
+    same 'the first parts' 'tests/gate.sh tests/built.sh ' \
+        "$(sed -nE 's/^== [0-9]+ of [0-9]+: (tests\/(gate|built).*)/\1/p' said | tr '\n' ' ')"
+    same 'each part has passed' "$(wc -l <ran) passed, 0 failed" "$(tail -n 1 said)"
+    cp "$top/tests/no_gate.sh" tests
+    ran 'all tests without the gate' 0 tests/all.sh --without-gate
+    same 'all tests without the gate: what is left out' 1 "$(grep -c '^left out: the gate: ' said)"
+}
+
+# A .ci/run that finds just what stands in tools/, and there tests/all.sh runs the part ./landing. `apt-get` and `sleep`
+# say in `calls` how they are called; after so many tries as INSTALLS_AT says `xxd` is there.
+ci_setting() {
+    local tool
+    eval "$(sed -n '/^tools=(/,/)$/p' .ci/run)"
+    mkdir tools
+    for tool in "${tools[@]}"; do part "tools/${tool%:*}" 'exit 0'; done
+    for tool in dirname sort grep timeout cat cp; do ln -s "$(type -P $tool)" tools; done
+    part tools/id 'echo "$USER_ID"'
+    part tools/sleep 'echo "sleep $1" >>calls'
+    part tools/apt-get 'echo "$2 ${*: -1}" >>calls' \
+        'if [ "$2" = install ] && grep -c "^install" calls | grep -qx "${INSTALLS_AT:-0}"; then cp tools/git tools/xxd; fi'
+    part tests/all.sh "PATH='$own_path' exec tests/run.sh -- ./landing"
+    cp ./one landing
+}
+
+# landing NAME STATUS USER: .ci/run ends with this status for a user of this number.
+landing() {
+    : >calls
+    ran "$1" "$2" env PATH="$PWD/tools" USER_ID="$3" .ci/run
+}
+
+installs() {
+    landing 'all is there' 0 0
+    same 'all is there: no call' '' "$(cat calls)"
+    same 'all is there: the first line' '== 1 of 1: ./landing' "$(head -n 1 said)"
+    ends 'all is there' '1 passed, 0 failed'
+    rm tools/xxd
+    part landing 'echo "left out: an example: xxd is not installed"' 'echo "1 passed, 0 failed"'
+    landing 'what can not be installed' 1 0
+    same 'three tries' 'update update|install xxd|sleep 30|update update|install xxd|sleep 30|update update|install xxd|' \
+        "$(tr '\n' '|' <calls)"
+    same 'what can not be installed is said' 1 "$(grep -cx 'not installed: xxd' said)"
+    ends 'what can not be installed' 'FAILED: left out: an example: xxd is not installed' '1 passed, 1 failed'
+    landing 'another user than root' 1 1000
+    same 'another user than root: no call' '' "$(cat calls)"
+    same 'another user than root: what is said' 'not installed: xxd' "$(head -n 1 said)"
+    cp ./one landing
+    INSTALLS_AT=2 landing 'the second try installs' 0 0
+    same 'the second try is the last' 2 "$(grep -c ^install calls)"
+    same 'the second try installs: what is said' 0 "$(grep -c '^not installed' said)"
+    rm tools/apt-get tools/xxd
+    landing 'no apt-get' 0 0
+    same 'no apt-get: what is said' 'not installed: xxd' "$(head -n 1 said)"
+}
+
+# Headers and libraries, of which only a compiler knows.
+installs_headers() {
+    cp tools/git tools/xxd
+    part tools/apt-get 'if [ "$2" = install ]; then echo "${@:5}" >>calls; fi'
+    part tools/gcc 'case "$*" in *nbdkit-plugin.h* | *sanitize*) exit 1 ;; esac'
+    landing 'a header is missing' 0 0
+    same 'a header is missing' 'libasan8 libubsan1 nbdkit-plugin-dev' "$(sed -n 1p calls)"
+    cp tools/git tools/gcc
+    part tools/aarch64-linux-gnu-gcc 'exit 1'
+    landing 'the C library for 64-bit ARM is missing' 0 0
+    same 'the C library for 64-bit ARM is missing' libc6-dev-arm64-cross "$(sed -n 1p calls)"
+    cp tools/git tools/aarch64-linux-gnu-gcc
+}
+
+# What may be left out where a change lands says some script, and nothing else passes.
+may_be_left_out() {
+    local pattern may_be_left_out
+    eval "$(sed -n '/^may_be_left_out=(/,/^)$/p' .ci/run)"
+    for pattern in "${may_be_left_out[@]}"; do
+        if grep -rqF --include='*.sh' --exclude=running.sh -- "${pattern#\*: }" "$top/tests"; then
+            pass
+        else
+            fail "$pattern" 'no script says so'
+        fi
+        part landing "echo 'left out: ${pattern//"'"/"'\\''"}'" 'echo "1 passed, 0 failed"'
+        landing "left out: $pattern" 0 0
+        ends "left out: $pattern" "left out: $pattern" '1 passed, 0 failed'
+    done
+    part landing 'echo "./landing: no loop device can be made here"' 'exit 77'
+    landing 'a part without loop devices' 1 0
+    ends 'a part without loop devices' 'left out: ./landing: no loop device can be made here' '0 passed, 0 failed'
+    part landing 'echo "./landing: script can not make a terminal here"' 'exit 77'
+    landing 'a part without a terminal' 1 0
+    ends 'a part without a terminal' 'FAILED: left out: ./landing: script can not make a terminal here' '0 passed, 1 failed'
+}
+
+# Each tool that a part needs is one of those that .ci/run installs.
+installs_all() {
+    local tool package
+    cd "$top" || exit 1
+    grep -rhoE --include='*.sh' --exclude={kernel,reproducible,running}.sh --exclude-dir=kernel \
+        '(^ *|if |&& )(needs|needs_other|has) [a-z0-9_+-]+ [a-z0-9.+-]+' tests |
+        sed 's/.*\(needs\|has\)[a-z_]* //' | sort -u >"$scratch/needs"
+    while read -r tool package; do
+        if [ "$tool" = rt ] || printf '%s\n' "${tools[@]}" | grep -qxF "$tool:$package"; then
+            pass
+        else
+            fail "$tool of $package" ".ci/run doesn't install it"
+        fi
+    done <"$scratch/needs"
+    same 'what the parts need: more than ten tools' yes "$([ "$(wc -l <"$scratch/needs")" -gt 10 ] && echo yes)"
+}
+
+in_order
+failures
+at_once
+as_it_comes
+beside
+beside_fails
+signals
+minutes
+left_out
+gate
+gate_log
+all_parts
+ci_setting
+installs
+installs_headers
+may_be_left_out
+installs_all
+finish
