@@ -29,17 +29,40 @@ done <"$scratch/expected"
 # the number of bodies.
 same 'bodies that show nothing: lines' "$(wc -l <"$scratch/expected")" "$(grep -cE '^(refused|caught|FAILED) ' "$scratch/said")"
 failures=$(grep -c '^FAILED ' "$scratch/expected")
-passes=$(($(grep -cv '^FAILED ' "$scratch/expected") + 11))
+passes=$(($(grep -cv '^FAILED ' "$scratch/expected") + 12))
 same 'bodies that show nothing: counts' "$passes passed, $failures failed" "$(tail -n 1 "$scratch/said")"
 if [ "$failed" -gt 0 ]; then cat "$scratch/said"; fi
 if said=$(tests/wrong_bodies/lines.py); then pass; else fail 'what is read off lines' "$said"; fi
 
-# What passed is kept, until what it rests on is another: also in a folder of sources that is named as one of what is built.
+# What passed is kept, until what it rests on is another.
 try --only adds_ >"$scratch/again"
 same 'what passed is kept' '4 passed, 0 failed' "$(tail -n 1 "$scratch/again")"
 same 'what passed is kept: lines' "$(grep '^refused small adds_' "$scratch/said" | sort)" \
     "$(grep '^refused small adds_' "$scratch/again" | sed 's/, before$//' | sort)"
 same 'what passed is kept, but not what the gate tries' '2 of these are kept from earlier runs' "$(grep ' are kept ' "$scratch/again")"
+
+# Of a crate below only what it shows counts, and not the body of a function; but a test runs that body.
+same 'what a crate shows' 'specs/Answers.antt proofs/Lemmas.antt fn three() -> u8 {} trait Few { fn few() -> u8 { 3 } }' \
+    "$(cd tests/wrong_bodies && python3 -B - <<'END'
+from kept import shown_of
+
+FILES = ["specs/Answers.antt", "proofs/Lemmas.antt", "proofs/few/Answers.antt", "proofs/a/few/Invariants.antt"]
+SOURCE = "fn three() -> u8 { 3 } trait Few { fn few() -> u8 { 3 } }"
+print(*(it for it in FILES if shown_of(it, "") is not None), shown_of("src/lib.rt", SOURCE))
+END
+)"
+sed -i 's/^    3$/    1 + 2/' "$small/crates/few/src/lib.rt"
+try --only adds_none >"$scratch/again"
+same 'over another body in a crate below: kept' '2 of these are kept from earlier runs' "$(grep ' are kept ' "$scratch/again")"
+try --only zero_of_the_tests >"$scratch/again"
+same 'over another body in a crate below: tests' '1 of these are kept from earlier runs' "$(grep ' are kept ' "$scratch/again")"
+same 'over another body in a crate below: caught again' '3 passed, 0 failed' "$(tail -n 1 "$scratch/again")"
+sed -i 's/ensures { result/ensures three { result/' "$small/crates/few/src/lib.rt"
+try --only adds_none >"$scratch/again"
+same 'over another contract in a crate below' '3 passed, 0 failed' "$(tail -n 1 "$scratch/again")"
+same 'and nothing of it is kept' 0 "$(grep -c ', before$' "$scratch/again")"
+
+# Of its own crate all counts, also what is in a folder of sources that is named as one of what is built.
 for file in src/lib.rt src/out/mod.rt; do
     sed -i '1s/$/ They are few./' "$small/crates/small/$file"
     try --only adds_none >"$scratch/again"

@@ -96,7 +96,7 @@ class Change:
         touched = [it for it in crate.functions[file] if it.start < max(last, first + 1) and first < it.end]
         self.changed += [it.name for it in touched if it.name not in self.changed]
         is_inside = any(it.start <= first and last <= it.end for it in touched)
-        if not is_inside or any(it.is_const for it in touched):
+        if not is_inside or any(it.is_default for it in touched):
             self.is_alone = True
         head = next((it.name for it in touched if first < it.body), None)
         if head:

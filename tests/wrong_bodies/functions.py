@@ -3,8 +3,9 @@
 import re
 from collections import namedtuple
 
-# A function: where it begins, where its body does, where it ends, its name, and whether constants can call it.
-Function = namedtuple("Function", "start body end name is_const")
+# A function: where it begins, where its body does, where it ends, its name, and whether it is the default of a trait's
+# method, on whose body other functions can rest.
+Function = namedtuple("Function", "start body end name is_default")
 
 SCAN = re.compile(
     r"""//[^\n]*|b?"(?:\\.|[^"\\])*"|b?'(?:\\[^']*|[^'\\])'|'\w+|\b(?:fn|impl|trait|mod|requires|ensures|ghost)\b|[{}()\[\];]""", re.S
@@ -89,11 +90,21 @@ def functions_in(path, text, types):
                 inside = [entry[3] for entry in opened if entry and entry[0] != "fn"]
                 # A type's own functions are named by where the type is, wherever they stand.
                 inside = inside if inside and "::" in inside[0] else [*module, *inside]
-                is_const = re.search(r"\bconst\s+(?:unsafe\s+)?\Z", text[:start]) is not None
-                found.append(Function(start, body, it.end(), "::".join([*inside, name]), is_const))
+                is_default = any(entry and entry[0] == "trait" for entry in opened)
+                found.append(Function(start, body, it.end(), "::".join([*inside, name]), is_default))
         elif word == ";" and depth == 0 and (head is None or len(opened) == head[4]):
             head, is_clause = None, False
     return found
+
+
+def without_bodies(path, text):
+    """The text of a source file without the bodies of its functions, but with the defaults of traits' methods."""
+    kept, at = [], 0
+    for it in sorted(functions_in(path, text, {})):
+        if it.body >= at and not it.is_default:
+            kept.append(text[at:it.body])
+            at = it.end - 1
+    return "".join(kept) + text[at:]
 
 
 def with_tests_alone(path, text, wanted):

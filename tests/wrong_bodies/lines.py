@@ -1,6 +1,6 @@
 #!/usr/bin/env python3
-"""Sees what is read off lines that the prover and the gate print, of which the small crate has none: ends with 0 if all is
-read rightly, and otherwise says what isn't."""
+"""Sees what is read off lines that the prover and the gate print, most of which no body of the small crate brings about:
+ends with 0 if all is read rightly, and otherwise says what isn't."""
 
 import sys
 

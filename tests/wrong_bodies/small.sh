@@ -1,13 +1,25 @@
-# A repository of a small crate and its tests, most of whose wrong bodies show nothing, each in another way. Sourced by
-# tests/wrong_bodies.sh, which sees that each of them counts as failed.
+# A repository of a small crate, most of whose wrong bodies show nothing, each in another way, with its tests and a crate
+# below it. Sourced by tests/wrong_bodies.sh, which sees that each of those bodies counts as failed.
 
 # small_repository FOLDER: makes it.
 small_repository() {
     local crate=$1/crates/small
-    mkdir -p "$1/tests/wrong_bodies" "$crate"/{src/out,proofs/two_more,must-fail,wrong-bodies} "$1/crates/small_tests/src"
+    mkdir -p "$1/tests/wrong_bodies" "$crate"/{src/out,proofs/two_more,must-fail,wrong-bodies} "$1"/crates/{few,small_tests}/src
     cp tests/wrong_bodies/*.py "$1/tests/wrong_bodies"
     cp HANDLES "$1"
-    printf 'small:\nsmall_tests: small\n' >"$1/crates.txt"
+    printf 'few:\nsmall: few\nsmall_tests: small\n' >"$1/crates.txt"
+    cat >"$1/crates/few/src/lib.rt" <<'END'
+//! A number for the crate above.
+
+ghost use Rattle.std.specs.Prelude.{◌≡◌};
+
+/// Three.
+pub fn few() -> u8
+    ensures { result ≡ 3 }
+{
+    3
+}
+END
     small_code >"$crate/src/lib.rt"
     cat >"$crate/src/out/mod.rt" <<'END'
 //! What is given out.
@@ -70,7 +82,7 @@ small_code() {
 
 pub mod out;
 
-ghost use Rattle.std.specs.Prelude.{◌≡◌, ◌+◌, ◌<◌, ◌≤◌};
+ghost use Rattle.std.specs.Prelude.{◌≡◌, ◌+◌, ◌-◌, ◌^◌, ◌<◌, ◌≤◌, MatchResult, min};
 
 /// How far it is to the next number.
 const STEP: u16 = 1;
@@ -126,6 +138,13 @@ pub fn same(number: u8) -> u16
     u16::from(number) + 0
 }
 
+/// The number of the crate below.
+pub fn as_many() -> u8
+    ensures { result ≡ 3 }
+{
+    few::few()
+}
+
 /// Two more.
 pub fn two_more(number: u8) -> u16
     ensures { result ≡ number + 2 }
@@ -161,6 +180,19 @@ pub fn greater_again(number: u8) -> u8
     ensures { number < result }
 {
     greater(number)
+}
+
+/// Counts an outcome that is an error, up to the last count, and hands it back.
+pub fn count_error<X>(errors: &mut u64, outcome: Result<X, u8>) -> Result<X, u8>
+    ensures same { result ≡ outcome }
+    ensures count { (errors.old ≤ errors.new) × MatchResult result
+        (λ _. errors.new ≡ errors.old)
+        (λ _. errors.new ≡ min (errors.old + 1) (2 ^ 64 - 1)) }
+{
+    if outcome.is_err() {
+        *errors = errors.saturating_add(1);
+    }
+    outcome
 }
 
 /// A number that is no greater than either of two.
@@ -260,6 +292,11 @@ new: Least::number((at_most(one, other), Least::of(one, other)).0)
 # right: Least::number((at_most(one, other), Least::of(one, other)).1)
 # type: Least
 
+# error_counted_twice_with_its_twin
+old: errors.saturating_add(1)
+new: errors.saturating_add((1, 2).1)
+# right: errors.saturating_add((1, 2).0)
+
 # means_the_same
 old: if x < y
 new: if x <= y
@@ -328,6 +365,10 @@ new:     number + 2
 old:     greater(number)
 new:     greater(255)
 
+# error_counted_twice
+old: errors.saturating_add(1)
+new: errors.saturating_add(2)
+
 # two_functions
 old:     1 + u16::from(number)
 new:     0 + u16::from(number)
@@ -382,6 +423,7 @@ refused small constant_of_two: step: returns
 refused small greater_by_two_with_its_twin: greater: it is not proved that 
 refused small is_refused_in_a_second_function_too: one_more: returns
 refused small two_functions_and_the_right_one: same: returns
+refused small error_counted_twice_with_its_twin: count_error: returns-then-is_err-clause-count (open at a limit of the search)
 refused small number_in_place_of_the_least: src/lib.rt:33:
 caught small zero_of_the_tests: the_lesser_is_at_most_each of small_tests
 caught small refused_and_caught: the_lesser_is_at_most_each of small_tests
@@ -401,6 +443,7 @@ FAILED small its_twin_has_another_shape: crates/small/wrong-bodies/lib.edit:
 FAILED small means_the_same_beside_a_constant: step_to is still proved
 FAILED small greater_by_two: it is refused, but not for a clause of its contract, and has no right twin: greater: overflow_
 FAILED small greater_than_the_greatest: it is refused, but not for a clause of its contract, and has no right twin: greater_again: greater-requires
+FAILED small error_counted_twice: it is refused, but not for a clause of its contract, and has no right twin: count_error: returns-then-is_err-clause-count (open at a limit of the search)
 FAILED small two_functions: crates/small/wrong-bodies/lib.edit:
 FAILED small two_functions_and_the_wrong_one: at_most is still proved
 FAILED small names_no_function: crates/small/wrong-bodies/lib.edit:

@@ -12,8 +12,8 @@ Usage: tests/wrong_bodies.sh [--anew] [--only WORD] [CRATE..]
 --only takes the bodies whose name has the word. If GATE_LOG names the log of a gate that runs here, the bodies of a
 crate are tried as soon as the gate has proved the crates below it; otherwise a gate over a copy of the crates is started
 first. What passed is kept, in the user's folder for such things ($XDG_CACHE_HOME), under a checksum of all that it rests
-on: the body, its crate and those below it, the toolchain and this script. Only that isn't tried again, and with --anew
-all is. The last line is 'N passed, M failed'.
+on: the body, its crate, what those below it show, the toolchain and this script. Only that isn't tried again, and with
+--anew all is. The last line is 'N passed, M failed'.
 """
 
 import argparse
