@@ -1,6 +1,6 @@
 """The lines of a run, and its counts."""
 
-from crates import SPENT
+from crates import SPANS, SPENT
 
 
 class Report:
@@ -32,7 +32,8 @@ class Report:
     def end(self):
         """The last lines, and the status."""
         for name, seconds in SPENT.most_common():
-            print(f"{round(seconds)} seconds of processor time: {name}")
+            began, ended = SPANS[name]
+            print(f"{round(seconds)} seconds of processor time, within {round(ended - began)} seconds: {name}")
         if self.kept:
             print(f"{self.kept} of these are kept from earlier runs")
         print(f"{self.passed} passed, {self.failed} failed")
