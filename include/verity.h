@@ -292,7 +292,7 @@ struct verity_build {
 struct verity_fed {
     size_t taken;         /* how many bytes of the piece were taken */
     size_t block_length;  /* of the hash block that has closed; 0 if none has, and the numbers below are 0 then */
-    size_t block_at;      /* the byte of the memory at which it stands until the next call */
+    size_t block_at;      /* the byte of the memory at which it stands until more is fed */
     uint64_t block_start; /* the byte of the hash device at which it goes */
     uint64_t block_index; /* its number in its level, from 0 */
     size_t block_level;   /* its level, from 0 next to the data */
@@ -330,7 +330,7 @@ uint32_t verity_build_feed(const struct verity_params *params, struct verity_bui
 
 /*
  * The root hash, when all data was fed and all hash blocks were handed out. root_length is exactly that of the hash
- * function's digests. With VERITY_OK the memory is used up: another tree has to be begun.
+ * function's digests. It can be asked for as often as one likes: build and memory stay those of the same bytes.
  *
  * A fault of the parameters, VERITY_BAD_LENGTH (the memory's, the root hash's), VERITY_NO_SUCH_LEVEL, VERITY_TOO_LONG,
  * VERITY_TOO_SHORT, VERITY_WAITING.
@@ -376,7 +376,8 @@ uint32_t fsverity_build_feed(struct fsverity_params *params, uint8_t *memory, si
 /*
  * Root hash and file digest of the bytes that were fed, none too: its root hash is zeros. root_length and digest_length
  * are exactly those of the hash function's digests. With the root hash the parameters are those of the functions above.
- * With VERITY_OK the memory is used up: another tree has to be begun.
+ * Both can be asked for at any time, as often as one likes: the memory stays that of the same bytes, and feeding goes
+ * on.
  *
  * VERITY_BAD_HASH_ALGORITHM, VERITY_BAD_DATA_BLOCK_SIZE, VERITY_BAD_SALT_SIZE, VERITY_BAD_LENGTH (the memory's, the
  * root hash's, the digest's), VERITY_TOO_LARGE.

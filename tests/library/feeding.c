@@ -176,6 +176,15 @@ static void ends(struct feeding *feeding)
     check(memcmp(feeding->hashes, expected->hashes, tree_length(&feeding->shape)) == 0, "the hash blocks");
 }
 
+/* Root hash and digest of what was fed of a file so far: feeding goes on as if they hadn't been asked for. */
+static void asks(struct feeding *feeding)
+{
+    size_t length = digest_size_of(feeding->building.tree.file.hash_algorithm);
+    uint8_t root[VERITY_MAX_DIGEST_SIZE], digest[VERITY_MAX_DIGEST_SIZE];
+
+    check(call_build_end(&feeding->building, root, length, digest, length) == VERITY_OK, "an end between pieces");
+}
+
 /* The next length of piece. */
 static size_t next_length(size_t cut, uint64_t fed, uint64_t left)
 {
@@ -222,6 +231,8 @@ static void feed_all(const struct tree *tree, const struct expected *expected, s
         }
         feed_piece(&feeding, expected->data + fed, length);
         fed += length;
+        if (tree->is_file && random_below(8) == 0)
+            asks(&feeding);
     } while (fed < expected->size);
     ends(&feeding);
     if (random_below(2) == 0)

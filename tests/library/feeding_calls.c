@@ -230,7 +230,7 @@ uint32_t feed_once(struct building *building, struct bytes piece, struct verity_
     return feed(&placed, building->memory_length, place(PIECE, piece.at, piece.length), piece.length, fed);
 }
 
-uint32_t call_build_end(const struct building *building, uint8_t *root, size_t root_length, uint8_t *digest,
+uint32_t call_build_end(struct building *building, uint8_t *root, size_t root_length, uint8_t *digest,
                         size_t digest_length)
 {
     bool is_file = building->tree.is_file;
@@ -259,10 +259,12 @@ uint32_t call_build_end(const struct building *building, uint8_t *root, size_t r
         } else if (round == 0) {
             memcpy(root, roots, root_length);
             memcpy(digest, digests, digest_length);
+            take_over(building, &placed);
         } else {
             check_same(root, roots, root_length, call, "its root hash");
             if (is_file)
                 check_same(digest, digests, digest_length, call, "its digest");
+            check_same(building->memory, placed.memory, building->memory_length, call, "the memory, once more");
         }
     }
     return status;

@@ -29,8 +29,8 @@ uint32_t call_build_memory(const struct tree *tree, size_t *length);
 uint32_t call_build_begin(struct building *building);
 uint32_t call_build_feed(struct building *building, struct bytes piece, struct verity_fed *fed);
 
-/* digest is a file's alone. */
-uint32_t call_build_end(const struct building *building, uint8_t *root, size_t root_length, uint8_t *digest,
+/* The same of the end: the second call is made over what the first one left. digest is a file's alone. */
+uint32_t call_build_end(struct building *building, uint8_t *root, size_t root_length, uint8_t *digest,
                         size_t digest_length);
 
 /* The same once, over the building itself: only the piece ends where memory ends. */

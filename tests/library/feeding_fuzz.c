@@ -355,6 +355,17 @@ static void end(struct run *run, const uint8_t *right)
         accepts(run, root);
 }
 
+/* The same of a file in between, whatever it gives: feeding goes on as if it hadn't been asked for. */
+static void ask(struct run *run)
+{
+    struct building *building = &run->building;
+    size_t size = digest_size_of(building->tree.file.hash_algorithm);
+    uint8_t root[VERITY_MAX_DIGEST_SIZE], digest[VERITY_MAX_DIGEST_SIZE];
+    uint32_t says = end_says(building, size, size), status = call_build_end(building, root, size, digest, size);
+
+    check(status == says, "an end between pieces: status %" PRIu32 ", expected %" PRIu32, status, says);
+}
+
 static void draw(struct run *run)
 {
     memset(run, 0, sizeof *run);
@@ -394,6 +405,8 @@ static void try_feeding(void)
         if (!feed_piece(&run, data + run.at, length) && !run.is_disturbed)
             break;
         run.at += length;
+        if (run.building.tree.is_file && once_in(8))
+            ask(&run);
     }
     if (is_to_be_disturbed && (!run.is_disturbed || once_in(4)))
         disturb(&run);

@@ -1,7 +1,7 @@
 /*
  * What the functions that build trees refuse: each with its status, the faults in their order, and nothing changed. And
- * when a hash block is handed out, and that feeding goes on after what was refused. What doesn't hold is printed in
- * lines that begin with FAILED; the last line is 'N passed, M failed'.
+ * when a hash block is handed out, and that feeding goes on after what was refused, and after an end. What doesn't hold
+ * is printed in lines that begin with FAILED; the last line is 'N passed, M failed'.
  */
 #include <inttypes.h>
 #include <stdio.h>
@@ -287,16 +287,34 @@ static void times_of_hash_blocks(void)
     check(call_build_end(&building, root, 32, digest, 0) == VERITY_OK && memcmp(root, expected, 32) == 0, "once more");
 }
 
-/* A file goes on after pieces, and an end, that were refused, and has the digest of what was fed. */
-static void files_go_on(void)
+/* The end of what was fed of a file so far: root hash and digest are those of a computation of its own. */
+static void ends_so_far(struct building *building)
 {
     static uint8_t padded[40 * 512], hashes[8 * 512];
+    const struct fsverity_params *params = &building->tree.file;
+    uint8_t expected[VERITY_MAX_DIGEST_SIZE], expected_digest[VERITY_MAX_DIGEST_SIZE], descriptor[DESCRIPTOR_SIZE];
+    struct shape shape = shape_of(&building->tree);
+
+    memset(padded, 0, sizeof padded);
+    memcpy(padded, some, params->size);
+    reference_tree(&building->tree, &shape, padded, hashes, expected);
+    reference_descriptor(params, expected, descriptor);
+    hash_of(VERITY_SHA256, descriptor, DESCRIPTOR_SIZE, expected_digest);
+    check(call_build_end(building, root, 32, digest, 32) == VERITY_OK && memcmp(root, expected, 32) == 0 &&
+                  memcmp(digest, expected_digest, 32) == 0,
+          "the digest of %" PRIu64 " bytes", params->size);
+}
+
+/*
+ * A file goes on after pieces, and an end, that were refused, and after an end that wasn't, and has the digest of what
+ * was fed at any time.
+ */
+static void files_go_on(void)
+{
     struct building building = right(true);
     struct fsverity_params *params = &building.tree.file;
     size_t length = building.memory_length, size = 39 * 512 + 100, at, piece;
-    uint8_t expected[VERITY_MAX_DIGEST_SIZE], expected_digest[VERITY_MAX_DIGEST_SIZE], descriptor[DESCRIPTOR_SIZE];
     struct verity_fed fed;
-    struct shape shape;
 
     check(call_build_begin(&building) == VERITY_OK, "the beginning");
     for (at = 0; at < size; at += piece) {
@@ -310,15 +328,8 @@ static void files_go_on(void)
         check(call_build_end(&building, root, 31, digest, 32) == VERITY_BAD_LENGTH, "a root hash of 31 bytes");
         check(call_build_feed(&building, bytes_of(some + at, piece), &fed) == VERITY_OK && params->size == at + piece,
               "%zu bytes after %zu", piece, at);
+        ends_so_far(&building);
     }
-    memcpy(padded, some, size);
-    shape = shape_of(&building.tree);
-    reference_tree(&building.tree, &shape, padded, hashes, expected);
-    reference_descriptor(params, expected, descriptor);
-    hash_of(VERITY_SHA256, descriptor, DESCRIPTOR_SIZE, expected_digest);
-    check(call_build_end(&building, root, 32, digest, 32) == VERITY_OK && memcmp(root, expected, 32) == 0 &&
-                  memcmp(digest, expected_digest, 32) == 0,
-          "the digest after pieces that were refused");
 }
 
 /* Lengths of the memory that stand in the documents, and limits. */

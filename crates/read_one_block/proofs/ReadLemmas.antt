@@ -9,6 +9,7 @@ use borrow.Rule.Slice.PartMut.{put_mid}
 use Rattle.verity_hash.specs.Hashing.{with_zeros}
 use Rattle.verity_plan.specs.Plans.{PlanFields, start_byte_of}
 use Rattle.verity_plan.specs.Settings.{fan}
+use Rattle.verity_plan.proofs.IndexLemmas.{quotient-next}
 use Rattle.verity_tree.proofs.OpenBlockSteps.{chunk-other, chunk-same}
 use Rattle.read_one_block.specs.Reading.{stored_above}
 
@@ -22,6 +23,11 @@ read-stored p i l at n j device before size place index same =
     (place ∙ ap (start_byte_of p l) index)
     ∙ ap (λ (xs : List ℕ). with_zeros p.settings.hash_block
     (take p.settings.hash_block (drop (start_byte_of p l (i / fan p.settings ^ (l + 1))) xs))) same
+
+-- the place of a hash block in its level, from that of the block below it
+pub closing-place : (f i m index g : ℕ) → index ≡ i / f ^ m → g ≡ f → index / g ≡ i / f ^ (m + 1)
+closing-place f i m index g index_is g_is =
+    ap (λ (n : ℕ). n / g) index_is ∙ ap (λ (n : ℕ). i / f ^ m / n) g_is ∙ sym (quotient-next f i m)
 
 -- the hash block of a level lies within the path
 pub run-within : (path : List ℕ) (l levels size : ℕ) → l < levels → length path ≡ levels * size

@@ -75,15 +75,32 @@ fn end(builder: &TreeBuilder, memory: &mut [u8]) -> Result<Digest, Fail> {
     Ok(builder.end(memory)?)
 }
 
+/// The root hash of what was fed of a file, with memory of the right length.
+pub fn end_file(builder: &FileBuilder, memory: &mut [u8]) -> Result<Digest, Fail> {
+    if memory.len() != FileBuilder::memory_length(&builder.settings) {
+        return Err("another length".into());
+    }
+    Ok(builder.end(memory)?)
+}
+
 /// Feeds a piece of a file, in memory of the right length.
-fn feed_file(builder: &mut FileBuilder, memory: &mut [u8], piece: &[u8]) -> Result<(), Fail> {
+pub fn feed_file(builder: &mut FileBuilder, memory: &mut [u8], piece: &[u8]) -> Result<(), Fail> {
     if memory.len() != FileBuilder::memory_length(&builder.settings) {
         return Err("another length".into());
     }
     Ok(builder.feed(memory, piece)?)
 }
 
-/// The root hash of some data that is fed in pieces of a length, with each hash block written as it is handed out.
+/// The hash block that was handed out last after an answer, if it was `last` before.
+fn last_after(fed: &Fed, last: Option<HashBlock>) -> Option<HashBlock> {
+    if fed.hash_block.is_some() || fed.taken > 0 {
+        return fed.hash_block;
+    }
+    last
+}
+
+/// The root hash of some data that is fed in pieces of a length, with each hash block written as it is handed out, and
+/// named again by `last_block`; the root hash is asked for twice.
 fn build_in_pieces(
     alloc: Global,
     plan: &Plan,
@@ -93,22 +110,36 @@ fn build_in_pieces(
 ) -> Result<Digest, Fail> {
     let mut memory = vec![in alloc; 0xa5u8; TreeBuilder::memory_length(plan)]?;
     let mut builder = TreeBuilder::begin(plan, memory.as_mut_slice());
-    let mut rest = data;
+    let (mut rest, mut last) = (data, None);
     for step in 0..data.len().saturating_mul(2).saturating_add(8) {
         let next = &rest[..next_length(piece, step).min(rest.len())];
         let fed = feed(&mut builder, memory.as_mut_slice(), next)?;
         rest = rest.get(fed.taken..).ok_or("more than there are")?;
+        last = last_after(&fed, last);
+        if builder.last_block() != last {
+            return Err("another last hash block".into());
+        }
         match fed.hash_block {
             Some(block) => write(device, memory.as_slice(), &block, plan.hash_block())?,
             None if rest.is_empty() => break,
             None => {}
         }
     }
-    end(&builder, memory.as_mut_slice())
+    let first = end(&builder, memory.as_mut_slice())?;
+    if end(&builder, memory.as_mut_slice())? != first || builder.last_block() != last {
+        return Err("another end".into());
+    }
+    Ok(first)
 }
 
-/// The root hash of a file that is fed in pieces of a length.
-fn digest_in_pieces(alloc: Global, plan: &Plan, data: &[u8], piece: usize) -> Result<Digest, Fail> {
+/// The root hash of a file that is fed in pieces of a length. It is asked for after each of them, or only at the end.
+fn digest_in_pieces(
+    alloc: Global,
+    plan: &Plan,
+    data: &[u8],
+    piece: usize,
+    is_asked: bool,
+) -> Result<Digest, Fail> {
     let settings = plan.settings();
     let mut memory = vec![in alloc; 0xa5u8; FileBuilder::memory_length(settings)]?;
     let mut builder = FileBuilder::begin(settings, memory.as_mut_slice());
@@ -117,11 +148,11 @@ fn digest_in_pieces(alloc: Global, plan: &Plan, data: &[u8], piece: usize) -> Re
         let (next, after) = rest.split_at(next_length(piece, step).min(rest.len()));
         feed_file(&mut builder, memory.as_mut_slice(), next)?;
         rest = after;
+        if is_asked {
+            end_file(&builder, memory.as_mut_slice())?;
+        }
     }
-    if memory.len() != FileBuilder::memory_length(&builder.settings) {
-        return Err("another length".into());
-    }
-    Ok(builder.end(memory.as_mut_slice())?)
+    end_file(&builder, memory.as_mut_slice())
 }
 
 /// Whether a tree that is built in pieces of a length is that from plain lists, and so is a file's root hash.
@@ -130,8 +161,10 @@ fn is_built(alloc: Global, case: &Case, rule: SaltRule, piece: usize) -> Result<
     let image = case.tree.on_device(alloc, case.shape.hash_block)?;
     let mut device = MemoryDevice::new(vec![in alloc; 0u8; case.shape.hash_block]?);
     let built = build_in_pieces(alloc, plan, data, piece, &mut device)?;
-    if rule == FILE && digest_in_pieces(alloc, plan, data, piece)? != case.root {
-        return Ok(false);
+    for is_asked in [false, true] {
+        if rule == FILE && digest_in_pieces(alloc, plan, data, piece, is_asked)? != case.root {
+            return Ok(false);
+        }
     }
     Ok(built == case.root && device.bytes() == image.as_slice())
 }

@@ -19,7 +19,7 @@ pub struct VerityFed {
     pub taken: usize,
     /// The length of the hash block that has closed, in bytes: 0 if none has, and then the other four are 0 too.
     pub block_length: usize,
-    /// The byte of the memory at which it stands until the next call.
+    /// The byte of the memory at which it stands until the next call of `verity_build_feed`.
     pub block_at: usize,
     /// The byte of the hash device at which it goes.
     pub block_start: u64,

@@ -33,8 +33,8 @@ pub extern "C" fn fsverity_build_memory(params: &FsverityParams, length: &mut us
 }
 
 /// Begins to build: nothing was fed yet. The size in the parameters becomes 0: it counts the bytes that were fed, so
-/// that after the end the parameters are those of the file. What stood in the memory doesn't count. The memory is as long as
-/// `fsverity_build_memory` says, here and in each call below.
+/// that the parameters are always those of the file so far. What stood in the memory doesn't count. The memory is as
+/// long as `fsverity_build_memory` says, here and in each call below.
 ///
 /// The status is 0, or that of the first of `Algorithm`, `DataBlockSize`, `SaltSize`, `Length`. Then parameters and
 /// memory stay as they were.
@@ -90,7 +90,8 @@ pub extern "C" fn fsverity_build_feed(
 
 /// The root hash of all bytes that were fed, and the digest of the file that they are (Linux kernel, fs-verity page,
 /// "Merkle tree" and "File digest computation"). The root hash of no bytes is zeros. Each buffer is as long as the hash
-/// function's digests. The memory is used up.
+/// function's digests. Both can be asked for at any time, as often as one likes: the memory stays that of the same
+/// bytes, and feeding goes on.
 ///
 /// The status is 0, or that of the first of `Algorithm`, `DataBlockSize`, `SaltSize`, `Length` (the memory's, then the
 /// buffers'), `TooLarge` (the bytes are too many for a tree, which no call before leaves). Then memory and buffers stay
@@ -110,6 +111,7 @@ pub extern "C" fn fsverity_build_end(
         → root.new ≡ value_or root.old (file_root_in (fsverity_tree_of params.now) fed) }
     ensures digest { (fed : List ℕ) → IsFedFileTo params.now memory.old fed → result ≡ done
         → digest.new ≡ value_or digest.old (digest_of_fed (fsverity_tree_of params.now) fed) }
+    ensures stays { (fed : List ℕ) → IsFedFileTo params.now memory.old fed → IsFedFileTo params.now memory.new fed }
 {
     let tree = match tree_with(params, memory.len()) {
         Ok(tree) => tree,

@@ -61,7 +61,7 @@ pub extern "C" fn verity_build_begin(
 
 /// Feeds the next piece of the data, of any length: all of it, or its bytes up to those with which a hash block closes,
 /// which is handed out with its place on the hash device (Linux kernel, dm-verity page, "On-disk format"). It stands in
-/// the memory until the next call. Then the rest of the piece, perhaps of no bytes, is fed by further calls, until one
+/// the memory until the next such call. Then the rest of the piece, perhaps of no bytes, is fed by further calls, until one
 /// hands out none. A hash block that closes with the last byte of a piece is handed out by the next call with more bytes;
 /// with the last byte of the data, that call and the next ones hand out all that are left, one a call. When all bytes
 /// were fed, and a call hands out none, each hash block of the tree was handed out once.
@@ -111,7 +111,8 @@ pub extern "C" fn verity_build_feed(
 }
 
 /// The root hash, when all bytes were fed and all hash blocks handed out (Linux kernel, dm-verity page, "Hash Tree").
-/// The buffer for it is as long as the hash function's digests. The memory is used up.
+/// The buffer for it is as long as the hash function's digests. It can be asked for as often as one likes: struct and
+/// memory stay those of the same bytes.
 ///
 /// The status is 0, or that of the first fault of the parameters, or of `Length` (the memory's, then the buffer's),
 /// `Level` (more levels have closed than the tree has), `TooLong`, `TooShort`, `Waiting` (a hash block is still to be
@@ -129,6 +130,8 @@ pub extern "C" fn verity_build_end(
     ensures refused { result ≢ done → (memory.new ≡ memory.old) × (root.new ≡ root.old) }
     ensures root { (fed : List ℕ) → IsFedTo params.now build.now memory.old fed → result ≡ done
         → root.new ≡ value_or root.old (root_in (plan_of params.now) fed) }
+    ensures stays { (fed : List ℕ) → IsFedTo params.now build.now memory.old fed
+        → IsFedTo params.now build.now memory.new fed }
 {
     let plan = match plan_with(params, memory.len()) {
         Ok(plan) => plan,

@@ -113,12 +113,6 @@ fan-fits s valid =
 pub fan-pos : (s : TreeSettingsFields) → IsValid s → 0 < fan s
 fan-pos s valid = omega (arith, fan-two s valid)
 
--- a hash block with slots has a byte
-pub hash_block-some : (s : TreeSettingsFields) → 2 ≤ fan s → fan s * slot_width s ≤ s.hash_block → 0 < s.hash_block
-hash_block-some s two fits =
-    let wide : 1 ≤ slot_width s = omega (arith, digest-slot s, digest_len_of-pos s.algorithm) in
-    omega (arith, mul-le-mul_left (fan s) wide, two, fits)
-
 -- as many digests as the fan-out fit, if one does
 pub fan-digests : (s : TreeSettingsFields) → digest_len s ≤ s.hash_block → fan s * digest_len s ≤ s.hash_block
 unfolding fan

@@ -242,14 +242,14 @@ length-fed fed piece count taken all many most is =
     omega (arith, length-append fed (take taken piece), length-take-le taken piece most, many, is)
 
 -- a tree's levels by its data blocks
-height-is : (p : PlanFields) (fed : List ℕ) → height p.settings (data_blocks p fed) ≡ level_count_of p
+pub height-is : (p : PlanFields) (fed : List ℕ) → height p.settings (data_blocks p fed) ≡ level_count_of p
 height-is p fed =
     let s = p.settings in
     height-level_count s (data_blocks p fed) (fan-some s)
     ∙ ap (level_count (fan s)) (length-cut s p.blocks p.wanted fed)
 
 -- the data blocks of a plan are no more than its levels have room for
-blocks-most : (p : PlanFields) → IsPlan p → p.blocks ≤ fan p.settings ^ level_count_of p
+pub blocks-most : (p : PlanFields) → IsPlan p → p.blocks ≤ fan p.settings ^ level_count_of p
 blocks-most p planned = (IsLevelCount-level_count (fan p.settings) p.blocks (fan-two p.settings planned.valid)).enough
 
 -- without levels there is one data block

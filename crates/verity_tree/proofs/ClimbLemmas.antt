@@ -15,10 +15,10 @@ use Rattle.verity_plan.proofs.FanLemmas.{fan-some, fan-two, some_data}
 use Rattle.verity_plan.proofs.IndexLemmas.{quotient-below}
 use Rattle.verity_tree.specs.ClosingOrder.{BlockIndex, closed_after, first_closing, blocks_before}
 use Rattle.verity_tree.specs.Levels.{data_blocks}
-use Rattle.verity_tree.specs.Steps.Feeding.{Climbs, EndsDataBlock, HasClosed, HasFed, IsHandingOut, Stands}
+use Rattle.verity_tree.specs.Steps.Feeding.{Climbs, EndsDataBlock, HasFed, IsHandingOut, Stands}
 use Rattle.verity_tree.specs.Steps.Feeding.{current_bytes, handed_at}
-use Rattle.verity_tree.specs.Steps.OpenBlocks.{HasOpenBlocks, IsCarrying, cascade_state}
-use Rattle.verity_tree.proofs.CascadeLemmas.{reached-down}
+use Rattle.verity_tree.specs.Steps.OpenBlocks.{HasOpenBlocks, IsCarrying, carry_state}
+use Rattle.verity_tree.proofs.ClosingLemmas.{reached-down}
 use Rattle.verity_tree.proofs.DataBlockLemmas.{level_digest-data}
 use Rattle.verity_tree.proofs.FirstBlockLemmas.{first_blocks-plan}
 use Rattle.verity_tree.proofs.LevelLemmas.{length-cut}
@@ -26,6 +26,7 @@ use Rattle.verity_tree.proofs.OpenBlockSteps.{IsCarrying-first}
 use Rattle.verity_tree.proofs.QuotientLemmas.{div_ceil-last}
 use Rattle.verity_tree.proofs.OrderSplit.{closed_after-more, closes-none, closes-reached, closing-prefix}
 use Rattle.verity_tree.proofs.OrderSplit.{first_closing-more}
+use Rattle.verity_tree.specs.Steps.OpenBlocks.{HasClosed}
 
 -- the place of the last of some bytes is in its data block
 pub last-place : (count size : ℕ) → 0 < size → 0 < count
@@ -67,7 +68,7 @@ last-below p count planned some most =
 pub carrying-current : (p : PlanFields) (levels : ℕ) (fed opened current digest : List ℕ) → IsPlan p
     → EndsDataBlock p (length fed) → HasFed p.settings levels fed opened current
     → digest ≡ hash p.settings (with_zeros p.settings.data_block (current_bytes p.settings fed))
-    → IsCarrying p.settings (data_blocks p fed) (cascade_state (blocks_before p.settings (length fed)) 0 levels) opened
+    → IsCarrying p.settings (data_blocks p fed) (carry_state (blocks_before p.settings (length fed)) 0 levels) opened
     digest
 carrying-current p levels fed opened current digest planned ends h is =
     let s = p.settings in
@@ -146,7 +147,7 @@ climbs-closed p levels level fed opened ends below closed =
 -- the level's open block has room for more, and all data blocks that are whole have come to the open blocks
 pub climbs-kept : (p : PlanFields) (levels level : ℕ) (fed before digest opened : List ℕ) → IsPlan p
     → EndsDataBlock p (length fed) → level ≤ level_count_of p
-    → IsCarrying p.settings (data_blocks p fed) (cascade_state (blocks_before p.settings (length fed)) level levels)
+    → IsCarrying p.settings (data_blocks p fed) (carry_state (blocks_before p.settings (length fed)) level levels)
     before digest
     → blocks_before p.settings (length fed) / fan p.settings ^ level % fan p.settings + 1 < fan p.settings
     → blocks_before p.settings (length fed) + 1 < length (data_blocks p fed)
@@ -173,7 +174,7 @@ climbs-kept p levels level fed before digest opened planned ends within h room m
 pub climbs-past : (p : PlanFields) (levels level : ℕ) (fed before digest : List ℕ) → IsPlan p
     → EndsDataBlock p (length fed) → level_count_of p ≤ level → level ≤ level_count_of p
     → (length fed ≡ p.wanted → level < level_count_of p)
-    → IsCarrying p.settings (data_blocks p fed) (cascade_state (blocks_before p.settings (length fed)) level levels)
+    → IsCarrying p.settings (data_blocks p fed) (carry_state (blocks_before p.settings (length fed)) level levels)
     before digest → ⊥
 climbs-past p levels level fed before digest planned ends past within more h =
     let s = p.settings in

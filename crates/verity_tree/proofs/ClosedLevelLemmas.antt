@@ -7,19 +7,22 @@ use Rattle.std.proofs.lemmas.Bool.Decides.{eqb_tells}
 use Rattle.std.proofs.lemmas.Nat.{div-add-mod', div-mul-add, mod-mul-add}
 use Rattle.std.proofs.lemmas.List.{length-replicate, length-take-le}
 use Rattle.std.proofs.Math.Nat.{one-le-pow, pow-suc, pow-zero}
-use borrow.Rule.Slice.PartMut.{put_mid}
+use borrow.Rule.Slice.PartMut.{put_mid, put_same}
 use Rattle.std.specs.Fork.{slice_chunk}
 use Rattle.verity_plan.specs.Plans.{level_count}
-use Rattle.verity_plan.specs.Settings.{TreeSettingsFields, hash, fan, slot_width}
+use Rattle.verity_plan.specs.Settings.{TreeSettingsFields, digest_len, hash, fan, slot_width}
 use Rattle.verity_plan.proofs.CountLemmas.{IsLevelCount-level_count, mul_le}
+use Rattle.verity_plan.proofs.FitLemmas.{digest-slot}
 use Rattle.verity_tree.specs.Levels.{hash_block_of, blocks_up}
-use Rattle.verity_tree.specs.Steps.Feeding.{Adds, HasClosed}
-use Rattle.verity_tree.specs.Steps.OpenBlocks.{HasOpenBlocks, IsCarrying, IsReached, cascade_state, digests_under}
-use Rattle.verity_tree.specs.Steps.OpenBlocks.{open_block, open_block_with}
-use Rattle.verity_tree.proofs.CascadeLemmas.{level_digest-is_next}
-use Rattle.verity_tree.proofs.OpenBlockSteps.{HasOpenBlocks-kept, chunk-other, chunk-same}
+use Rattle.verity_tree.specs.Steps.OpenBlocks.{HasOpenBlocks, IsCarrying, IsReached, carry_state, digests_under}
+use Rattle.verity_tree.specs.Steps.OpenBlocks.{level_digest, open_block}
+use Rattle.verity_tree.proofs.ClosingLemmas.{level_digest-is_next}
+use Rattle.verity_tree.proofs.OpenBlockLemmas.{open-same}
+use Rattle.verity_tree.proofs.OpenBlockSteps.{HasOpenBlocks-kept, chunk-other, chunk-same, level_digest-below}
 use Rattle.verity_tree.proofs.OpenBlockSteps.{hash_block_of-none, level_digest-next, open_block_with-put}
 use Rattle.verity_tree.proofs.QuotientLemmas.{IsReached-full}
+use Rattle.verity_tree.specs.Steps.OpenBlocks.{Adds, HasClosed}
+use Rattle.verity_tree.proofs.OpenBlockSteps.{open_block_with}
 
 -- above two data blocks or more there is a level
 pub some-level : (f n : ℕ) → 2 ≤ f → 1 < n → 0 < level_count f n
@@ -62,7 +65,7 @@ pub put-is_with : (s : TreeSettingsFields) (blocks : List (List ℕ)) (i m level
     → index ≡ i / fan s ^ m → a ≡ m * s.hash_block → k ≡ s.hash_block
     → after ≡ take (index % f * w) (take k (drop a store)) ++ digest
     ++ drop (index % f * w + length digest) (take k (drop a store))
-    → IsCarrying s blocks (cascade_state i m levels) store digest
+    → IsCarrying s blocks (carry_state i m levels) store digest
     → after ≡ open_block_with s (digests_under s blocks m) (i / fan s ^ m)
 put-is_with s blocks i m levels index f w a k store after digest ef ew two fits below inside place from wide put h =
     open_block_with-put s (blocks_up s blocks m) index f w (take k (drop a store)) after digest ef ew two fits put
@@ -76,13 +79,19 @@ pub length-part : (size m a k : ℕ) (store : List ℕ) → a ≡ m * size → k
 length-part size m a k store from wide room =
     length-take-le k (drop a store) (omega (arith, length-drop a store, from, wide, room)) ∙ wide
 
+-- an open block, as it is cut out of them
+pub part-is_chunk : (size m a k : ℕ) (store : List ℕ) → a ≡ m * size → k ≡ size
+    → take k (drop a store) ≡ slice_chunk store size m
+part-is_chunk size m a k store from wide =
+    ap (λ (n : ℕ). take n (drop a store)) wide ∙ ap (λ (n : ℕ). take size (drop n store)) from
+
 -- a block that has closed stands
 pub HasClosed-put : (s : TreeSettingsFields) (blocks : List (List ℕ)) (i m levels a k : ℕ) (store block digest : List ℕ)
     → 0 < fan s → i < length blocks → m < levels
     → (i / fan s ^ m % fan s + 1 ≡ fan s) ⊎ (i + 1 ≡ length blocks) → levels * s.hash_block ≤ length store
     → a ≡ m * s.hash_block → k ≡ s.hash_block → length block ≡ s.hash_block
     → block ≡ open_block_with s (digests_under s blocks m) (i / fan s ^ m)
-    → IsCarrying s blocks (cascade_state i m levels) store digest
+    → IsCarrying s blocks (carry_state i m levels) store digest
     → HasClosed s blocks i m levels (put_mid a k store block)
 HasClosed-put s blocks i m levels a k store block digest some below inside ends room from wide len is h =
     let size = s.hash_block in
@@ -107,7 +116,7 @@ pub IsCarrying-up : (s : TreeSettingsFields) (blocks : List (List ℕ)) (i m lev
     → 0 < fan s → m < levels → levels * s.hash_block ≤ length store → a ≡ m * s.hash_block → k ≡ s.hash_block
     → zeros ≡ replicate s.hash_block 0 → digest ≡ hash s (slice_chunk store s.hash_block m)
     → HasClosed s blocks i m levels store
-    → IsCarrying s blocks (cascade_state i (m + 1) levels) (put_mid a k store zeros) digest
+    → IsCarrying s blocks (carry_state i (m + 1) levels) (put_mid a k store zeros) digest
 IsCarrying-up s blocks i m levels a k store zeros digest some inside room from wide none is h =
     let f = fan s in
     let size = s.hash_block in
@@ -143,7 +152,7 @@ pub Adds-full : (s : TreeSettingsFields) (blocks : List (List ℕ)) (i m levels 
     → i / fan s ^ m % fan s + 1 ≡ fan s → levels * s.hash_block ≤ length store
     → a ≡ m * s.hash_block → k ≡ s.hash_block → length block ≡ s.hash_block
     → block ≡ open_block_with s (digests_under s blocks m) (i / fan s ^ m)
-    → IsCarrying s blocks (cascade_state i m levels) store digest
+    → IsCarrying s blocks (carry_state i m levels) store digest
     → Adds closed s blocks i m levels (put_mid a k store block)
 Adds-full s blocks i m levels a k closed store block digest some below inside is_closed full room from wide len is h =
     subst (λ (b : Bool). Adds b s blocks i m levels (put_mid a k store block)) (sym is_closed)
@@ -155,7 +164,7 @@ pub Adds-room : (s : TreeSettingsFields) (blocks : List (List ℕ)) (i m levels 
     → i / fan s ^ m % fan s + 1 < fan s → levels * s.hash_block ≤ length store
     → a ≡ m * s.hash_block → k ≡ s.hash_block → length block ≡ s.hash_block
     → block ≡ open_block_with s (digests_under s blocks m) (i / fan s ^ m)
-    → IsCarrying s blocks (cascade_state i m levels) store digest
+    → IsCarrying s blocks (carry_state i m levels) store digest
     → Adds (eqb (i + 1) count) s blocks i m levels (put_mid a k store block)
 Adds-room s blocks i m levels count a k store block digest some below inside many less room from wide len is h =
     elim (eqb_tells (i + 1) count) [
@@ -183,3 +192,57 @@ pub HasOpenBlocks-added : (s : TreeSettingsFields) (blocks : List (List ℕ)) (i
     → Adds closed s blocks i 0 levels opened → HasOpenBlocks s blocks 0 levels (i + 1) opened
 HasOpenBlocks-added s blocks i levels true opened more apart h = absurd (apart (full-first (fan s) i (h.reached more)))
 HasOpenBlocks-added s blocks i levels false opened more apart h = h.1
+
+-- the last data block has come to a level with this digest
+IsCarrying-last : (s : TreeSettingsFields) (blocks : List (List ℕ)) (i m levels : ℕ) (store digest : List ℕ)
+    → i + 1 ≡ length blocks → HasOpenBlocks s blocks 0 levels i store → digest ≡ level_digest s blocks i m
+    → IsCarrying s blocks (carry_state i m levels) store digest
+IsCarrying-last s blocks i m levels store digest last stands is = record {
+  reached = λ more. absurd (omega (arith, more, last));
+  above = λ l low high. stands l (omega arith) high;
+  below = λ more. absurd (omega (arith, more, last));
+  digest_is = is;
+}
+
+-- with it the level's block closes, and its digest comes one level up
+pub digest-last : (s : TreeSettingsFields) (blocks : List (List ℕ)) (i m levels index f w a k : ℕ)
+    (store digest above : List ℕ) → f ≡ fan s → w ≡ slot_width s → 2 ≤ f → fan s * slot_width s ≤ s.hash_block
+    → i + 1 ≡ length blocks → m < levels → index ≡ i / fan s ^ m → a ≡ m * s.hash_block → k ≡ s.hash_block
+    → above ≡ hash s (take (index % f * w) (take k (drop a store)) ++ digest
+    ++ drop (index % f * w + length digest) (take k (drop a store)))
+    → HasOpenBlocks s blocks 0 levels i store → digest ≡ level_digest s blocks i m
+    → above ≡ level_digest s blocks i (m + 1)
+digest-last s blocks i m levels index f w a k store digest above ef ew two fits last inside place from wide is stands comes =
+    let some : 0 < fan s = omega (arith, two, ef) in
+    let below : i < length blocks = omega (arith, last) in
+    is
+    ∙ ap (hash s) (put-is_with s blocks i m levels index f w a k store _ digest ef ew two fits below inside place from wide
+    refl (IsCarrying-last s blocks i m levels store digest last stands comes))
+    ∙ ap (hash s) (sym (level_digest-next s blocks i m some below (inr last)))
+
+-- the digest's slot was zeros, and where it is zeros again all is as it was
+pub slot-back : (s : TreeSettingsFields) (blocks : List (List ℕ)) (i m levels index f w a k n : ℕ) (store after : List ℕ)
+    → f ≡ fan s → w ≡ slot_width s → 2 ≤ f → fan s * slot_width s ≤ s.hash_block
+    → i < length blocks → m < levels → index ≡ i / fan s ^ m → a ≡ m * s.hash_block → k ≡ s.hash_block
+    → n ≡ digest_len s
+    → after ≡ take (index % f * w) (take k (drop a store)) ++ replicate n 0
+    ++ drop (index % f * w + n) (take k (drop a store))
+    → HasOpenBlocks s blocks 0 levels i store → put_mid a k store after ≡ store
+slot-back s blocks i m levels index f w a k n store after ef ew two fits below inside place from wide size is stands =
+    let some : 0 < fan s = omega (arith, two, ef) in
+    let at = index % f * w in
+    let block = take k (drop a store) in
+    let opened = open_block s (digests_under s blocks m) index in
+    let stood : block ≡ opened =
+    part-is_chunk s.hash_block m a k store from wide ∙ stands m (omega arith) inside
+    ∙ ap (open_block s (digests_under s blocks m)) (sym place) in
+    let slot : at ≡ index % fan s * slot_width s =
+    ap (λ (x : ℕ). index % x * w) ef ∙ ap (λ (x : ℕ). index % fan s * x) ew in
+    let here : index < length (blocks_up s blocks m) =
+    omega (arith, level_digest-below s blocks i m some below, place) in
+    let same : after ≡ block =
+    is
+    ∙ ap (λ (xs : List ℕ). take at xs ++ replicate n 0 ++ drop (at + n) xs) stood
+    ∙ open-same s (blocks_up s blocks m) index n at (omega (arith, digest-slot s)) fits some here size slot
+    ∙ sym stood in
+    ap (put_mid a k store) same ∙ put_same a k store

@@ -2,7 +2,7 @@
 use Rattle.std.proofs.Common.{List, [], ap, arith, drop, length, refl, replicate, subst, sym, take, ℕ, suc, Some, None}
 use Rattle.std.proofs.Common.{true, false, Bool, inl, inr, length-drop, ◌*◌, ◌++◌, ◌+◌, ◌-◌, ◌/◌, ◌<◌, ◌^◌, ◌∙◌, ◌∷◌}
 use Rattle.std.proofs.Common.{◌≡◌, ◌≤◌, cond}
-use Rattle.std.proofs.lemmas.List.{append-nil, take-append-le, drop-append-le, take-replicate}
+use Rattle.std.proofs.lemmas.List.{append-nil, take-append-le, take-take, drop-append-le, drop-take, take-replicate}
 use Rattle.std.proofs.Math.Nat.{zero-div}
 use Rattle.std.proofs.Math.Seq.{drop-append_seam, drop-nil, take-append_seam}
 use Rattle.verity_plan.specs.Plans.{IsPlan, PlanFields, block_count, checked_plan, has_room, plan_for_bytes}
@@ -17,7 +17,8 @@ use Rattle.verity_plan.specs.Settings.{IsValid, TreeSettingsFields, fan}
 use Rattle.verity_plan.proofs.CountLemmas.{div_ceil-pos, le-div_ceil, mul_le}
 use Rattle.verity_plan.proofs.FanLemmas.{fan-some, some_data}
 use Rattle.verity_plan.proofs.PlanLemmas.{checked_plan-large, has_room-data, levels_most, planned_is}
-use Rattle.verity_tree.specs.Feeding.{Feeds, IsFed, IsFedFile, IsHandedOut, after_open_blocks, open_blocks}
+use Rattle.verity_tree.specs.Feeding.{Feeds, IsFed, IsFedFile, IsHandedOut, IsPlaced, after_open_blocks}
+use Rattle.verity_tree.specs.Feeding.{open_blocks}
 use Rattle.verity_tree.specs.Levels.{data_blocks}
 use Rattle.verity_tree.specs.TreeOnDevice.{tree_block}
 use Rattle.verity_tree.proofs.HandedOutLemmas.{handed-out-stays}
@@ -116,6 +117,42 @@ IsHandedOut-joined p levels fed opened current block planned most room h index b
           ∙ block-joined size block.level opened current within
           ∙ h.closed.stands
           ∙ handed-out-stays p levels block.level fed more opened planned h fits
+          ∙ ap (tree_block s (data_blocks p (fed ++ more)) block.level) (sym index);
+    }
+
+-- an open block of the memory
+block-within : (size level levels : ℕ) (memory : List ℕ) → level + 1 ≤ levels
+    → take size (drop (level * size) (take (levels * size) memory)) ≡ take size (drop (level * size) memory)
+block-within size level levels memory step =
+    let rest = levels * size - level * size in
+    let room : (level + 1) * size ≤ levels * size = mul_le (level + 1) levels size step in
+    let all : levels * size ≡ level * size + rest = omega (arith, room) in
+    ap (λ (n : ℕ). take size (drop (level * size) (take n memory))) all
+    ∙ ap (take size) (drop-take (level * size) rest memory)
+    ∙ take-take size rest (drop (level * size) memory) (omega (arith, room))
+
+-- the hash block that was handed out last stands in the memory
+pub IsHandedOut-last : (b : TreeBuilder) (memory fed : List ℕ) (block : HashBlock) → IsPlan b.plan
+    → IsPlaced b.plan b.fed b.closed block → IsFed b memory fed → IsHandedOut b.plan fed memory block
+IsHandedOut-last b memory fed block planned placed h =
+    let p = b.plan in
+    let s = p.settings in
+    let levels = level_count_of p in
+    let next : b.closed ≡ suc block.level = omega (arith, placed.level_is) in
+    let out : IsHandingOut p levels block.level fed (open_blocks s levels memory) =
+    subst (λ (n : ℕ). Stands p levels fed n (open_blocks s levels memory) (after_open_blocks s levels memory)) next
+    h.stands in
+    let index : block.index ≡ blocks_before s (length fed) / fan s ^ (block.level + 1) =
+    placed.index_is ∙ ap (λ (n : ℕ). blocks_before s n / fan s ^ (block.level + 1)) (sym h.count) in
+    record {
+      level_below = placed.level_below;
+      at_is = placed.at_is;
+      byte_is = placed.byte_is;
+      bytes = λ more fits.
+          ap (λ (n : ℕ). take s.hash_block (drop n memory)) placed.at_is
+          ∙ sym (block-within s.hash_block block.level levels memory (omega (arith, placed.level_below)))
+          ∙ out.closed.stands
+          ∙ handed-out-stays p levels block.level fed more _ planned out fits
           ∙ ap (tree_block s (data_blocks p (fed ++ more)) block.level) (sym index);
     }
 

@@ -1,5 +1,5 @@
 -- Hash blocks that are handed out stay the tree's, and joined over all calls they are those that building writes.
-use Rattle.std.proofs.Common.{◌≡◌, ℕ, ◌+◌, ◌*◌, ◌/◌, ◌^◌, ◌<◌, ◌≤◌, List, [], ◌∷◌, ◌++◌, get_or, length, min, zero, suc}
+use Rattle.std.proofs.Common.{map, ◌≡◌, ℕ, ◌+◌, ◌*◌, ◌/◌, ◌^◌, ◌<◌, ◌≤◌, List, [], ◌∷◌, ◌++◌, get_or, length, min, zero, suc}
 use Rattle.std.proofs.Common.{Option, Some, None, take, drop, arith, refl, sym, ◌∙◌, ap, subst, inl, inr, append_assoc}
 use Rattle.std.proofs.Common.{length-append}
 use Rattle.std.proofs.lemmas.Bool.{cases_lt}
@@ -16,7 +16,7 @@ use Rattle.verity_plan.proofs.FanLemmas.{fan-some}
 use Rattle.verity_plan.proofs.IndexLemmas.{quotient-below}
 use Rattle.verity_tree.specs.ClosingOrder.{BlockIndex, closed_after, first_closing, handed_out, blocks_before}
 use Rattle.verity_tree.specs.Feeding.{BuildsInCalls, FeedCall, FeedsCalls, FeedsPieces, IsFed, IsFedFile, IsHandedOut}
-use Rattle.verity_tree.specs.Feeding.{given, written, written_all}
+use Rattle.verity_tree.specs.Feeding.{FileCall, IsAfterCall, IsAfterCalls, asks, bytes_fed, feeds, given, written, written_all}
 use Rattle.verity_tree.specs.Levels.{data_blocks}
 use Rattle.verity_tree.specs.Steps.Feeding.{IsHandingOut, Stands}
 use Rattle.verity_tree.specs.TreeOnDevice.{tree_block}
@@ -84,23 +84,45 @@ handed-out-stays p levels level fed more opened planned h most =
           ap (λ (bytes : List ℕ). tree_block s (data_blocks p bytes) level j) same
     ]
 
+-- after one call the bytes are those before it and those that are fed with it
+call-fed : (b after : FileBuilder) (memory room fed : List ℕ) (call : FileCall) → IsAfterCall b memory call after room
+    → IsFedFile b memory fed → IsFedFile after room (fed ++ bytes_fed call)
+call-fed b after memory room fed (feeds piece) step h = step fed h
+call-fed b after memory room fed asks step h =
+    subst (λ (bytes : List ℕ). IsFedFile after room bytes) (sym (append-nil fed))
+    (subst (λ (builder : FileBuilder). IsFedFile builder room fed) (sym step.0) (step.1 fed h))
+
+-- and after several
+pub asked-joined : (b after : FileBuilder) (memory room fed : List ℕ) (calls : List FileCall) → IsFedFile b memory fed
+    → IsAfterCalls b memory calls after room → IsFedFile after room (fed ++ flat_map bytes_fed calls)
+unfolding IsAfterCalls
+asked-joined b after memory room fed [] h calls =
+    subst (λ (bytes : List ℕ). IsFedFile after room bytes) (sym (append-nil fed))
+    (subst (λ (bytes : List ℕ). IsFedFile after bytes fed) (sym calls.1)
+    (subst (λ (builder : FileBuilder). IsFedFile builder memory fed) (sym calls.0) h))
+asked-joined b after memory room fed (call ∷ rest) h calls =
+    let next = calls.0 in
+    let mid = calls.1 in
+    subst (λ (bytes : List ℕ). IsFedFile after room bytes)
+    (append_assoc fed (bytes_fed call) (flat_map bytes_fed rest)
+    ∙ ap (λ (bytes : List ℕ). fed ++ bytes) (sym (flat_map-cons bytes_fed call rest)))
+    (asked-joined next after mid room (fed ++ bytes_fed call) rest
+    (call-fed b next memory mid fed call calls.2 h) calls.3)
+
+-- calls that feed pieces feed their bytes joined
+joined : (pieces : List (List ℕ)) → flat_map bytes_fed (map feeds pieces) ≡ flat_map (λ piece. piece) pieces
+joined [] = refl
+joined (piece ∷ rest) =
+    flat_map-cons bytes_fed (feeds piece) (map feeds rest)
+    ∙ ap (λ (bytes : List ℕ). piece ++ bytes) (joined rest)
+    ∙ sym (flat_map-cons (λ piece. piece) piece rest)
+
 -- pieces are fed one after another
 pub pieces-joined : (b after : FileBuilder) (memory room fed : List ℕ) (pieces : List (List ℕ)) → IsFedFile b memory fed
     → FeedsPieces b memory pieces after room → IsFedFile after room (fed ++ flat_map (λ piece. piece) pieces)
-unfolding FeedsPieces
-pieces-joined b after memory room fed [] h calls =
-    let same : fed ≡ fed ++ [] = sym (append-nil fed) in
-    subst (λ (bytes : List ℕ). IsFedFile after room bytes) same
-    (subst (λ (bytes : List ℕ). IsFedFile after bytes fed) (sym calls.1)
-    (subst (λ (builder : FileBuilder). IsFedFile builder memory fed) (sym calls.0) h))
-pieces-joined b after memory room fed (piece ∷ rest) h calls =
-    let next = calls.0 in
-    let mid = calls.1 in
-    let step = calls.2 fed h in
-    subst (λ (bytes : List ℕ). IsFedFile after room bytes)
-    (append_assoc fed piece (flat_map (λ piece. piece) rest)
-    ∙ ap (λ (bytes : List ℕ). fed ++ bytes) (sym (flat_map-cons (λ piece. piece) piece rest)))
-    (pieces-joined next after mid room (fed ++ piece) rest step calls.3)
+pieces-joined b after memory room fed pieces h calls =
+    subst (λ (bytes : List ℕ). IsFedFile after room (fed ++ bytes)) (joined pieces)
+    (asked-joined b after memory room fed (map feeds pieces) h calls)
 
 -- what one call hands out, written, is the next of the tree's blocks put at its place
 written-given : (p : PlanFields) (closed : Option HashBlock) (memory fed more all device : List ℕ)

@@ -1,6 +1,6 @@
 -- The verdict from what a comparison came to.
 use Rattle.std.proofs.Common.{◌≡◌, ◌≢◌, ℕ, ◌+◌, ◌-◌, ◌≤◌, Bool, true, false, List, [], ◌∷◌, ◌++◌, length}
-use Rattle.std.proofs.Common.{arith, sym, ◌∙◌, ap, refl, Ok, Err, append_assoc}
+use Rattle.std.proofs.Common.{arith, sym, ◌∙◌, ap, refl, subst, Ok, Err, append_assoc}
 use Rattle.std.proofs.lemmas.Bool.Decides.{nat_tests}
 use Rattle.std.proofs.lemmas.List.Elements.{All-head, All-tail}
 use Rattle.std.proofs.lemmas.Slice.Eq.{bytes_eq-Decides}
@@ -11,17 +11,19 @@ use Rattle.verity_tree.specs.Reading.{EndsWithin}
 use Rattle.verity_tree.specs.ClosingOrder.{BlockIndex, block_index, closed_after}
 use Rattle.verity_tree.specs.TreeOnDevice.{tree_block, stored_block}
 use Rattle.verity_tree.specs.Comparing.{ComesTo}
+use Rattle.verity_tree.specs.Steps.OnClosed.{IsStopFor, KeepsSame, HoldsAll, StopsComparing, effects, is_unread}
 use Rattle.verity_tree.specs.Steps.OnePass.{StopsFor}
-use Rattle.verity_tree.specs.Steps.PassFaults.{index_of, level_of}
 use Rattle.verity_tree.specs.Levels.{root, data_blocks, whole_blocks}
 use Rattle.verity_plan.specs.Plans.{PlanFields, IsPlan}
 use Rattle.verity_plan.specs.Settings.{fan}
 use Rattle.verity_tree.specs.Verdicts.{NoneDiffers, HoldsBlockAt, differs, verdict_by, verdict}
-use Rattle.verity_tree.specs.declared.pass.pass_fault.PassFault.{PassFault}
-use Rattle.verity_tree.specs.declared.pass.pass_fault.PassFault.TheVariants as P
+use Rattle.verity_tree.specs.declared.pass.comparing.CompareStop.{CompareStop}
+use Rattle.verity_tree.specs.declared.pass.comparing.CompareStop.TheVariants as P
 use Rattle.verity_tree.specs.declared.comparing.CompareFault.TheVariants.{SourceShort, RootDiffers}
 use Rattle.verity_tree.specs.declared.comparing.CompareFault.TheVariants as F
 use Rattle.verity_tree.specs.declared.part.Part.{Part}
+use Rattle.verity_tree.specs.declared.pass.pass_fault.Stop.{Stop}
+use Rattle.verity_tree.proofs.OnePassLemmas.{stops-next}
 use Rattle.verity_tree.proofs.OrderSplit.{closed_after-prefix}
 use Rattle.verity_tree.proofs.DataBlockLemmas.{whole_blocks-above, whole_blocks-all}
 
@@ -114,40 +116,34 @@ judges-short p device bytes after digest i ends none =
     ∙ ap (λ (m : ℕ). Err (SourceShort m)) (sym ends.whole_is)
 
 -- the first block that differs is named
-pub judges-differs : (p : PlanFields) → IsPlan p → (device bytes digest : List ℕ) (l j : ℕ) (part : Part)
-    → StopsFor p bytes device (P.Differs l j part) → verdict p device bytes digest ≡ Err (F.Differs l j part)
-judges-differs p planned device bytes digest l j part stops =
+pub judges-differs : (p : PlanFields) → IsPlan p → (device bytes digest after : List ℕ) (stop : Stop CompareStop) (part : Part)
+    → StopsFor (effects is_unread KeepsSame HoldsAll StopsComparing) p bytes stop device after → stop.why ≡ P.Differs part
+    → verdict p device bytes digest ≡ Err (F.Differs stop.level stop.block part)
+judges-differs p planned device bytes digest after stop part stops why =
     let blocks = data_blocks p bytes in
     let f = fan p.settings in
     let m = whole_blocks p bytes in
     let within : stops.i + 1 ≤ m =
     whole_blocks-above p planned (stops.i + 1) bytes (omega (arith, stops.below)) stops.enough in
-    let after = closed_after-prefix f p.blocks (stops.i + 1) (m - (stops.i + 1)) in
+    let rest = closed_after-prefix f p.blocks (stops.i + 1) (m - (stops.i + 1)) in
     let e : m ≡ stops.i + 1 + (m - (stops.i + 1)) = omega arith in
-    let at : BlockIndex = block_index l j in
-    let split : closed_after f p.blocks m ≡ stops.done ++ (at ∷ (stops.next.rest ++ after.0)) =
-    ap (closed_after f p.blocks) e ∙ after.1 ∙ ap (λ (ps : List BlockIndex). ps ++ after.0) stops.next.in_order
+    let at : BlockIndex = block_index stop.level stop.block in
+    let differs_by = subst (IsStopFor p blocks device at) why stops.stopped.2 in
+    let split : closed_after f p.blocks m ≡ stops.done ++ (at ∷ (stops.next.rest ++ rest.0)) =
+    ap (closed_after f p.blocks) e ∙ rest.1 ∙ ap (λ (ps : List BlockIndex). ps ++ rest.0) stops.next.in_order
     ∙ simp append_assoc in
     ap (λ (ps : List BlockIndex). verdict_by p device bytes (find (differs p blocks device) ps) digest) split
     ∙ ap (λ (met : Option BlockIndex). verdict_by p device bytes met digest)
-    (find-first p blocks device stops.done (stops.next.rest ++ after.0) at stops.same
-    (bytes-differ _ _ stops.fault_is.0))
-    ∙ ap (λ (q : Part). Err (F.Differs l j q)) (sym stops.fault_is.1)
+    (find-first p blocks device stops.done (stops.next.rest ++ rest.0) at stops.stopped.1
+    (bytes-differ _ _ differs_by.0))
+    ∙ ap (λ (q : Part). Err (F.Differs stop.level stop.block q)) (sym differs_by.1)
 
 -- a failure at a block comes only if nothing before it differs
-pub comes-to : (p : PlanFields) (device bytes : List ℕ) (fault : PassFault) → StopsFor p bytes device fault
-    → ComesTo p device bytes (block_index (level_of fault) (index_of fault))
-comes-to p device bytes fault stops =
-    let f = fan p.settings in
-    let after = closed_after-prefix f p.blocks (stops.i + 1) (p.blocks - (stops.i + 1)) in
-    let e : p.blocks ≡ stops.i + 1 + (p.blocks - (stops.i + 1)) = omega (arith, stops.below) in
-    record {
-      done = stops.done;
-      next = record {
-        rest = stops.next.rest ++ after.0;
-        in_order = ap (closed_after f p.blocks) e ∙ after.1
-            ∙ ap (λ (ps : List BlockIndex). ps ++ after.0) stops.next.in_order
-            ∙ simp append_assoc;
-      };
-      same = stops.same;
-    }
+pub comes-to : (p : PlanFields) (device bytes after : List ℕ) (stop : Stop CompareStop)
+    → StopsFor (effects is_unread KeepsSame HoldsAll StopsComparing) p bytes stop device after
+    → ComesTo p device bytes (block_index stop.level stop.block)
+comes-to p device bytes after stop stops = record {
+  done = stops.done;
+  next = stops-next (effects is_unread KeepsSame HoldsAll StopsComparing) p bytes stop device after stops;
+  same = stops.stopped.1;
+}

@@ -9,14 +9,13 @@ pub mod FirstBlockLemmas
 pub mod QuotientLemmas
 pub mod OpenBlockLemmas
 pub mod OpenBlockSteps
-pub mod CascadeLemmas
+pub mod ClosingLemmas
 pub mod ClosedLevelLemmas
 pub mod ReadingAheadLemmas
 pub mod OnePassLemmas
 pub mod DataBlockLemmas
 pub mod Rows
 pub mod VerdictLemmas
-pub mod ClosedBlockLemmas
 pub mod JudgeLemmas
 pub mod HoldsLemmas
 pub mod StandingLemmas
@@ -31,4 +30,5 @@ pub mod ClimbLemmas
 pub mod HandedOutLemmas
 pub mod PieceOfBytesLemmas
 pub mod AdvanceLemmas
+pub mod AskingLemmas
 pub mod FeedingLemmas

@@ -80,6 +80,54 @@ block-more k w at slots digest len fits room =
     ∙ sym (append_assoc (slots ++ digest) slot_zeros after)
     ∙ ap (λ (xs : List ℕ). xs ++ after) (append_assoc slots digest slot_zeros)
 
+-- zeros put after the slots of a block leave it
+pub block-same : (k at n : ℕ) (slots : List ℕ) → length slots ≡ at → at + n ≤ k
+    → take at (with_zeros k slots) ++ replicate n 0 ++ drop (at + n) (with_zeros k slots) ≡ with_zeros k slots
+block-same k at n slots len room =
+    let zeros = replicate (k - length slots) 0 in
+    let rest = replicate (k - length slots - n) 0 in
+    let e : at + n ≡ length slots + n = omega (arith, len) in
+    let back : drop (at + n) (with_zeros k slots) ≡ rest =
+    ap (λ (m : ℕ). drop m (with_zeros k slots)) e ∙ drop-append-add slots zeros n ∙ drop-replicate n (k - length slots) 0 in
+    let all : n + (k - length slots - n) ≡ k - length slots = omega (arith, len, room) in
+    ap (λ (xs : List ℕ). xs ++ replicate n 0 ++ drop (at + n) (with_zeros k slots)) (take_at slots zeros at len)
+    ∙ ap (λ (xs : List ℕ). slots ++ replicate n 0 ++ xs) back
+    ∙ append_assoc slots (replicate n 0) rest
+    ∙ ap (λ (xs : List ℕ). slots ++ xs)
+    (replicate-append-replicate n (k - length slots - n) 0 ∙ ap (λ (m : ℕ). replicate m 0) all)
+
+-- the slots of an open block
+length-open : (s : TreeSettingsFields) (xs : List (List ℕ)) (q at : ℕ) → digest_len s ≤ slot_width s → 0 < fan s
+    → q < length xs → at ≡ q % fan s * slot_width s
+    → length (flat_map (slot s) (take (q % fan s) (drop (q / fan s * fan s) (map (hash s) xs)))) ≡ at
+length-open s xs q at fits some below place =
+    let f = fan s in
+    let split : q / f * f + q % f ≡ q = div-add-mod' q f in
+    let part : take (q % f) (drop (q / f * f) (map (hash s) xs)) ≡ map (hash s) (take (q % f) (drop (q / f * f) xs)) =
+    ap (take (q % f)) (drop-map (hash s) (q / f * f) xs) ∙ take-map (hash s) (q % f) (drop (q / f * f) xs) in
+    let many : length (take (q % f) (drop (q / f * f) xs)) ≡ q % f =
+    length-take-le (q % f) (drop (q / f * f) xs) (omega (arith, length-drop (q / f * f) xs, split, below)) in
+    ap (λ (ys : List (List ℕ)). length (flat_map (slot s) ys)) part
+    ∙ length-slots s (take (q % f) (drop (q / f * f) xs)) fits
+    ∙ ap (λ (n : ℕ). n * slot_width s) many ∙ sym place
+
+-- the next slot of an open block is within it
+open-inside : (s : TreeSettingsFields) (q at : ℕ) → fan s * slot_width s ≤ s.hash_block → 0 < fan s
+    → at ≡ q % fan s * slot_width s → at + slot_width s ≤ s.hash_block
+open-inside s q at room some place =
+    let within : q % fan s + 1 ≤ fan s = omega (arith, mod_below q (fan s) some) in
+    omega (arith, place, mul_le (q % fan s + 1) (fan s) (slot_width s) within, room)
+
+-- the next slot of an open block is zeros
+pub open-same : (s : TreeSettingsFields) (xs : List (List ℕ)) (q n at : ℕ) → digest_len s ≤ slot_width s
+    → fan s * slot_width s ≤ s.hash_block
+    → 0 < fan s → q < length xs → n ≡ digest_len s → at ≡ q % fan s * slot_width s
+    → take at (open_block s (map (hash s) xs) q) ++ replicate n 0 ++ drop (at + n) (open_block s (map (hash s) xs) q)
+    ≡ open_block s (map (hash s) xs) q
+open-same s xs q n at fits room some below size place =
+    block-same s.hash_block at n _ (length-open s xs q at fits some below place)
+    (omega (arith, open-inside s q at room some place, size, fits))
+
 -- one more digest of an open block
 pub open-push : (s : TreeSettingsFields) (xs : List (List ℕ)) (q : ℕ) (digest : List ℕ) (at : ℕ) → digest_len s ≤ slot_width s
     → fan s * slot_width s ≤ s.hash_block
@@ -98,16 +146,8 @@ open-push s xs q digest at fits room some below same place =
     length-drop (q / f * f) digests ∙ ap (λ (n : ℕ). n - q / f * f) (length-map xs (hash s)) in
     let here : q % f < length rest = omega (arith, left, split, below) in
     let slots = flat_map (slot s) (take (q % f) rest) in
-    let part : take (q % f) rest ≡ map (hash s) (take (q % f) (drop (q / f * f) xs)) =
-    ap (take (q % f)) (drop-map (hash s) (q / f * f) xs) ∙ take-map (hash s) (q % f) (drop (q / f * f) xs) in
-    let many : length (take (q % f) (drop (q / f * f) xs)) ≡ q % f =
-    length-take-le (q % f) (drop (q / f * f) xs) (omega (arith, length-drop (q / f * f) xs, split, below)) in
-    let len : length slots ≡ at =
-    ap (λ (ys : List (List ℕ)). length (flat_map (slot s) ys)) part
-    ∙ length-slots s (take (q % f) (drop (q / f * f) xs)) fits
-    ∙ ap (λ (n : ℕ). n * w) many ∙ sym place in
-    let within : q % f + 1 ≤ f = omega (arith, low) in
-    let inside : at + w ≤ s.hash_block = omega (arith, place, mul_le (q % f + 1) f w within, room) in
+    let len : length slots ≡ at = length-open s xs q at fits some below place in
+    let inside : at + w ≤ s.hash_block = open-inside s q at room some place in
     let size : length digest ≤ w = omega (arith, ap length same, length-hash s (get_or xs q []), fits) in
     let element : get_or rest (q % f) [] ≡ digest =
     get_or-drop (q / f * f) digests (q % f) [] ∙ ap (λ (n : ℕ). get_or digests n []) split

@@ -1,11 +1,9 @@
--- One level of the cascade.
-use Rattle.std.proofs.Common.{◌≡◌, ℕ, ◌+◌, ◌-◌, ◌*◌, ◌/◌, ◌%◌, ◌^◌, ◌<◌, ◌≤◌, ◌⊎◌, Bool, true, false, eqb, List, []}
+-- A digest that comes to the open block of its level.
+use Rattle.std.proofs.Common.{◌≡◌, ℕ, ◌+◌, ◌-◌, ◌*◌, ◌/◌, ◌%◌, ◌^◌, ◌<◌, ◌≤◌, ◌⊎◌, List, []}
 use Rattle.std.proofs.Common.{◌++◌, get_or, take, drop, length, map, replicate, arith, sym, ◌∙◌, ap, subst, inl, inr}
-use Rattle.std.proofs.Common.{length-drop}
 use Rattle.std.proofs.lemmas.Bool.{cases_lt}
-use Rattle.std.proofs.lemmas.Bool.Decides.{eqb_tells}
 use Rattle.std.proofs.lemmas.Nat.{mod_below, div-mul-add}
-use Rattle.std.proofs.lemmas.List.{length-map, length-take-le, length-replicate}
+use Rattle.std.proofs.lemmas.List.{length-map}
 use Rattle.std.proofs.lemmas.Slice.{between_is, take-put_mid_below, drop-put_mid, between-put_mid}
 use borrow.Rule.Slice.PartMut.{put_mid}
 use Rattle.std.proofs.Math.Nat.{one-le-pow, pow-zero}
@@ -14,16 +12,35 @@ use Rattle.std.specs.Int.{div_ceil}
 use Rattle.verity_plan.specs.Settings.{TreeSettingsFields, hash, fan, slot_width, digest_len}
 use Rattle.verity_tree.specs.Levels.{hash_block_of, blocks_up, root}
 use Rattle.verity_plan.specs.Plans.{level_count}
-use Rattle.verity_tree.specs.Steps.OpenBlocks.{digests_under, open_block, open_block_with, HasOpenBlocks, level_digest}
+use Rattle.verity_tree.specs.Steps.OpenBlocks.{digests_under, open_block, HasOpenBlocks, level_digest}
 use Rattle.verity_tree.specs.Steps.OpenBlocks.{IsCarrying}
-use Rattle.verity_tree.specs.Steps.OpenBlocks.{IsNext, IsClosed, IsKept, IsCarriedOn, cascade_state, arrival}
+use Rattle.verity_tree.specs.Steps.OpenBlocks.{IsCarriedOn, carry_state}
 use Rattle.verity_plan.proofs.CountLemmas.{IsLevelCount-level_count, mul_le}
 use Rattle.verity_tree.proofs.TreeLemmas.{length-blocks_up, height-level_count}
 use Rattle.verity_plan.proofs.IndexLemmas.{quotient-next, quotient-below}
 use Rattle.verity_tree.proofs.QuotientLemmas.{div_ceil-last, IsReached-zero}
-use Rattle.verity_tree.proofs.QuotientLemmas.{quotient-reached, IsReached-full, slots-full, slots-more, quotient-stays}
+use Rattle.verity_tree.proofs.QuotientLemmas.{quotient-reached, slots-more, quotient-stays}
 use Rattle.verity_tree.proofs.OpenBlockLemmas.{open-push, open-close, block-up}
 use Rattle.verity_plan.proofs.FitLemmas.{digest-slot}
+
+-- that block once digest q has come too
+abbrev pub open_block_with : TreeSettingsFields → List (List ℕ) → ℕ → List ℕ
+open_block_with s digests q = hash_block_of s (take (q % fan s + 1) (drop (q / fan s * fan s) digests))
+
+-- a digest that comes to an open block: its number among the digests of the level, the open block, and the digest
+pub record Arrival : Type 0 where
+  pub index : ℕ
+  pub opened : List ℕ
+  pub digest : List ℕ
+
+abbrev pub arrival : ℕ → List ℕ → List ℕ → Arrival
+arrival index opened digest = record { index = index; opened = opened; digest = digest }
+
+-- the digest is the next one above these blocks, and the open block is the one that it comes to
+pub record IsNext (s : TreeSettingsFields) (below : List (List ℕ)) (a : Arrival) : Type 0 where
+  pub here : a.index < length below
+  pub stands : a.opened ≡ open_block s (map (hash s) below) a.index
+  pub digest_is : a.digest ≡ hash s (get_or below a.index [])
 
 div_small : (a b : ℕ) → a < b → a / b ≡ 0
 div_small a b h =
@@ -104,54 +121,13 @@ pub hash_block_of-none : (s : TreeSettingsFields) (n : ℕ) (digests : List (Lis
 hash_block_of-none s n digests =
     ap (λ (k : ℕ). replicate k 0) (let e : s.hash_block - 0 ≡ s.hash_block = omega arith in e)
 
--- a level whose block closed goes on
-pub IsCarrying-closed : (s : TreeSettingsFields) (blocks : List (List ℕ)) (i m levels a k : ℕ) (store zeros digest next : List ℕ)
-    → 0 < fan s → i < length blocks → m < levels
-    → (i / fan s ^ m % fan s + 1 ≡ fan s) ⊎ (i + 1 ≡ length blocks) → levels * s.hash_block ≤ length store
-    → a ≡ m * s.hash_block → k ≡ s.hash_block → zeros ≡ replicate s.hash_block 0 → length zeros ≡ s.hash_block
-    → next ≡ hash s (open_block_with s (digests_under s blocks m) (i / fan s ^ m))
-    → IsCarrying s blocks (cascade_state i m levels) store digest
-    → IsCarrying s blocks (cascade_state i (m + 1) levels) (put_mid a k store zeros) next
-IsCarrying-closed s blocks i m levels a k store zeros digest next some below inside ends room place wide none len is h =
-    let f = fan s in
-    let q = i / f ^ m in
-    let size = s.hash_block in
-    let step : m + 1 ≤ levels = omega arith in
-    let fits : m * size + size ≤ length store = omega (arith, room, mul_le (m + 1) levels size step) in
-    record {
-      reached = λ more. elim ends [
-        | inl full ↦ IsReached-full f i m some (h.reached more) full
-        | inr last ↦ absurd (omega (arith, more, last))
-      ];
-      above = λ l from to.
-          let apart : (l < m) ⊎ (m < l) = inr (omega (arith, from)) in
-          chunk-other store zeros size m l a k place wide len fits apart ∙ h.above l (omega (arith, from)) to;
-      below = λ more l from to. elim (cases_lt l m) [
-        | inl low ↦ chunk-other store zeros size m l a k place wide len fits (inl low) ∙ h.below more l from low
-        | inr high ↦
-            let same : l ≡ m = omega (arith, high, to) in
-            let full : q % f + 1 ≡ f = elim ends [ inl full ↦ full | inr last ↦ absurd (omega (arith, more, last)) ] in
-            let empty : (i + 1) / f ^ m % f ≡ 0 = ap (λ (n : ℕ). n % f) (quotient-reached f i m some (h.reached more))
-            ∙ slots-full f q some full in
-            let stood : zeros ≡ open_block s (digests_under s blocks m) ((i + 1) / f ^ m) =
-            none ∙ sym (hash_block_of-none s ((i + 1) / f ^ m / f * f) (digests_under s blocks m))
-            ∙ ap (λ (n : ℕ). hash_block_of s (take n (drop ((i + 1) / f ^ m / f * f) (digests_under s blocks m))))
-            (sym empty) in
-            ap (slice_chunk (put_mid a k store zeros) size) same
-            ∙ chunk-same store zeros size m a k place len fits
-            ∙ stood
-            ∙ ap (λ (n : ℕ). open_block s (digests_under s blocks n) ((i + 1) / f ^ n)) (sym same)
-      ];
-      digest_is = is ∙ ap (hash s) (sym (level_digest-next s blocks i m some below ends));
-    }
-
--- a level whose block stays stood ends the cascade
+-- where a level's block has room, the digest goes no further
 pub HasOpenBlocks-kept : (s : TreeSettingsFields) (blocks : List (List ℕ)) (i m levels a k : ℕ) (store stood digest : List ℕ)
     → 0 < fan s → i + 1 < length blocks → m < levels
     → i / fan s ^ m % fan s + 1 < fan s → levels * s.hash_block ≤ length store
     → a ≡ m * s.hash_block → k ≡ s.hash_block → length stood ≡ s.hash_block
     → stood ≡ open_block_with s (digests_under s blocks m) (i / fan s ^ m)
-    → IsCarrying s blocks (cascade_state i m levels) store digest
+    → IsCarrying s blocks (carry_state i m levels) store digest
     → HasOpenBlocks s blocks 0 levels (i + 1) (put_mid a k store stood)
 HasOpenBlocks-kept s blocks i m levels a k store stood digest some more inside less room place wide len is h =
     let f = fan s in
@@ -185,7 +161,7 @@ HasOpenBlocks-kept s blocks i m levels a k store stood digest some more inside l
 -- past all levels only the last data block comes, and its digest is the root
 pub level_digest-root : (s : TreeSettingsFields) (blocks : List (List ℕ)) (i levels : ℕ) (store digest : List ℕ) → 2 ≤ fan s
     → i < length blocks
-    → levels ≡ level_count (fan s) (length blocks) → IsCarrying s blocks (cascade_state i levels levels) store digest
+    → levels ≡ level_count (fan s) (length blocks) → IsCarrying s blocks (carry_state i levels levels) store digest
     → (i + 1 ≡ length blocks) × (digest ≡ root s blocks)
 unfolding root
 level_digest-root s blocks i levels store digest two below count h =
@@ -243,7 +219,7 @@ slots-all s q f e two all =
 -- the loop over the levels begins
 pub IsCarrying-first : (s : TreeSettingsFields) (blocks : List (List ℕ)) (i levels : ℕ) (store digest : List ℕ)
     → digest ≡ level_digest s blocks i 0
-    → HasOpenBlocks s blocks 0 levels i store → IsCarrying s blocks (cascade_state i 0 levels) store digest
+    → HasOpenBlocks s blocks 0 levels i store → IsCarrying s blocks (carry_state i 0 levels) store digest
 IsCarrying-first s blocks i levels store digest is stands = record {
   reached = λ _. IsReached-zero (fan s) i;
   above = stands;
@@ -251,85 +227,10 @@ IsCarrying-first s blocks i levels store digest is stands = record {
   digest_is = is;
 }
 
--- a level closes and the next one gets its digest
-pub carry-closed : (s : TreeSettingsFields) (blocks : List (List ℕ)) (i m levels count index a k : ℕ) (last : Bool)
-    (store block after digest above : List ℕ) → 2 ≤ fan s
-    → i < count → m < levels → last ≡ eqb (i + 1) count → index ≡ i / fan s ^ m → levels * s.hash_block ≤ length store
-    → a ≡ m * s.hash_block → k ≡ s.hash_block
-    → block ≡ take k (drop a store) → IsClosed s (arrival index block digest) last after above → count ≡ length blocks
-    → IsCarrying s blocks (cascade_state i m levels) store digest
-    → IsCarrying s blocks (cascade_state i (m + 1) levels) (put_mid a k store after) above
-carry-closed s blocks i m levels count index a k last store block after digest above two below inside l place room from
-    wide was closed many h =
-    let some : 0 < fan s = omega arith in
-    let less : i < length blocks = omega (arith, below, many) in
-    let stands : block ≡ open_block s (digests_under s blocks m) index =
-    was ∙ ap (λ (n : ℕ). take n (drop a store)) wide ∙ ap (λ (n : ℕ). take s.hash_block (drop n store)) from
-    ∙ h.above m (omega arith) inside ∙ ap (open_block s (digests_under s blocks m)) (sym place) in
-    let next : IsNext s (blocks_up s blocks m) (arrival index block digest) = record {
-      here = omega (arith, level_digest-below s blocks i m some less, place);
-      stands = stands;
-      digest_is = h.digest_is ∙ ap (λ (n : ℕ). hash s (get_or (blocks_up s blocks m) n [])) (sym place);
-    } in
-    let ends : (i / fan s ^ m % fan s + 1 ≡ fan s) ⊎ (i + 1 ≡ length blocks) = elim closed.ends [
-      | inl full ↦ inl (ap (λ (n : ℕ). n % fan s + 1) (sym place) ∙ full)
-      | inr final ↦ inr (elim (eqb_tells (i + 1) count) [
-        | inl same ↦ same.1 ∙ many
-        | inr other ↦ let no : true ≡ false = sym final ∙ l ∙ other.0 in cc
-      ])
-    ] in
-    IsCarrying-closed s blocks i m levels a k store after digest above some less inside ends room from wide closed.zeros
-    (ap length closed.zeros ∙ length-replicate s.hash_block 0)
-    (closed.hashed (blocks_up s blocks m) next
-    ∙ ap (λ (n : ℕ). hash s (open_block_with s (digests_under s blocks m) n)) place) h
-
--- a level stays open and the cascade ends
-pub carry-kept : (s : TreeSettingsFields) (blocks : List (List ℕ)) (i m levels count index a k : ℕ) (last : Bool)
-    (store block after digest : List ℕ) → 2 ≤ fan s
-    → i < count → m < levels → last ≡ eqb (i + 1) count → index ≡ i / fan s ^ m → levels * s.hash_block ≤ length store
-    → a ≡ m * s.hash_block → k ≡ s.hash_block
-    → block ≡ take k (drop a store) → length after ≡ length block → IsKept s (arrival index block digest) last after
-    → count ≡ length blocks
-    → IsCarrying s blocks (cascade_state i m levels) store digest
-    → IsCarriedOn s blocks i levels (put_mid a k store after) digest
-carry-kept s blocks i m levels count index a k last store block after digest two below inside l place room from wide was
-    len kept many h =
-    let some : 0 < fan s = omega arith in
-    let less : i < length blocks = omega (arith, below, many) in
-    let here : slice_chunk store s.hash_block m ≡ open_block s (digests_under s blocks m) (i / fan s ^ m) =
-    h.above m (omega arith) inside in
-    let chunk : block ≡ slice_chunk store s.hash_block m =
-    was ∙ ap (λ (n : ℕ). take n (drop a store)) wide ∙ ap (λ (n : ℕ). take s.hash_block (drop n store)) from in
-    let next : IsNext s (blocks_up s blocks m) (arrival index block digest) = record {
-      here = omega (arith, level_digest-below s blocks i m some less, place);
-      stands = chunk ∙ here ∙ ap (open_block s (digests_under s blocks m)) (sym place);
-      digest_is = h.digest_is ∙ ap (λ (n : ℕ). hash s (get_or (blocks_up s blocks m) n [])) (sym place);
-    } in
-    let apart : i + 1 ≡ length blocks → ⊥ = λ same. elim (eqb_tells (i + 1) count) [
-      | inl equal ↦ let no : true ≡ false = sym equal.0 ∙ sym l ∙ kept.more in cc
-      | inr other ↦ other.1 (same ∙ sym many)
-    ] in
-    let more : i + 1 < length blocks = elim (cases_lt (i + 1) (length blocks)) [
-      | inl more ↦ more
-      | inr past ↦ absurd (apart (omega (arith, past, less)))
-    ] in
-    let step : m + 1 ≤ levels = omega arith in
-    let fits : m * s.hash_block + s.hash_block ≤ length store =
-    omega (arith, room, mul_le (m + 1) levels s.hash_block step) in
-    let size : length after ≡ s.hash_block = len ∙ ap length chunk
-    ∙ length-take-le s.hash_block (drop (m * s.hash_block) store)
-    (omega (arith, length-drop (m * s.hash_block) store, fits)) in
-    record {
-      stands = λ _. HasOpenBlocks-kept s blocks i m levels a k store after digest some more inside
-          (omega (arith, kept.room, ap (λ (n : ℕ). n % fan s) place)) room from wide size
-          (kept.filled (blocks_up s blocks m) next ∙ ap (open_block_with s (digests_under s blocks m)) place) h;
-      root_is = λ same. absurd (apart same);
-    }
-
 -- past the last level
 pub carry-all : (s : TreeSettingsFields) (blocks : List (List ℕ)) (i levels : ℕ) (store digest : List ℕ) → 2 ≤ fan s
     → i < length blocks
-    → levels ≡ level_count (fan s) (length blocks) → IsCarrying s blocks (cascade_state i levels levels) store digest
+    → levels ≡ level_count (fan s) (length blocks) → IsCarrying s blocks (carry_state i levels levels) store digest
     → IsCarriedOn s blocks i levels store digest
 carry-all s blocks i levels store digest two below many h =
     let done = level_digest-root s blocks i levels store digest two below many h in

@@ -1,5 +1,5 @@
 -- The closing order, cut between data blocks and between levels.
-use Rattle.std.proofs.Common.{◌≡◌, ℕ, zero, suc, ◌+◌, ◌-◌, ◌*◌, ◌/◌, ◌%◌, ◌^◌, ◌<◌, ◌≤◌, Bool, true, false, cond, eqb}
+use Rattle.std.proofs.Common.{◌≡◌, ℕ, zero, suc, ◌+◌, ◌*◌, ◌/◌, ◌%◌, ◌^◌, ◌<◌, ◌≤◌, Bool, true, false, cond, eqb}
 use Rattle.std.proofs.Common.{List, [], ◌∷◌, ◌++◌, map, length, arith, sym, ◌∙◌, ap, refl, inl, inr, append_assoc}
 use Rattle.std.proofs.lemmas.Bool.Decides.{nat_tests, eqb_tells}
 use Rattle.std.proofs.lemmas.Nat.{div-add-mod', mod-mul-add}
@@ -10,8 +10,9 @@ use Rattle.std.specs.List.{filter, range_with_len}
 use Rattle.std.specs.Prelude.{◌==◌, ◌||◌, slice_index_or}
 use Rattle.verity_plan.specs.Plans.{level_count, start_byte}
 use Rattle.verity_tree.specs.ClosingOrder.{BlockIndex, block_index, closes, closing_with, closed_after, first_closing}
+use Rattle.verity_tree.specs.TreeOnDevice.{tree_block}
 use Rattle.verity_tree.specs.TreeWriting.{device_with}
-use Rattle.verity_plan.specs.Settings.{TreeSettingsFields, fan}
+use Rattle.verity_plan.specs.Settings.{TreeSettingsFields}
 use Rattle.verity_tree.specs.Steps.OpenBlocks.{IsReached}
 use Rattle.verity_tree.specs.Levels.{blocks_up}
 use Rattle.verity_io.specs.Writing.{put}
@@ -93,29 +94,18 @@ device_with-append s blocks base (p ∷ ps) qs device =
     (put device (start_byte s (length blocks) base p.level p.index)
     (slice_index_or (blocks_up s blocks (p.level + 1)) p.index []))
 
-pub device_with-more : (s : TreeSettingsFields) (blocks : List (List ℕ)) (base i m : ℕ) (device : List ℕ)
-    → device_with s blocks base (first_closing (fan s) i (m + 1)) device
-    ≡ put (device_with s blocks base (first_closing (fan s) i m) device)
-    (start_byte s (length blocks) base m (i / fan s ^ (m + 1)))
-    (slice_index_or (blocks_up s blocks (m + 1)) (i / fan s ^ (m + 1)) [])
+-- one block more
+pub device_with-one : (s : TreeSettingsFields) (blocks : List (List ℕ)) (base : ℕ) (ps : List BlockIndex) (at : BlockIndex)
+    (device : List ℕ) → device_with s blocks base (ps ++ at ∷ []) device
+    ≡ put (device_with s blocks base ps device) (start_byte s (length blocks) base at.level at.index)
+    (tree_block s blocks at.level at.index)
 unfolding device_with
-device_with-more s blocks base i m device =
-    ap (λ (ps : List BlockIndex). device_with s blocks base ps device) (first_closing-more (fan s) i m)
-    ∙ device_with-append s blocks base (first_closing (fan s) i m) (block_index m (i / fan s ^ (m + 1)) ∷ []) device
+device_with-one s blocks base ps at device = device_with-append s blocks base ps (at ∷ []) device
 
 -- one data block more in the closing order
 pub closed_after-more : (f n i : ℕ) → closed_after f n (i + 1) ≡ closed_after f n i ++ closing_with f n i
 unfolding closed_after
 closed_after-more f n i = let one : i + 1 ≡ suc i = omega arith in ap (closed_after f n) one
-
--- one data block more on the device
-pub device_with-closed_after : (s : TreeSettingsFields) (blocks : List (List ℕ)) (base n i : ℕ) (device : List ℕ)
-    → device_with s blocks base (closed_after (fan s) n (i + 1)) device
-    ≡ device_with s blocks base (closing_with (fan s) n i)
-    (device_with s blocks base (closed_after (fan s) n i) device)
-device_with-closed_after s blocks base n i device =
-    ap (λ (ps : List BlockIndex). device_with s blocks base ps device) (closed_after-more (fan s) n i)
-    ∙ device_with-append s blocks base (closed_after (fan s) n i) (closing_with (fan s) n i) device
 
 -- what has closed stays at the front of the order
 pub closed_after-prefix : (f n i k : ℕ)
@@ -158,20 +148,4 @@ closing-front f n i m below pass =
       ap (map g) front.1
           ∙ map-append g (range_with_len 0 (m + 1)) front.0
           ∙ ap (λ (ps : List BlockIndex). ps ++ map g front.0) (first_closing-more f i m),
-    )
-
--- the blocks before a block that closes are the first ones of the order
-pub closed_after-front : (f n i m : ℕ) → i < n → m < level_count f n → ((l : ℕ) → l ≤ m → closes f n i l ≡ true)
-    → (rest : List BlockIndex)
-    × (closed_after f n n
-    ≡ (closed_after f n i ++ first_closing f i m ++ block_index m (i / f ^ (m + 1)) ∷ []) ++ rest)
-closed_after-front f n i m below inside pass =
-    let front = closing-front f n i m inside pass in
-    let after = closed_after-prefix f n (i + 1) (n - (i + 1)) in
-    let e : n ≡ i + 1 + (n - (i + 1)) = omega arith in (
-      front.0 ++ after.0,
-      ap (closed_after f n) e ∙ after.1
-          ∙ ap (λ (ps : List BlockIndex). ps ++ after.0)
-          (closed_after-more f n i ∙ ap (λ (ps : List BlockIndex). closed_after f n i ++ ps) front.1)
-          ∙ simp append_assoc,
     )

@@ -15,7 +15,7 @@ use Rattle.verity_plan.proofs.CountLemmas.{mul_le}
 use Rattle.verity_plan.proofs.FanLemmas.{fan-some, some_data}
 use Rattle.verity_tree.specs.ClosingOrder.{BlockIndex, closed_after, closing_with}
 use Rattle.verity_tree.specs.Levels.{blocks_up, cut, data_blocks}
-use Rattle.verity_tree.specs.Steps.Cascade.{EndsBlock}
+use Rattle.verity_tree.specs.Steps.Closing.{EndsBlock}
 use Rattle.verity_tree.specs.Steps.Feeding.{HasFed, HoldsCurrent, IsSettled, current_bytes, first_blocks}
 use Rattle.verity_tree.specs.ClosingOrder.{blocks_before}
 use Rattle.verity_tree.specs.Steps.OpenBlocks.{HasOpenBlocks, level_digest}

@@ -50,13 +50,6 @@ IsReached-full f i m some h full = record {
       omega (arith, h.whole, area, goal);
 }
 
--- a full block leaves an empty one
-pub slots-full : (f q : ℕ) → 0 < f → q % f + 1 ≡ f → (q + 1) % f ≡ 0
-slots-full f q some full =
-    let split : q / f * f + q % f ≡ q = div-add-mod' q f in
-    let e : q + 1 ≡ (q / f + 1) * f + 0 = omega (arith, split, full) in
-    ap (λ (x : ℕ). x % f) e ∙ mod-mul-add (q / f + 1) f 0 some
-
 -- one more slot of a block that isn't full
 pub slots-more : (f q : ℕ) → q % f + 1 < f → ((q + 1) % f ≡ q % f + 1) × ((q + 1) / f ≡ q / f)
 slots-more f q room =

@@ -16,7 +16,7 @@ use Rattle.verity_io.specs.Reading.{HasRead}
 use Rattle.verity_plan.specs.Plans.{PlanFields}
 use Rattle.verity_plan.specs.Settings.{fan}
 use Rattle.verity_tree.specs.Reading.{bytes_of}
-use Rattle.verity_tree.specs.Steps.Cascade.{EndsBlock}
+use Rattle.verity_tree.specs.Steps.Closing.{EndsBlock}
 use Rattle.verity_tree.specs.Steps.ReadingAhead.{IsAhead, IsWithinHashBlock, SourceStandsAt, side_if_any}
 use Rattle.verity_tree.specs.declared.pass.data_block.BlockFault.{BlockFault}
 use Rattle.verity_tree.specs.declared.pass.reading_ahead.DigestsAhead.{DigestsAhead}

@@ -2,7 +2,7 @@
 -- handed out, and what comes of it. Whoever reads a contract need not know how memory holds what was fed: it holds no
 -- bytes at the beginning, those before and those of the piece after feeding, and the answer at the end is of all.
 use Rattle.std.specs.Prelude.{◌≡◌, ◌⊎◌, ◌<◌, ◌≤◌, ℕ, ◌+◌, ◌*◌, ◌/◌, ◌^◌, Bool, true, false, List, [], ◌∷◌, ◌++◌, length}
-use Rattle.std.specs.Prelude.{take, drop, nat_lt, Option, Some, None, Result, Ok, Err, if◌then◌else◌}
+use Rattle.std.specs.Prelude.{take, drop, map, nat_lt, Option, Some, None, Result, Ok, Err, if◌then◌else◌}
 use Rattle.verity_plan.specs.Plans.{PlanFields, plan_for_bytes, start_byte_of}
 use Rattle.verity_plan.specs.PlanCounts.{level_count_of, most_level_count}
 use Rattle.verity_plan.specs.Settings.{TreeSettingsFields, fan}
@@ -73,6 +73,13 @@ pub record IsPlaced (p : PlanFields) (count closed : ℕ) (block : HashBlock) : 
   pub byte_is : block.byte ≡ start_byte_of p block.level block.index
   pub at_is : block.at ≡ block.level * p.settings.hash_block
 
+-- the numbers name a hash block: bytes were fed and levels handed out, no more of either than the plan has
+pub record HasLast (b : TreeBuilder) : Type 0 where
+  pub some : 0 < b.fed
+  pub most : b.fed ≤ b.plan.wanted
+  pub closed : 0 < b.closed
+  pub levels : b.closed ≤ level_count_of b.plan
+
 -- what an answer to a piece of a length says, whatever builder and memory were: all of the piece is taken, or a hash block
 -- is handed out before its end, or after the last byte of all; and after that byte none is left when none is handed out
 pub record Takes (before after : TreeBuilder) (count : ℕ) (answer : Fed) : Type 0 where
@@ -116,11 +123,33 @@ is_too_large (Ok p) = false
 abbrev pub file_fault : FileBuilder → ℕ → Option FeedFault
 file_fault b count = if is_too_large (plan_for_bytes b.settings (b.fed + count) 0) then Some TooLarge else None
 
--- a builder of a file's tree and its memory, before and after some pieces were fed in one call each
-unfoldable pub FeedsPieces : FileBuilder → List ℕ → List (List ℕ) → FileBuilder → List ℕ → Type 0
-FeedsPieces b memory [] after memory_after = (after ≡ b) × (memory_after ≡ memory)
-FeedsPieces b memory (piece ∷ rest) after memory_after = (next : FileBuilder) × (mid : List ℕ)
-    × ((fed : List ℕ) → IsFedFile b memory fed → IsFedFile next mid (fed ++ piece)) × FeedsPieces next mid rest after memory_after
+-- one call of a builder of a file's tree: a piece is fed, or the root hash is asked for
+pub data FileCall : Type 0 where
+  feeds : List ℕ → FileCall
+  asks : FileCall
+
+-- the bytes that are fed with it
+abbrev pub bytes_fed : FileCall → List ℕ
+bytes_fed (feeds piece) = piece
+bytes_fed asks = []
+
+-- builder and memory after it: `feed` appends the piece to what was fed, and `end` leaves that, and the builder,
+-- as they were
+abbrev pub IsAfterCall : FileBuilder → List ℕ → FileCall → FileBuilder → List ℕ → Type 0
+IsAfterCall b memory (feeds piece) after memory_after =
+    (fed : List ℕ) → IsFedFile b memory fed → IsFedFile after memory_after (fed ++ piece)
+IsAfterCall b memory asks after memory_after =
+    (after ≡ b) × ((fed : List ℕ) → IsFedFile b memory fed → IsFedFile b memory_after fed)
+
+-- the same of some calls, one after another
+unfoldable pub IsAfterCalls : FileBuilder → List ℕ → List FileCall → FileBuilder → List ℕ → Type 0
+IsAfterCalls b memory [] after memory_after = (after ≡ b) × (memory_after ≡ memory)
+IsAfterCalls b memory (call ∷ rest) after memory_after = (next : FileBuilder) × (mid : List ℕ)
+    × IsAfterCall b memory call next mid × IsAfterCalls next mid rest after memory_after
+
+-- builder and memory after some pieces were fed, in one call each
+abbrev pub FeedsPieces : FileBuilder → List ℕ → List (List ℕ) → FileBuilder → List ℕ → Type 0
+FeedsPieces b memory pieces after memory_after = IsAfterCalls b memory (map feeds pieces) after memory_after
 
 -- one call of a builder of a tree: the bytes that were taken, the hash block that was handed out, and what stood in the
 -- memory after it

@@ -2,8 +2,8 @@
 pub mod OpenBlocks
 pub mod DataBlocks
 pub mod PassFaults
-pub mod ClosedBlocks
-pub mod Cascade
+pub mod Closing
+pub mod OnClosed
 pub mod ReadingAhead
 pub mod Feeding
 pub mod OnePass

@@ -6,9 +6,9 @@ ghost use Rattle.verity_tree.specs.Levels.{data_blocks};
 ghost use Rattle.verity_plan.specs.PlanCounts.{store_length_of};
 ghost use Rattle.verity_plan.specs.Settings.{digest_len};
 
-use crate::pass::closed_block::Task;
 use crate::pass::one_pass::pass;
-use crate::pass::pass_fault::PassFault;
+use crate::pass::pass_fault::{PassFault, Stop};
+use crate::pass::writing::Writing;
 use crate::store::Store;
 use verity_hash::Digest;
 use verity_io::{Device, Nowhere, Source};
@@ -60,15 +60,14 @@ pub fn build<S: Source, D: Device>(
         → BuildsOnDevice plan.now (data_blocks plan.now (S.remaining source.old))
         result (D.content device.old) (D.content device.new) }
 {
-    match pass(plan, Task::Write, store.lend(), source, device) {
+    match pass(plan, &Writing, store.lend(), source, device) {
         Ok(root) => Ok(root),
         Err(PassFault::SourceShort(i)) => Err(BuildFault::SourceShort(i)),
         Err(PassFault::SourceFailed(i)) => Err(BuildFault::SourceFailed(i)),
-        Err(PassFault::DeviceFailed { level, block }) => {
-            Err(BuildFault::DeviceFailed { level, block })
-        }
-        // Nothing is compared.
-        Err(PassFault::Differs { .. }) => unreachable!(),
+        Err(PassFault::AtBlock(Stop { level, block, .. })) => Err(BuildFault::DeviceFailed {
+            level,
+            block,
+        }),
     }
 }
 

@@ -1,11 +1,13 @@
 //! A stored tree that is compared in one pass with the data.
 ghost use Rattle.std.specs.Prelude.{◌≡◌, length};
+ghost use Rattle.verity_io.specs.Counting.{Counts, TheDevice, TheSource, failed_at};
 ghost use Rattle.verity_plan.specs.PlanCounts.{store_length_of};
+ghost use Rattle.verity_tree.specs.Comparing.{CompareReads, Judges, side_of};
 
 use crate::part::Part;
-use crate::pass::closed_block::Task;
+use crate::pass::comparing::{CompareStop, Comparing};
 use crate::pass::one_pass::pass;
-use crate::pass::pass_fault::PassFault;
+use crate::pass::pass_fault::{PassFault, Stop};
 use crate::store::Store;
 use verity_hash::Digest;
 use verity_io::{Device, Source};
@@ -38,9 +40,6 @@ pub enum CompareFault {
     RootDiffers(Digest),
 }
 
-ghost use Rattle.verity_io.specs.Counting.{Counts, TheDevice, TheSource, failed_at};
-ghost use Rattle.verity_tree.specs.Comparing.{Judges, CompareReads, side_of};
-
 /// Compares a stored tree with the one above the data of a source, which is read once: every byte of every hash block,
 /// in closing order, and then the root hash (veritysetup(8), `verify`). It writes nothing and takes no memory. The
 /// store is one that fits the plan.
@@ -68,7 +67,7 @@ pub fn compare<S: Source, D: Device>(
     ensures verdict { S.tells source.old → D.tells device.old
         → Judges plan.now (D.content device.old) (S.remaining source.old) root.now result }
 {
-    match pass(plan, Task::Compare, store.lend(), source, device) {
+    match pass(plan, &Comparing, store.lend(), source, device) {
         Ok(computed) => {
             if computed.as_bytes() == root.as_bytes() {
                 Ok(())
@@ -78,11 +77,9 @@ pub fn compare<S: Source, D: Device>(
         }
         Err(PassFault::SourceShort(i)) => Err(CompareFault::SourceShort(i)),
         Err(PassFault::SourceFailed(i)) => Err(CompareFault::SourceFailed(i)),
-        Err(PassFault::DeviceFailed { level, block }) => {
-            Err(CompareFault::DeviceFailed { level, block })
-        }
-        Err(PassFault::Differs { level, block, part }) => {
-            Err(CompareFault::Differs { level, block, part })
-        }
+        Err(PassFault::AtBlock(Stop { level, block, why })) => match why {
+            CompareStop::Unread => Err(CompareFault::DeviceFailed { level, block }),
+            CompareStop::Differs(part) => Err(CompareFault::Differs { level, block, part }),
+        },
     }
 }

@@ -5,7 +5,7 @@ ghost use Rattle.verity_tree.specs.Feeding.{IsFedFile, fault_in, feeding_length,
 ghost use Rattle.verity_tree.specs.Levels.{root_of_file};
 
 use crate::feed_fault::FeedFault;
-use crate::feeding::steps::{close_all, feed_all};
+use crate::feeding::steps::{feed_all, root_of_fed};
 use verity_hash::Digest;
 use verity_plan::{Plan, PlanFault, TreeSettings};
 
@@ -79,7 +79,8 @@ impl FileBuilder {
 
     /// The root hash of all bytes that were fed, the last block filled with zeros; zeros for an empty file (Linux kernel,
     /// fs-verity page, "Merkle tree").
-    /// The memory has the length `memory_length`; what stood in it is gone.
+    /// It can be asked for at any time, as often as one likes: builder and memory stay those of the same bytes, and feeding goes
+    /// on. The memory has the length `memory_length`.
     ///
     /// `TooLarge` if the bytes are too many for a tree, which no call before leaves. Then the memory stays as it was.
     pub fn end(&self, memory: &mut [u8]) -> Result<Digest, FeedFault>
@@ -88,13 +89,14 @@ impl FileBuilder {
         ensures refused { IfErr result (λ _. memory.new ≡ memory.old) }
         ensures root { (fed : List ℕ) → IsFedFile self.now memory.old fed
             → IfOk result (λ answer. answer ≡ root_of_file self.now.settings (length fed) fed) }
+        ensures stays { (fed : List ℕ) → IsFedFile self.now memory.old fed → IsFedFile self.now memory.new fed }
     {
         match Plan::for_bytes(&self.settings, self.fed, 0) {
             Ok(plan) => {
                 // Called for the proof: by its contract the plan can be carried out.
                 let _blocks = plan.blocks();
                 let (opened, current) = memory.split_at_mut(open_length(&self.settings));
-                Ok(close_all(&plan, opened, current))
+                Ok(root_of_fed(&plan, opened, current))
             }
             Err(PlanFault::NoData) => Ok(Digest::zeros(self.settings.algorithm())),
             Err(PlanFault::TooLarge) => Err(FeedFault::TooLarge),

@@ -10,7 +10,8 @@ ghost use Rattle.verity_plan.specs.Settings.{TreeSettingsFields, fan};
 ghost use Rattle.verity_tree.specs.ClosingOrder.{ClosesOnce, closed_after, times};
 ghost use Rattle.verity_tree.specs.Collisions.{Collide, TreesCollide, hashed_last, with_salt};
 ghost use Rattle.std.specs.List.{flat_map};
-ghost use Rattle.verity_tree.specs.Feeding.{BuildsInCalls, FeedCall, FeedsCalls, FeedsPieces, IsFed, IsFedFile};
+ghost use Rattle.verity_tree.specs.Feeding.{BuildsInCalls, FeedCall, FeedsCalls, FeedsPieces, FileCall, IsFed, IsFedFile};
+ghost use Rattle.verity_tree.specs.Feeding.{IsAfterCalls, bytes_fed};
 ghost use Rattle.verity_tree.specs.TreeOnDevice.{tree_block, HoldsTree};
 ghost use Rattle.verity_tree.specs.TreeWriting.{tree_on_device};
 ghost use Rattle.verity_tree.specs.declared.file_builder.FileBuilder.{FileBuilder};
@@ -149,6 +150,12 @@ pub fn any_pieces_are_the_file()
     ensures { (b after : FileBuilder) (memory memory_after : List ℕ) (pieces : List (List ℕ)) → IsFedFile b memory []
         → FeedsPieces b memory pieces after memory_after
         → IsFedFile after memory_after (flat_map (λ piece. piece) pieces) }
+{}
+
+/// Where the root hash is asked for between pieces, as often as one likes, the file is still their bytes joined.
+pub fn asking_between_pieces_changes_nothing()
+    ensures { (b after : FileBuilder) (memory memory_after : List ℕ) (calls : List FileCall) → IsFedFile b memory []
+        → IsAfterCalls b memory calls after memory_after → IsFedFile after memory_after (flat_map bytes_fed calls) }
 {}
 
 /// A tree that is built in any calls is what `build` leaves on the device: its data are the bytes that were taken, joined,

@@ -10,10 +10,12 @@ mod feeding;
 mod file_builder;
 pub mod laws;
 mod link;
+mod open_blocks;
 mod part;
 mod pass;
 mod path;
 mod plain_root;
+mod planned;
 mod store;
 mod tree_builder;
 

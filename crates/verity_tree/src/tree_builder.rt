@@ -1,10 +1,11 @@
 //! A tree that is built as pieces of its data come, with each hash block handed out as it closes.
-ghost use Rattle.std.specs.Prelude.{◌≡◌, ℕ, ◌+◌, ◌*◌, ◌/◌, ◌^◌, ◌<◌, ◌≤◌, List, [], length, take, IfErr, IfOk};
+ghost use Rattle.std.specs.Prelude.{◌≡◌, ℕ, ◌+◌, ◌*◌, ◌/◌, ◌^◌, ◌<◌, ◌≤◌, List, [], length, take, IfErr, IfOk, MatchOption};
 ghost use Rattle.verity_plan.specs.Plans.{start_byte_of};
 ghost use Rattle.verity_plan.specs.PlanCounts.{level_count_of};
 ghost use Rattle.verity_plan.specs.Settings.{fan};
 ghost use Rattle.verity_tree.specs.ClosingOrder.{blocks_before};
-ghost use Rattle.verity_tree.specs.Feeding.{Feeds, IsFed, Takes, end_fault, fault_in, feed_fault, feeding_length};
+ghost use Rattle.verity_tree.specs.Feeding.{Feeds, HasLast, IsFed, IsHandedOut, IsPlaced, Takes, end_fault, fault_in};
+ghost use Rattle.verity_tree.specs.Feeding.{feed_fault, feeding_length};
 ghost use Rattle.verity_tree.specs.Levels.{data_blocks, root};
 
 use crate::feed_fault::FeedFault;
@@ -47,7 +48,7 @@ pub struct HashBlock {
     pub index: u64,
     /// The byte of the device at which it goes (Linux kernel, dm-verity page, "On-disk format").
     pub byte: u64,
-    /// The byte of the builder's memory at which it stands until the next call, as long as a hash block.
+    /// The byte of the builder's memory at which it stands until the next call of `feed`, as long as a hash block.
     pub at: usize,
 }
 
@@ -118,8 +119,34 @@ impl TreeBuilder {
         Ok(Fed { taken, hash_block })
     }
 
-    /// The root hash, when all bytes were fed and all hash blocks handed out. The memory has the length `memory_length`;
-    /// what stood in it is gone.
+    /// The hash block that was handed out last, as `feed` answered it. It stands in the memory until `feed` takes bytes or
+    /// hands out the next one, and can be asked for again: so a builder and its memory that are stored after a hash block
+    /// was handed out and before it was written go on later, and none is missing.
+    ///
+    /// `None` if none was handed out since the last byte was fed, or if more bytes or levels are counted than the plan
+    /// has. Of other numbers that no call leaves, the block that it names means nothing.
+    pub fn last_block(&self) -> Option<HashBlock>
+        ensures placed { MatchOption result (HasLast self.now → ⊥)
+            (λ block. HasLast self.now × IsPlaced self.now.plan self.now.fed self.now.closed block) }
+        ensures stands { (memory fed : List ℕ) → IsFed self.now memory fed
+            → MatchOption result (self.now.closed ≡ 0) (λ block. IsHandedOut self.now.plan fed memory block) }
+    {
+        let plan = self.plan;
+        if self.fed == 0 || self.fed > plan.wanted() {
+            return None;
+        }
+        if self.closed == 0 || self.closed > plan.levels() {
+            return None;
+        }
+        let last = Progress {
+            fed: self.fed,
+            closed: self.closed,
+        };
+        Some(handed_out(&plan, &last))
+    }
+
+    /// The root hash, when all bytes were fed and all hash blocks handed out. It can be asked for as often as one likes: builder
+    /// and memory stay those of the same bytes. The memory has the length `memory_length`.
     ///
     /// `Level` if more levels are counted as handed out than the tree has; else `TooLong` or `TooShort` if more or fewer
     /// bytes were fed than the plan wants; else `Waiting` if a hash block is still to be handed out. Then the memory stays
@@ -130,6 +157,7 @@ impl TreeBuilder {
         ensures refused { IfErr result (λ _. memory.new ≡ memory.old) }
         ensures root { (fed : List ℕ) → IsFed self.now memory.old fed
             → IfOk result (λ answer. answer ≡ root self.now.plan.settings (data_blocks self.now.plan fed)) }
+        ensures stays { (fed : List ℕ) → IsFed self.now memory.old fed → IsFed self.now memory.new fed }
     {
         let plan = self.plan;
         if self.closed > plan.levels() {

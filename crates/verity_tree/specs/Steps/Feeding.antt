@@ -2,14 +2,12 @@
 -- For the private steps; a public contract says only that bytes were fed, and it needs none of these to be read.
 use Rattle.std.specs.Prelude.{◌≡◌, ◌⊎◌, ◌<◌, ◌≤◌, ℕ, zero, suc, ◌+◌, ◌-◌, ◌*◌, ◌/◌, ◌^◌, Bool, true, false, List, ◌++◌}
 use Rattle.std.specs.Prelude.{◌∷◌, [], length, take, drop}
-use Rattle.std.specs.Fork.{slice_chunk}
 use Rattle.verity_plan.specs.Plans.{PlanFields}
 use Rattle.verity_plan.specs.PlanCounts.{level_count_of}
 use Rattle.verity_plan.specs.Settings.{TreeSettingsFields, digest_len, fan, hash}
 use Rattle.verity_tree.specs.ClosingOrder.{BlockIndex, block_index, blocks_before, closed_after, handed_out}
 use Rattle.verity_tree.specs.Levels.{cut, data_blocks}
-use Rattle.verity_tree.specs.Steps.OpenBlocks.{HasOpenBlocks, IsReached}
-use Rattle.verity_tree.specs.TreeOnDevice.{tree_block}
+use Rattle.verity_tree.specs.Steps.OpenBlocks.{HasClosed, HasOpenBlocks}
 
 -- the first n data blocks of some bytes
 abbrev pub first_blocks : TreeSettingsFields → ℕ → List ℕ → List (List ℕ)
@@ -36,14 +34,6 @@ pub record IsSettled (s : TreeSettingsFields) (levels : ℕ) (fed opened current
   pub holds : (bytes : List ℕ) → bytes ≡ drop (length fed / s.data_block * s.data_block) fed
       → take (length bytes) current ≡ bytes
 
--- the hash block of a level has closed above data block i, and still stands in its open block; those below it closed
--- before
-pub record HasClosed (s : TreeSettingsFields) (blocks : List (List ℕ)) (i level levels : ℕ) (opened : List ℕ) : Type 0 where
-  pub reached : i + 1 < length blocks → IsReached (fan s) i (level + 1)
-  pub stands : slice_chunk opened s.hash_block level ≡ tree_block s blocks level (i / fan s ^ (level + 1))
-  pub above : HasOpenBlocks s blocks (level + 1) levels i opened
-  pub below : i + 1 < length blocks → HasOpenBlocks s blocks 0 level (i + 1) opened
-
 -- the last byte is the last of a data block, or of all
 pub record EndsDataBlock (p : PlanFields) (count : ℕ) : Type 0 where
   pub some : 0 < count
@@ -64,11 +54,6 @@ Stands p levels fed (suc level) opened current = IsHandingOut p levels level fed
 -- the hash block that closes above the last of so many bytes at a level
 abbrev pub handed_at : PlanFields → ℕ → ℕ → BlockIndex
 handed_at p count level = block_index level (blocks_before p.settings count / fan p.settings ^ (level + 1))
-
--- a digest has come to a level above data block i: the level's block has closed, or it has room for more
-abbrev pub Adds : Bool → TreeSettingsFields → List (List ℕ) → ℕ → ℕ → ℕ → List ℕ → Type 0
-Adds true s blocks i level levels opened = HasClosed s blocks i level levels opened
-Adds false s blocks i level levels opened = (i + 1 < length blocks) × HasOpenBlocks s blocks 0 levels (i + 1) opened
 
 -- the digest of the last byte's data block, or of the hash block above it that closed last, has come one level up: a hash
 -- block has closed there, or all whole data blocks have come to the open blocks

@@ -5,11 +5,11 @@ ghost use Rattle.verity_tree.specs.Levels.{data_blocks};
 ghost use Rattle.verity_plan.specs.Settings.{digest_len};
 ghost use Rattle.verity_tree.specs.Steps.Feeding.{Climbs, EndsDataBlock, FeedsOn, Stands};
 ghost use Rattle.verity_tree.specs.ClosingOrder.{blocks_before};
-ghost use Rattle.verity_tree.specs.Steps.OpenBlocks.{IsCarrying, cascade_state};
+ghost use Rattle.verity_tree.specs.Steps.OpenBlocks.{IsCarrying, carry_state};
 
 use crate::feeding::current::current_digest;
-use crate::feeding::level::{add_digest, close_block};
 use crate::feeding::piece::take_bytes;
+use crate::open_blocks::{add_digest, close_block};
 use verity_hash::Digest;
 use verity_plan::Plan;
 
@@ -39,7 +39,7 @@ fn digest_below(
         → levels * plan.now.settings.hash_block ≤ length opened.old → length fed ≡ count
         → EndsDataBlock plan.now (length fed) → Stands plan.now levels fed level opened.old current.old
         → IsCarrying plan.now.settings (data_blocks plan.now fed)
-        (cascade_state (blocks_before plan.now.settings (length fed)) level levels) opened.new result }
+        (carry_state (blocks_before plan.now.settings (length fed)) level levels) opened.new result }
 {
     // Called for the proof: its contract says that the plan can be carried out.
     let _blocks = plan.blocks();

@@ -4,7 +4,7 @@ ghost use Rattle.verity_hash.specs.Hashing.{with_zeros};
 ghost use Rattle.verity_plan.specs.Settings.{digest_len, hash};
 ghost use Rattle.verity_tree.specs.Steps.Feeding.{HoldsCurrent};
 
-use crate::pass::cascade::put_slot;
+use crate::open_blocks::put_slot;
 use verity_hash::Digest;
 use verity_plan::Plan;
 
@@ -41,7 +41,7 @@ pub(crate) fn fill_current(plan: &Plan, current: &mut [u8], at: usize, piece: &[
 }
 
 /// The digest of the data block that the last byte is in, which is byte number `at` of it, and 0 if it is the last:
-/// bytes that haven't come are zeros.
+/// bytes that haven't come are zeros. Its bytes stay, for more that come.
 pub(crate) fn current_digest(plan: &Plan, current: &mut [u8], at: usize) -> Digest
     requires room { length current.old ≡ plan.now.settings.data_block }
     requires at { at < plan.now.settings.data_block }
@@ -49,6 +49,9 @@ pub(crate) fn current_digest(plan: &Plan, current: &mut [u8], at: usize) -> Dige
     ensures digest { (bytes : List ℕ) → 0 < length bytes → length bytes ≤ plan.now.settings.data_block
         → length bytes % plan.now.settings.data_block ≡ at → HoldsCurrent plan.now.settings bytes current.old
         → result ≡ hash plan.now.settings (with_zeros plan.now.settings.data_block bytes) }
+    ensures stays { (bytes : List ℕ) → 0 < length bytes → length bytes ≤ plan.now.settings.data_block
+        → length bytes % plan.now.settings.data_block ≡ at → HoldsCurrent plan.now.settings bytes current.old
+        → HoldsCurrent plan.now.settings bytes current.new }
 {
     // Called for the proof: its contract says that the plan is one, and so that a data block is longer than a digest.
     let _blocks = plan.blocks();

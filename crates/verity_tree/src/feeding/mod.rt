@@ -2,6 +2,5 @@
 
 pub(crate) mod advance;
 mod current;
-mod level;
 mod piece;
 pub(crate) mod steps;

@@ -8,7 +8,7 @@ ghost use Rattle.verity_tree.specs.Steps.Feeding.{HasFed, IsSettled, first_block
 ghost use Rattle.verity_tree.specs.Steps.OpenBlocks.{HasOpenBlocks};
 
 use crate::feeding::current::{fill_current, keep_digest};
-use crate::feeding::level::add_rows;
+use crate::open_blocks::add_rows;
 use crate::pass::reading_ahead::rows_from;
 use verity_plan::Plan;
 

@@ -1,4 +1,4 @@
-//! Steps until a hash block closes, all bytes of a piece are taken, or all open blocks are closed.
+//! Steps until a hash block closes or all bytes of a piece are taken, and the root hash of all that were.
 ghost use Rattle.std.specs.Prelude.{◌≡◌, ◌⊎◌, ℕ, ◌+◌, ◌*◌, ◌<◌, ◌≤◌, ◌++◌, List, length, take, true, false};
 ghost use Rattle.verity_plan.specs.PlanCounts.{level_count_of};
 ghost use Rattle.verity_tree.specs.Levels.{data_blocks, root};
@@ -6,6 +6,7 @@ ghost use Rattle.verity_tree.specs.Steps.Feeding.{FeedsOn, HasFed, Stands};
 
 use crate::feeding::advance::{Progress, advance};
 use crate::feeding::current::current_digest;
+use crate::open_blocks::digest_with;
 use verity_hash::Digest;
 use verity_plan::Plan;
 
@@ -70,32 +71,37 @@ pub(crate) fn feed_all(plan: &Plan, count: u64, opened: &mut [u8], current: &mut
     }
 }
 
-/// Closes all open blocks after the last byte of the data that the plan wants: the root hash.
-pub(crate) fn close_all(plan: &Plan, opened: &mut [u8], current: &mut [u8]) -> Digest
+/// The root hash of the data that the plan wants, when all of it has come: digests go up through the open blocks, and are
+/// taken out again. All stays for more bytes, of a plan that wants more.
+pub(crate) fn root_of_fed(plan: &Plan, opened: &mut [u8], current: &mut [u8]) -> Digest
     requires opened { level_count_of plan.now * plan.now.settings.hash_block ≤ length opened.old }
     requires current { length current.old ≡ plan.now.settings.data_block }
-    ensures { (levels : ℕ) (fed : List ℕ) → level_count_of plan.now ≤ levels
-        → levels * plan.now.settings.hash_block ≤ length opened.old → length fed ≡ plan.now.wanted
+    ensures root { (levels : ℕ) (fed : List ℕ) → level_count_of plan.now ≤ levels → length fed ≡ plan.now.wanted
         → HasFed plan.now.settings levels fed opened.old current.old
         → result ≡ root plan.now.settings (data_blocks plan.now fed) }
+    ensures stays { (levels : ℕ) (fed : List ℕ) → level_count_of plan.now ≤ levels → length fed ≡ plan.now.wanted
+        → HasFed plan.now.settings levels fed opened.old current.old
+        → HasFed plan.now.settings levels fed opened.new current.new }
 {
-    let mut progress = Progress {
-        fed: plan.wanted(),
-        closed: 0,
-    };
-    'levels: while progress.closed < plan.levels() {
-        advance(plan, &mut progress, opened, current, &[]);
+    let last = plan.blocks() - 1;
+    let at = (plan.wanted() % plan.data_block() as u64) as usize;
+    let mut digest = current_digest(plan, current, at);
+    for level in 0..plan.levels() {
+        digest = digest_with(plan, opened, last, level, &digest);
     }
-    digest_at_the_top(plan, opened, current)
+    digest
 }
 
 /// The root hash, when the hash blocks of all levels have closed: of the top level's, or, without one, of the data block.
 pub(crate) fn digest_at_the_top(plan: &Plan, opened: &[u8], current: &mut [u8]) -> Digest
     requires opened { level_count_of plan.now * plan.now.settings.hash_block ≤ length opened.now }
     requires current { length current.old ≡ plan.now.settings.data_block }
-    ensures { (levels : ℕ) (fed : List ℕ) → length fed ≡ plan.now.wanted
+    ensures root { (levels : ℕ) (fed : List ℕ) → length fed ≡ plan.now.wanted
         → Stands plan.now levels fed (level_count_of plan.now) opened.now current.old
         → result ≡ root plan.now.settings (data_blocks plan.now fed) }
+    ensures stays { (levels : ℕ) (fed : List ℕ) → length fed ≡ plan.now.wanted
+        → Stands plan.now levels fed (level_count_of plan.now) opened.now current.old
+        → Stands plan.now levels fed (level_count_of plan.now) opened.now current.new }
 {
     // Called for the proof: by its contract the plan can be carried out.
     let _blocks = plan.blocks();

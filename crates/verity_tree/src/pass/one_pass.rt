@@ -1,18 +1,15 @@
 //! One pass over the data, with one open block a level.
-ghost use Rattle.std.specs.Prelude.{◌≡◌, ℕ, ◌+◌, ◌*◌, ◌<◌, ◌≤◌, List, length, IfErr, IfOk};
-ghost use Rattle.verity_io.specs.Counting.{Counts, TheDevice, TheSource, failed_at};
-ghost use Rattle.verity_tree.specs.Steps.OnePass.{Passes, PassesCompared, PassesOnDevice};
-ghost use Rattle.verity_tree.specs.Steps.PassFaults.{IsOfWriting, side_of};
-ghost use Rattle.verity_plan.specs.Plans.{IsPlan, PlanFields};
+ghost use Rattle.std.specs.Prelude.{◌≡◌, ◌+◌, ◌*◌, ◌≤◌, length};
+ghost use Rattle.verity_io.specs.Counting.{change};
+ghost use Rattle.verity_plan.specs.Plans.{IsPlan};
 ghost use Rattle.verity_plan.specs.PlanCounts.{level_count_of, store_length_of};
-ghost use Rattle.verity_tree.specs.Levels.{data_blocks};
+ghost use Rattle.verity_tree.specs.Steps.OnClosed.{effects};
+ghost use Rattle.verity_tree.specs.Steps.OnePass.{PassRun};
 ghost use Rattle.verity_tree.specs.Steps.ReadingAhead.{length_of, window_for};
-ghost use Rattle.verity_plan.specs.Settings.{digest_len};
-ghost use Rattle.verity_tree.specs.declared.pass.closed_block.Task.TheVariants.{Compare, Write};
 
-use crate::pass::cascade::carry;
-use crate::pass::closed_block::{Job, Task};
+use crate::pass::carry::carry;
 use crate::pass::data_block::BlockFault;
+use crate::pass::on_closed::OnClosed;
 use crate::pass::pass_fault::PassFault;
 use crate::pass::reading_ahead::{
     DigestsAhead, LARGE_WINDOW, MIDDLE_WINDOW, SMALL_WINDOW, Window, take_next, window_for,
@@ -21,39 +18,36 @@ use verity_hash::Digest;
 use verity_io::{Device, Source};
 use verity_plan::Plan;
 
-/// Passes over the data once, with a store to work in, and does what the task says with each hash block that closes.
-pub(crate) fn pass<S: Source, D: Device>(
+/// Passes over the data once, with a store to work in, and hands on each hash block that closes.
+pub(crate) fn pass<C: OnClosed, S: Source, D: Device>(
     plan: &Plan,
-    task: Task,
+    on_closed: &C,
     store: &mut [u8],
     source: &mut S,
     device: &mut D,
-) -> Result<Digest, PassFault>
+) -> Result<Digest, PassFault<C::Why>>
     requires { length store.old ≡ store_length_of plan.now }
     ensures planned { IsPlan plan.now }
-    ensures size { IfOk result (λ root. length root ≡ digest_len plan.now.settings) }
     ensures source_told { S.tells source.old → S.tells source.new }
     ensures device_told { D.tells device.old → D.tells device.new }
-    ensures source_count { Counts (failed_at side_of TheSource result) (S.failures source.old) (S.failures source.new) }
-    ensures written { task ≡ Write → IfErr result IsOfWriting }
-    ensures device_count { Counts (failed_at side_of TheDevice result) (D.failures device.old) (D.failures device.new) }
-    ensures stays { task ≡ Compare → D.tells device.old → D.content device.new ≡ D.content device.old }
-    ensures read { S.tells source.old → Passes plan.now result (S.remaining source.old) (S.remaining source.new) }
-    ensures stands { S.tells source.old → D.tells device.old
-        → PassesOnDevice plan.now (data_blocks plan.now (S.remaining source.old))
-        result (D.content device.old) (D.content device.new) }
-    ensures compared { task ≡ Compare → S.tells source.old → D.tells device.old
-        → PassesCompared plan.now (S.remaining source.old) result (D.content device.old) (D.content device.new) }
+    ensures run { PassRun (effects C.is_failure C.keeps C.leaves C.stops) plan.now result
+        (change S.tells S.remaining S.failures source.old source.new)
+        (change D.tells D.content D.failures device.old device.new) }
 {
     let (work, stored) = store.split_at_mut(store.len() - plan.hash_block());
-    let job = Job { plan: *plan, task };
     match window_for(plan) {
-        Window::Empty => pass_over_blocks::<0, S, D>(&job, work, stored, source, device),
-        Window::Small => pass_over_blocks::<SMALL_WINDOW, S, D>(&job, work, stored, source, device),
-        Window::Middle => pass_over_blocks::<MIDDLE_WINDOW, S, D>(
-            &job, work, stored, source, device,
+        Window::Empty => {
+            pass_over_blocks::<0, C, S, D>(plan, on_closed, work, stored, source, device)
+        }
+        Window::Small => pass_over_blocks::<SMALL_WINDOW, C, S, D>(
+            plan, on_closed, work, stored, source, device,
         ),
-        Window::Large => pass_over_blocks::<LARGE_WINDOW, S, D>(&job, work, stored, source, device),
+        Window::Middle => pass_over_blocks::<MIDDLE_WINDOW, C, S, D>(
+            plan, on_closed, work, stored, source, device,
+        ),
+        Window::Large => pass_over_blocks::<LARGE_WINDOW, C, S, D>(
+            plan, on_closed, work, stored, source, device,
+        ),
     }
 }
 
@@ -62,33 +56,25 @@ pub(crate) fn pass<S: Source, D: Device>(
 /// block are in `work`, and a hash block to compare with in `stored`. It isn't inlined, so that the stack holds only the
 /// window that is used.
 #[inline(never)]
-fn pass_over_blocks<const N: usize, S: Source, D: Device>(
-    job: &Job,
+fn pass_over_blocks<const N: usize, C: OnClosed, S: Source, D: Device>(
+    plan: &Plan,
+    on_closed: &C,
     work: &mut [u8],
     stored: &mut [u8],
     source: &mut S,
     device: &mut D,
-) -> Result<Digest, PassFault>
-    requires window { N ≡ length_of (window_for job.now.plan) }
-    requires room { level_count_of job.now.plan * job.now.plan.settings.hash_block + job.now.plan.settings.data_block
+) -> Result<Digest, PassFault<C::Why>>
+    requires window { N ≡ length_of (window_for plan.now) }
+    requires room { level_count_of plan.now * plan.now.settings.hash_block + plan.now.settings.data_block
         ≤ length work.old }
-    requires stored { length stored.old ≡ job.now.plan.settings.hash_block }
-    ensures planned { IsPlan job.now.plan }
-    ensures size { IfOk result (λ root. length root ≡ digest_len job.now.plan.settings) }
+    requires stored { length stored.old ≡ plan.now.settings.hash_block }
+    ensures planned { IsPlan plan.now }
     ensures source_told { S.tells source.old → S.tells source.new }
     ensures device_told { D.tells device.old → D.tells device.new }
-    ensures source_count { Counts (failed_at side_of TheSource result) (S.failures source.old) (S.failures source.new) }
-    ensures written { job.now.task ≡ Write → IfErr result IsOfWriting }
-    ensures device_count { Counts (failed_at side_of TheDevice result) (D.failures device.old) (D.failures device.new) }
-    ensures stays { job.now.task ≡ Compare → D.tells device.old → D.content device.new ≡ D.content device.old }
-    ensures read { S.tells source.old → Passes job.now.plan result (S.remaining source.old) (S.remaining source.new) }
-    ensures stands { S.tells source.old → D.tells device.old
-        → PassesOnDevice job.now.plan (data_blocks job.now.plan (S.remaining source.old))
-        result (D.content device.old) (D.content device.new) }
-    ensures compared { job.now.task ≡ Compare → S.tells source.old → D.tells device.old
-        → PassesCompared job.now.plan (S.remaining source.old) result (D.content device.old) (D.content device.new) }
+    ensures run { PassRun (effects C.is_failure C.keeps C.leaves C.stops) plan.now result
+        (change S.tells S.remaining S.failures source.old source.new)
+        (change D.tells D.content D.failures device.old device.new) }
 {
-    let plan = &job.plan;
     let mut window = [0; N];
     work.fill(0);
     let mut root = Digest::zeros(plan.settings().algorithm());
@@ -99,9 +85,9 @@ fn pass_over_blocks<const N: usize, S: Source, D: Device>(
             Err(BlockFault::Short) => return Err(PassFault::SourceShort(i)),
             Err(BlockFault::Failed) => return Err(PassFault::SourceFailed(i)),
         };
-        root = match carry(job, work, stored, i, digest, device) {
+        root = match carry(plan, on_closed, work, stored, i, digest, device) {
             Ok(above) => above,
-            Err(fault) => return Err(fault),
+            Err(stop) => return Err(PassFault::AtBlock(stop)),
         };
     }
     Ok(root)

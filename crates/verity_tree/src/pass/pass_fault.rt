@@ -1,28 +1,20 @@
 //! Why a pass over the data ends early.
 
-use crate::part::Part;
-
-/// Why a pass ends early. All numbers are counted from 0, and level 0 is next to the data.
+/// The hash block at which a pass stops, and why. Both numbers are counted from 0, level 0 next to the data.
 #[derive(Clone, Copy)]
-pub(crate) enum PassFault {
-    /// The source ended before the end of this data block.
+pub(crate) struct Stop<F> {
+    pub level: usize,
+    pub block: u64,
+    pub why: F,
+}
+
+/// Why a pass ends early.
+#[derive(Clone, Copy)]
+pub(crate) enum PassFault<F> {
+    /// The source ended before the end of this data block, counted from 0.
     SourceShort(u64),
-    /// The source failed while this data block was read.
+    /// The source failed while this data block was read, counted from 0.
     SourceFailed(u64),
-    /// The device failed at this hash block.
-    DeviceFailed {
-        /// The level.
-        level: usize,
-        /// The block of the level.
-        block: u64,
-    },
-    /// What stands at this hash block's place differs.
-    Differs {
-        /// The level.
-        level: usize,
-        /// The block of the level.
-        block: u64,
-        /// Where it differs.
-        part: Part,
-    },
+    /// It stopped at a hash block.
+    AtBlock(Stop<F>),
 }

@@ -4,6 +4,7 @@ ghost use Rattle.std.specs.Fork.{slice_chunk};
 ghost use Rattle.verity_io.specs.Counting.{Counts, TheSource, failed_at, is_call_of};
 ghost use Rattle.verity_io.specs.Reading.{HasRead};
 ghost use Rattle.verity_plan.specs.PlanCounts.{level_count_of};
+ghost use Rattle.verity_plan.specs.Plans.{IsPlan};
 ghost use Rattle.verity_plan.specs.Settings.{digest_len};
 ghost use Rattle.verity_tree.specs.Reading.{bytes_of};
 ghost use Rattle.verity_tree.specs.Steps.DataBlocks.{side_of};
@@ -13,6 +14,7 @@ ghost use Rattle.verity_tree.specs.Steps.ReadingAhead.{ReadsCount, IsBatch, Read
 ghost use Rattle.verity_tree.specs.Steps.ReadingAhead.{rows_from, side_if_any, window_for};
 
 use crate::pass::data_block::{BlockFault, read_data_block, take_data_block};
+use crate::planned::planned;
 use verity_hash::Digest;
 use verity_io::Source;
 use verity_plan::Plan;
@@ -137,8 +139,7 @@ pub(crate) fn rows_from(plan: &Plan, window: usize, i: u64) -> usize
 pub(crate) fn window_for(plan: &Plan) -> Window
     ensures { result ≡ window_for plan.now }
 {
-    // Called for the proof: its contract says that a plan has a data block.
-    let _blocks = plan.blocks();
+    planned(plan);
     if rows_from(plan, LARGE_WINDOW, 0) == 1 {
         return Window::Empty;
     }
@@ -172,8 +173,7 @@ fn read_ahead<S: Source>(
     ensures ahead { S.tells source.old → (bytes : List ℕ) → HasRead (bytes_of plan.now i) bytes (S.remaining source.old)
         → IsAhead plan.now i bytes result (S.remaining source.new) }
 {
-    // Called for the proof: by its contract there are fewer than 2^64 data blocks.
-    let _blocks = plan.blocks();
+    planned(plan);
     let count = rows_from(plan, window.len(), i);
     if count > 1 {
         return read_batch(
@@ -209,6 +209,7 @@ fn read_batch<S: Source>(
     count: usize,
     source: &mut S,
 ) -> DigestsAhead
+    requires planned { IsPlan plan.now }
     requires room { length rows.old ≡ count * plan.now.settings.data_block }
     requires some { 0 < count }
     requires most { count ≤ 8 }
@@ -219,8 +220,6 @@ fn read_batch<S: Source>(
     ensures ahead { S.tells source.old → (bytes : List ℕ) → HasRead (bytes_of plan.now i) bytes (S.remaining source.old)
         → IsAhead plan.now i bytes result (S.remaining source.new) }
 {
-    // Called for the proof: by its contract there are fewer than 2^64 data blocks.
-    let _blocks = plan.blocks();
     let (read, fault) = read_rows(plan, rows, i, count, source);
     DigestsAhead {
         digests: plan.settings().hash_rows(rows, plan.data_block(), count),
@@ -238,6 +237,7 @@ fn read_rows<S: Source>(
     count: usize,
     source: &mut S,
 ) -> (usize, Option<BlockFault>)
+    requires planned { IsPlan plan.now }
     requires room { length rows.old ≡ count * plan.now.settings.data_block }
     requires below { i + count ≤ plan.now.blocks }
     ensures told { S.tells source.old → S.tells source.new }
@@ -248,8 +248,6 @@ fn read_rows<S: Source>(
     ensures read { S.tells source.old → (bytes : List ℕ) → HasRead (bytes_of plan.now i) bytes (S.remaining source.old)
         → SourceStandsAt plan.now (i + result.0) bytes result.1 (S.remaining source.new) }
 {
-    // Called for the proof: by its contract there are fewer than 2^64 data blocks.
-    let _blocks = plan.blocks();
     for row in 0..count {
         match read_row(plan, rows, i + row as u64, row, source) {
             Ok(()) => {}

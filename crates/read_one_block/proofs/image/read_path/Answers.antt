@@ -1,8 +1,8 @@
 use Rattle.std.proofs.Common.{◌≡◌, ℕ, ◌*◌, ◌<◌, length, arith, ap, sym, ◌∙◌}
 use Rattle.verity_plan.specs.PlanCounts.{level_count_of}
 use Rattle.verity_plan.specs.Settings.{fan}
-use Rattle.verity_tree.proofs.CascadeLemmas.{closing-below, closing-place}
-use Rattle.read_one_block.proofs.ReadLemmas.{length-run, path-more, read-stored, run-within}
+use Rattle.verity_tree.proofs.ClosingLemmas.{closing-below}
+use Rattle.read_one_block.proofs.ReadLemmas.{closing-place, length-run, path-more, read-stored, run-within}
 use Rattle.read_one_block.proofs.image.read_path.Goals as goal
 
 pub byte-at-requires : goal.byte-at-requires

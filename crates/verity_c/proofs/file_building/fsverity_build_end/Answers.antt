@@ -1,12 +1,12 @@
-use Rattle.std.proofs.Common.{◌≡◌, ℕ, List, Result, length, ap, sym, ◌∙◌}
+use Rattle.std.proofs.Common.{◌≡◌, ℕ, List, Result, length, ap, refl, sym, ◌∙◌}
 use Rattle.verity_format.specs.Descriptors.{digest_of_file}
 use Rattle.verity_hash.specs.Hashing.{digest_len_of}
 use Rattle.verity_plan.specs.Settings.{TreeSettingsFields}
 use Rattle.verity_tree.specs.Levels.{root_of_file}
 use Rattle.verity_c.specs.Answers.{value_or}
-use Rattle.verity_c.specs.Building.{digest_of_fed, file_root_in}
+use Rattle.verity_c.specs.Building.{digest_of_fed, file_builder_of, file_root_in}
 use Rattle.verity_c.specs.declared.fault.Fault.{Fault}
-use Rattle.verity_c.proofs.BuildingLemmas.{file_digest_in-ok, file_root-put, file_size}
+use Rattle.verity_c.proofs.BuildingLemmas.{IsFedFileTo-at, IsFedFileTo-of, file_digest_in-ok, file_root-put, file_size}
 use Rattle.verity_c.proofs.file_building.fsverity_build_end.Goals as goal
 
 pub returns-in-Ok-end-clause-root : goal.returns-in-Ok-end-clause-root
@@ -47,3 +47,11 @@ returns-in-Ok-end-clause-digest c =
     ∙ ap (λ (n : ℕ). digest_of_file (record { tree = tree; size = n; root = c.put_digest.new.buffer })) size
     ∙ ap (λ (r : List ℕ). digest_of_file (record { tree = tree; size = length fed; root = r })) hash
     ∙ sym (ap (λ (r : Result TreeSettingsFields Fault). value_or c.args.digest.now (digest_of_fed r fed)) made)
+
+pub returns-in-Ok-end-clause-stays : goal.returns-in-Ok-end-clause-stays
+returns-in-Ok-end-clause-stays c =
+    λ fed h.
+    let tree = c.in-Ok.tree in
+    let made = c.in-Ok.ensures.made in
+    IsFedFileTo-of c.args.params.now tree (file_builder_of tree c.args.params.now.size) c.end.new.memory fed made refl
+    (c.in-Ok-end.ensures.stays fed (IsFedFileTo-at c.args.params.now tree c.args.memory.now fed made h))

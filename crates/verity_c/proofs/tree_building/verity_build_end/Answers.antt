@@ -1,10 +1,10 @@
-use Rattle.std.proofs.Common.{◌≡◌, ℕ, List, Result, length, ap, sym, ◌∙◌}
+use Rattle.std.proofs.Common.{◌≡◌, ℕ, List, Result, length, ap, refl, sym, ◌∙◌}
 use Rattle.verity_plan.specs.Plans.{PlanFields}
 use Rattle.verity_tree.specs.Levels.{data_blocks, root}
 use Rattle.verity_c.specs.Answers.{value_or}
-use Rattle.verity_c.specs.Building.{root_in}
+use Rattle.verity_c.specs.Building.{builder_of, root_in}
 use Rattle.verity_c.specs.declared.fault.Fault.{Fault}
-use Rattle.verity_c.proofs.BuildingLemmas.{IsFedTo-at, length-root}
+use Rattle.verity_c.proofs.BuildingLemmas.{IsFedTo-at, IsFedTo-of, length-root}
 use Rattle.verity_c.proofs.tree_building.verity_build_end.Goals as goal
 
 pub returns-in-Ok-end-clause-root : goal.returns-in-Ok-end-clause-root
@@ -19,3 +19,11 @@ returns-in-Ok-end-clause-root c =
     c.put_digest.ensures (ap length is ∙ length-root p.settings (data_blocks p fed) ∙ sym room)
     ∙ is
     ∙ sym (ap (λ (r : Result PlanFields Fault). value_or c.args.root.now (root_in r fed)) made)
+
+pub returns-in-Ok-end-clause-stays : goal.returns-in-Ok-end-clause-stays
+returns-in-Ok-end-clause-stays c =
+    λ fed h.
+    let p = c.in-Ok.plan in
+    let made = c.in-Ok.ensures.planned in
+    IsFedTo-of c.args.params.now p (builder_of p c.args.build.now) c.end.new.memory fed made refl
+    (c.in-Ok-end.ensures.stays fed (IsFedTo-at c.args.params.now p c.args.build.now c.args.memory.now fed made h))

@@ -1,12 +1,13 @@
 use Rattle.std.proofs.Common.{◌≡◌, sym, ◌∙◌, true, false, refl}
+use Rattle.std.proofs.lemmas.List.Elements.{All-nil}
 use Rattle.std.proofs.lemmas.Slice.Eq.{bytes_eq-Decides}
 use Rattle.verity_tree.proofs.JudgeLemmas.{comes-to, judges-differs, judges-right, judges-root, judges-short}
 use Rattle.verity_tree.proofs.comparing.compare.Goals as goal
 
 pub returns-then-eq-clause-verdict : goal.returns-then-eq-clause-verdict
 returns-then-eq-clause-verdict g c = λ tells told.
-    let h = c.in-Ok.ensures.compared refl tells told in
-    let r = c.in-Ok.ensures.read tells in
+    let h = c.in-Ok.ensures.run.leaves tells told (refl, All-nil _) in
+    let r = c.in-Ok.ensures.run.read tells in
     judges-right c.args.plan.now _ _ c.in-Ok.computed c.args.root.now r.1.enough h.1 r.0
     (sym c.as_bytes.ensures.bytes
     ∙ (bytes_eq-Decides c.as_bytes.result.now c.as_bytes-in-Ok.result.now).0 (sym c.eq.ensures ∙ c.if-eq.true)
@@ -14,8 +15,8 @@ returns-then-eq-clause-verdict g c = λ tells told.
 
 pub returns-else-eq-clause-verdict : goal.returns-else-eq-clause-verdict
 returns-else-eq-clause-verdict g c = λ tells told.
-    let h = c.in-Ok.ensures.compared refl tells told in
-    let r = c.in-Ok.ensures.read tells in
+    let h = c.in-Ok.ensures.run.leaves tells told (refl, All-nil _) in
+    let r = c.in-Ok.ensures.run.read tells in
     judges-root c.args.plan.now _ _ c.in-Ok.computed c.args.root.now r.1.enough h.1 r.0
     (λ same.
     let equal = (bytes_eq-Decides c.as_bytes.result.now c.as_bytes-in-Ok.result.now).1 (c.as_bytes.ensures.bytes ∙ same
@@ -24,17 +25,20 @@ returns-else-eq-clause-verdict g c = λ tells told.
 
 pub returns-in-Err-SourceShort-clause-verdict : goal.returns-in-Err-SourceShort-clause-verdict
 returns-in-Err-SourceShort-clause-verdict g c = λ tells told.
-    let h = c.in-Err-SourceShort.ensures.compared refl tells told in
-    let r = c.in-Err-SourceShort.ensures.read tells in
+    let h = c.in-Err-SourceShort.ensures.run.leaves tells told (refl, All-nil _) in
+    let r = c.in-Err-SourceShort.ensures.run.read tells in
     judges-short c.args.plan.now _ _ _ c.args.root.now c.in-Err-SourceShort.i (rw c.in-Err-SourceShort.field-0-is at r)
     (rw c.in-Err-SourceShort.field-0-is at h).1
 
-pub returns-in-Err-DeviceFailed-clause-verdict : goal.returns-in-Err-DeviceFailed-clause-verdict
-returns-in-Err-DeviceFailed-clause-verdict g c = λ tells told.
-    let h = c.in-Err-DeviceFailed.ensures.compared refl tells told in
-    comes-to c.args.plan.now _ _ _ (rw c.in-Err-DeviceFailed.field-0-is at h).1
+pub returns-in-Unread-clause-verdict : goal.returns-in-Unread-clause-verdict
+returns-in-Unread-clause-verdict g c = λ tells told.
+    let h = c.in-Err-AtBlock.ensures.run.leaves tells told (refl, All-nil _) in
+    let stops = (rw c.in-Err-AtBlock.field-0-is at h) in
+    comes-to c.args.plan.now _ _ _ c.in-Err-AtBlock.field-0-0 stops
 
-pub returns-in-Err-Differs-clause-verdict : goal.returns-in-Err-Differs-clause-verdict
-returns-in-Err-Differs-clause-verdict g c = λ tells told.
-    let h = c.in-Err-Differs.ensures.compared refl tells told in
-    judges-differs c.args.plan.now c.pass.ensures.planned _ _ c.args.root.now _ _ _ (rw c.in-Err-Differs.field-0-is at h).1
+pub returns-in-Differs-clause-verdict : goal.returns-in-Differs-clause-verdict
+returns-in-Differs-clause-verdict g c = λ tells told.
+    let h = c.in-Err-AtBlock.ensures.run.leaves tells told (refl, All-nil _) in
+    let stops = (rw c.in-Err-AtBlock.field-0-is at h) in
+    judges-differs c.args.plan.now c.pass.ensures.planned _ _ c.args.root.now _ c.in-Err-AtBlock.field-0-0 c.in-Differs.part
+    stops c.in-Differs.is

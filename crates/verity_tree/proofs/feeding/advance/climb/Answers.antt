@@ -2,12 +2,12 @@ use Rattle.std.proofs.Common.{◌≡◌, ℕ, ◌+◌, ◌-◌, ◌/◌, ◌%◌
 use Rattle.verity_plan.specs.PlanCounts.{level_count_of}
 use Rattle.verity_plan.specs.Settings.{fan}
 use Rattle.verity_tree.specs.Levels.{data_blocks}
-use Rattle.verity_tree.specs.Steps.Feeding.{HasClosed}
 use Rattle.verity_tree.specs.ClosingOrder.{blocks_before}
-use Rattle.verity_tree.specs.Steps.OpenBlocks.{HasOpenBlocks, IsCarrying, cascade_state}
+use Rattle.verity_tree.specs.Steps.OpenBlocks.{HasOpenBlocks, IsCarrying, carry_state}
 use Rattle.verity_tree.proofs.ClimbLemmas.{climbs-closed, climbs-kept, climbs-past, last-block}
 use Rattle.verity_tree.proofs.LevelLemmas.{length-cut}
 use Rattle.verity_tree.proofs.feeding.advance.climb.Goals as goal
+use Rattle.verity_tree.specs.Steps.OpenBlocks.{HasClosed}
 
 pub returns-then-level-levels-clause-stands : goal.returns-then-level-levels-clause-stands
 returns-then-level-levels-clause-stands c = λ levels fed within room count ends more h.
@@ -39,7 +39,7 @@ returns-then-not-add_digest-clause-stands c = λ levels fed within room count en
     let below : level < levels = omega (arith, c.if-level-levels.false, c.levels.ensures, within) in
     let added = c.if-not-add_digest.ensures.adds blocks levels (sym (length-cut s p.blocks p.wanted fed)) below
     (omega (arith, room, c.digest_below-digest.auto.opened))
-    (subst (λ (n : ℕ). IsCarrying s blocks (cascade_state n level levels) c.digest_below-digest.new.opened
+    (subst (λ (n : ℕ). IsCarrying s blocks (carry_state n level levels) c.digest_below-digest.new.opened
     c.digest_below-digest.result) same carrying) in
     climbs-kept p levels level fed c.digest_below-digest.new.opened c.digest_below-digest.result c.add_digest.new.opened
     c.blocks-blocks.ensures.planned ends c.requires.closed carrying
@@ -61,7 +61,7 @@ returns-clause-stands c = λ levels fed within room count ends more h.
     let below : level < levels = omega (arith, low, within) in
     let added = c.if-not-add_digest.ensures.adds blocks levels (sym (length-cut s p.blocks p.wanted fed)) below
     (omega (arith, room, c.digest_below-digest.auto.opened))
-    (subst (λ (n : ℕ). IsCarrying s blocks (cascade_state n level levels) c.digest_below-digest.new.opened
+    (subst (λ (n : ℕ). IsCarrying s blocks (carry_state n level levels) c.digest_below-digest.new.opened
     c.digest_below-digest.result) same carrying) in
     climbs-closed p levels level fed c.add_digest.new.opened ends low
     (subst (λ (n : ℕ). HasClosed s blocks n level levels c.add_digest.new.opened) (sym same) added)

@@ -3,7 +3,7 @@ use Rattle.verity_plan.proofs.FanLemmas.{some_data}
 use Rattle.verity_tree.specs.Levels.{data_blocks}
 use Rattle.verity_tree.specs.Steps.Feeding.{current_bytes}
 use Rattle.verity_tree.specs.ClosingOrder.{blocks_before}
-use Rattle.verity_tree.specs.Steps.OpenBlocks.{IsCarrying, cascade_state}
+use Rattle.verity_tree.specs.Steps.OpenBlocks.{IsCarrying, carry_state}
 use Rattle.verity_tree.proofs.ClimbLemmas.{carrying-current, current-place, handing-out, last-place, length-current, nothing-out}
 use Rattle.verity_tree.proofs.feeding.advance.digest_below.Goals as goal
 
@@ -24,7 +24,7 @@ returns-then-level-eq0-clause-carries c = λ levels fed within room count ends h
     ∙ ap (λ (n : ℕ). c.args.count % n) (sym size) in
     let is = c.current_digest.ensures.digest bytes (omega (arith, length-current s fed, place.0))
     (omega (arith, length-current s fed, place.1)) at fed_to.holds in
-    subst (λ (n : ℕ). IsCarrying s (data_blocks p fed) (cascade_state i n levels) c.args.opened.now c.current_digest.result)
+    subst (λ (n : ℕ). IsCarrying s (data_blocks p fed) (carry_state i n levels) c.args.opened.now c.current_digest.result)
     (sym none) (carrying-current p levels fed c.args.opened.now c.args.current.now c.current_digest.result planned ends fed_to is)
 
 pub returns-clause-carries : goal.returns-clause-carries
@@ -36,7 +36,7 @@ returns-clause-carries c = λ levels fed within room count ends h.
     let some : 0 < c.args.level = omega (arith, c.if-level-eq0.false) in
     let out = handing-out p levels c.args.level fed c.args.opened.now c.args.current.now some h in
     let up : m + 1 ≡ c.args.level = omega (arith, some) in
-    subst (λ (n : ℕ). IsCarrying s (data_blocks p fed) (cascade_state i n levels) c.close_block.new.opened c.close_block.result)
+    subst (λ (n : ℕ). IsCarrying s (data_blocks p fed) (carry_state i n levels) c.close_block.new.opened c.close_block.result)
     up
     (c.close_block.ensures.closes (data_blocks p fed) i levels (omega (arith, some, c.requires.level, within)) room
     out.closed)

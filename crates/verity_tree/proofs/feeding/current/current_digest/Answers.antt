@@ -1,7 +1,10 @@
-use Rattle.std.proofs.Common.{◌≡◌, ℕ, ◌<◌, length, take, Option, Some, arith, ap, subst, sym, ◌∙◌}
+use Rattle.std.proofs.Common.{◌≡◌, ℕ, ◌-◌, ◌<◌, List, length, take, replicate, Option, Some, arith, ap, subst, sym, ◌∙◌}
+use Rattle.std.proofs.Math.Seq.{take-append_seam}
 use Rattle.std.specs.Prelude.{SomeIff}
 use Rattle.verity_hash.specs.declared.digest.Digest.{Digest}
-use Rattle.verity_plan.specs.Settings.{hash}
+use Rattle.verity_hash.specs.Hashing.{with_zeros}
+use Rattle.verity_plan.specs.Settings.{TreeSettingsFields, hash}
+use Rattle.verity_tree.specs.Steps.Feeding.{HoldsCurrent}
 use Rattle.verity_tree.proofs.OpenBlockLemmas.{length-hash, hash-by}
 use Rattle.verity_tree.proofs.FirstBlockLemmas.{with_zeros-whole}
 use Rattle.verity_tree.proofs.PieceOfBytesLemmas.{with_zeros-filled, block-whole, block-partial}
@@ -34,3 +37,22 @@ returns-clause-digest c = λ bytes some most at holds.
     ∙ ap (hash s)
     (with_zeros-filled s.data_block c.args.at bytes c.args.current.now c.fill.new.self c.requires.room here most
     (holds.partial (omega (arith, here, c.requires.at))) (c.fill.ensures.after (λ y e. e)))
+
+-- zeros after the bytes that have come leave these
+holds-filled : (s : TreeSettingsFields) (bytes current : List ℕ) → length bytes < s.data_block
+    → current ≡ with_zeros s.data_block bytes → HoldsCurrent s bytes current
+holds-filled s bytes current less is = record {
+  partial = λ _. ap (take (length bytes)) is ∙ take-append_seam bytes (replicate (s.data_block - length bytes) 0);
+  whole = λ full. absurd (omega (arith, full, less));
+}
+
+pub returns-clause-stays : goal.returns-clause-stays
+returns-clause-stays c = λ bytes some most at holds.
+    let s = c.args.plan.now.settings in
+    let more : 0 < c.args.at = omega arith in
+    let here : length bytes ≡ c.args.at =
+    block-partial (length bytes) s.data_block most (omega (arith, more, at)) ∙ at in
+    let less : length bytes < s.data_block = omega (arith, here, c.requires.at) in
+    holds-filled s bytes _ less
+    (with_zeros-filled s.data_block c.args.at bytes c.args.current.now c.fill.new.self c.requires.room here most
+    (holds.partial less) (c.fill.ensures.after (λ y e. e)))

@@ -1,4 +1,4 @@
-use Rattle.std.proofs.Common.{List, ap, arith, false, length, refl, subst, sym, ℕ, ◌∙◌, ◌≡◌, ◌<◌}
+use Rattle.std.proofs.Common.{List, ap, arith, false, length, refl, subst, sym, ℕ, ◌*◌, ◌∙◌, ◌≡◌, ◌<◌}
 use Rattle.std.proofs.lemmas.Bool.Decides.{nat_tests}
 use Rattle.std.specs.Prelude.{Ok, nat_eq}
 use Rattle.verity_plan.proofs.CountLemmas.{mul_le}
@@ -7,11 +7,11 @@ use Rattle.verity_plan.specs.PlanCounts.{most_level_count}
 use Rattle.verity_plan.specs.Settings.{TreeSettingsFields}
 use Rattle.verity_tree.specs.Levels.{root_of_file, data_blocks, root}
 use Rattle.verity_tree.specs.Steps.Feeding.{HasFed}
-use Rattle.verity_tree.proofs.FeedingLemmas.{FilePlan-is, IsFedFile-parted, file_levels, file_room}
+use Rattle.verity_tree.proofs.FeedingLemmas.{FilePlan-is, IsFedFile-parted, file_levels, file_room, joined}
 use Rattle.verity_tree.proofs.file_builder.FileBuilder.end.Goals as goal
 
-pub close_all-requires-clause-opened : goal.close_all-requires-clause-opened
-close_all-requires-clause-opened c =
+pub root_of_fed-requires-clause-opened : goal.root_of_fed-requires-clause-opened
+root_of_fed-requires-clause-opened c =
     let plan = c.in-Ok.plan in
     let s = c.args.self.now.settings in
     let room = file_room plan s c.args.self.now.fed (most_level_count s) _ c.in-Ok.ensures
@@ -42,10 +42,33 @@ returns-in-Ok-clause-root c = λ fed h.
     let stood = IsFedFile-parted c.args.self.now _ c.args.memory.now c.split_at_mut-opened.result.0.now
     c.split_at_mut-opened.result.1.now fed c.open_length.ensures.value c.split_at_mut-opened.ensures.front
     c.split_at_mut-opened.ensures.back h in
-    c.close_all.ensures levels fed (file_levels plan s count planned c.in-Ok.ensures)
-    (file_room plan s count levels _ c.in-Ok.ensures
-    (c.split_at_mut-opened.ensures.front_len ∙ c.open_length.ensures.value))
+    c.root_of_fed.ensures.root levels fed (file_levels plan s count planned c.in-Ok.ensures)
     (h.count ∙ sym (ap (λ (p : PlanFields). p.wanted) same))
     (subst (λ (t : TreeSettingsFields). HasFed t levels fed c.split_at_mut-opened.result.0.now c.split_at_mut-opened.result.1.now)
     (sym (ap (λ (p : PlanFields). p.settings) same)) stood)
     ∙ file_root-some s plan count fed planned c.in-Ok.ensures h.count
+
+pub returns-in-Ok-clause-stays : goal.returns-in-Ok-clause-stays
+returns-in-Ok-clause-stays c = λ fed h.
+    let plan = c.in-Ok.plan in
+    let s = c.args.self.now.settings in
+    let count = c.args.self.now.fed in
+    let levels = most_level_count s in
+    let planned = c.blocks-blocks.ensures.planned in
+    let same : plan ≡ _ = FilePlan-is plan s count c.in-Ok.ensures in
+    let settings : plan.settings ≡ s = ap (λ (p : PlanFields). p.settings) same in
+    let stood = IsFedFile-parted c.args.self.now _ c.args.memory.now c.split_at_mut-opened.result.0.now
+    c.split_at_mut-opened.result.1.now fed c.open_length.ensures.value c.split_at_mut-opened.ensures.front
+    c.split_at_mut-opened.ensures.back h in
+    let stands = c.root_of_fed.ensures.stays levels fed (file_levels plan s count planned c.in-Ok.ensures)
+    (h.count ∙ sym (ap (λ (p : PlanFields). p.wanted) same))
+    (subst (λ (t : TreeSettingsFields). HasFed t levels fed c.split_at_mut-opened.result.0.now c.split_at_mut-opened.result.1.now)
+    (sym settings) stood) in
+    record {
+      count = h.count;
+      stands = joined (λ (xs ys : List ℕ). HasFed s levels fed xs ys) (levels * s.hash_block)
+          c.root_of_fed.new.opened c.root_of_fed.new.current
+          (c.root_of_fed.auto.opened ∙ c.split_at_mut-opened.ensures.front_len ∙ c.open_length.ensures.value)
+          (subst (λ (t : TreeSettingsFields). HasFed t levels fed c.root_of_fed.new.opened c.root_of_fed.new.current)
+          settings stands);
+    }

@@ -1,0 +1,120 @@
+//! Root hashes that are asked for between pieces, as often as one likes, and hash blocks that are asked for again. What is
+//! expected is made from plain lists of bytes.
+use crate::cases::{Case, FILE, Row, SHA256, SHA512};
+use crate::feeding::{end_file, feed_file};
+use crate::trees::small;
+use std::alloc::Global;
+use std::test::Fail;
+use verity_hash::Digest;
+use verity_tree::{FileBuilder, HashBlock, Plan, TreeBuilder};
+
+/// Files that grow from each size to the next: about the ends of blocks, and where the tree has a level more. Of each
+/// size the number of levels is stated.
+const GROWING: [(Row, &[(usize, usize)]); 3] = [
+    (
+        (FILE, SHA256, b"", (64, 64), (2, 32), (1, 0)),
+        &[
+            (1, 0),
+            (63, 0),
+            (64, 0),
+            (65, 1),
+            (128, 1),
+            (129, 2),
+            (255, 2),
+            (256, 2),
+            (257, 3),
+            (512, 3),
+            (513, 4),
+            (1024, 4),
+            (1025, 5),
+        ],
+    ),
+    (
+        (FILE, SHA512, b"salt", (128, 128), (2, 64), (1, 0)),
+        &[
+            (127, 0),
+            (128, 0),
+            (129, 1),
+            (256, 1),
+            (257, 2),
+            (512, 2),
+            (513, 3),
+            (1024, 3),
+            (1100, 4),
+        ],
+    ),
+    (
+        (FILE, SHA256, b"salt", (512, 512), (16, 32), (1, 0)),
+        &[
+            (511, 0),
+            (512, 0),
+            (8191, 1),
+            (8192, 1),
+            (8193, 2),
+            (16_384, 2),
+            (131_072, 2),
+            (131_073, 3),
+        ],
+    ),
+];
+
+/// Whether a file that grows has its root hash at each size, asked for twice, and zeros before the first byte.
+fn grows(alloc: Global, row: &Row, sizes: &[(usize, usize)]) -> Result<bool, Fail> {
+    let settings = *Case::new(alloc, row)?.plan.settings();
+    let mut memory = vec![in alloc; 0xa5u8; FileBuilder::memory_length(&settings)]?;
+    let mut builder = FileBuilder::begin(&settings, memory.as_mut_slice());
+    let mut is_right = end_file(&builder, memory.as_mut_slice())? == Digest::zeros(row.1);
+    let mut before = 0;
+    for &size in sizes {
+        let case = Case::new(alloc, &(row.0, row.1, row.2, row.3, row.4, size))?;
+        let piece = case.data.as_slice().get(before..).ok_or("it shrinks")?;
+        feed_file(&mut builder, memory.as_mut_slice(), piece)?;
+        before = size.0;
+        let first = end_file(&builder, memory.as_mut_slice())?;
+        let second = end_file(&builder, memory.as_mut_slice())?;
+        is_right = is_right && first == case.root && second == case.root;
+    }
+    Ok(is_right)
+}
+
+#[test]
+fn files_have_a_root_hash_at_any_time(rt: HostRuntime) -> Result<(), Fail> {
+    for (row, sizes) in &GROWING {
+        assert!(rt; grows(rt.alloc(), row, sizes)?, "at {row:?}");
+    }
+    Ok(())
+}
+
+/// The last hash block by these numbers of a builder of the tree above 17 blocks of 512 bytes.
+fn last_of(fed: u64, closed: usize) -> Result<Option<HashBlock>, Fail> {
+    let plan = Plan::for_blocks(&small()?, 17, 1)?;
+    Ok(TreeBuilder { plan, fed, closed }.last_block())
+}
+
+#[test]
+fn the_last_hash_block_goes_by_the_numbers(rt: HostRuntime) -> Result<(), Fail> {
+    let block = |level, index, byte, at| {
+        Some(HashBlock {
+            level,
+            index,
+            byte,
+            at,
+        })
+    };
+    let cases = [
+        ((0, 0), None),
+        ((0, 1), None),
+        ((8192, 0), None),
+        ((8192, 1), block(0, 0, 1024, 0)),
+        ((8193, 1), block(0, 1, 1536, 0)),
+        ((8704, 1), block(0, 1, 1536, 0)),
+        ((8704, 2), block(1, 0, 512, 512)),
+        ((8704, 3), None),
+        ((8705, 2), None),
+        ((u64::MAX, usize::MAX), None),
+    ];
+    for &((fed, closed), expected) in &cases {
+        assert_eq!(rt; last_of(fed, closed)?, expected, "after {fed}, {closed}");
+    }
+    Ok(())
+}

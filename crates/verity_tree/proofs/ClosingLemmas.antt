@@ -1,0 +1,132 @@
+-- A digest on its way up: which hash blocks close with its data block.
+use Rattle.std.proofs.Common.{List, [], ap, arith, drop, get_or, inl, inr, length, refl, subst, suc}
+use Rattle.std.proofs.Common.{sym, take, true, zero, ℕ, ◌%◌, ◌*◌, ◌+◌, ◌-◌, ◌/◌, ◌<◌, ◌^◌, ◌∙◌, ◌≡◌, ◌≤◌, ◌⊎◌}
+use Rattle.std.proofs.lemmas.Bool.{cases_lt}
+use Rattle.std.proofs.lemmas.Nat.{div-add-mod', div-mul-add}
+use Rattle.std.proofs.Math.Nat.{one-le-pow, pow-suc}
+use Rattle.verity_plan.specs.Settings.{TreeSettingsFields, hash, fan}
+use Rattle.verity_tree.specs.Levels.{blocks_up}
+use Rattle.verity_plan.specs.Plans.{level_count, level_size, place}
+use Rattle.verity_tree.specs.ClosingOrder.{closing_with, closes, first_closing}
+use Rattle.verity_tree.specs.Steps.Closing.{EndsBlock}
+use Rattle.verity_tree.specs.Steps.OpenBlocks.{digests_under, open_block, IsReached, IsCarrying}
+use Rattle.verity_tree.specs.Steps.OpenBlocks.{carry_state}
+use Rattle.verity_plan.proofs.FanLemmas.{fan-some}
+use Rattle.verity_plan.proofs.IndexLemmas.{quotient-below}
+use Rattle.verity_tree.proofs.OpenBlockSteps.{level_digest-below, level_digest-root, place-first}
+use Rattle.verity_tree.proofs.OrderSplit.{closing-prefix, closes-reached, closes-last, closes-none}
+use Rattle.verity_tree.specs.Steps.OpenBlocks.{HasClosed}
+use Rattle.verity_tree.proofs.OpenBlockSteps.{IsNext, arrival}
+
+positive : (k : ℕ) → (k ≡ 0 → ⊥) → k ≡ (k - 1) + 1
+positive zero h = absurd (h refl)
+positive (suc k) h = omega arith
+
+-- what is reached was reached at the levels below
+reached-before : (f i m : ℕ) → 0 < f → IsReached f i (m + 1) → IsReached f i m
+reached-before f i m some h = record {
+  whole =
+      let w = f ^ m in
+      let k = (i / f ^ (m + 1) + 1) * f in
+      let e : m + 1 ≡ suc m = omega arith in
+      let power : f ^ (m + 1) ≡ w * f = ap (λ (n : ℕ). f ^ n) e ∙ pow-suc f m in
+      let wide : 0 < w = one-le-pow m f some in
+      let whole : i + 1 ≡ k * w = omega (arith, h.whole, ap (λ (n : ℕ). (i / f ^ (m + 1) + 1) * n) power) in
+      let split = div-add-mod' i w in
+      let one : k ≡ (k - 1) + 1 = positive k (λ none. omega (arith, whole, ap (λ (n : ℕ). n * w) none)) in
+      let area : k * w ≡ (k - 1) * w + w =
+      ap (λ (n : ℕ). n * w) one ∙ (let t : (k - 1 + 1) * w ≡ (k - 1) * w + w = omega arith in t) in
+      let here : i ≡ (k - 1) * w + (w - 1) = omega (arith, whole, area, wide) in
+      let less : w - 1 < w = omega (arith, wide) in
+      let q : i / w ≡ k - 1 = ap (λ (n : ℕ). n / w) here ∙ div-mul-add (k - 1) w (w - 1) less in
+      let next : i / w + 1 ≡ k = omega (arith, q, one) in
+      whole ∙ ap (λ (n : ℕ). n * w) (sym next);
+}
+
+reached-down-by : (f i l k : ℕ) → 0 < f → IsReached f i (l + k) → IsReached f i l
+reached-down-by f i l zero some h = let e : l + 0 ≡ l = omega arith in subst (λ (n : ℕ). IsReached f i n) e h
+reached-down-by f i l (suc k) some h =
+    let e : l + suc k ≡ l + k + 1 = omega arith in
+    reached-down-by f i l k some (reached-before f i (l + k) some (subst (λ (n : ℕ). IsReached f i n) e h))
+
+pub reached-down : (f i m l : ℕ) → 0 < f → IsReached f i m → l ≤ m → IsReached f i l
+reached-down f i m l some h le =
+    let e : m ≡ l + (m - l) = omega arith in
+    reached-down-by f i l (m - l) some (subst (λ (n : ℕ). IsReached f i n) e h)
+
+-- the digest on its way up is the next of its level
+pub level_digest-is_next : (s : TreeSettingsFields) (blocks : List (List ℕ)) (i m levels count index a k : ℕ)
+    (store block digest : List ℕ) → 2 ≤ fan s
+    → i < count → m < levels → index ≡ i / fan s ^ m → a ≡ m * s.hash_block → k ≡ s.hash_block
+    → block ≡ take k (drop a store) → count ≡ length blocks → IsCarrying s blocks (carry_state i m levels) store digest
+    → IsNext s (blocks_up s blocks m) (arrival index block digest)
+level_digest-is_next s blocks i m levels count index a k store block digest two below inside place from wide was many h
+    =
+    let some : 0 < fan s = omega arith in
+    let less : i < length blocks = omega (arith, below, many) in
+    record {
+      here = omega (arith, level_digest-below s blocks i m some less, place);
+      stands = was ∙ ap (λ (n : ℕ). take n (drop a store)) wide ∙ ap (λ (n : ℕ). take s.hash_block (drop n store)) from
+          ∙ h.above m (omega arith) inside ∙ ap (open_block s (digests_under s blocks m)) (sym place);
+      digest_is = h.digest_is ∙ ap (λ (n : ℕ). hash s (get_or (blocks_up s blocks m) n [])) (sym place);
+    }
+
+-- a level that stays open ends the data block's list
+pub closing-kept : (s : TreeSettingsFields) (blocks : List (List ℕ)) (i m levels count : ℕ) (store digest : List ℕ)
+    → m ≤ level_count (fan s) count → count ≡ length blocks → i + 1 < length blocks
+    → i / fan s ^ m % fan s + 1 < fan s → IsCarrying s blocks (carry_state i m levels) store digest
+    → closing_with (fan s) count i ≡ first_closing (fan s) i m
+closing-kept s blocks i m levels count store digest within many more room h =
+    let f = fan s in
+    let n = length blocks in
+    let some = fan-some s in
+    let reached = h.reached more in
+    let top : m ≤ level_count f n = omega (arith, within, ap (level_count f) many) in
+    ap (λ (k : ℕ). closing_with f k i) many
+    ∙ closing-prefix f n i m top
+    (λ j low. closes-reached f n i j some (reached-down f i m (j + 1) some reached (omega (arith, low))))
+    (λ j high below. closes-none f n i m j some reached room more high)
+
+-- all levels close
+pub closing-done : (s : TreeSettingsFields) (blocks : List (List ℕ)) (i levels count : ℕ) (store digest : List ℕ) → 2 ≤ fan s
+    → i < count → levels ≡ level_count (fan s) count → count ≡ length blocks
+    → IsCarrying s blocks (carry_state i levels levels) store digest
+    → closing_with (fan s) count i ≡ first_closing (fan s) i levels
+closing-done s blocks i levels count store digest two below all many h =
+    let f = fan s in
+    let n = length blocks in
+    let top : levels ≡ level_count f n = all ∙ ap (level_count f) many in
+    let done = level_digest-root s blocks i levels store digest two (omega (arith, below, many)) top h in
+    ap (λ (k : ℕ). closing_with f k i) many
+    ∙ closing-prefix f n i levels (omega (arith, top)) (λ j low. closes-last f n i j done.0)
+    (λ j high within. absurd (omega (arith, high, within, top)))
+
+-- the block that closes with data block i is one of its level
+pub closing-below : (f count m i : ℕ) → 0 < f → i < count → i / f ^ (m + 1) < level_size f count m
+closing-below f count m i some below = quotient-below i count (f ^ (m + 1)) (one-le-pow (m + 1) f some) below
+
+-- where a level's block has closed, so have those below it
+pub closes-closed : (s : TreeSettingsFields) (blocks : List (List ℕ)) (i m levels : ℕ) (store : List ℕ)
+    → i < length blocks → HasClosed s blocks i m levels store → (k : ℕ) → k ≤ m
+    → closes (fan s) (length blocks) i k ≡ true
+closes-closed s blocks i m levels store below h k le =
+    let some = fan-some s in
+    elim (cases_lt (i + 1) (length blocks)) [
+      | inl more ↦ closes-reached (fan s) (length blocks) i k some
+          (reached-down (fan s) i (m + 1) (k + 1) some (h.reached more) (omega (arith, le)))
+      | inr past ↦ closes-last (fan s) (length blocks) i k (omega (arith, past, below))
+    ]
+
+-- a block that closes above a data block ends with it
+pub ends-here : (f n i m : ℕ) → (0 < m → EndsBlock f n i) → (i / f ^ m % f + 1 ≡ f) ⊎ (i + 1 ≡ n) → EndsBlock f n i
+ends-here f n i m before ends =
+    elim (cases_lt 0 m) [
+      | inl above ↦ before above
+      | inr low ↦
+          let first : m ≡ 0 = omega (arith, low) in
+          let same : i / f ^ m ≡ i = ap (λ (k : ℕ). i / f ^ k) first ∙ sym (place-first i f) in
+          elim ends [
+            | inl full ↦ inl (ap (λ (k : ℕ). k % f + 1) (sym same) ∙ full)
+            | inr is ↦ inr is
+          ]
+    ]

@@ -1,0 +1,32 @@
+use Rattle.std.proofs.Common.{refl}
+use Rattle.verity_tree.specs.Steps.OnClosed.{KeepsAny, StopsWriting, WritesAll, is_unwritten, effects}
+use Rattle.verity_tree.specs.TreeWriting.{device_with}
+use Rattle.verity_tree.proofs.OnePassLemmas.{stops-next}
+use Rattle.verity_tree.proofs.building.build.Goals as goal
+
+pub returns-in-Ok-clause-stands : goal.returns-in-Ok-clause-stands
+unfolding device_with
+returns-in-Ok-clause-stands g c = λ tells told. c.in-Ok.ensures.run.leaves tells told refl
+
+pub returns-in-Err-SourceShort-clause-stands : goal.returns-in-Err-SourceShort-clause-stands
+unfolding device_with
+returns-in-Err-SourceShort-clause-stands g c = λ tells told.
+    let h = c.in-Err-SourceShort.ensures.run.leaves tells told refl in
+    rw c.in-Err-SourceShort.field-0-is at h
+
+pub returns-in-Err-SourceFailed-clause-stands : goal.returns-in-Err-SourceFailed-clause-stands
+unfolding device_with
+returns-in-Err-SourceFailed-clause-stands g c = λ tells told.
+    let h = c.in-Err-SourceFailed.ensures.run.leaves tells told refl in
+    rw c.in-Err-SourceFailed.field-0-is at h
+
+pub returns-in-Err-AtBlock-clause-stands : goal.returns-in-Err-AtBlock-clause-stands
+unfolding device_with
+returns-in-Err-AtBlock-clause-stands g c = λ tells told.
+    let h = c.in-Err-AtBlock.ensures.run.leaves tells told refl in
+    let stops = (rw c.in-Err-AtBlock.field-0-is at h) in
+    record {
+      done = stops.done;
+      next = stops-next (effects is_unwritten KeepsAny WritesAll StopsWriting) c.args.plan.now _ c.in-Err-AtBlock.field-0-0 _ _ stops;
+      spoiled = stops.stopped;
+    }

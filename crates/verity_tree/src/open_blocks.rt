@@ -1,0 +1,134 @@
+//! The open blocks of a tree, one a level, one after another: digests come to them, and they close.
+ghost use Rattle.std.specs.Prelude.{◌≡◌, ◌⊎◌, ℕ, ◌+◌, ◌*◌, ◌/◌, ◌%◌, ◌^◌, ◌<◌, ◌≤◌, ◌++◌, List, [], length, take, drop};
+ghost use Rattle.std.specs.Prelude.{replicate, slice_index_or, true, false};
+ghost use Rattle.verity_plan.specs.PlanCounts.{level_count_of};
+ghost use Rattle.verity_plan.specs.Plans.{IsPlan};
+ghost use Rattle.verity_plan.specs.Settings.{digest_len, fan, hash};
+ghost use Rattle.verity_tree.specs.Steps.OpenBlocks.{Adds, HasClosed, HasOpenBlocks, IsCarrying, carry_state};
+ghost use Rattle.verity_tree.specs.Steps.OpenBlocks.{level_digest};
+ghost use Rattle.verity_tree.specs.Steps.ReadingAhead.{IsBatch};
+
+use crate::planned::planned;
+use verity_hash::Digest;
+use verity_plan::{Plan, TreeSettings};
+
+/// Puts a digest into a block.
+pub(crate) fn put_slot(block: &mut [u8], from: usize, digest: &Digest)
+    requires { from + length digest.now ≤ length block.old }
+    ensures { block.new ≡ take from block.old ++ digest.now ++ drop (from + length digest.now) block.old }
+{
+    let bytes = digest.as_bytes();
+    block[from..from + bytes.len()].copy_from_slice(bytes);
+}
+
+/// Adds a digest that has come to a level, above data block `i`, to the level's open block: whether the block has closed,
+/// full or with the last data block.
+pub(crate) fn add_digest(
+    plan: &Plan,
+    opened: &mut [u8],
+    i: u64,
+    level: usize,
+    digest: &Digest,
+) -> bool
+    requires room { level * plan.now.settings.hash_block + plan.now.settings.hash_block ≤ length opened.old }
+    requires size { length digest.now ≡ digest_len plan.now.settings }
+    requires below { i < plan.now.blocks }
+    ensures last { i + 1 ≡ plan.now.blocks → result ≡ true }
+    ensures ends { result ≡ true → (i / fan plan.now.settings ^ level % fan plan.now.settings + 1 ≡ fan plan.now.settings)
+        ⊎ (i + 1 ≡ plan.now.blocks) }
+    ensures room { result ≡ false
+        → i / fan plan.now.settings ^ level % fan plan.now.settings + 1 < fan plan.now.settings }
+    ensures adds { (blocks : List (List ℕ)) (levels : ℕ) → plan.now.blocks ≡ length blocks → level < levels
+        → levels * plan.now.settings.hash_block ≤ length opened.old
+        → IsCarrying plan.now.settings blocks (carry_state i level levels) opened.old digest.now
+        → Adds result plan.now.settings blocks i level levels opened.new }
+{
+    let blocks = plan.blocks();
+    let size = plan.hash_block();
+    let fan = plan.fan();
+    let slot = (plan.index_above(i, level) % fan as u64) as usize;
+    let from = level * size;
+    put_slot(
+        &mut opened[from..from + size],
+        slot * plan.settings().slot_width(),
+        digest,
+    );
+    slot + 1 >= fan || i + 1 == blocks
+}
+
+/// The digest of a level's hash block, which has closed. Zeros are left, for the digests that come next.
+pub(crate) fn close_block(plan: &Plan, opened: &mut [u8], level: usize) -> Digest
+    requires room { level * plan.now.settings.hash_block + plan.now.settings.hash_block ≤ length opened.old }
+    ensures size { length result ≡ digest_len plan.now.settings }
+    ensures closes { (blocks : List (List ℕ)) (i levels : ℕ) → level < levels
+        → levels * plan.now.settings.hash_block ≤ length opened.old
+        → HasClosed plan.now.settings blocks i level levels opened.old
+        → IsCarrying plan.now.settings blocks (carry_state i (level + 1) levels) opened.new result }
+{
+    let size = plan.hash_block();
+    let from = level * size;
+    let digest = plan.settings().hash(&opened[from..from + size]);
+    opened[from..from + size].fill(0);
+    digest
+}
+
+/// The digest of a block with a digest more, which is put over zeros and taken out again.
+fn hash_with(settings: &TreeSettings, block: &mut [u8], from: usize, digest: &Digest) -> Digest
+    requires { from + length digest.now ≤ length block.old }
+    ensures digest { result
+        ≡ hash settings.now (take from block.old ++ digest.now ++ drop (from + length digest.now) block.old) }
+    ensures zeros { block.new
+        ≡ take from block.old ++ replicate (length digest.now) 0 ++ drop (from + length digest.now) block.old }
+{
+    put_slot(block, from, digest);
+    let above = settings.hash(block);
+    block[from..from + digest.as_bytes().len()].fill(0);
+    above
+}
+
+/// The digest of a level's open block above the last data block, which is `i`, with the digest that comes to it. That is
+/// taken out again: the open block stays as it was.
+pub(crate) fn digest_with(
+    plan: &Plan,
+    opened: &mut [u8],
+    i: u64,
+    level: usize,
+    digest: &Digest,
+) -> Digest
+    requires room { level * plan.now.settings.hash_block + plan.now.settings.hash_block ≤ length opened.old }
+    requires size { length digest.now ≡ digest_len plan.now.settings }
+    requires last { i + 1 ≡ plan.now.blocks }
+    ensures size { length result ≡ digest_len plan.now.settings }
+    ensures digest { (blocks : List (List ℕ)) (levels : ℕ) → plan.now.blocks ≡ length blocks → level < levels
+        → HasOpenBlocks plan.now.settings blocks 0 levels i opened.old
+        → digest.now ≡ level_digest plan.now.settings blocks i level
+        → result ≡ level_digest plan.now.settings blocks i (level + 1) }
+    ensures stays { (blocks : List (List ℕ)) (levels : ℕ) → plan.now.blocks ≡ length blocks → level < levels
+        → HasOpenBlocks plan.now.settings blocks 0 levels i opened.old → opened.new ≡ opened.old }
+{
+    planned(plan);
+    let size = plan.hash_block();
+    let slot = (plan.index_above(i, level) % plan.fan() as u64) as usize;
+    let at = slot * plan.settings().slot_width();
+    let from = level * size;
+    hash_with(plan.settings(), &mut opened[from..from + size], at, digest)
+}
+
+/// Adds the digests of the first `count` of some data blocks from `i` on, none of which is the last below a hash block.
+pub(crate) fn add_rows(plan: &Plan, opened: &mut [u8], i: u64, digests: &[Digest; 8], count: usize)
+    requires planned { IsPlan plan.now }
+    requires room { level_count_of plan.now * plan.now.settings.hash_block ≤ length opened.old }
+    requires most { count < 8 }
+    requires batch { IsBatch plan.now i (count + 1) }
+    requires sizes { (r : ℕ) → r < count → length (slice_index_or digests.now r []) ≡ digest_len plan.now.settings }
+    ensures { (blocks : List (List ℕ)) (levels : ℕ) → plan.now.blocks ≡ length blocks → level_count_of plan.now ≤ levels
+        → levels * plan.now.settings.hash_block ≤ length opened.old
+        → ((r : ℕ) → r < count
+        → slice_index_or digests.now r [] ≡ level_digest plan.now.settings blocks (i + r) 0)
+        → HasOpenBlocks plan.now.settings blocks 0 levels i opened.old
+        → HasOpenBlocks plan.now.settings blocks 0 levels (i + count) opened.new }
+{
+    for r in 0..count {
+        add_digest(plan, opened, i + r as u64, 0, &digests[r]);
+    }
+}
