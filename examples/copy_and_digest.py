@@ -31,7 +31,7 @@ def call(name, *arguments):
 
 
 def begin():
-    """Parameters of a file, and the memory in which its tree is built: 36864 bytes for SHA-256 and 4096."""
+    """Parameters of a file, and the memory in which its tree is built: 65536 bytes for SHA-256 and 4096."""
     params, length = File(algorithm, options.block_size, 0, len(salt), (c_uint8 * 32)(*salt[:32])), c_size_t()
     call('fsverity_build_memory', byref(params), byref(length))
     memory = (c_uint8 * length.value)()

@@ -29,7 +29,7 @@
  *
  * Data that is written, copied or downloaded is fed to a tree as it comes, in pieces of any length, 0 too. The
  * functions whose names have _build_ in them do that, in memory of the caller's, as long as verity_build_memory or
- * fsverity_build_memory says: 36864 bytes for fs-verity with SHA-256 and blocks of 4096 bytes. Memory and struct, which
+ * fsverity_build_memory says: 65536 bytes for fs-verity with SHA-256 and blocks of 4096 bytes. Memory and struct, which
  * for a file are the parameters, hold all that is kept between the calls. They are left alone then, but may be moved,
  * stored and copied, both together: a copy goes on by itself. If anything else stands in them, a call answers a fault,
  * or its hash blocks, root hash and digest mean nothing; it still returns, reads and writes nothing but what it is
@@ -299,8 +299,9 @@ struct verity_fed {
 };
 
 /*
- * The length of the memory in which a tree is built: a hash block for each level, and a data block. The memory need not
- * be aligned.
+ * The length of the memory in which a tree is built: a hash block for each level, and up to eight data blocks, which
+ * are hashed side by side; fewer if they would be more than 524288 bytes, or than a hash block has slots. The memory
+ * need not be aligned.
  *
  * A fault of the parameters.
  */
@@ -347,9 +348,9 @@ uint32_t verity_build_end(const struct verity_params *params, const struct verit
 uint32_t verity_write_superblock(const struct verity_params *params, uint8_t *bytes, size_t length);
 
 /*
- * The length of the memory in which a file's tree is built: a block for each level of the largest file, and one more.
- * With blocks of 4096 bytes it is 36864 for SHA-256 and 40960 for SHA-512; it is 2621440 at most. The size isn't looked
- * at.
+ * The length of the memory in which a file's tree is built: a block for each level of the largest file, and up to eight
+ * more, as in verity_build_memory. With blocks of 4096 bytes it is 65536 for SHA-256 and 69632 for SHA-512; it is
+ * 2621440 at most. The size isn't looked at.
  *
  * VERITY_BAD_HASH_ALGORITHM, VERITY_BAD_DATA_BLOCK_SIZE, VERITY_BAD_SALT_SIZE.
  */

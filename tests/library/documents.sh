@@ -87,7 +87,7 @@ same 'docs/LIBRARY.md: a changed block' 1 "$?"
 
 int main(int count, char **words)
 {
-    static uint8_t memory[3 * 4096], bytes[10000], superblock[512], root[32];
+    static uint8_t memory[10 * 4096], bytes[10000], superblock[512], root[32];
     struct verity_params params = {.hash_algorithm = VERITY_SHA256, .hash_type = 1, .data_block_size = 4096,
                                    .hash_block_size = 4096, .data_blocks = 300,
                                    .uuid = {1, 1, 1, 1, 1, 1, 1, 1, 1, 1, 1, 1, 1, 1, 1, 1}};
@@ -127,7 +127,7 @@ same "the header's loop: too few bytes" 118 "$?"
 # docs/LIBRARY.md's lines for a file, in a program that reads it from standard input.
 {
     printf '%s\n' '#include <unistd.h>' '#include "verity.h"' 'int main(void)' '{' \
-        '    static uint8_t memory[36864], piece[10000], root[32], digest[32];' '    ssize_t length;' '    int file = 0;' \
+        '    static uint8_t memory[65536], piece[10000], root[32], digest[32];' '    ssize_t length;' '    int file = 0;' \
         '    struct fsverity_params params = {.hash_algorithm = VERITY_SHA256, .block_size = 4096};'
     sed -n '/^    fsverity_build_begin(/,/^ *fsverity_build_end(/p' "$root/docs/LIBRARY.md"
     printf '%s\n' '    return write(1, digest, 32) != 32;' '}'

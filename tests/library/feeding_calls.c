@@ -80,6 +80,16 @@ static void check_painted(const void *filled, size_t length, int round, const ch
     check(i == length, "%s fills with a fault", call);
 }
 
+/* Up to eight data blocks, but no more bytes than the largest block has, nor more blocks than a hash block has slots. */
+static size_t window_length(size_t data_block_size, uint64_t fan_out)
+{
+    size_t blocks = 8;
+
+    while (blocks * data_block_size > 524288 || blocks > fan_out)
+        blocks /= 2;
+    return blocks * data_block_size;
+}
+
 size_t memory_length_of(const struct tree *tree)
 {
     struct shape shape;
@@ -88,13 +98,13 @@ size_t memory_length_of(const struct tree *tree)
 
     if (!tree->is_file) {
         shape = shape_of(tree);
-        return shape.levels * shape.hash_block_size + shape.data_block_size;
+        return shape.levels * shape.hash_block_size + window_length(shape.data_block_size, shape.fan_out);
     }
     blocks = LARGEST / size;
     fan_out = size / digest_size_of(tree->file.hash_algorithm);
     for (power = 1; power < blocks; power *= fan_out)
         levels++;
-    return levels * size + size;
+    return levels * size + window_length(size, fan_out);
 }
 
 uint32_t call_build_memory(const struct tree *tree, size_t *length)

@@ -260,7 +260,7 @@ static void times_of_hash_blocks(void)
     building.tree.device.data_blocks = 17;
     shape = shape_of(&building.tree);
     reference_tree(&building.tree, &shape, some, blocks, expected);
-    check(call_build_memory(&building.tree, &building.memory_length) == VERITY_OK && building.memory_length == 3 * 512,
+    check(call_build_memory(&building.tree, &building.memory_length) == VERITY_OK && building.memory_length == 10 * 512,
           "memory of %zu bytes", building.memory_length);
     check(call_build_begin(&building) == VERITY_OK, "the beginning");
     hands_out(&building, 0, 0, 0, 0, 0, NULL);
@@ -338,8 +338,8 @@ static void lengths(void)
     static const struct {
         uint32_t algorithm, block_size;
         size_t length;
-    } rows[] = {{VERITY_SHA256, 4096, 36864}, {VERITY_SHA512, 4096, 40960}, {VERITY_SHA256, 64, 58 * 64},
-                {VERITY_SHA512, 128, 57 * 128}, {VERITY_SHA512, 524288, 2621440}};
+    } rows[] = {{VERITY_SHA256, 4096, 65536}, {VERITY_SHA512, 4096, 69632}, {VERITY_SHA256, 64, 59 * 64},
+                {VERITY_SHA512, 128, 58 * 128}, {VERITY_SHA512, 524288, 2621440}};
     struct tree tree = {.is_file = true};
     size_t i, length;
 

@@ -8,9 +8,9 @@ use std::test::Fail;
 use verity_hash::Digest;
 use verity_tree::{FileBuilder, HashBlock, Plan, TreeBuilder};
 
-/// Files that grow from each size to the next: about the ends of blocks, and where the tree has a level more. Of each
-/// size the number of levels is stated.
-const GROWING: [(Row, &[(usize, usize)]); 3] = [
+/// Files that grow from each size to the next: about the ends of blocks and of windows, and where the tree has a level
+/// more. Of each size the number of levels is stated.
+const GROWING: [(Row, &[(usize, usize)]); 4] = [
     (
         (FILE, SHA256, b"", (64, 64), (2, 32), (1, 0)),
         &[
@@ -54,6 +54,25 @@ const GROWING: [(Row, &[(usize, usize)]); 3] = [
             (16_384, 2),
             (131_072, 2),
             (131_073, 3),
+        ],
+    ),
+    (
+        (FILE, SHA256, b"", (4096, 4096), (128, 32), (1, 0)),
+        &[
+            (4095, 0),
+            (4096, 0),
+            (4097, 1),
+            (8192, 1),
+            (8193, 1),
+            (28_672, 1),
+            (28_673, 1),
+            (32_767, 1),
+            (32_768, 1),
+            (32_769, 1),
+            (65_536, 1),
+            (65_537, 1),
+            (524_288, 1),
+            (524_289, 2),
         ],
     ),
 ];

@@ -6,7 +6,7 @@ use std::test::Fail;
 use verity_hash::{Digest, SaltRule};
 use verity_io::MOST_BYTES;
 use verity_tree::{
-    Device, Fed, FeedFault, FileBuilder, HashBlock, MemoryDevice, Plan, TreeBuilder,
+    Device, Fed, FeedFault, FileBuilder, HashBlock, MemoryDevice, Plan, TreeBuilder, TreeSettings,
 };
 
 /// Powers of the fan-out, a block more and less, a single block, and a last block that isn't full; plain and salted, and
@@ -27,6 +27,36 @@ const SHAPES: [Row; 11] = [
 
 /// The lengths of pieces: fewer bytes than a block, a block, more, all at once, and 0 for lengths that change.
 const PIECES: [usize; 8] = [1, 7, 512, 4095, 4096, 4097, 50_000, 0];
+
+/// Trees of several windows, of eight data blocks, of four and of one, and about the end of a window.
+const WINDOWS: [Row; 7] = [
+    (CURRENT, SHA256, b"", (512, 512), (16, 32), (66_048, 2)),
+    (FILE, SHA256, b"salt", (512, 512), (16, 32), (4097, 1)),
+    (FILE, SHA256, b"", (4096, 4096), (128, 32), (32_767, 1)),
+    (FILE, SHA256, b"", (4096, 4096), (128, 32), (32_768, 1)),
+    (FILE, SHA256, b"", (4096, 4096), (128, 32), (98_305, 1)),
+    (
+        CURRENT,
+        SHA256,
+        b"",
+        (131_072, 4096),
+        (128, 32),
+        (655_361, 1),
+    ),
+    (
+        CURRENT,
+        SHA256,
+        b"",
+        (524_288, 4096),
+        (128, 32),
+        (1_048_577, 1),
+    ),
+];
+
+/// The lengths of their pieces: about those of a sector, a page and a window, some windows, and all at once.
+const LENGTHS: [usize; 13] = [
+    511, 512, 513, 4095, 4096, 4097, 32_767, 32_768, 32_769, 98_304, 524_288, 524_289, 2_000_000,
+];
 
 /// The length of the next piece: this one, or for 0 one below 5000, another at each step, and 0 at every fourth.
 fn next_length(piece: usize, step: usize) -> usize {
@@ -177,6 +207,40 @@ fn trees_are_built_in_pieces(rt: HostRuntime) -> Result<(), Fail> {
             let built = is_built(rt.alloc(), &case, row.0, piece)?;
             assert!(rt; built, "at {row:?} in pieces of {piece}");
         }
+    }
+    Ok(())
+}
+
+#[test]
+fn trees_of_several_windows_are_built_in_pieces(rt: HostRuntime) -> Result<(), Fail> {
+    for row in &WINDOWS {
+        let case = Case::new(rt.alloc(), row)?;
+        for &piece in &LENGTHS {
+            let built = is_built(rt.alloc(), &case, row.0, piece)?;
+            assert!(rt; built, "at {row:?} in pieces of {piece}");
+        }
+    }
+    Ok(())
+}
+
+#[test]
+fn memory_has_room_for_open_blocks_and_a_window(rt: HostRuntime) -> Result<(), Fail> {
+    let cases = [
+        (SHA256, 64, 57 * 64 + 2 * 64),
+        (SHA512, 128, 56 * 128 + 2 * 128),
+        (SHA256, 4096, 8 * 4096 + 8 * 4096),
+        (SHA512, 4096, 9 * 4096 + 8 * 4096),
+        (SHA512, 131_072, 5 * 131_072 + 4 * 131_072),
+        (SHA512, 524_288, 4 * 524_288 + 524_288),
+    ];
+    for &(algorithm, block, expected) in &cases {
+        let settings = TreeSettings::fsverity(algorithm, b"", block)?;
+        let length = FileBuilder::memory_length(&settings);
+        assert_eq!(rt;
+            length,
+            expected,
+            "with {algorithm:?} and blocks of {block}"
+        );
     }
     Ok(())
 }

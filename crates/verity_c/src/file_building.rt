@@ -14,8 +14,8 @@ use verity_plan::TreeSettings;
 use verity_tree::FileBuilder;
 
 /// The length of the memory that a file's tree is built in, in bytes: a block for each level that the tree of the
-/// largest file has (Linux kernel, fs-verity page, "Merkle tree"), and one more. The size in the parameters isn't looked
-/// at.
+/// largest file has (Linux kernel, fs-verity page, "Merkle tree"), and a window of up to eight data blocks. The size in
+/// the parameters isn't looked at.
 ///
 /// The status is 0, or that of the first of `Algorithm`, `DataBlockSize`, `SaltSize`. Then the length stays as it was.
 #[unsafe(no_mangle)]

@@ -15,7 +15,7 @@ use verity_plan::Plan;
 use verity_tree::{Fed, TreeBuilder};
 
 /// The length of the memory that a tree is built in, in bytes: a hash block for each level (Linux kernel, dm-verity
-/// page, "Hash Tree"), and a data block.
+/// page, "Hash Tree"), and a window of up to eight data blocks.
 ///
 /// The status is 0, or that of the first fault of the parameters. Then the length stays as it was.
 #[unsafe(no_mangle)]

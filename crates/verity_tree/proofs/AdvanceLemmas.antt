@@ -1,30 +1,33 @@
 -- Steps of a tree that is built as pieces of its data come: what stands before a step, and what comes of several.
 use Rattle.std.proofs.Common.{◌≡◌, ℕ, zero, suc, ◌+◌, ◌-◌, ◌*◌, ◌/◌, ◌%◌, ◌^◌, ◌<◌, ◌≤◌, ◌⊎◌, Bool, true, false, eqb}
 use Rattle.std.proofs.Common.{List, [], ◌++◌, ◌∷◌, get_or, take, drop, length, arith, sym, ◌∙◌, ap, subst, inl, inr}
-use Rattle.std.proofs.Common.{refl, append_assoc, length-append, length-drop}
+use Rattle.std.proofs.Common.{append_assoc, length-append, length-drop}
 use Rattle.std.proofs.lemmas.Bool.{cases_lt}
 use Rattle.std.proofs.lemmas.Bool.Decides.{nat_tests}
 use Rattle.std.proofs.lemmas.Nat.{div-add-mod', div-mul-add, mod_below}
 use Rattle.std.proofs.lemmas.List.{append-nil, drop-take, length-take-le, take-append-drop, take-take, take_all}
 use Rattle.std.proofs.lemmas.List.FromFn.{get_or-map-range_with_len}
-use Rattle.std.proofs.Math.Nat.{div-eq_of_lt, pow-zero}
+use Rattle.std.proofs.Math.Nat.{div-eq_of_lt, mul_assoc, pow-zero, zero-div}
 use Rattle.std.specs.Fork.{slice_chunk}
-use Rattle.verity_hash.specs.Hashing.{with_zeros}
 use Rattle.verity_plan.specs.Plans.{IsPlan, PlanFields, block_count, level_count}
 use Rattle.verity_plan.specs.PlanCounts.{level_count_of}
 use Rattle.verity_plan.specs.Settings.{fan, hash}
-use Rattle.verity_plan.proofs.CountLemmas.{IsLevelCount-level_count, le-div_ceil}
+use Rattle.verity_plan.proofs.CountLemmas.{IsLevelCount-level_count, le-div_ceil, mul_le}
 use Rattle.verity_plan.proofs.FanLemmas.{fan-some, fan-two, some_data}
 use Rattle.verity_plan.proofs.IndexLemmas.{quotient-below}
 use Rattle.verity_tree.specs.ClosingOrder.{BlockIndex, closed_after, handed_out, blocks_before}
 use Rattle.verity_tree.specs.Levels.{block_at, blocks_up, cut, data_blocks, height, root}
-use Rattle.verity_tree.specs.Steps.Feeding.{Climbs, EndsDataBlock, FeedsOn, Hands, HasFed, IsHandingOut, IsSettled}
-use Rattle.verity_tree.specs.Steps.Feeding.{Stands, current_bytes, first_blocks, handed_at}
+use Rattle.verity_tree.specs.Steps.Feeding.{Climbs, EndsWindow, FeedsOn, Hands, HasFed, HasWindow, IsHandingOut}
+use Rattle.verity_tree.specs.Steps.Feeding.{IsSettled, Stands, after_windows, first_blocks, handed_at, windows_before}
 use Rattle.verity_tree.specs.Steps.OpenBlocks.{HasOpenBlocks}
+use Rattle.verity_tree.specs.Windows.{window_blocks, window_length}
+use Rattle.verity_tree.proofs.ClimbLemmas.{last-below}
 use Rattle.verity_tree.proofs.DataBlockLemmas.{blocks-some}
 use Rattle.verity_tree.proofs.FirstBlockLemmas.{plan-first_blocks}
 use Rattle.verity_tree.proofs.LevelLemmas.{length-cut}
+use Rattle.verity_tree.proofs.PieceOfBytesLemmas.{HasWindow-full, closed_after-placed}
 use Rattle.verity_tree.proofs.TreeLemmas.{height-level_count}
+use Rattle.verity_tree.proofs.WindowLemmas.{window-ended, window-some, window-wide}
 
 -- a number that is a multiple is the one after those of the runs before its last
 last-multiple : (n w : ℕ) → 0 < w → 0 < n → n % w ≡ 0 → n ≡ ((n - 1) / w + 1) * w
@@ -54,7 +57,7 @@ whole-quotient n w k wide h =
     ap (λ (x : ℕ). x / w) e ∙ div-mul-add k w 0 wide
 
 -- a number that isn't a multiple has its last in the run that isn't whole
-partial-quotient : (n w : ℕ) → 0 < w → (n ≡ 0) ⊎ (0 < n % w) → n / w ≡ (n - 1) / w
+pub partial-quotient : (n w : ℕ) → 0 < w → (n ≡ 0) ⊎ (0 < n % w) → n / w ≡ (n - 1) / w
 partial-quotient n w wide ends = elim ends [
   | inl none ↦
       let e : n ≡ n - 1 = omega (arith, none) in
@@ -67,119 +70,115 @@ partial-quotient n w wide ends = elim ends [
       sym (ap (λ (x : ℕ). x / w) before ∙ div-mul-add (n / w) w (n % w - 1) less)
 ]
 
--- when a data block ends it does so whichever hash blocks above it were handed out
-pub Stands-ends : (p : PlanFields) (levels closed : ℕ) (fed opened current : List ℕ) → IsPlan p → 0 < length fed
+-- when a window ends it does so whichever hash blocks above it were handed out
+pub Stands-ends : (p : PlanFields) (levels closed : ℕ) (fed opened window : List ℕ) → IsPlan p → 0 < length fed
     → length fed ≤ p.wanted
-    → (0 < closed) ⊎ ((length fed % p.settings.data_block ≡ 0) ⊎ (length fed ≡ p.wanted))
-    → Stands p levels fed closed opened current → EndsDataBlock p (length fed)
-Stands-ends p levels zero fed opened current planned some most ends h = record {
+    → (0 < closed) ⊎ ((length fed % window_length p.settings ≡ 0) ⊎ (length fed ≡ p.wanted))
+    → Stands p levels fed closed opened window → EndsWindow p (length fed)
+Stands-ends p levels zero fed opened window planned some most ends h = record {
   some = some;
   most = most;
   ends = elim ends [
     | inl none ↦ absurd (omega (arith, none))
     | inr last ↦ elim last [
-      | inl whole ↦ inl (last-multiple (length fed) p.settings.data_block (some_data p.settings planned.valid) some whole)
+      | inl whole ↦ inl (last-multiple (length fed) (window_length p.settings) (window-wide p.settings planned.valid) some whole)
       | inr all ↦ inr all
     ]
   ];
 }
-Stands-ends p levels (suc level) fed opened current planned some most ends h = h.ends
+Stands-ends p levels (suc level) fed opened window planned some most ends h = h.ends
 
 -- before any hash block was handed out above the last byte
 handed_out-none : (p : PlanFields) (count : ℕ)
     → handed_out p count 0 ≡ closed_after (fan p.settings) p.blocks (blocks_before p.settings count)
 handed_out-none p count = append-nil (closed_after (fan p.settings) p.blocks (blocks_before p.settings count))
 
--- bytes may come: the whole data blocks have come to the open blocks, and all that closed with them was handed out
-pub record TakesMore (p : PlanFields) (levels : ℕ) (fed : List ℕ) (closed : ℕ) (opened current : List ℕ) : Type 0 where
-  pub settled : IsSettled p.settings levels fed opened current
-  pub order : closed_after (fan p.settings) p.blocks (length fed / p.settings.data_block)
+-- bytes may come: the windows that are full have come to the open blocks, and all that closed with them was handed out
+pub record TakesMore (p : PlanFields) (levels : ℕ) (fed : List ℕ) (closed : ℕ) (opened window : List ℕ) : Type 0 where
+  pub settled : IsSettled p.settings levels fed opened window
+  pub order : closed_after (fan p.settings) p.blocks (length fed / window_length p.settings * window_blocks p.settings)
       ≡ handed_out p (length fed) closed
 
--- the data block that the last byte is in isn't whole
-partial-settled : (p : PlanFields) (levels : ℕ) (fed opened current : List ℕ) → IsPlan p
-    → (length fed ≡ 0) ⊎ (0 < length fed % p.settings.data_block)
-    → HasFed p.settings levels fed opened current → TakesMore p levels fed 0 opened current
-partial-settled p levels fed opened current planned part h =
+-- the hash blocks that closed before the last byte's window are those that closed before its data block
+closed-before : (p : PlanFields) (count : ℕ) → IsPlan p → count ≤ p.wanted
+    → closed_after (fan p.settings) p.blocks (windows_before p.settings count * window_blocks p.settings)
+    ≡ closed_after (fan p.settings) p.blocks (blocks_before p.settings count)
+closed-before p count planned most =
     let s = p.settings in
-    let size = s.data_block in
+    elim (cases_lt 0 count) [
+      | inl some ↦ sym (closed_after-placed p count planned some (last-below p count planned some most))
+      | inr none ↦
+          let zero_is : count - 1 ≡ 0 = omega (arith, none) in
+          let first : (count - 1) / window_length s ≡ 0 = ap (λ (n : ℕ). n / window_length s) zero_is ∙ zero-div (window_length s) in
+          let block : (count - 1) / s.data_block ≡ 0 = ap (λ (n : ℕ). n / s.data_block) zero_is ∙ zero-div s.data_block in
+          ap (λ (n : ℕ). closed_after (fan s) p.blocks (n * window_blocks s)) first
+          ∙ ap (closed_after (fan s) p.blocks) (let e : 0 * window_blocks s ≡ 0 = omega arith in e)
+          ∙ ap (closed_after (fan s) p.blocks) (sym block)
+    ]
+
+-- the window that the last byte is in isn't full
+partial-settled : (p : PlanFields) (levels : ℕ) (fed opened window : List ℕ) → IsPlan p → length fed ≤ p.wanted
+    → (length fed ≡ 0) ⊎ (0 < length fed % window_length p.settings)
+    → HasFed p.settings levels fed opened window → TakesMore p levels fed 0 opened window
+partial-settled p levels fed opened window planned most part h =
+    let s = p.settings in
     let n = length fed in
-    let wide : 0 < size = some_data s planned.valid in
-    let same : n / size ≡ blocks_before s n = partial-quotient n size wide part in
-    let short : length (current_bytes s fed) < size =
-    omega (
-      arith,
-      length-drop (blocks_before s n * size) fed,
-      ap (λ (k : ℕ). k * size) same,
-      div-add-mod' n size,
-      mod_below n size wide,
-    ) in
+    let same : n / window_length s ≡ windows_before s n =
+    partial-quotient n (window_length s) (window-wide s planned.valid) part in
     record {
-      settled = record {
-        stands = subst (λ (k : ℕ). HasOpenBlocks s (first_blocks s k fed) 0 levels k opened) (sym same) h.stands;
-        holds = λ bytes is.
-            let e : current_bytes s fed ≡ bytes =
-            ap (λ (k : ℕ). drop (k * size) fed) (sym same) ∙ sym is in
-            subst (λ (xs : List ℕ). take (length xs) current ≡ xs) e (h.holds.partial short);
-      };
-      order = ap (closed_after (fan s) p.blocks) same ∙ sym (handed_out-none p n);
+      settled = subst (λ (k : ℕ). HasWindow s levels k fed opened window) (sym same) h;
+      order = ap (λ (k : ℕ). closed_after (fan s) p.blocks (k * window_blocks s)) same
+          ∙ closed-before p n planned most ∙ sym (handed_out-none p n);
     }
 
--- nothing was carried up, since no data block has ended
-pub Stands-settled : (p : PlanFields) (levels closed : ℕ) (fed opened current : List ℕ) → IsPlan p
-    → (length fed ≡ 0) ⊎ ((closed ≡ 0) × (0 < length fed % p.settings.data_block))
-    → Stands p levels fed closed opened current → TakesMore p levels fed closed opened current
-Stands-settled p levels zero fed opened current planned part h =
-    let either : (length fed ≡ 0) ⊎ (0 < length fed % p.settings.data_block) = elim part [
+-- nothing was carried up, since no window has ended
+pub Stands-settled : (p : PlanFields) (levels closed : ℕ) (fed opened window : List ℕ) → IsPlan p → length fed ≤ p.wanted
+    → (length fed ≡ 0) ⊎ ((closed ≡ 0) × (0 < length fed % window_length p.settings))
+    → Stands p levels fed closed opened window → TakesMore p levels fed closed opened window
+Stands-settled p levels zero fed opened window planned most part h =
+    let either : (length fed ≡ 0) ⊎ (0 < length fed % window_length p.settings) = elim part [
       | inl none ↦ inl none
       | inr within ↦ inr within.1
     ] in
-    partial-settled p levels fed opened current planned either h
-Stands-settled p levels (suc level) fed opened current planned part h = elim part [
+    partial-settled p levels fed opened window planned most either h
+Stands-settled p levels (suc level) fed opened window planned most part h = elim part [
   | inl none ↦ absurd (omega (arith, none, h.ends.some))
   | inr within ↦ absurd (omega (arith, within.0))
 ]
 
 -- a digest was carried up and no hash block has closed
-pub Climbs-settled : (p : PlanFields) (levels closed : ℕ) (fed opened current : List ℕ) → IsPlan p
-    → length fed ≤ p.wanted → Climbs p levels fed closed false opened → TakesMore p levels fed closed opened current
-Climbs-settled p levels closed fed opened current planned most h =
+pub Climbs-settled : (p : PlanFields) (levels closed : ℕ) (fed opened window : List ℕ) → IsPlan p → 0 < length fed
+    → length fed ≤ p.wanted → Climbs p levels fed closed false opened → TakesMore p levels fed closed opened window
+Climbs-settled p levels closed fed opened window planned some most h =
     let s = p.settings in
-    let size = s.data_block in
     let n = length fed in
-    let m = blocks_before s n + 1 in
-    let wide : 0 < size = some_data s planned.valid in
-    let same : n / size ≡ m = whole-quotient n size m wide h.0 in
-    let enough : m * size ≤ n = omega (arith, h.0) in
-    let first : HasOpenBlocks s (first_blocks s m fed) 0 levels m opened =
-    plan-first_blocks p m levels fed opened planned enough most h.1 in
+    let k = windows_before s n + 1 in
+    let same : n / window_length s ≡ k = whole-quotient n (window_length s) k (window-wide s planned.valid) h.0 in
+    let last : blocks_before s n + 1 ≡ k * window_blocks s = window-ended s n k planned.valid some h.0 in
+    let enough : k * window_blocks s * s.data_block ≤ n = omega (arith, mul_assoc k (window_blocks s) s.data_block, h.0) in
+    let come : HasOpenBlocks s (data_blocks p fed) 0 levels (k * window_blocks s) opened =
+    subst (λ (m : ℕ). HasOpenBlocks s (data_blocks p fed) 0 levels m opened) last h.1 in
+    let first : HasOpenBlocks s (first_blocks s (k * window_blocks s) fed) 0 levels (k * window_blocks s) opened =
+    plan-first_blocks p (k * window_blocks s) levels fed opened planned enough most come in
     record {
-      settled = record {
-        stands = subst (λ (k : ℕ). HasOpenBlocks s (first_blocks s k fed) 0 levels k opened) (sym same) first;
-        holds = λ bytes is.
-            let none : length (drop (n / size * size) fed) ≡ 0 =
-            omega (arith, length-drop (n / size * size) fed, ap (λ (k : ℕ). k * size) same, h.0) in
-            no_bytes bytes current (ap length is ∙ none);
-      };
-      order = ap (closed_after (fan s) p.blocks) same ∙ h.2;
+      settled = subst (λ (m : ℕ). HasWindow s levels m fed opened window) (sym same)
+          (HasWindow-full s levels k fed opened window (omega (arith, h.0)) first);
+      order = ap (λ (m : ℕ). closed_after (fan s) p.blocks (m * window_blocks s)) same
+          ∙ ap (closed_after (fan s) p.blocks) (sym last) ∙ h.2;
     }
-  where
-    no_bytes : (bytes current : List ℕ) → length bytes ≡ 0 → take (length bytes) current ≡ bytes
-    no_bytes [] current none = refl
-    no_bytes (x ∷ xs) current none = absurd (omega (arith, none))
 
 -- a hash block has closed
-pub FeedsOn-climbs : (p : PlanFields) (levels closed new_closed : ℕ) (fed opened current : List ℕ)
+pub FeedsOn-climbs : (p : PlanFields) (levels closed new_closed : ℕ) (fed opened window : List ℕ)
     → new_closed ≡ closed + 1 → Climbs p levels fed closed true opened
-    → FeedsOn p levels fed closed [] true new_closed opened current
-FeedsOn-climbs p levels closed new_closed fed opened current next h =
+    → FeedsOn p levels fed closed [] true new_closed opened window
+FeedsOn-climbs p levels closed new_closed fed opened window next h =
     let same : fed ++ [] ≡ fed = append-nil fed in
-    let stands : Stands p levels fed (suc closed) opened current = h.0 in
+    let stands : Stands p levels fed (suc closed) opened window = h.0 in
     let one : suc closed ≡ new_closed = omega (arith, next) in
     let last : closed ≡ new_closed - 1 = omega (arith, next) in
     record {
-      stands = subst (λ (n : ℕ). Stands p levels (fed ++ []) n opened current) one
-          (subst (λ (xs : List ℕ). Stands p levels xs (suc closed) opened current) (sym same) stands);
+      stands = subst (λ (n : ℕ). Stands p levels (fed ++ []) n opened window) one
+          (subst (λ (xs : List ℕ). Stands p levels xs (suc closed) opened window) (sym same) stands);
       order = subst (λ (xs : List ℕ). Hands p (length fed) closed (length xs) new_closed true) (sym same)
           (subst (λ (n : ℕ). Hands p (length fed) closed (length fed) n true) (sym next)
           (subst (λ (n : ℕ). handed_out p (length fed) (closed + 1)
@@ -188,13 +187,13 @@ FeedsOn-climbs p levels closed new_closed fed opened current next h =
     }
 
 -- bytes were taken
-pub FeedsOn-takes : (p : PlanFields) (levels closed taken : ℕ) (fed more before held opened current : List ℕ)
+pub FeedsOn-takes : (p : PlanFields) (levels closed taken : ℕ) (fed more before held opened window : List ℕ)
     → length more ≡ taken → 0 < taken → TakesMore p levels fed closed before held
     → closed_after (fan p.settings) p.blocks (blocks_before p.settings (length fed + taken))
-    ≡ closed_after (fan p.settings) p.blocks (length fed / p.settings.data_block)
-    → HasFed p.settings levels (fed ++ more) opened current
-    → FeedsOn p levels fed closed more (eqb taken 0) 0 opened current
-FeedsOn-takes p levels closed taken fed more before held opened current many some settled none stands =
+    ≡ closed_after (fan p.settings) p.blocks (length fed / window_length p.settings * window_blocks p.settings)
+    → HasFed p.settings levels (fed ++ more) opened window
+    → FeedsOn p levels fed closed more (eqb taken 0) 0 opened window
+FeedsOn-takes p levels closed taken fed more before held opened window many some settled none stands =
     let tested : eqb taken 0 ≡ false = grind (arith, nat_tests, some) in
     let count : length (fed ++ more) ≡ length fed + taken = length-append fed more ∙ ap (λ (n : ℕ). length fed + n) many in
     let hands : Hands p (length fed) closed (length (fed ++ more)) 0 false =
@@ -205,14 +204,14 @@ FeedsOn-takes p levels closed taken fed more before held opened current many som
     }
 
 -- bytes were fed and no hash block has closed, and then more
-pub FeedsOn-more : (p : PlanFields) (levels closed middle new_closed : ℕ) (fed more further before held opened current : List ℕ)
+pub FeedsOn-more : (p : PlanFields) (levels closed middle new_closed : ℕ) (fed more further before held opened window : List ℕ)
     (closes : Bool) → FeedsOn p levels fed closed more false middle before held
-    → FeedsOn p levels (fed ++ more) middle further closes new_closed opened current
-    → FeedsOn p levels fed closed (more ++ further) closes new_closed opened current
-FeedsOn-more p levels closed middle new_closed fed more further before held opened current closes first second =
+    → FeedsOn p levels (fed ++ more) middle further closes new_closed opened window
+    → FeedsOn p levels fed closed (more ++ further) closes new_closed opened window
+FeedsOn-more p levels closed middle new_closed fed more further before held opened window closes first second =
     let same : (fed ++ more) ++ further ≡ fed ++ (more ++ further) = append_assoc fed more further in
     record {
-      stands = subst (λ (xs : List ℕ). Stands p levels xs new_closed opened current) same second.stands;
+      stands = subst (λ (xs : List ℕ). Stands p levels xs new_closed opened window) same second.stands;
       order = subst (λ (xs : List ℕ). Hands p (length fed) closed (length xs) new_closed closes) same
           (hands-more p (length fed) closed (length (fed ++ more)) middle (length ((fed ++ more) ++ further)) new_closed
           closes first.order second.order);
@@ -224,16 +223,25 @@ FeedsOn-more p levels closed middle new_closed fed more further before held open
         two ∙ ap (λ (xs : List BlockIndex). xs ++ handed_at p e (f - 1) ∷ []) one
     hands-more p a c b d e f false one two = two ∙ one
 
+-- the bytes of a piece up to a place, and the next ones
+pub take-next : (n m : ℕ) (piece : List ℕ) → take n piece ++ take (n + m - n) (drop n piece) ≡ take (n + m) piece
+take-next n m piece =
+    let e : n + m - n ≡ m = omega arith in
+    ap (λ (k : ℕ). take n piece ++ take k (drop n piece)) e
+    ∙ ap (λ (xs : List ℕ). xs ++ take m (drop n piece)) (sym (take-take n (n + m) piece (omega arith)))
+    ∙ ap (λ (xs : List ℕ). take n (take (n + m) piece) ++ xs) (sym (drop-take n m piece))
+    ∙ take-append-drop n (take (n + m) piece)
+
 -- the bytes of a piece up to a place, and those of its rest up to another
 pub take-rest : (n m : ℕ) (piece : List ℕ)
     → take n piece ++ take m (take (length piece - n) (drop n piece)) ≡ take (n + m) piece
 take-rest n m piece =
     let rest : take (length piece - n) (drop n piece) ≡ drop n piece =
     take_all (length piece - n) (drop n piece) (omega (arith, length-drop n piece)) in
+    let e : m ≡ n + m - n = omega arith in
     ap (λ (xs : List ℕ). take n piece ++ take m xs) rest
-    ∙ ap (λ (xs : List ℕ). xs ++ take m (drop n piece)) (sym (take-take n (n + m) piece (omega arith)))
-    ∙ ap (λ (xs : List ℕ). take n (take (n + m) piece) ++ xs) (sym (drop-take n m piece))
-    ∙ take-append-drop n (take (n + m) piece)
+    ∙ ap (λ (k : ℕ). take n piece ++ take k (drop n piece)) e
+    ∙ take-next n m piece
 
 -- how many bytes were fed with those of a piece up to a place
 pub length-fed : (fed piece : List ℕ) (count taken all : ℕ) → length fed ≡ count → taken ≤ length piece
@@ -263,36 +271,42 @@ single-most p planned none =
       le-div_ceil p.wanted s.data_block 1 (some_data s planned.valid) (omega (arith, one, planned.blocks_are)),
     )
 
-pub single-current : (p : PlanFields) (fed : List ℕ) → IsPlan p → level_count_of p ≡ 0 → length fed ≡ p.wanted
-    → current_bytes p.settings fed ≡ fed
-single-current p fed planned none all =
-    let size = p.settings.data_block in
-    let less : length fed - 1 < size = omega (arith, single-most p planned none, all, planned.some) in
-    let first : blocks_before p.settings (length fed) * size ≡ 0 =
-    omega (arith, ap (λ (n : ℕ). n * size) (div-eq_of_lt less)) in
-    ap (λ (n : ℕ). drop n fed) first
+-- which has room in the window
+pub single-room : (p : PlanFields) → IsPlan p → level_count_of p ≡ 0 → p.wanted ≤ window_length p.settings
+single-room p planned none =
+    let s = p.settings in
+    let wide : 1 * s.data_block ≤ window_length s =
+    mul_le 1 (window_blocks s) s.data_block (omega (arith, window-some s planned.valid)) in
+    omega (arith, single-most p planned none, wide)
 
-pub single-within : (p : PlanFields) (fed : List ℕ) → IsPlan p → level_count_of p ≡ 0 → length fed ≡ p.wanted
-    → length fed ≤ p.settings.data_block
-single-within p fed planned none all = omega (arith, single-most p planned none, all)
+-- and the window begins with its bytes
+pub single-window : (p : PlanFields) (levels : ℕ) (fed opened window : List ℕ) → IsPlan p → level_count_of p ≡ 0
+    → length fed ≡ p.wanted → HasFed p.settings levels fed opened window
+    → (windows_before p.settings (length fed) ≡ 0) × (take p.wanted window ≡ fed)
+single-window p levels fed opened window planned none all h =
+    let s = p.settings in
+    let less : length fed - 1 < window_length s =
+    omega (arith, single-room p planned none, all, planned.some) in
+    let first : windows_before s (length fed) ≡ 0 = div-eq_of_lt less in
+    let start : 0 * window_length s ≡ 0 = omega arith in
+    let whole : after_windows s (windows_before s (length fed)) fed ≡ fed =
+    ap (λ (n : ℕ). drop (n * window_length s) fed) first ∙ ap (λ (n : ℕ). drop n fed) start in (
+      first,
+      ap (λ (n : ℕ). take n window) (sym all)
+          ∙ subst (λ (xs : List ℕ). take (length xs) window ≡ xs) whole h.holds,
+    )
 
 -- its digest is the root
 pub single-root : (p : PlanFields) (fed : List ℕ) → IsPlan p → level_count_of p ≡ 0 → length fed ≡ p.wanted
-    → hash p.settings (with_zeros p.settings.data_block fed) ≡ root p.settings (data_blocks p fed)
+    → hash p.settings (block_at p.settings.data_block fed 0) ≡ root p.settings (data_blocks p fed)
 unfolding root blocks_up cut
 single-root p fed planned none all =
     let s = p.settings in
     let size = s.data_block in
     let wanted : take p.wanted fed ≡ fed = take_all p.wanted fed (omega (arith, all)) in
-    let start : 0 * size ≡ 0 = omega arith in
-    let whole : take size fed ≡ fed = take_all size fed (single-within p fed planned none all) in
-    let block : block_at size (take p.wanted fed) 0 ≡ with_zeros size fed =
-    ap (λ (xs : List ℕ). with_zeros size (take size (drop (0 * size) xs))) wanted
-    ∙ ap (λ (n : ℕ). with_zeros size (take size (drop n fed))) start
-    ∙ ap (with_zeros size) whole in
-    let first : get_or (data_blocks p fed) 0 [] ≡ with_zeros size fed =
+    let first : get_or (data_blocks p fed) 0 [] ≡ block_at size fed 0 =
     get_or-map-range_with_len (block_at size (take p.wanted fed)) 0 p.blocks 0 0 [] (blocks-some p planned) (omega arith)
-    ∙ block in
+    ∙ ap (λ (xs : List ℕ). block_at size xs 0) wanted in
     sym (ap (λ (l : ℕ). hash s (get_or (blocks_up s (data_blocks p fed) l) 0 [])) (height-is p fed ∙ none)
     ∙ ap (hash s) first)
 

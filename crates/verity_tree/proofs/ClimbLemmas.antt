@@ -1,57 +1,28 @@
 -- How digests come from the last byte's data block up through the levels whose hash blocks close.
 use Rattle.std.proofs.Common.{◌≡◌, ℕ, zero, suc, ◌+◌, ◌-◌, ◌*◌, ◌/◌, ◌%◌, ◌^◌, ◌<◌, ◌≤◌, List, [], ◌∷◌, ◌++◌, length}
-use Rattle.std.proofs.Common.{true, false, take, drop, arith, sym, ◌∙◌, ap, subst, inl, inr, length-drop, append_assoc}
+use Rattle.std.proofs.Common.{true, false, arith, sym, ◌∙◌, ap, subst, inl, inr, append_assoc}
 use Rattle.std.proofs.lemmas.Bool.{cases_lt}
-use Rattle.std.proofs.lemmas.List.{take_all}
-use Rattle.std.proofs.lemmas.Nat.{div-add-mod', mod_below}
-use Rattle.std.proofs.Math.Nat.{mul-add-mod_self_right, mul-le-mul_right}
+use Rattle.std.proofs.Math.Nat.{mul_assoc, mul-le-mul_right}
 use Rattle.std.specs.Int.{div_ceil}
-use Rattle.verity_hash.specs.Hashing.{with_zeros}
 use Rattle.verity_plan.specs.Plans.{IsPlan, PlanFields}
 use Rattle.verity_plan.specs.PlanCounts.{level_count_of}
-use Rattle.verity_plan.specs.Settings.{TreeSettingsFields, fan, hash}
+use Rattle.verity_plan.specs.Settings.{IsValid, TreeSettingsFields, fan}
 use Rattle.verity_plan.proofs.CountLemmas.{IsLevelCount-level_count, div_ceil-le, le-div_ceil}
 use Rattle.verity_plan.proofs.FanLemmas.{fan-some, fan-two, some_data}
 use Rattle.verity_plan.proofs.IndexLemmas.{quotient-below}
 use Rattle.verity_tree.specs.ClosingOrder.{BlockIndex, closed_after, first_closing, blocks_before}
 use Rattle.verity_tree.specs.Levels.{data_blocks}
-use Rattle.verity_tree.specs.Steps.Feeding.{Climbs, EndsDataBlock, HasFed, IsHandingOut, Stands}
-use Rattle.verity_tree.specs.Steps.Feeding.{current_bytes, handed_at}
-use Rattle.verity_tree.specs.Steps.OpenBlocks.{HasOpenBlocks, IsCarrying, carry_state}
+use Rattle.verity_tree.specs.Steps.Feeding.{Climbs, EndsWindow, HasCome, HasFed, IsHandingOut, Stands}
+use Rattle.verity_tree.specs.Steps.Feeding.{handed_at, windows_before}
+use Rattle.verity_tree.specs.Steps.OpenBlocks.{HasClosed, HasOpenBlocks, IsCarrying, carry_state}
+use Rattle.verity_tree.specs.Windows.{window_blocks, window_length}
 use Rattle.verity_tree.proofs.ClosingLemmas.{reached-down}
-use Rattle.verity_tree.proofs.DataBlockLemmas.{level_digest-data}
-use Rattle.verity_tree.proofs.FirstBlockLemmas.{first_blocks-plan}
 use Rattle.verity_tree.proofs.LevelLemmas.{length-cut}
 use Rattle.verity_tree.proofs.OpenBlockSteps.{IsCarrying-first}
 use Rattle.verity_tree.proofs.QuotientLemmas.{div_ceil-last}
 use Rattle.verity_tree.proofs.OrderSplit.{closed_after-more, closes-none, closes-reached, closing-prefix}
 use Rattle.verity_tree.proofs.OrderSplit.{first_closing-more}
-use Rattle.verity_tree.specs.Steps.OpenBlocks.{HasClosed}
-
--- the place of the last of some bytes is in its data block
-pub last-place : (count size : ℕ) → 0 < size → 0 < count
-    → ((count - 1) / size * size < count) × (count ≤ (count - 1) / size * size + size)
-last-place count size wide some =
-    let split : (count - 1) / size * size + (count - 1) % size ≡ count - 1 = div-add-mod' (count - 1) size in
-    let low : (count - 1) % size < size = mod_below (count - 1) size wide in
-    (omega (arith, split, some), omega (arith, split, low))
-
--- how many bytes there are of the last byte's data block
-pub length-current : (s : TreeSettingsFields) (fed : List ℕ)
-    → length (current_bytes s fed) ≡ length fed - blocks_before s (length fed) * s.data_block
-length-current s fed = length-drop (blocks_before s (length fed) * s.data_block) fed
-
--- and their number is that of all bytes, but for whole data blocks
-pub current-place : (s : TreeSettingsFields) (fed : List ℕ) → 0 < s.data_block → 0 < length fed
-    → length (current_bytes s fed) % s.data_block ≡ length fed % s.data_block
-current-place s fed wide some =
-    let size = s.data_block in
-    let before = blocks_before s (length fed) * size in
-    let place = last-place (length fed) size wide some in
-    let split : before + (length fed - before) ≡ length fed = omega (arith, place.0) in
-    ap (λ (n : ℕ). n % size) (length-current s fed)
-    ∙ sym (mul-add-mod_self_right (blocks_before s (length fed)) size (length fed - before))
-    ∙ ap (λ (n : ℕ). n % size) split
+use Rattle.verity_tree.proofs.WindowLemmas.{last-place, window-ended}
 
 -- the last byte's data block is one of the plan's
 pub last-below : (p : PlanFields) (count : ℕ) → IsPlan p → 0 < count → count ≤ p.wanted
@@ -65,44 +36,31 @@ last-below p count planned some most =
     )
 
 -- the last byte's data block comes to level 0
-pub carrying-current : (p : PlanFields) (levels : ℕ) (fed opened current digest : List ℕ) → IsPlan p
-    → EndsDataBlock p (length fed) → HasFed p.settings levels fed opened current
-    → digest ≡ hash p.settings (with_zeros p.settings.data_block (current_bytes p.settings fed))
+pub carrying-come : (p : PlanFields) (levels : ℕ) (fed opened digest : List ℕ) → HasCome p levels fed opened digest
     → IsCarrying p.settings (data_blocks p fed) (carry_state (blocks_before p.settings (length fed)) 0 levels) opened
     digest
-carrying-current p levels fed opened current digest planned ends h is =
-    let s = p.settings in
-    let size = s.data_block in
-    let i = blocks_before s (length fed) in
-    let place = last-place (length fed) size (some_data s planned.valid) ends.some in
-    let few : length (current_bytes s fed) ≤ size = omega (arith, length-current s fed, place.1) in
-    let block : with_zeros size (current_bytes s fed) ≡ with_zeros size (take size (drop (i * size) (take p.wanted fed))) =
-    ap (with_zeros size)
-    (sym (ap (λ (bytes : List ℕ). take size (drop (i * size) bytes)) (take_all p.wanted fed ends.most)
-    ∙ take_all size (drop (i * size) fed) few)) in
-    IsCarrying-first s (data_blocks p fed) i levels opened digest
-    (level_digest-data s p.blocks p.wanted i fed digest (last-below p (length fed) planned ends.some ends.most)
-    (is ∙ ap (hash s) block))
-    (first_blocks-plan p i levels fed opened planned (omega (arith, place.0)) ends.most h.stands)
+carrying-come p levels fed opened digest h =
+    IsCarrying-first p.settings (data_blocks p fed) (blocks_before p.settings (length fed)) levels opened digest
+    h.digest_is h.stands
 
 -- a hash block was handed out
-pub handing-out : (p : PlanFields) (levels level : ℕ) (fed opened current : List ℕ) → 0 < level
-    → Stands p levels fed level opened current → IsHandingOut p levels (level - 1) fed opened
-handing-out p levels zero fed opened current some h = absurd (omega (arith, some))
-handing-out p levels (suc m) fed opened current some h =
+pub handing-out : (p : PlanFields) (levels level : ℕ) (fed opened window : List ℕ) → 0 < level
+    → Stands p levels fed level opened window → IsHandingOut p levels (level - 1) fed opened
+handing-out p levels zero fed opened window some h = absurd (omega (arith, some))
+handing-out p levels (suc m) fed opened window some h =
     let e : m ≡ suc m - 1 = omega arith in
     subst (λ (n : ℕ). IsHandingOut p levels n fed opened) e h
 
 -- nothing was handed out
-pub nothing-out : (p : PlanFields) (levels level : ℕ) (fed opened current : List ℕ) → level ≡ 0
-    → Stands p levels fed level opened current → HasFed p.settings levels fed opened current
-nothing-out p levels level fed opened current none h =
-    subst (λ (n : ℕ). Stands p levels fed n opened current) none h
+pub nothing-out : (p : PlanFields) (levels level : ℕ) (fed opened window : List ℕ) → level ≡ 0
+    → Stands p levels fed level opened window → HasFed p.settings levels fed opened window
+nothing-out p levels level fed opened window none h =
+    subst (λ (n : ℕ). Stands p levels fed n opened window) none h
 
--- more data blocks come after the last byte's only if that is whole
-pub whole-count : (p : PlanFields) (count : ℕ) → IsPlan p → EndsDataBlock p count
+-- more data blocks come after the last byte's only if its window is full
+pub whole-count : (p : PlanFields) (count : ℕ) → IsPlan p → EndsWindow p count
     → blocks_before p.settings count + 1 < p.blocks
-    → count ≡ (blocks_before p.settings count + 1) * p.settings.data_block
+    → count ≡ (windows_before p.settings count + 1) * window_length p.settings
 whole-count p count planned ends more =
     let s = p.settings in
     let size = s.data_block in
@@ -116,23 +74,31 @@ whole-count p count planned ends more =
           absurd (omega (arith, more, planned.blocks_are, div_ceil-le p.wanted size (i + 1) wide most))
     ]
 
+-- the last byte of a window that is full is the last of its data block
+pub whole-block : (s : TreeSettingsFields) (count : ℕ) → IsValid s → 0 < count
+    → count ≡ (windows_before s count + 1) * window_length s → count ≡ (blocks_before s count + 1) * s.data_block
+whole-block s count valid some whole =
+    let w = windows_before s count + 1 in
+    whole ∙ sym (mul_assoc w (window_blocks s) s.data_block)
+    ∙ ap (λ (n : ℕ). n * s.data_block) (sym (window-ended s count w valid some whole))
+
 -- the last byte is the last of all if its data block is
-pub all-count : (p : PlanFields) (count : ℕ) → IsPlan p → EndsDataBlock p count
+pub all-count : (p : PlanFields) (count : ℕ) → IsPlan p → EndsWindow p count
     → blocks_before p.settings count + 1 ≡ p.blocks → count ≡ p.wanted
 all-count p count planned ends last =
     let s = p.settings in
     let size = s.data_block in
-    let wide = some_data s planned.valid in
     elim ends.ends [
-      | inl whole ↦
-          let most = le-div_ceil p.wanted size p.blocks wide (omega (arith, planned.blocks_are)) in
+      | inl full ↦
+          let whole = whole-block s count planned.valid ends.some full in
+          let most = le-div_ceil p.wanted size p.blocks (some_data s planned.valid) (omega (arith, planned.blocks_are)) in
           let area : (blocks_before s count + 1) * size ≡ p.blocks * size = ap (λ (n : ℕ). n * size) last in
           omega (arith, whole, most, area, ends.most)
       | inr all ↦ all
     ]
 
 -- the hash block of a level has closed, and is handed out next
-pub climbs-closed : (p : PlanFields) (levels level : ℕ) (fed opened : List ℕ) → EndsDataBlock p (length fed)
+pub climbs-closed : (p : PlanFields) (levels level : ℕ) (fed opened : List ℕ) → EndsWindow p (length fed)
     → level < level_count_of p
     → HasClosed p.settings (data_blocks p fed) (blocks_before p.settings (length fed)) level levels opened
     → Climbs p levels fed level true opened
@@ -144,9 +110,9 @@ climbs-closed p levels level fed opened ends below closed =
           ∙ sym (append_assoc (closed_after f p.blocks i) (first_closing f i level) (handed_at p (length fed) level ∷ [])),
     )
 
--- the level's open block has room for more, and all data blocks that are whole have come to the open blocks
+-- the level's open block has room for more, and all windows that are full have come to the open blocks
 pub climbs-kept : (p : PlanFields) (levels level : ℕ) (fed before digest opened : List ℕ) → IsPlan p
-    → EndsDataBlock p (length fed) → level ≤ level_count_of p
+    → EndsWindow p (length fed) → level ≤ level_count_of p
     → IsCarrying p.settings (data_blocks p fed) (carry_state (blocks_before p.settings (length fed)) level levels)
     before digest
     → blocks_before p.settings (length fed) / fan p.settings ^ level % fan p.settings + 1 < fan p.settings
@@ -172,7 +138,7 @@ climbs-kept p levels level fed before digest opened planned ends within h room m
 
 -- past all levels no digest comes but with the last byte of all
 pub climbs-past : (p : PlanFields) (levels level : ℕ) (fed before digest : List ℕ) → IsPlan p
-    → EndsDataBlock p (length fed) → level_count_of p ≤ level → level ≤ level_count_of p
+    → EndsWindow p (length fed) → level_count_of p ≤ level → level ≤ level_count_of p
     → (length fed ≡ p.wanted → level < level_count_of p)
     → IsCarrying p.settings (data_blocks p fed) (carry_state (blocks_before p.settings (length fed)) level levels)
     before digest → ⊥

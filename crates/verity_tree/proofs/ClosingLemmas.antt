@@ -116,17 +116,3 @@ closes-closed s blocks i m levels store below h k le =
           (reached-down (fan s) i (m + 1) (k + 1) some (h.reached more) (omega (arith, le)))
       | inr past ↦ closes-last (fan s) (length blocks) i k (omega (arith, past, below))
     ]
-
--- a block that closes above a data block ends with it
-pub ends-here : (f n i m : ℕ) → (0 < m → EndsBlock f n i) → (i / f ^ m % f + 1 ≡ f) ⊎ (i + 1 ≡ n) → EndsBlock f n i
-ends-here f n i m before ends =
-    elim (cases_lt 0 m) [
-      | inl above ↦ before above
-      | inr low ↦
-          let first : m ≡ 0 = omega (arith, low) in
-          let same : i / f ^ m ≡ i = ap (λ (k : ℕ). i / f ^ k) first ∙ sym (place-first i f) in
-          elim ends [
-            | inl full ↦ inl (ap (λ (k : ℕ). k % f + 1) (sym same) ∙ full)
-            | inr is ↦ inr is
-          ]
-    ]

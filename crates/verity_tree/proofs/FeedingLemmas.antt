@@ -2,7 +2,8 @@
 use Rattle.std.proofs.Common.{List, [], ap, arith, drop, length, refl, replicate, subst, sym, take, ℕ, suc, Some, None}
 use Rattle.std.proofs.Common.{true, false, Bool, inl, inr, length-drop, ◌*◌, ◌++◌, ◌+◌, ◌-◌, ◌/◌, ◌<◌, ◌^◌, ◌∙◌, ◌∷◌}
 use Rattle.std.proofs.Common.{◌≡◌, ◌≤◌, cond}
-use Rattle.std.proofs.lemmas.List.{append-nil, take-append-le, take-take, drop-append-le, drop-take, take-replicate}
+use Rattle.std.proofs.lemmas.List.{append-nil, drop-append-le, drop-take, length-replicate, take-append-le, take-take}
+use Rattle.std.proofs.lemmas.List.{take_at}
 use Rattle.std.proofs.Math.Nat.{zero-div}
 use Rattle.std.proofs.Math.Seq.{drop-append_seam, drop-nil, take-append_seam}
 use Rattle.verity_plan.specs.Plans.{IsPlan, PlanFields, block_count, checked_plan, has_room, plan_for_bytes}
@@ -22,8 +23,9 @@ use Rattle.verity_tree.specs.Feeding.{open_blocks}
 use Rattle.verity_tree.specs.Levels.{data_blocks}
 use Rattle.verity_tree.specs.TreeOnDevice.{tree_block}
 use Rattle.verity_tree.proofs.HandedOutLemmas.{handed-out-stays}
-use Rattle.verity_tree.specs.Steps.Feeding.{FeedsOn, HasFed, HoldsCurrent, IsHandingOut, Stands, current_bytes}
-use Rattle.verity_tree.specs.Steps.Feeding.{first_blocks, handed_at}
+use Rattle.verity_tree.specs.Steps.Feeding.{FeedsOn, HasFed, IsHandingOut, Stands, after_windows, first_blocks}
+use Rattle.verity_tree.specs.Steps.Feeding.{handed_at, windows_before}
+use Rattle.verity_tree.specs.Windows.{window_blocks, window_length}
 use Rattle.verity_tree.specs.ClosingOrder.{blocks_before, handed_out, block_index}
 use Rattle.verity_tree.specs.Steps.OpenBlocks.{HasOpenBlocks}
 use Rattle.verity_tree.specs.declared.file_builder.FileBuilder.{FileBuilder}
@@ -31,78 +33,77 @@ use Rattle.verity_tree.specs.declared.tree_builder.HashBlock.{HashBlock}
 use Rattle.verity_tree.specs.declared.tree_builder.TreeBuilder.{TreeBuilder}
 use Rattle.verity_tree.proofs.OnePassLemmas.{HasOpenBlocks-zeros}
 
--- no bytes are held anywhere
-HoldsCurrent-none : (s : TreeSettingsFields) (bytes current : List ℕ) → 0 < s.data_block → bytes ≡ [] → HoldsCurrent s bytes current
-HoldsCurrent-none s bytes current some none = subst (λ (xs : List ℕ). HoldsCurrent s xs current) (sym none)
-    (record { partial = λ _. refl; whole = λ full. absurd (omega (arith, full, some)) })
-
--- memory of zeros, to which nothing was fed
-pub HasFed-none : (s : TreeSettingsFields) (levels n : ℕ) (memory : List ℕ) → 0 < s.data_block → levels * s.hash_block ≤ n
-    → memory ≡ replicate n 0
-    → HasFed s levels [] (open_blocks s levels memory) (after_open_blocks s levels memory)
-HasFed-none s levels n memory some room zeros =
+-- memory that begins with zeros for the open blocks, to which nothing was fed
+pub HasFed-none : (s : TreeSettingsFields) (levels n : ℕ) (zeros rest : List ℕ) → n ≡ levels * s.hash_block
+    → zeros ≡ replicate n 0
+    → HasFed s levels [] (open_blocks s levels (zeros ++ rest)) (after_open_blocks s levels (zeros ++ rest))
+HasFed-none s levels n zeros rest room are =
+    let memory = zeros ++ rest in
     let opened = open_blocks s levels memory in
-    let first : blocks_before s 0 ≡ 0 = zero-div s.data_block in
+    let first : windows_before s 0 ≡ 0 = zero-div (window_length s) in
+    let start : windows_before s 0 * window_blocks s ≡ 0 =
+    ap (λ (n : ℕ). n * window_blocks s) first ∙ (let e : 0 * window_blocks s ≡ 0 = omega arith in e) in
     let places : levels * s.hash_block ≤ levels * s.hash_block = omega arith in
+    let size : length zeros ≡ levels * s.hash_block = ap length are ∙ length-replicate n 0 ∙ room in
     let all : opened ≡ replicate (levels * s.hash_block) 0 =
-    ap (take (levels * s.hash_block)) zeros ∙ take-replicate (levels * s.hash_block) n 0 room in
+    take_at zeros rest (levels * s.hash_block) size ∙ are ∙ ap (λ (m : ℕ). replicate m 0) room in
+    let none : after_windows s (windows_before s 0) [] ≡ [] = drop-nil (windows_before s 0 * window_length s) in
     record {
-      stands = subst (λ (i : ℕ). HasOpenBlocks s (first_blocks s i []) 0 levels i opened) (sym first)
+      stands = subst (λ (i : ℕ). HasOpenBlocks s (first_blocks s i []) 0 levels i opened) (sym start)
           (HasOpenBlocks-zeros s (first_blocks s 0 []) levels (levels * s.hash_block) opened (fan-some s) all places);
-      holds = HoldsCurrent-none s (current_bytes s []) (after_open_blocks s levels memory) some
-          (drop-nil (blocks_before s 0 * s.data_block));
+      holds = subst (λ (xs : List ℕ). take (length xs) (after_open_blocks s levels memory) ≡ xs) (sym none) refl;
     }
 
 -- what is known of the two parts of some memory, which are put together
-pub joined : (P : List ℕ → List ℕ → Type 0) (n : ℕ) (opened current : List ℕ) → length opened ≡ n → P opened current
-    → P (take n (opened ++ current)) (drop n (opened ++ current))
-joined P n opened current size h =
-    let front : take n (opened ++ current) ≡ opened =
-    ap (λ (m : ℕ). take m (opened ++ current)) (sym size) ∙ take-append_seam opened current in
-    let back : drop n (opened ++ current) ≡ current =
-    ap (λ (m : ℕ). drop m (opened ++ current)) (sym size) ∙ drop-append_seam opened current in
-    subst (λ (xs : List ℕ). P (take n (opened ++ current)) xs) (sym back)
-    (subst (λ (xs : List ℕ). P xs current) (sym front) h)
+pub joined : (P : List ℕ → List ℕ → Type 0) (n : ℕ) (opened window : List ℕ) → length opened ≡ n → P opened window
+    → P (take n (opened ++ window)) (drop n (opened ++ window))
+joined P n opened window size h =
+    let front : take n (opened ++ window) ≡ opened =
+    ap (λ (m : ℕ). take m (opened ++ window)) (sym size) ∙ take-append_seam opened window in
+    let back : drop n (opened ++ window) ≡ window =
+    ap (λ (m : ℕ). drop m (opened ++ window)) (sym size) ∙ drop-append_seam opened window in
+    subst (λ (xs : List ℕ). P (take n (opened ++ window)) xs) (sym back)
+    (subst (λ (xs : List ℕ). P xs window) (sym front) h)
 
 -- and which some memory is split into
-pub parted : (P : List ℕ → List ℕ → Type 0) (n m : ℕ) (memory opened current : List ℕ) → n ≡ m
-    → opened ≡ take n memory → current ≡ drop n memory → P (take m memory) (drop m memory) → P opened current
-parted P n m memory opened current same front back h =
+pub parted : (P : List ℕ → List ℕ → Type 0) (n m : ℕ) (memory opened window : List ℕ) → n ≡ m
+    → opened ≡ take n memory → window ≡ drop n memory → P (take m memory) (drop m memory) → P opened window
+parted P n m memory opened window same front back h =
     let first : opened ≡ take m memory = front ∙ ap (λ (k : ℕ). take k memory) same in
-    let second : current ≡ drop m memory = back ∙ ap (λ (k : ℕ). drop k memory) same in
+    let second : window ≡ drop m memory = back ∙ ap (λ (k : ℕ). drop k memory) same in
     subst (λ (xs : List ℕ). P opened xs) (sym second) (subst (λ (xs : List ℕ). P xs (drop m memory)) (sym first) h)
 
 -- what was fed to a builder stands in the two parts of its memory
-pub IsFed-parted : (b : TreeBuilder) (n : ℕ) (memory opened current fed : List ℕ)
-    → n ≡ level_count_of b.plan * b.plan.settings.hash_block → opened ≡ take n memory → current ≡ drop n memory
-    → IsFed b memory fed → Stands b.plan (level_count_of b.plan) fed b.closed opened current
-IsFed-parted b n memory opened current fed same front back h =
+pub IsFed-parted : (b : TreeBuilder) (n : ℕ) (memory opened window fed : List ℕ)
+    → n ≡ level_count_of b.plan * b.plan.settings.hash_block → opened ≡ take n memory → window ≡ drop n memory
+    → IsFed b memory fed → Stands b.plan (level_count_of b.plan) fed b.closed opened window
+IsFed-parted b n memory opened window fed same front back h =
     parted (λ (xs ys : List ℕ). Stands b.plan (level_count_of b.plan) fed b.closed xs ys) n
-    (level_count_of b.plan * b.plan.settings.hash_block) memory opened current same front back h.stands
+    (level_count_of b.plan * b.plan.settings.hash_block) memory opened window same front back h.stands
 
-pub IsFedFile-parted : (b : FileBuilder) (n : ℕ) (memory opened current fed : List ℕ)
-    → n ≡ most_level_count b.settings * b.settings.hash_block → opened ≡ take n memory → current ≡ drop n memory
-    → IsFedFile b memory fed → HasFed b.settings (most_level_count b.settings) fed opened current
-IsFedFile-parted b n memory opened current fed same front back h =
+pub IsFedFile-parted : (b : FileBuilder) (n : ℕ) (memory opened window fed : List ℕ)
+    → n ≡ most_level_count b.settings * b.settings.hash_block → opened ≡ take n memory → window ≡ drop n memory
+    → IsFedFile b memory fed → HasFed b.settings (most_level_count b.settings) fed opened window
+IsFedFile-parted b n memory opened window fed same front back h =
     parted (λ (xs ys : List ℕ). HasFed b.settings (most_level_count b.settings) fed xs ys) n
-    (most_level_count b.settings * b.settings.hash_block) memory opened current same front back h.stands
+    (most_level_count b.settings * b.settings.hash_block) memory opened window same front back h.stands
 
 -- an open block of the joined memory
-block-joined : (size level : ℕ) (opened current : List ℕ) → level * size + size ≤ length opened
-    → take size (drop (level * size) (opened ++ current)) ≡ take size (drop (level * size) opened)
-block-joined size level opened current room =
+block-joined : (size level : ℕ) (opened window : List ℕ) → level * size + size ≤ length opened
+    → take size (drop (level * size) (opened ++ window)) ≡ take size (drop (level * size) opened)
+block-joined size level opened window room =
     let from : level * size ≤ length opened = omega (arith, room) in
-    ap (take size) (drop-append-le (level * size) opened current from)
-    ∙ take-append-le size (drop (level * size) opened) current (omega (arith, length-drop (level * size) opened, room))
+    ap (take size) (drop-append-le (level * size) opened window from)
+    ∙ take-append-le size (drop (level * size) opened) window (omega (arith, length-drop (level * size) opened, room))
 
 -- the hash block that closed last stands in the joined memory
-pub IsHandedOut-joined : (p : PlanFields) (levels : ℕ) (fed opened current : List ℕ) (block : HashBlock)
+pub IsHandedOut-joined : (p : PlanFields) (levels : ℕ) (fed opened window : List ℕ) (block : HashBlock)
     → IsPlan p → level_count_of p ≤ levels → levels * p.settings.hash_block ≤ length opened
     → IsHandingOut p levels block.level fed opened
     → block.index ≡ blocks_before p.settings (length fed) / fan p.settings ^ (block.level + 1)
     → block.byte ≡ start_byte_of p block.level block.index → block.at ≡ block.level * p.settings.hash_block
-    → IsHandedOut p fed (opened ++ current) block
-IsHandedOut-joined p levels fed opened current block planned most room h index byte at =
+    → IsHandedOut p fed (opened ++ window) block
+IsHandedOut-joined p levels fed opened window block planned most room h index byte at =
     let s = p.settings in
     let size = s.hash_block in
     let step : block.level + 1 ≤ levels = omega (arith, h.level_below, most) in
@@ -113,8 +114,8 @@ IsHandedOut-joined p levels fed opened current block planned most room h index b
       at_is = at;
       byte_is = byte;
       bytes = λ more fits.
-          ap (λ (n : ℕ). take size (drop n (opened ++ current))) at
-          ∙ block-joined size block.level opened current within
+          ap (λ (n : ℕ). take size (drop n (opened ++ window))) at
+          ∙ block-joined size block.level opened window within
           ∙ h.closed.stands
           ∙ handed-out-stays p levels block.level fed more opened planned h fits
           ∙ ap (tree_block s (data_blocks p (fed ++ more)) block.level) (sym index);
@@ -157,19 +158,19 @@ IsHandedOut-last b memory fed block planned placed h =
     }
 
 -- after a call without a hash block that has closed
-pub Feeds-none : (before : TreeBuilder) (count closed : ℕ) (fed more opened current : List ℕ)
+pub Feeds-none : (before : TreeBuilder) (count closed : ℕ) (fed more opened window : List ℕ)
     → length fed ≡ before.fed → length (fed ++ more) ≡ count
     → length opened ≡ level_count_of before.plan * before.plan.settings.hash_block
-    → FeedsOn before.plan (level_count_of before.plan) fed before.closed more false closed opened current
-    → Feeds before (record { plan = before.plan; fed = count; closed = closed }) fed more (opened ++ current) None
-Feeds-none before count closed fed more opened current had has size h =
+    → FeedsOn before.plan (level_count_of before.plan) fed before.closed more false closed opened window
+    → Feeds before (record { plan = before.plan; fed = count; closed = closed }) fed more (opened ++ window) None
+Feeds-none before count closed fed more opened window had has size h =
     let p = before.plan in
     let levels = level_count_of p in
     record {
       is_fed = record {
         count = has;
         stands = joined (λ (xs ys : List ℕ). Stands p levels (fed ++ more) closed xs ys)
-            (levels * p.settings.hash_block) opened current size h.stands;
+            (levels * p.settings.hash_block) opened window size h.stands;
       };
       order = ap (λ (n : ℕ). handed_out p n closed) (sym has)
           ∙ h.order
@@ -179,17 +180,17 @@ Feeds-none before count closed fed more opened current had has size h =
     }
 
 -- and after one with it
-pub Feeds-some : (before : TreeBuilder) (count closed : ℕ) (fed more opened current : List ℕ) (block : HashBlock)
+pub Feeds-some : (before : TreeBuilder) (count closed : ℕ) (fed more opened window : List ℕ) (block : HashBlock)
     → IsPlan before.plan
     → length fed ≡ before.fed → length (fed ++ more) ≡ count
     → length opened ≡ level_count_of before.plan * before.plan.settings.hash_block
-    → FeedsOn before.plan (level_count_of before.plan) fed before.closed more true closed opened current
+    → FeedsOn before.plan (level_count_of before.plan) fed before.closed more true closed opened window
     → closed ≡ block.level + 1
     → block.index ≡ blocks_before before.plan.settings count / fan before.plan.settings ^ (block.level + 1)
     → block.byte ≡ start_byte_of before.plan block.level block.index
     → block.at ≡ block.level * before.plan.settings.hash_block
-    → Feeds before (record { plan = before.plan; fed = count; closed = closed }) fed more (opened ++ current) (Some block)
-Feeds-some before count closed fed more opened current block planned had has size h level index byte at =
+    → Feeds before (record { plan = before.plan; fed = count; closed = closed }) fed more (opened ++ window) (Some block)
+Feeds-some before count closed fed more opened window block planned had has size h level index byte at =
     let p = before.plan in
     let s = p.settings in
     let levels = level_count_of p in
@@ -198,15 +199,15 @@ Feeds-some before count closed fed more opened current block planned had has siz
     let place : block.index ≡ blocks_before s (length (fed ++ more)) / fan s ^ (block.level + 1) =
     index ∙ ap (λ (n : ℕ). blocks_before s n / fan s ^ (block.level + 1)) (sym has) in
     let handing : IsHandingOut p levels block.level (fed ++ more) opened =
-    subst (λ (n : ℕ). Stands p levels (fed ++ more) n opened current) next h.stands in
-    let out : IsHandedOut p (fed ++ more) (opened ++ current) block =
-    IsHandedOut-joined p levels (fed ++ more) opened current block planned (omega arith) (omega (arith, size)) handing place
+    subst (λ (n : ℕ). Stands p levels (fed ++ more) n opened window) next h.stands in
+    let out : IsHandedOut p (fed ++ more) (opened ++ window) block =
+    IsHandedOut-joined p levels (fed ++ more) opened window block planned (omega arith) (omega (arith, size)) handing place
     byte at in
     record {
       is_fed = record {
         count = has;
         stands = joined (λ (xs ys : List ℕ). Stands p levels (fed ++ more) closed xs ys)
-            (levels * s.hash_block) opened current size h.stands;
+            (levels * s.hash_block) opened window size h.stands;
       };
       order = ap (λ (n : ℕ). handed_out p n closed) (sym has)
           ∙ h.order
@@ -215,11 +216,11 @@ Feeds-some before count closed fed more opened current block planned had has siz
           ∙ ap (λ (k : ℕ). handed_out p before.fed before.closed ++ block_index block.level k ∷ []) (sym place);
       stands = λ other is.
           let same : block ≡ other = cc in
-          subst (λ (b : HashBlock). IsHandedOut p (fed ++ more) (opened ++ current) b) same out;
+          subst (λ (b : HashBlock). IsHandedOut p (fed ++ more) (opened ++ window) b) same out;
     }
 
 -- the plan that a file of so many bytes asks for
-abbrev file_plan : TreeSettingsFields → ℕ → PlanFields
+abbrev pub file_plan : TreeSettingsFields → ℕ → PlanFields
 file_plan s size = record { settings = s; blocks = block_count s size; wanted = size; base = 0 }
 
 -- a file's plan has the builder's settings, and its open blocks are among the builder's

@@ -24,7 +24,7 @@ use Rattle.verity_tree.specs.TreeWriting.{device_with}
 use Rattle.verity_tree.specs.declared.file_builder.FileBuilder.{FileBuilder}
 use Rattle.verity_tree.specs.declared.tree_builder.HashBlock.{HashBlock}
 use Rattle.verity_tree.specs.declared.tree_builder.TreeBuilder.{TreeBuilder}
-use Rattle.verity_tree.proofs.ClimbLemmas.{last-below, last-block}
+use Rattle.verity_tree.proofs.ClimbLemmas.{last-below, last-block, whole-block}
 use Rattle.verity_tree.proofs.FirstBlockLemmas.{chunk-front, cut-block}
 use Rattle.verity_tree.proofs.LevelLemmas.{length-cut}
 use Rattle.verity_tree.proofs.OrderSplit.{closed_after-more, closes-last, closing-prefix, device_with-append}
@@ -75,7 +75,8 @@ handed-out-stays p levels level fed more opened planned h most =
             | inr last ↦ omega (arith, last, left)
           ] in
           blocks_up-prefix s xs ys (i + 1) (level + 1) j (fan-some s) (left ∙ sym right)
-          (λ k low. whole-same p (i + 1) k fed more (omega (arith, whole)) ends.most (omega (arith, below)) low)
+          (λ k low. whole-same p (i + 1) k fed more
+          (omega (arith, whole-block s (length fed) planned.valid ends.some whole)) ends.most (omega (arith, below)) low)
           (omega (arith, quotient-below i n (f ^ (level + 1)) wide below, ap (λ (m : ℕ). div_ceil m (f ^ (level + 1))) left))
           time
       | inr all ↦
@@ -219,10 +220,10 @@ none-handed-out p planned =
     ap (λ (n : ℕ). closed_after (fan p.settings) p.blocks n ++ first_closing (fan p.settings) n 0) zero_place
 
 -- before the first byte nothing was handed out
-first-closed : (p : PlanFields) (levels closed : ℕ) (opened current : List ℕ) → Stands p levels [] closed opened current
+first-closed : (p : PlanFields) (levels closed : ℕ) (opened window : List ℕ) → Stands p levels [] closed opened window
     → closed ≡ 0
-first-closed p levels zero opened current h = refl
-first-closed p levels (suc m) opened current h = absurd (omega (arith, h.ends.some))
+first-closed p levels zero opened window h = refl
+first-closed p levels (suc m) opened window h = absurd (omega (arith, h.ends.some))
 
 pub calls-build : (b after : TreeBuilder) (memory room device : List ℕ) (calls : List FeedCall) → IsPlan b.plan
     → IsFed b memory [] → FeedsCalls b memory calls after room → after.fed ≡ b.plan.wanted

@@ -11,7 +11,8 @@ pub mod OpenBlockLemmas
 pub mod OpenBlockSteps
 pub mod ClosingLemmas
 pub mod ClosedLevelLemmas
-pub mod ReadingAheadLemmas
+pub mod BatchLemmas
+pub mod WindowLemmas
 pub mod OnePassLemmas
 pub mod DataBlockLemmas
 pub mod Rows
@@ -32,3 +33,4 @@ pub mod PieceOfBytesLemmas
 pub mod AdvanceLemmas
 pub mod AskingLemmas
 pub mod FeedingLemmas
+pub mod SmallFileLemmas

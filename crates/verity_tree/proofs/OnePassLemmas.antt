@@ -17,6 +17,9 @@ use Rattle.verity_tree.specs.Reading.{ReadsUpTo, bytes_of}
 use Rattle.verity_io.specs.Counting.{Counts, TheDevice, TheSource, is_call_of}
 use Rattle.verity_io.specs.Reading.{HasRead}
 use Rattle.verity_tree.specs.Steps.Closing.{ClosesWith}
+use Rattle.verity_tree.specs.Steps.DataBlocks.{side_of as block_side}
+use Rattle.verity_tree.specs.declared.pass.data_block.BlockFault.{BlockFault}
+use Rattle.verity_tree.specs.declared.pass.data_block.BlockFault.TheVariants.{Short, Failed}
 use Rattle.verity_plan.specs.Plans.{PlanFields}
 use Rattle.verity_tree.specs.Steps.OpenBlocks.{digests_under, open_block, HasOpenBlocks}
 use Rattle.verity_tree.proofs.OpenBlockSteps.{hash_block_of-none}
@@ -135,3 +138,9 @@ of_device false before after same = same
 pub not-of_source : {F : Type 0} (failed : F → Bool) (stop : Stop F) (before after : ℕ) → after ≡ before
     → Counts (is_call_of TheSource (stop_side failed stop)) before after
 not-of_source failed stop before after same = of_device (failed stop.why) before after same
+
+-- a source that stops is no failure of the device
+pub not-of_device : (why : BlockFault) (before after : ℕ) → after ≡ before
+    → Counts (is_call_of TheDevice (block_side why)) before after
+not-of_device Short before after same = same
+not-of_device Failed before after same = same

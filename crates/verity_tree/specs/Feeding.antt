@@ -12,6 +12,7 @@ use Rattle.std.specs.List.{flat_map}
 use Rattle.verity_tree.specs.ClosingOrder.{BlockIndex, block_index, blocks_before, closed_after, handed_out}
 use Rattle.verity_tree.specs.Levels.{data_blocks}
 use Rattle.verity_tree.specs.Steps.Feeding.{HasFed, Stands}
+use Rattle.verity_tree.specs.Windows.{window_length}
 use Rattle.verity_io.specs.Writing.{put}
 use Rattle.verity_tree.specs.TreeOnDevice.{tree_block}
 use Rattle.verity_tree.specs.TreeWriting.{tree_on_device}
@@ -22,9 +23,9 @@ use Rattle.verity_tree.specs.declared.tree_builder.Fed.{Fed}
 use Rattle.verity_tree.specs.declared.tree_builder.HashBlock.{HashBlock}
 use Rattle.verity_tree.specs.declared.tree_builder.TreeBuilder.{TreeBuilder}
 
--- the length of the memory in bytes: an open block for each of so many levels, and a data block
+-- the length of the memory in bytes: an open block for each of so many levels, and a window of data blocks
 abbrev pub feeding_length : TreeSettingsFields → ℕ → ℕ
-feeding_length s levels = levels * s.hash_block + s.data_block
+feeding_length s levels = levels * s.hash_block + window_length s
 
 -- its open blocks, and what comes after them
 abbrev pub open_blocks : TreeSettingsFields → ℕ → List ℕ → List ℕ

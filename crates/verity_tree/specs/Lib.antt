@@ -9,6 +9,7 @@ pub mod Comparing
 pub mod Paths
 pub mod Links
 pub mod Collisions
+pub mod Windows
 pub mod Feeding
 pub mod Steps
 pub mod Stores

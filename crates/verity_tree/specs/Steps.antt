@@ -1,10 +1,10 @@
 -- Definitions that contracts of private steps speak of. No public contract names one, and none is needed to read one.
 pub mod OpenBlocks
 pub mod DataBlocks
-pub mod PassFaults
 pub mod Closing
 pub mod OnClosed
-pub mod ReadingAhead
+pub mod PassFaults
+pub mod Batches
 pub mod Feeding
 pub mod OnePass
 pub mod PlainRoots

@@ -6,8 +6,9 @@ ghost use Rattle.verity_tree.specs.Levels.{data_blocks};
 ghost use Rattle.verity_plan.specs.PlanCounts.{store_length_of};
 ghost use Rattle.verity_plan.specs.Settings.{digest_len};
 
+use crate::pass::data_block::BlockFault;
 use crate::pass::one_pass::pass;
-use crate::pass::pass_fault::{PassFault, Stop};
+use crate::pass::pass_fault::{PassFault, SourceStop, Stop};
 use crate::pass::writing::Writing;
 use crate::store::Store;
 use verity_hash::Digest;
@@ -62,8 +63,10 @@ pub fn build<S: Source, D: Device>(
 {
     match pass(plan, &Writing, store.lend(), source, device) {
         Ok(root) => Ok(root),
-        Err(PassFault::SourceShort(i)) => Err(BuildFault::SourceShort(i)),
-        Err(PassFault::SourceFailed(i)) => Err(BuildFault::SourceFailed(i)),
+        Err(PassFault::InData(SourceStop { block, why })) => match why {
+            BlockFault::Short => Err(BuildFault::SourceShort(block)),
+            BlockFault::Failed => Err(BuildFault::SourceFailed(block)),
+        },
         Err(PassFault::AtBlock(Stop { level, block, .. })) => Err(BuildFault::DeviceFailed {
             level,
             block,

@@ -6,8 +6,9 @@ ghost use Rattle.verity_tree.specs.Comparing.{CompareReads, Judges, side_of};
 
 use crate::part::Part;
 use crate::pass::comparing::{CompareStop, Comparing};
+use crate::pass::data_block::BlockFault;
 use crate::pass::one_pass::pass;
-use crate::pass::pass_fault::{PassFault, Stop};
+use crate::pass::pass_fault::{PassFault, SourceStop, Stop};
 use crate::store::Store;
 use verity_hash::Digest;
 use verity_io::{Device, Source};
@@ -75,8 +76,10 @@ pub fn compare<S: Source, D: Device>(
                 Err(CompareFault::RootDiffers(computed))
             }
         }
-        Err(PassFault::SourceShort(i)) => Err(CompareFault::SourceShort(i)),
-        Err(PassFault::SourceFailed(i)) => Err(CompareFault::SourceFailed(i)),
+        Err(PassFault::InData(SourceStop { block, why })) => match why {
+            BlockFault::Short => Err(CompareFault::SourceShort(block)),
+            BlockFault::Failed => Err(CompareFault::SourceFailed(block)),
+        },
         Err(PassFault::AtBlock(Stop { level, block, why })) => match why {
             CompareStop::Unread => Err(CompareFault::DeviceFailed { level, block }),
             CompareStop::Differs(part) => Err(CompareFault::Differs { level, block, part }),

@@ -6,6 +6,8 @@ ghost use Rattle.verity_tree.specs.Levels.{root_of_file};
 
 use crate::feed_fault::FeedFault;
 use crate::feeding::steps::{feed_all, root_of_fed};
+use crate::feeding::window::{take_short_piece, window_length};
+use crate::planned::planned;
 use verity_hash::Digest;
 use verity_plan::{Plan, PlanFault, TreeSettings};
 
@@ -24,22 +26,20 @@ pub struct FileBuilder {
 
 impl FileBuilder {
     /// The length of the memory for these settings, in bytes: an open block for each level that the largest file can have,
-    /// and a data block.
+    /// and a window of up to eight data blocks.
     pub fn memory_length(settings: &TreeSettings) -> usize
         ensures { result ≡ feeding_length settings.now (most_level_count settings.now) }
     {
-        open_length(settings) + settings.data_block() as usize
+        open_length(settings) + window_length(settings)
     }
 
-    /// A builder to which nothing was fed yet. What stood in the memory is gone.
+    /// A builder to which nothing was fed yet. What stood in the memory doesn't count.
     pub fn begin(settings: &TreeSettings, memory: &mut [u8]) -> FileBuilder
         requires { length memory.old ≡ feeding_length settings.now (most_level_count settings.now) }
         ensures new { result ≡ record { settings = settings.now; fed = 0 } }
         ensures fed { IsFedFile result memory.new [] }
     {
-        // Called for the proof: by its contract the settings are valid.
-        let _block = settings.data_block();
-        memory.fill(0);
+        memory[..open_length(settings)].fill(0);
         FileBuilder {
             settings: *settings,
             fed: 0,
@@ -58,17 +58,19 @@ impl FileBuilder {
         ensures fed { (fed : List ℕ) → IsFedFile self.old memory.old fed
             → IfOk result (λ _. IsFedFile self.new memory.new (fed ++ piece.now)) }
     {
-        // Called for the proof: by its contract the settings are valid.
-        let _block = self.settings.data_block();
+        let from = memory.len() - window_length(&self.settings);
         let Some(count) = self.fed.checked_add(piece.len() as u64) else {
             return Err(FeedFault::TooLarge);
         };
+        let (opened, window) = memory.split_at_mut(from);
+        if take_short_piece(&self.settings, window, self.fed, piece) {
+            self.fed = count;
+            return Ok(());
+        }
         match Plan::for_bytes(&self.settings, count, 0) {
             Ok(plan) => {
-                // Called for the proof: by its contract the plan can be carried out.
-                let _blocks = plan.blocks();
-                let (opened, current) = memory.split_at_mut(open_length(&self.settings));
-                feed_all(&plan, self.fed, opened, current, piece);
+                planned(&plan);
+                feed_all(&plan, self.fed, opened, window, piece);
                 self.fed = count;
                 Ok(())
             }
@@ -93,10 +95,9 @@ impl FileBuilder {
     {
         match Plan::for_bytes(&self.settings, self.fed, 0) {
             Ok(plan) => {
-                // Called for the proof: by its contract the plan can be carried out.
-                let _blocks = plan.blocks();
-                let (opened, current) = memory.split_at_mut(open_length(&self.settings));
-                Ok(root_of_fed(&plan, opened, current))
+                planned(&plan);
+                let (opened, window) = memory.split_at_mut(open_length(&self.settings));
+                Ok(root_of_fed(&plan, opened, window))
             }
             Err(PlanFault::NoData) => Ok(Digest::zeros(self.settings.algorithm())),
             Err(PlanFault::TooLarge) => Err(FeedFault::TooLarge),

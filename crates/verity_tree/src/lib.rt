@@ -16,6 +16,7 @@ mod pass;
 mod path;
 mod plain_root;
 mod planned;
+mod side_by_side;
 mod store;
 mod tree_builder;
 

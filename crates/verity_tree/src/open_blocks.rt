@@ -1,12 +1,12 @@
 //! The open blocks of a tree, one a level, one after another: digests come to them, and they close.
-ghost use Rattle.std.specs.Prelude.{◌≡◌, ◌⊎◌, ℕ, ◌+◌, ◌*◌, ◌/◌, ◌%◌, ◌^◌, ◌<◌, ◌≤◌, ◌++◌, List, [], length, take, drop};
+ghost use Rattle.std.specs.Prelude.{◌≡◌, ◌⊎◌, ℕ, ◌+◌, ◌*◌, ◌/◌, ◌%◌, ◌^◌, ◌<◌, ◌≤◌, ◌++◌, ◌-◌, List, [], length, take, drop};
 ghost use Rattle.std.specs.Prelude.{replicate, slice_index_or, true, false};
 ghost use Rattle.verity_plan.specs.PlanCounts.{level_count_of};
 ghost use Rattle.verity_plan.specs.Plans.{IsPlan};
 ghost use Rattle.verity_plan.specs.Settings.{digest_len, fan, hash};
 ghost use Rattle.verity_tree.specs.Steps.OpenBlocks.{Adds, HasClosed, HasOpenBlocks, IsCarrying, carry_state};
 ghost use Rattle.verity_tree.specs.Steps.OpenBlocks.{level_digest};
-ghost use Rattle.verity_tree.specs.Steps.ReadingAhead.{IsBatch};
+ghost use Rattle.verity_tree.specs.Steps.Batches.{IsBatch};
 
 use crate::planned::planned;
 use verity_hash::Digest;
@@ -34,8 +34,6 @@ pub(crate) fn add_digest(
     requires size { length digest.now ≡ digest_len plan.now.settings }
     requires below { i < plan.now.blocks }
     ensures last { i + 1 ≡ plan.now.blocks → result ≡ true }
-    ensures ends { result ≡ true → (i / fan plan.now.settings ^ level % fan plan.now.settings + 1 ≡ fan plan.now.settings)
-        ⊎ (i + 1 ≡ plan.now.blocks) }
     ensures room { result ≡ false
         → i / fan plan.now.settings ^ level % fan plan.now.settings + 1 < fan plan.now.settings }
     ensures adds { (blocks : List (List ℕ)) (levels : ℕ) → plan.now.blocks ≡ length blocks → level < levels
@@ -118,7 +116,7 @@ pub(crate) fn digest_with(
 pub(crate) fn add_rows(plan: &Plan, opened: &mut [u8], i: u64, digests: &[Digest; 8], count: usize)
     requires planned { IsPlan plan.now }
     requires room { level_count_of plan.now * plan.now.settings.hash_block ≤ length opened.old }
-    requires most { count < 8 }
+    requires most { count ≤ 8 }
     requires batch { IsBatch plan.now i (count + 1) }
     requires sizes { (r : ℕ) → r < count → length (slice_index_or digests.now r []) ≡ digest_len plan.now.settings }
     ensures { (blocks : List (List ℕ)) (levels : ℕ) → plan.now.blocks ≡ length blocks → level_count_of plan.now ≤ levels
@@ -131,4 +129,28 @@ pub(crate) fn add_rows(plan: &Plan, opened: &mut [u8], i: u64, digests: &[Digest
     for r in 0..count {
         add_digest(plan, opened, i + r as u64, 0, &digests[r]);
     }
+}
+
+/// Clears the slots of a block from a byte on.
+fn clear_slots(block: &mut [u8], from: usize)
+    requires { from ≤ length block.old }
+    ensures { block.new ≡ take from block.old ++ replicate (length block.old - from) 0 }
+{
+    block[from..].fill(0);
+}
+
+/// Takes the digests of data blocks from `i` on out of the open block of level 0 again.
+pub(crate) fn take_out_rows(plan: &Plan, opened: &mut [u8], i: u64)
+    requires planned { IsPlan plan.now }
+    requires room { plan.now.settings.hash_block ≤ length opened.old }
+    requires below { i < plan.now.blocks }
+    ensures { (blocks : List (List ℕ)) (levels count : ℕ) → plan.now.blocks ≡ length blocks → 0 < levels
+        → levels * plan.now.settings.hash_block ≤ length opened.old
+        → i % fan plan.now.settings + count < fan plan.now.settings
+        → HasOpenBlocks plan.now.settings blocks 0 levels (i + count) opened.old
+        → HasOpenBlocks plan.now.settings blocks 0 levels i opened.new }
+{
+    let slot = (i % plan.fan() as u64) as usize;
+    let at = slot * plan.settings().slot_width();
+    clear_slots(&mut opened[..plan.hash_block()], at);
 }

@@ -11,6 +11,8 @@ ghost use Rattle.verity_tree.specs.Levels.{data_blocks, root};
 use crate::feed_fault::FeedFault;
 use crate::feeding::advance::Progress;
 use crate::feeding::steps::{digest_at_the_top, feed_until_closed};
+use crate::feeding::window::window_length;
+use crate::planned::planned;
 use verity_hash::Digest;
 use verity_plan::Plan;
 
@@ -53,24 +55,23 @@ pub struct HashBlock {
 }
 
 impl TreeBuilder {
-    /// The length of the memory for a plan, in bytes: an open block for each level, and a data block.
+    /// The length of the memory for a plan, in bytes: an open block for each level, and a window of up to eight data
+    /// blocks.
     pub fn memory_length(plan: &Plan) -> usize
         ensures { result ≡ feeding_length plan.now.settings (level_count_of plan.now) }
     {
-        // Called for the proof: by its contract the plan can be carried out.
-        let _blocks = plan.blocks();
-        plan.levels() * plan.hash_block() + plan.data_block()
+        planned(plan);
+        plan.levels() * plan.hash_block() + window_length(plan.settings())
     }
 
-    /// A builder to which nothing was fed yet. What stood in the memory is gone.
+    /// A builder to which nothing was fed yet. What stood in the memory doesn't count.
     pub fn begin(plan: &Plan, memory: &mut [u8]) -> TreeBuilder
         requires { length memory.old ≡ feeding_length plan.now.settings (level_count_of plan.now) }
         ensures new { result ≡ record { plan = plan.now; fed = 0; closed = 0 } }
         ensures fed { IsFed result memory.new [] }
     {
-        // Called for the proof: by its contract the plan can be carried out.
-        let _blocks = plan.blocks();
-        memory.fill(0);
+        planned(plan);
+        memory[..plan.levels() * plan.hash_block()].fill(0);
         TreeBuilder {
             plan: *plan,
             fed: 0,
@@ -103,12 +104,12 @@ impl TreeBuilder {
             Some(count) if count <= plan.wanted() => {}
             _ => return Err(FeedFault::TooLong),
         }
-        let (opened, current) = memory.split_at_mut(plan.levels() * plan.hash_block());
+        let (opened, window) = memory.split_at_mut(plan.levels() * plan.hash_block());
         let mut progress = Progress {
             fed: self.fed,
             closed: self.closed,
         };
-        let (taken, closes) = feed_until_closed(&plan, &mut progress, opened, current, piece);
+        let (taken, closes) = feed_until_closed(&plan, &mut progress, opened, window, piece);
         self.fed = progress.fed;
         self.closed = progress.closed;
         let hash_block = if closes {
@@ -172,8 +173,8 @@ impl TreeBuilder {
         if self.closed < plan.levels() {
             return Err(FeedFault::Waiting);
         }
-        let (opened, current) = memory.split_at_mut(plan.levels() * plan.hash_block());
-        Ok(digest_at_the_top(&plan, opened, current))
+        let (opened, window) = memory.split_at_mut(plan.levels() * plan.hash_block());
+        Ok(digest_at_the_top(&plan, opened, window))
     }
 }
 
@@ -188,8 +189,7 @@ fn handed_out(plan: &Plan, progress: &Progress) -> HashBlock
     ensures byte { result.byte ≡ start_byte_of plan.now result.level result.index }
     ensures at { result.at ≡ result.level * plan.now.settings.hash_block }
 {
-    // Called for the proof: by its contract the plan can be carried out.
-    let _blocks = plan.blocks();
+    planned(plan);
     let level = progress.closed - 1;
     let i = (progress.fed - 1) / plan.data_block() as u64;
     HashBlock {

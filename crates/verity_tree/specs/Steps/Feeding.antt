@@ -1,66 +1,91 @@
 -- A tree that is built as pieces of its data come: the memory between two calls, and each step.
 -- For the private steps; a public contract says only that bytes were fed, and it needs none of these to be read.
-use Rattle.std.specs.Prelude.{◌≡◌, ◌⊎◌, ◌<◌, ◌≤◌, ℕ, zero, suc, ◌+◌, ◌-◌, ◌*◌, ◌/◌, ◌^◌, Bool, true, false, List, ◌++◌}
-use Rattle.std.specs.Prelude.{◌∷◌, [], length, take, drop}
+use Rattle.std.specs.Prelude.{◌≡◌, ◌⊎◌, ◌<◌, ◌≤◌, ℕ, zero, suc, ◌+◌, ◌-◌, ◌*◌, ◌/◌, ◌%◌, ◌^◌, Bool, true, false, List}
+use Rattle.std.specs.Prelude.{◌++◌, ◌∷◌, [], length, take, drop}
 use Rattle.verity_plan.specs.Plans.{PlanFields}
 use Rattle.verity_plan.specs.PlanCounts.{level_count_of}
-use Rattle.verity_plan.specs.Settings.{TreeSettingsFields, digest_len, fan, hash}
+use Rattle.verity_plan.specs.Settings.{TreeSettingsFields, fan}
 use Rattle.verity_tree.specs.ClosingOrder.{BlockIndex, block_index, blocks_before, closed_after, handed_out}
 use Rattle.verity_tree.specs.Levels.{cut, data_blocks}
-use Rattle.verity_tree.specs.Steps.OpenBlocks.{HasClosed, HasOpenBlocks}
+use Rattle.verity_tree.specs.Steps.OpenBlocks.{HasClosed, HasOpenBlocks, level_digest}
+use Rattle.verity_tree.specs.Steps.Batches.{IsBatch}
+use Rattle.verity_tree.specs.Windows.{window_blocks, window_length}
+use Rattle.verity_tree.specs.declared.feeding.window.WindowPlace.{WindowPlace}
 
 -- the first n data blocks of some bytes
 abbrev pub first_blocks : TreeSettingsFields → ℕ → List ℕ → List (List ℕ)
 first_blocks s n fed = cut s n (n * s.data_block) fed
 
--- the bytes from the beginning of the data block that the last byte is in
-abbrev pub current_bytes : TreeSettingsFields → List ℕ → List ℕ
-current_bytes s fed = drop (blocks_before s (length fed) * s.data_block) fed
+-- the windows before the one that the last of so many bytes is in
+abbrev pub windows_before : TreeSettingsFields → ℕ → ℕ
+windows_before s count = (count - 1) / window_length s
 
--- the memory for the data block that the last byte is in: its bytes, or, once it is whole, its digest
-pub record HoldsCurrent (s : TreeSettingsFields) (bytes current : List ℕ) : Type 0 where
-  pub partial : length bytes < s.data_block → take (length bytes) current ≡ bytes
-  pub whole : length bytes ≡ s.data_block → take (digest_len s) current ≡ hash s bytes
+-- the bytes that come after so many windows
+abbrev pub after_windows : TreeSettingsFields → ℕ → List ℕ → List ℕ
+after_windows s windows fed = drop (windows * window_length s) fed
 
--- some bytes were fed: the data blocks before the last byte's have come to the open blocks
-pub record HasFed (s : TreeSettingsFields) (levels : ℕ) (fed opened current : List ℕ) : Type 0 where
-  pub stands : HasOpenBlocks s (first_blocks s (blocks_before s (length fed)) fed) 0 levels
-      (blocks_before s (length fed)) opened
-  pub holds : HoldsCurrent s (current_bytes s fed) current
+-- the data blocks of so many windows have come to the open blocks, and the window begins with the bytes after them
+pub record HasWindow (s : TreeSettingsFields) (levels windows : ℕ) (fed opened window : List ℕ) : Type 0 where
+  pub stands : HasOpenBlocks s (first_blocks s (windows * window_blocks s) fed) 0 levels (windows * window_blocks s) opened
+  pub holds : take (length (after_windows s windows fed)) window ≡ after_windows s windows fed
 
--- the same before a byte comes: all data blocks that are whole have come to the open blocks
-pub record IsSettled (s : TreeSettingsFields) (levels : ℕ) (fed opened current : List ℕ) : Type 0 where
-  pub stands : HasOpenBlocks s (first_blocks s (length fed / s.data_block) fed) 0 levels (length fed / s.data_block) opened
-  pub holds : (bytes : List ℕ) → bytes ≡ drop (length fed / s.data_block * s.data_block) fed
-      → take (length bytes) current ≡ bytes
+-- where the last of so many bytes is in its window: all data blocks of the window before its own, and that one, are
+-- there, and none before it is the last below a hash block
+pub record IsWindowPlace (p : PlanFields) (count : ℕ) (place : WindowPlace) : Type 0 where
+  pub first_is : place.first ≡ windows_before p.settings count * window_blocks p.settings
+  pub rows_are : place.first + place.rows ≡ blocks_before p.settings count
+  pub few : place.rows < 8
+  pub bytes_are : place.bytes ≡ count - windows_before p.settings count * window_length p.settings
+  pub some : 0 < place.bytes
+  pub most : place.bytes ≤ window_length p.settings
+  pub each : (r : ℕ) → r ≤ place.rows → r * p.settings.data_block < place.bytes
+  pub batch : IsBatch p place.first (place.rows + 1)
 
--- the last byte is the last of a data block, or of all
-pub record EndsDataBlock (p : PlanFields) (count : ℕ) : Type 0 where
+-- some bytes were fed: the windows before the last byte's have come to the open blocks
+abbrev pub HasFed : TreeSettingsFields → ℕ → List ℕ → List ℕ → List ℕ → Type 0
+HasFed s levels fed opened window = HasWindow s levels (windows_before s (length fed)) fed opened window
+
+-- the same before a byte comes: all windows that are full have come to the open blocks
+abbrev pub IsSettled : TreeSettingsFields → ℕ → List ℕ → List ℕ → List ℕ → Type 0
+IsSettled s levels fed opened window = HasWindow s levels (length fed / window_length s) fed opened window
+
+-- the data blocks before the last byte's have come to the open blocks, and this is the digest of that one
+pub record HasCome (p : PlanFields) (levels : ℕ) (fed opened digest : List ℕ) : Type 0 where
+  pub stands : HasOpenBlocks p.settings (data_blocks p fed) 0 levels (blocks_before p.settings (length fed)) opened
+  pub digest_is : digest ≡ level_digest p.settings (data_blocks p fed) (blocks_before p.settings (length fed)) 0
+
+-- so many bytes fill windows; no hash block closes with the next window, and another data block comes after it
+pub record IsBeforeWindow (p : PlanFields) (count : ℕ) : Type 0 where
+  pub whole : count % window_length p.settings ≡ 0
+  pub batch : IsBatch p (count / window_length p.settings * window_blocks p.settings) (window_blocks p.settings + 1)
+
+-- the last byte is the last of a window, or of all
+pub record EndsWindow (p : PlanFields) (count : ℕ) : Type 0 where
   pub some : 0 < count
   pub most : count ≤ p.wanted
-  pub ends : (count ≡ (blocks_before p.settings count + 1) * p.settings.data_block) ⊎ (count ≡ p.wanted)
+  pub ends : (count ≡ (windows_before p.settings count + 1) * window_length p.settings) ⊎ (count ≡ p.wanted)
 
 -- some bytes were fed, and the hash block of a level that closed above the last of them has been handed out
 pub record IsHandingOut (p : PlanFields) (levels level : ℕ) (fed opened : List ℕ) : Type 0 where
-  pub ends : EndsDataBlock p (length fed)
+  pub ends : EndsWindow p (length fed)
   pub level_below : level < level_count_of p
   pub closed : HasClosed p.settings (data_blocks p fed) (blocks_before p.settings (length fed)) level levels opened
 
 -- some bytes were fed, and hash blocks of so many levels above the last of them have been handed out
 abbrev pub Stands : PlanFields → ℕ → List ℕ → ℕ → List ℕ → List ℕ → Type 0
-Stands p levels fed zero opened current = HasFed p.settings levels fed opened current
-Stands p levels fed (suc level) opened current = IsHandingOut p levels level fed opened
+Stands p levels fed zero opened window = HasFed p.settings levels fed opened window
+Stands p levels fed (suc level) opened window = IsHandingOut p levels level fed opened
 
 -- the hash block that closes above the last of so many bytes at a level
 abbrev pub handed_at : PlanFields → ℕ → ℕ → BlockIndex
 handed_at p count level = block_index level (blocks_before p.settings count / fan p.settings ^ (level + 1))
 
 -- the digest of the last byte's data block, or of the hash block above it that closed last, has come one level up: a hash
--- block has closed there, or all whole data blocks have come to the open blocks
+-- block has closed there, or all windows that are full have come to the open blocks
 abbrev pub Climbs : PlanFields → ℕ → List ℕ → ℕ → Bool → List ℕ → Type 0
 Climbs p levels fed closed true opened = IsHandingOut p levels closed fed opened
     × (handed_out p (length fed) (closed + 1) ≡ handed_out p (length fed) closed ++ handed_at p (length fed) closed ∷ [])
-Climbs p levels fed closed false opened = (length fed ≡ (blocks_before p.settings (length fed) + 1) * p.settings.data_block)
+Climbs p levels fed closed false opened = (length fed ≡ (windows_before p.settings (length fed) + 1) * window_length p.settings)
     × HasOpenBlocks p.settings (data_blocks p fed) 0 levels (blocks_before p.settings (length fed) + 1) opened
     × (closed_after (fan p.settings) p.blocks (blocks_before p.settings (length fed) + 1)
     ≡ handed_out p (length fed) closed)
@@ -73,6 +98,6 @@ Hands p before closed after new_closed true = handed_out p after new_closed ≡ 
 
 -- some bytes more were fed, and whether a hash block has closed
 pub record FeedsOn (p : PlanFields) (levels : ℕ) (fed : List ℕ) (closed : ℕ) (more : List ℕ) (closes : Bool)
-    (new_closed : ℕ) (opened current : List ℕ) : Type 0 where
-  pub stands : Stands p levels (fed ++ more) new_closed opened current
+    (new_closed : ℕ) (opened window : List ℕ) : Type 0 where
+  pub stands : Stands p levels (fed ++ more) new_closed opened window
   pub order : Hands p (length fed) closed (length (fed ++ more)) new_closed closes

@@ -5,28 +5,22 @@ use Rattle.verity_io.specs.Counting.{Change, Counts, TheDevice, TheSource, faile
 use Rattle.verity_hash.specs.declared.digest.Digest.{Digest}
 use Rattle.verity_plan.specs.Plans.{PlanFields}
 use Rattle.verity_plan.specs.Settings.{digest_len, fan}
-use Rattle.verity_tree.specs.Building.{Builds}
 use Rattle.verity_tree.specs.ClosingOrder.{BlockIndex, block_index, ComesNext, closed_after}
-use Rattle.verity_tree.specs.Levels.{data_blocks}
-use Rattle.verity_tree.specs.Reading.{bytes_of}
+use Rattle.verity_tree.specs.Levels.{data_blocks, root}
+use Rattle.verity_io.specs.Reading.{HasRead}
+use Rattle.verity_tree.specs.Reading.{ReadsUpTo, bytes_of}
+use Rattle.verity_tree.specs.Steps.DataBlocks.{StopsInBlock}
 use Rattle.verity_tree.specs.Steps.OnClosed.{Effects}
 use Rattle.verity_tree.specs.Steps.PassFaults.{side_of}
-use Rattle.verity_tree.specs.declared.building.BuildFault.{BuildFault}
-use Rattle.verity_tree.specs.declared.building.BuildFault.TheVariants as build
 use Rattle.verity_tree.specs.declared.pass.pass_fault.PassFault.{PassFault}
-use Rattle.verity_tree.specs.declared.pass.pass_fault.PassFault.TheVariants.{SourceShort, SourceFailed, AtBlock}
+use Rattle.verity_tree.specs.declared.pass.pass_fault.PassFault.TheVariants.{InData, AtBlock}
 use Rattle.verity_tree.specs.declared.pass.pass_fault.Stop.{Stop}
-
--- what a pass answers, as building a tree answers it: a hash block that stops the pass is one that could not be written
-abbrev pub build_answer : {F : Type 0} → Result Digest (PassFault F) → Result Digest BuildFault
-build_answer (Ok digest) = Ok digest
-build_answer (Err (SourceShort i)) = Err (build.SourceShort i)
-build_answer (Err (SourceFailed i)) = Err (build.SourceFailed i)
-build_answer (Err (AtBlock stop)) = Err (build.DeviceFailed stop.level stop.block)
 
 -- the answer, and how much was read
 abbrev pub Passes : {F : Type 0} → PlanFields → Result Digest (PassFault F) → List ℕ → List ℕ → Type 0
-Passes p result before after = Builds p (build_answer result) before after
+Passes p (Ok digest) before after = (digest ≡ root p.settings (data_blocks p before)) × HasRead p.wanted before after
+Passes p (Err (InData stop)) before after = StopsInBlock p stop.block before stop.why after
+Passes p (Err (AtBlock stop)) before after = ReadsUpTo p stop.level stop.block before after
 
 -- a pass over these bytes stops at a hash block: those before it in closing order have closed
 pub record StopsFor {F : Type 0} (w : Effects F) (p : PlanFields) (bytes : List ℕ) (stop : Stop F) (before after : List ℕ)
@@ -43,10 +37,8 @@ abbrev pub PassesOver : {F : Type 0} → Effects F → PlanFields → List ℕ �
     → Type 0
 PassesOver w p bytes (Ok digest) before after =
     w.leaves p (data_blocks p bytes) (closed_after (fan p.settings) p.blocks p.blocks) before after
-PassesOver w p bytes (Err (SourceShort i)) before after =
-    w.leaves p (data_blocks p bytes) (closed_after (fan p.settings) p.blocks i) before after
-PassesOver w p bytes (Err (SourceFailed i)) before after =
-    w.leaves p (data_blocks p bytes) (closed_after (fan p.settings) p.blocks i) before after
+PassesOver w p bytes (Err (InData stop)) before after =
+    w.leaves p (data_blocks p bytes) (closed_after (fan p.settings) p.blocks stop.block) before after
 PassesOver w p bytes (Err (AtBlock stop)) before after = StopsFor w p bytes stop before after
 
 -- a pass: what it answers, and what becomes of the source and the device

@@ -1,14 +1,16 @@
 //! One step of a tree that is built as pieces of its data come.
 ghost use Rattle.std.specs.Prelude.{◌≡◌, ◌⊎◌, ℕ, ◌+◌, ◌*◌, ◌<◌, ◌≤◌, ◌==◌, List, length, take, true};
 ghost use Rattle.verity_plan.specs.PlanCounts.{level_count_of};
-ghost use Rattle.verity_tree.specs.Levels.{data_blocks};
+ghost use Rattle.verity_plan.specs.Plans.{IsPlan};
 ghost use Rattle.verity_plan.specs.Settings.{digest_len};
-ghost use Rattle.verity_tree.specs.Steps.Feeding.{Climbs, EndsDataBlock, FeedsOn, Stands};
+ghost use Rattle.verity_tree.specs.Levels.{data_blocks};
+ghost use Rattle.verity_tree.specs.Steps.Feeding.{Climbs, EndsWindow, FeedsOn, Stands};
 ghost use Rattle.verity_tree.specs.ClosingOrder.{blocks_before};
 ghost use Rattle.verity_tree.specs.Steps.OpenBlocks.{IsCarrying, carry_state};
+ghost use Rattle.verity_tree.specs.Windows.{window_length};
 
-use crate::feeding::current::current_digest;
 use crate::feeding::piece::take_bytes;
+use crate::feeding::window::{add_window, window_length};
 use crate::open_blocks::{add_digest, close_block};
 use verity_hash::Digest;
 use verity_plan::Plan;
@@ -22,39 +24,40 @@ pub(crate) struct Progress {
     pub closed: usize,
 }
 
-/// The digest that comes to a level above the last byte: of the data block that the byte is in, or of the hash block below
-/// the level, which was handed out.
+/// The digest that comes to a level above the last byte: of the data block that the byte is in, the last of its window, or
+/// of the hash block below the level, which was handed out.
 fn digest_below(
     plan: &Plan,
     count: u64,
     level: usize,
     opened: &mut [u8],
-    current: &mut [u8],
+    window: &mut [u8],
 ) -> Digest
+    requires planned { IsPlan plan.now }
     requires opened { level_count_of plan.now * plan.now.settings.hash_block ≤ length opened.old }
-    requires current { length current.old ≡ plan.now.settings.data_block }
+    requires window { length window.old ≡ window_length plan.now.settings }
+    requires some { 0 < count }
+    requires most { count ≤ plan.now.wanted }
     requires level { level ≤ level_count_of plan.now }
     ensures size { length result ≡ digest_len plan.now.settings }
     ensures carries { (levels : ℕ) (fed : List ℕ) → level_count_of plan.now ≤ levels
         → levels * plan.now.settings.hash_block ≤ length opened.old → length fed ≡ count
-        → EndsDataBlock plan.now (length fed) → Stands plan.now levels fed level opened.old current.old
+        → EndsWindow plan.now (length fed) → Stands plan.now levels fed level opened.old window.old
         → IsCarrying plan.now.settings (data_blocks plan.now fed)
         (carry_state (blocks_before plan.now.settings (length fed)) level levels) opened.new result }
 {
-    // Called for the proof: its contract says that the plan can be carried out.
-    let _blocks = plan.blocks();
     if level == 0 {
-        let at = (count % plan.data_block() as u64) as usize;
-        return current_digest(plan, current, at);
+        return add_window(plan, opened, window, count);
     }
     close_block(plan, opened, level - 1)
 }
 
 /// Carries the digest of the last byte's data block, or of the hash block above it that was handed out last, one level
 /// up: whether the hash block there has closed.
-fn climb(plan: &Plan, progress: &mut Progress, opened: &mut [u8], current: &mut [u8]) -> bool
+fn climb(plan: &Plan, progress: &mut Progress, opened: &mut [u8], window: &mut [u8]) -> bool
+    requires planned { IsPlan plan.now }
     requires opened { level_count_of plan.now * plan.now.settings.hash_block ≤ length opened.old }
-    requires current { length current.old ≡ plan.now.settings.data_block }
+    requires window { length window.old ≡ window_length plan.now.settings }
     requires some { 0 < progress.old.fed }
     requires most { progress.old.fed ≤ plan.now.wanted }
     requires closed { progress.old.closed ≤ level_count_of plan.now }
@@ -65,16 +68,14 @@ fn climb(plan: &Plan, progress: &mut Progress, opened: &mut [u8], current: &mut 
         → result ≡ true }
     ensures stands { (levels : ℕ) (fed : List ℕ) → level_count_of plan.now ≤ levels
         → levels * plan.now.settings.hash_block ≤ length opened.old → length fed ≡ progress.old.fed
-        → EndsDataBlock plan.now (length fed)
+        → EndsWindow plan.now (length fed)
         → (progress.old.fed ≡ plan.now.wanted → progress.old.closed < level_count_of plan.now)
-        → Stands plan.now levels fed progress.old.closed opened.old current.old
+        → Stands plan.now levels fed progress.old.closed opened.old window.old
         → Climbs plan.now levels fed progress.old.closed result opened.new }
 {
-    // Called for the proof: its contract says that the plan can be carried out.
-    let _blocks = plan.blocks();
     let i = (progress.fed - 1) / plan.data_block() as u64;
     let level = progress.closed;
-    let digest = digest_below(plan, progress.fed, level, opened, current);
+    let digest = digest_below(plan, progress.fed, level, opened, window);
     if level >= plan.levels() {
         return false;
     }
@@ -90,11 +91,12 @@ pub(crate) fn advance(
     plan: &Plan,
     progress: &mut Progress,
     opened: &mut [u8],
-    current: &mut [u8],
+    window: &mut [u8],
     piece: &[u8],
 ) -> usize
+    requires planned { IsPlan plan.now }
     requires opened { level_count_of plan.now * plan.now.settings.hash_block ≤ length opened.old }
-    requires current { length current.old ≡ plan.now.settings.data_block }
+    requires window { length window.old ≡ window_length plan.now.settings }
     requires most { progress.old.fed + length piece.now ≤ plan.now.wanted }
     requires closed { progress.old.closed ≤ level_count_of plan.now }
     requires some { (0 < length piece.now)
@@ -106,19 +108,17 @@ pub(crate) fn advance(
         × (progress.old.closed < level_count_of plan.now) × (0 < progress.old.fed) }
     ensures stands { (levels : ℕ) (fed : List ℕ) → level_count_of plan.now ≤ levels
         → levels * plan.now.settings.hash_block ≤ length opened.old → length fed ≡ progress.old.fed
-        → Stands plan.now levels fed progress.old.closed opened.old current.old
+        → Stands plan.now levels fed progress.old.closed opened.old window.old
         → FeedsOn plan.now levels fed progress.old.closed (take result piece.now) (result == 0) progress.new.closed
-        opened.new current.new }
+        opened.new window.new }
 {
-    // Called for the proof: by its contract the plan can be carried out.
-    let _blocks = plan.blocks();
-    let size = plan.data_block() as u64;
+    let wide = window_length(plan.settings()) as u64;
     let count = progress.fed;
-    let ends = count > 0 && (progress.closed > 0 || count % size == 0 || count == plan.wanted());
-    if ends && climb(plan, progress, opened, current) {
+    let ends = count > 0 && (progress.closed > 0 || count % wide == 0 || count == plan.wanted());
+    if ends && climb(plan, progress, opened, window) {
         return 0;
     }
-    let taken = take_bytes(plan, opened, current, count, piece);
+    let taken = take_bytes(plan, opened, window, count, piece);
     progress.fed = count + taken as u64;
     progress.closed = 0;
     taken

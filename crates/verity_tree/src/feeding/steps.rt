@@ -1,12 +1,15 @@
 //! Steps until a hash block closes or all bytes of a piece are taken, and the root hash of all that were.
-ghost use Rattle.std.specs.Prelude.{◌≡◌, ◌⊎◌, ℕ, ◌+◌, ◌*◌, ◌<◌, ◌≤◌, ◌++◌, List, length, take, true, false};
+ghost use Rattle.std.specs.Prelude.{◌≡◌, ◌⊎◌, ℕ, ◌+◌, ◌-◌, ◌*◌, ◌<◌, ◌≤◌, ◌++◌, List, length, take, true, false};
 ghost use Rattle.verity_plan.specs.PlanCounts.{level_count_of};
+ghost use Rattle.verity_plan.specs.Plans.{IsPlan};
 ghost use Rattle.verity_tree.specs.Levels.{data_blocks, root};
-ghost use Rattle.verity_tree.specs.Steps.Feeding.{FeedsOn, HasFed, Stands};
+ghost use Rattle.verity_tree.specs.Steps.Feeding.{FeedsOn, HasFed, Stands, windows_before};
+ghost use Rattle.verity_tree.specs.Steps.OpenBlocks.{HasOpenBlocks};
+ghost use Rattle.verity_tree.specs.Windows.{window_blocks, window_length};
 
 use crate::feeding::advance::{Progress, advance};
-use crate::feeding::current::current_digest;
-use crate::open_blocks::digest_with;
+use crate::feeding::window::{add_window, digest_window, window_place};
+use crate::open_blocks::{digest_with, take_out_rows};
 use verity_hash::Digest;
 use verity_plan::Plan;
 
@@ -16,11 +19,12 @@ pub(crate) fn feed_until_closed(
     plan: &Plan,
     progress: &mut Progress,
     opened: &mut [u8],
-    current: &mut [u8],
+    window: &mut [u8],
     piece: &[u8],
 ) -> (usize, bool)
+    requires planned { IsPlan plan.now }
     requires opened { level_count_of plan.now * plan.now.settings.hash_block ≤ length opened.old }
-    requires current { length current.old ≡ plan.now.settings.data_block }
+    requires window { length window.old ≡ window_length plan.now.settings }
     requires most { progress.old.fed + length piece.now ≤ plan.now.wanted }
     requires closed { progress.old.closed ≤ level_count_of plan.now }
     ensures most { result.0 ≤ length piece.now }
@@ -34,15 +38,15 @@ pub(crate) fn feed_until_closed(
     ensures waits { result.1 ≡ true → (result.0 < length piece.now) ⊎ (progress.new.fed ≡ plan.now.wanted) }
     ensures stands { (levels : ℕ) (fed : List ℕ) → level_count_of plan.now ≤ levels
         → levels * plan.now.settings.hash_block ≤ length opened.old → length fed ≡ progress.old.fed
-        → Stands plan.now levels fed progress.old.closed opened.old current.old
+        → Stands plan.now levels fed progress.old.closed opened.old window.old
         → FeedsOn plan.now levels fed progress.old.closed (take result.0 piece.now) result.1 progress.new.closed
-        opened.new current.new }
+        opened.new window.new }
 {
     let mut taken = 0;
     while taken < piece.len()
         || (progress.fed == plan.wanted() && progress.closed < plan.levels())
     {
-        let count = advance(plan, progress, opened, current, &piece[taken..]);
+        let count = advance(plan, progress, opened, window, &piece[taken..]);
         if count == 0 {
             return (taken, true);
         }
@@ -51,15 +55,16 @@ pub(crate) fn feed_until_closed(
     (taken, false)
 }
 
-/// Takes all of a piece. The last data block so far stays open for more bytes.
-pub(crate) fn feed_all(plan: &Plan, count: u64, opened: &mut [u8], current: &mut [u8], piece: &[u8])
+/// Takes all of a piece. The window so far stays open for more bytes.
+pub(crate) fn feed_all(plan: &Plan, count: u64, opened: &mut [u8], window: &mut [u8], piece: &[u8])
+    requires planned { IsPlan plan.now }
     requires opened { level_count_of plan.now * plan.now.settings.hash_block ≤ length opened.old }
-    requires current { length current.old ≡ plan.now.settings.data_block }
+    requires window { length window.old ≡ window_length plan.now.settings }
     requires most { count + length piece.now ≤ plan.now.wanted }
     ensures { (levels : ℕ) (fed : List ℕ) → level_count_of plan.now ≤ levels
         → levels * plan.now.settings.hash_block ≤ length opened.old → length fed ≡ count
-        → HasFed plan.now.settings levels fed opened.old current.old
-        → HasFed plan.now.settings levels (fed ++ piece.now) opened.new current.new }
+        → HasFed plan.now.settings levels fed opened.old window.old
+        → HasFed plan.now.settings levels (fed ++ piece.now) opened.new window.new }
 {
     let mut progress = Progress {
         fed: count,
@@ -67,49 +72,67 @@ pub(crate) fn feed_all(plan: &Plan, count: u64, opened: &mut [u8], current: &mut
     };
     let mut taken = 0;
     'pieces: while taken < piece.len() {
-        taken += advance(plan, &mut progress, opened, current, &piece[taken..]);
+        taken += advance(plan, &mut progress, opened, window, &piece[taken..]);
+    }
+}
+
+/// Takes the digests of the last window's data blocks out of the open block of level 0 again.
+fn take_out_window(plan: &Plan, opened: &mut [u8])
+    requires planned { IsPlan plan.now }
+    requires opened { level_count_of plan.now * plan.now.settings.hash_block ≤ length opened.old }
+    ensures { (blocks : List (List ℕ)) (levels : ℕ) → plan.now.blocks ≡ length blocks → level_count_of plan.now ≤ levels
+        → levels * plan.now.settings.hash_block ≤ length opened.old
+        → HasOpenBlocks plan.now.settings blocks 0 levels (plan.now.blocks - 1) opened.old
+        → HasOpenBlocks plan.now.settings blocks 0 levels
+        (windows_before plan.now.settings plan.now.wanted * window_blocks plan.now.settings) opened.new }
+{
+    if plan.levels() > 0 {
+        let place = window_place(plan, plan.wanted());
+        take_out_rows(plan, opened, place.first);
     }
 }
 
 /// The root hash of the data that the plan wants, when all of it has come: digests go up through the open blocks, and are
 /// taken out again. All stays for more bytes, of a plan that wants more.
-pub(crate) fn root_of_fed(plan: &Plan, opened: &mut [u8], current: &mut [u8]) -> Digest
+pub(crate) fn root_of_fed(plan: &Plan, opened: &mut [u8], window: &mut [u8]) -> Digest
+    requires planned { IsPlan plan.now }
     requires opened { level_count_of plan.now * plan.now.settings.hash_block ≤ length opened.old }
-    requires current { length current.old ≡ plan.now.settings.data_block }
-    ensures root { (levels : ℕ) (fed : List ℕ) → level_count_of plan.now ≤ levels → length fed ≡ plan.now.wanted
-        → HasFed plan.now.settings levels fed opened.old current.old
+    requires window { length window.old ≡ window_length plan.now.settings }
+    ensures root { (levels : ℕ) (fed : List ℕ) → level_count_of plan.now ≤ levels
+        → levels * plan.now.settings.hash_block ≤ length opened.old → length fed ≡ plan.now.wanted
+        → HasFed plan.now.settings levels fed opened.old window.old
         → result ≡ root plan.now.settings (data_blocks plan.now fed) }
-    ensures stays { (levels : ℕ) (fed : List ℕ) → level_count_of plan.now ≤ levels → length fed ≡ plan.now.wanted
-        → HasFed plan.now.settings levels fed opened.old current.old
-        → HasFed plan.now.settings levels fed opened.new current.new }
+    ensures stays { (levels : ℕ) (fed : List ℕ) → level_count_of plan.now ≤ levels
+        → levels * plan.now.settings.hash_block ≤ length opened.old → length fed ≡ plan.now.wanted
+        → HasFed plan.now.settings levels fed opened.old window.old
+        → HasFed plan.now.settings levels fed opened.new window.new }
 {
     let last = plan.blocks() - 1;
-    let at = (plan.wanted() % plan.data_block() as u64) as usize;
-    let mut digest = current_digest(plan, current, at);
+    let mut digest = add_window(plan, opened, window, plan.wanted());
     for level in 0..plan.levels() {
         digest = digest_with(plan, opened, last, level, &digest);
     }
+    take_out_window(plan, opened);
     digest
 }
 
 /// The root hash, when the hash blocks of all levels have closed: of the top level's, or, without one, of the data block.
-pub(crate) fn digest_at_the_top(plan: &Plan, opened: &[u8], current: &mut [u8]) -> Digest
+pub(crate) fn digest_at_the_top(plan: &Plan, opened: &[u8], window: &mut [u8]) -> Digest
+    requires planned { IsPlan plan.now }
     requires opened { level_count_of plan.now * plan.now.settings.hash_block ≤ length opened.now }
-    requires current { length current.old ≡ plan.now.settings.data_block }
+    requires window { length window.old ≡ window_length plan.now.settings }
     ensures root { (levels : ℕ) (fed : List ℕ) → length fed ≡ plan.now.wanted
-        → Stands plan.now levels fed (level_count_of plan.now) opened.now current.old
+        → Stands plan.now levels fed (level_count_of plan.now) opened.now window.old
         → result ≡ root plan.now.settings (data_blocks plan.now fed) }
     ensures stays { (levels : ℕ) (fed : List ℕ) → length fed ≡ plan.now.wanted
-        → Stands plan.now levels fed (level_count_of plan.now) opened.now current.old
-        → Stands plan.now levels fed (level_count_of plan.now) opened.now current.new }
+        → Stands plan.now levels fed (level_count_of plan.now) opened.now window.old
+        → Stands plan.now levels fed (level_count_of plan.now) opened.now window.new }
 {
-    // Called for the proof: by its contract the plan can be carried out.
-    let _blocks = plan.blocks();
     let size = plan.hash_block();
     let levels = plan.levels();
     if levels == 0 {
-        let at = (plan.wanted() % plan.data_block() as u64) as usize;
-        return current_digest(plan, current, at);
+        let digests = digest_window(plan, window, plan.wanted() as usize);
+        return digests[0];
     }
     plan.settings()
         .hash(&opened[(levels - 1) * size..levels * size])

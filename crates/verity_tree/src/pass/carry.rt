@@ -1,12 +1,12 @@
 //! A data block's digest on its way up through the levels.
-ghost use Rattle.std.specs.Prelude.{◌≡◌, ℕ, ◌*◌, ◌<◌, ◌≤◌, List, length, IfErr, IfOk};
+ghost use Rattle.std.specs.Prelude.{◌≡◌, ℕ, ◌*◌, ◌<◌, ◌≤◌, List, length, IfOk};
 ghost use Rattle.verity_io.specs.Counting.{Counts, TheDevice, change, failed_at};
-ghost use Rattle.verity_tree.specs.Steps.Closing.{Carries, EndsBlock};
+ghost use Rattle.verity_tree.specs.Steps.Closing.{Carries};
 ghost use Rattle.verity_tree.specs.Steps.OnClosed.{effects, stop_side};
 ghost use Rattle.verity_tree.specs.Steps.OpenBlocks.{HasOpenBlocks, level_digest};
 ghost use Rattle.verity_plan.specs.Plans.{IsPlan};
 ghost use Rattle.verity_plan.specs.PlanCounts.{level_count_of};
-ghost use Rattle.verity_plan.specs.Settings.{digest_len, fan};
+ghost use Rattle.verity_plan.specs.Settings.{digest_len};
 
 use crate::open_blocks::{add_digest, close_block};
 use crate::pass::on_closed::OnClosed;
@@ -33,7 +33,6 @@ pub(crate) fn carry<C: OnClosed, D: Device>(
     requires below { i < plan.now.blocks }
     ensures size { IfOk result (λ root. length root ≡ digest_len plan.now.settings) }
     ensures told { D.tells device.old → D.tells device.new }
-    ensures ends { IfErr result (λ _. EndsBlock (fan plan.now.settings) plan.now.blocks i) }
     ensures count { Counts (failed_at (stop_side C.is_failure) TheDevice result) (D.failures device.old) (D.failures device.new) }
     ensures keeps { D.tells device.old → (start : List ℕ) → C.keeps start (D.content device.old)
         → C.keeps start (D.content device.new) }

@@ -5,15 +5,15 @@ ghost use Rattle.verity_plan.specs.Plans.{IsPlan};
 ghost use Rattle.verity_plan.specs.PlanCounts.{level_count_of, store_length_of};
 ghost use Rattle.verity_tree.specs.Steps.OnClosed.{effects};
 ghost use Rattle.verity_tree.specs.Steps.OnePass.{PassRun};
-ghost use Rattle.verity_tree.specs.Steps.ReadingAhead.{length_of, window_for};
+ghost use Rattle.verity_tree.specs.Steps.Batches.{length_of, window_for};
 
+use crate::pass::batches::{
+    LARGE_WINDOW, MIDDLE_WINDOW, SMALL_WINDOW, Window, rows_from, take_batch, window_for,
+};
 use crate::pass::carry::carry;
-use crate::pass::data_block::BlockFault;
 use crate::pass::on_closed::OnClosed;
 use crate::pass::pass_fault::PassFault;
-use crate::pass::reading_ahead::{
-    DigestsAhead, LARGE_WINDOW, MIDDLE_WINDOW, SMALL_WINDOW, Window, take_next, window_for,
-};
+use crate::planned::planned;
 use verity_hash::Digest;
 use verity_io::{Device, Source};
 use verity_plan::Plan;
@@ -34,6 +34,7 @@ pub(crate) fn pass<C: OnClosed, S: Source, D: Device>(
         (change S.tells S.remaining S.failures source.old source.new)
         (change D.tells D.content D.failures device.old device.new) }
 {
+    planned(plan);
     let (work, stored) = store.split_at_mut(store.len() - plan.hash_block());
     match window_for(plan) {
         Window::Empty => {
@@ -64,11 +65,11 @@ fn pass_over_blocks<const N: usize, C: OnClosed, S: Source, D: Device>(
     source: &mut S,
     device: &mut D,
 ) -> Result<Digest, PassFault<C::Why>>
+    requires planned { IsPlan plan.now }
     requires window { N ≡ length_of (window_for plan.now) }
     requires room { level_count_of plan.now * plan.now.settings.hash_block + plan.now.settings.data_block
         ≤ length work.old }
     requires stored { length stored.old ≡ plan.now.settings.hash_block }
-    ensures planned { IsPlan plan.now }
     ensures source_told { S.tells source.old → S.tells source.new }
     ensures device_told { D.tells device.old → D.tells device.new }
     ensures run { PassRun (effects C.is_failure C.keeps C.leaves C.stops) plan.now result
@@ -78,17 +79,19 @@ fn pass_over_blocks<const N: usize, C: OnClosed, S: Source, D: Device>(
     let mut window = [0; N];
     work.fill(0);
     let mut root = Digest::zeros(plan.settings().algorithm());
-    let mut ahead = DigestsAhead::none(plan);
-    for i in 0..plan.blocks() {
-        let digest = match take_next(plan, work, &mut window, i, source, &mut ahead) {
+    let mut i = 0;
+    'batches: while i < plan.blocks() {
+        let count = rows_from(plan, N, i);
+        let digest = match take_batch(plan, work, &mut window, i, count, source) {
             Ok(digest) => digest,
-            Err(BlockFault::Short) => return Err(PassFault::SourceShort(i)),
-            Err(BlockFault::Failed) => return Err(PassFault::SourceFailed(i)),
+            Err(stop) => return Err(PassFault::InData(stop)),
         };
-        root = match carry(plan, on_closed, work, stored, i, digest, device) {
+        let last = i + count as u64 - 1;
+        root = match carry(plan, on_closed, work, stored, last, digest, device) {
             Ok(above) => above,
             Err(stop) => return Err(PassFault::AtBlock(stop)),
         };
+        i = last + 1;
     }
     Ok(root)
 }

@@ -1,5 +1,14 @@
 //! Why a pass over the data ends early.
 
+use crate::pass::data_block::BlockFault;
+
+/// The data block within which the source stops, counted from 0, and why.
+#[derive(Clone, Copy)]
+pub(crate) struct SourceStop {
+    pub block: u64,
+    pub why: BlockFault,
+}
+
 /// The hash block at which a pass stops, and why. Both numbers are counted from 0, level 0 next to the data.
 #[derive(Clone, Copy)]
 pub(crate) struct Stop<F> {
@@ -11,10 +20,8 @@ pub(crate) struct Stop<F> {
 /// Why a pass ends early.
 #[derive(Clone, Copy)]
 pub(crate) enum PassFault<F> {
-    /// The source ended before the end of this data block, counted from 0.
-    SourceShort(u64),
-    /// The source failed while this data block was read, counted from 0.
-    SourceFailed(u64),
-    /// It stopped at a hash block.
+    /// The source stopped within a data block.
+    InData(SourceStop),
+    /// The pass stopped at a hash block.
     AtBlock(Stop<F>),
 }

@@ -8,17 +8,17 @@ pub returns-in-Ok-clause-stands : goal.returns-in-Ok-clause-stands
 unfolding device_with
 returns-in-Ok-clause-stands g c = λ tells told. c.in-Ok.ensures.run.leaves tells told refl
 
-pub returns-in-Err-SourceShort-clause-stands : goal.returns-in-Err-SourceShort-clause-stands
+pub returns-in-Short-clause-stands : goal.returns-in-Short-clause-stands
 unfolding device_with
-returns-in-Err-SourceShort-clause-stands g c = λ tells told.
-    let h = c.in-Err-SourceShort.ensures.run.leaves tells told refl in
-    rw c.in-Err-SourceShort.field-0-is at h
+returns-in-Short-clause-stands g c = λ tells told.
+    let h = c.in-Err-InData.ensures.run.leaves tells told refl in
+    rw c.in-Err-InData.field-0-is at h
 
-pub returns-in-Err-SourceFailed-clause-stands : goal.returns-in-Err-SourceFailed-clause-stands
+pub returns-in-Failed-clause-stands : goal.returns-in-Failed-clause-stands
 unfolding device_with
-returns-in-Err-SourceFailed-clause-stands g c = λ tells told.
-    let h = c.in-Err-SourceFailed.ensures.run.leaves tells told refl in
-    rw c.in-Err-SourceFailed.field-0-is at h
+returns-in-Failed-clause-stands g c = λ tells told.
+    let h = c.in-Err-InData.ensures.run.leaves tells told refl in
+    rw c.in-Err-InData.field-0-is at h
 
 pub returns-in-Err-AtBlock-clause-stands : goal.returns-in-Err-AtBlock-clause-stands
 unfolding device_with

@@ -23,12 +23,14 @@ returns-else-eq-clause-verdict g c = λ tells told.
     ∙ sym c.as_bytes-in-Ok.ensures.bytes) in
     let bad : true ≡ false = sym equal ∙ sym c.eq.ensures ∙ c.if-eq.false in cc)
 
-pub returns-in-Err-SourceShort-clause-verdict : goal.returns-in-Err-SourceShort-clause-verdict
-returns-in-Err-SourceShort-clause-verdict g c = λ tells told.
-    let h = c.in-Err-SourceShort.ensures.run.leaves tells told (refl, All-nil _) in
-    let r = c.in-Err-SourceShort.ensures.run.read tells in
-    judges-short c.args.plan.now _ _ _ c.args.root.now c.in-Err-SourceShort.i (rw c.in-Err-SourceShort.field-0-is at r)
-    (rw c.in-Err-SourceShort.field-0-is at h).1
+pub returns-in-Short-clause-verdict : goal.returns-in-Short-clause-verdict
+returns-in-Short-clause-verdict g c = λ tells told.
+    let p = c.args.plan.now in
+    let h = c.in-Err-InData.ensures.run.leaves tells told (refl, All-nil _) in
+    let r = c.in-Err-InData.ensures.run.read tells in
+    let stopped = (rw c.in-Err-InData.field-0-is at r) in
+    judges-short p _ _ _ c.args.root.now c.in-Err-InData.field-0-0.block (rw c.in-Short.is at stopped)
+    (rw c.in-Err-InData.field-0-is at h).1
 
 pub returns-in-Unread-clause-verdict : goal.returns-in-Unread-clause-verdict
 returns-in-Unread-clause-verdict g c = λ tells told.

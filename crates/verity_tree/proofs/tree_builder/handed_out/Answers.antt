@@ -9,7 +9,7 @@ use Rattle.verity_tree.proofs.tree_builder.handed_out.Goals as goal
 pub nonzero_div-i : goal.nonzero_div-i
 nonzero_div-i c =
     let p = c.args.plan.now in
-    omega (arith, c.data_block.ensures, some_data p.settings c.blocks-blocks.ensures.planned.valid)
+    omega (arith, c.data_block.ensures, some_data p.settings c.planned.ensures.valid)
 
 -- the last byte is in a data block of the plan
 last-below : (p : PlanFields) (count size : ℕ) → IsPlan p → 0 < count → count ≤ p.wanted → size ≡ p.settings.data_block
@@ -21,13 +21,13 @@ last-below p count size planned some most same =
 
 pub byte_above-requires-clause-index : goal.byte_above-requires-clause-index
 byte_above-requires-clause-index c =
-    last-below c.args.plan.now c.args.progress.now.fed c.data_block.result c.blocks-blocks.ensures.planned
+    last-below c.args.plan.now c.args.progress.now.fed c.data_block.result c.planned.ensures
     c.requires.some c.requires.most c.data_block.ensures
 
 pub overflow_mul-result : goal.overflow_mul-result
 overflow_mul-result c =
     let p = c.args.plan.now in
-    let planned = c.blocks-blocks.ensures.planned in
+    let planned = c.planned.ensures in
     let level : c.args.progress.now.closed - 1 ≤ 63 = omega (arith, c.requires.level, levels_few p planned) in
     let size : c.hash_block.result ≤ 524288 =
     omega (arith, c.hash_block.ensures, hash_most p.settings planned.valid) in

@@ -1,17 +1,18 @@
 -- A hash block closes, or bytes are taken.
-use Rattle.std.proofs.Common.{◌≡◌, ◌⊎◌, ℕ, ◌+◌, ◌<◌, ◌≤◌, List, length, take, true, false, ◌/◌, ◌%◌, Bool, nat_lt, eqb}
+use Rattle.std.proofs.Common.{◌≡◌, ◌⊎◌, ℕ, ◌+◌, ◌<◌, ◌≤◌, List, length, take, true, false, ◌*◌, ◌/◌, ◌%◌, Bool, nat_lt, eqb}
 use Rattle.std.proofs.Common.{arith, inl, inr, sym, ◌∙◌, ap, subst}
 use Rattle.std.proofs.lemmas.Bool.Decides.{nat_tests}
 use Rattle.std.proofs.lemmas.List.{length-take-le}
 use Rattle.verity_plan.specs.PlanCounts.{level_count_of}
 use Rattle.verity_plan.specs.Settings.{fan}
 use Rattle.verity_tree.specs.ClosingOrder.{closed_after, blocks_before}
-use Rattle.verity_tree.specs.Steps.Feeding.{Climbs, EndsDataBlock}
+use Rattle.verity_tree.specs.Steps.Feeding.{Climbs, EndsWindow}
+use Rattle.verity_tree.specs.Windows.{window_blocks, window_length}
 use Rattle.verity_tree.proofs.AdvanceLemmas.{Climbs-settled, FeedsOn-climbs, FeedsOn-takes, Stands-ends, Stands-settled}
 use Rattle.verity_tree.proofs.AdvanceLemmas.{TakesMore}
 use Rattle.verity_tree.proofs.feeding.advance.advance.Goals as goal
-use Rattle.verity_tree.proofs.feeding.advance.advance.Goals.{then-count-gt0+then-count-size-eq0, then-progress-gt0}
-use Rattle.verity_tree.proofs.feeding.advance.advance.Goals.{else-progress-gt0, then-count-gt0+else-count-size-eq0}
+use Rattle.verity_tree.proofs.feeding.advance.advance.Goals.{then-count-gt0+then-count-wide-eq0, then-progress-gt0}
+use Rattle.verity_tree.proofs.feeding.advance.advance.Goals.{else-progress-gt0, then-count-gt0+else-count-wide-eq0}
 use Rattle.verity_tree.proofs.feeding.advance.advance.Goals.{else-count-gt0, else-ends-via-then-ends+else-climb}
 use Rattle.verity_tree.proofs.feeding.advance.advance.Goals.{else-ends-via-else-ends}
 
@@ -22,24 +23,26 @@ remainder-is n count size result same is = ap (λ (k : ℕ). k % size) same ∙ 
 pub returns-then-climb-clause-stands : goal.returns-then-climb-clause-stands
 returns-then-climb-clause-stands c = λ levels fed enough room count h.
     let p = c.args.plan.now in
-    let size = p.settings.data_block in
+    let size = window_length p.settings in
     let n = length fed in
-    let rest : n % size ≡ c.args.progress.now.fed % c.data_block-size.result =
-    remainder-is n c.args.progress.now.fed size c.data_block-size.result count c.data_block-size.ensures in
+    let wide : c.window_length-wide.result ≡ size =
+    c.window_length-wide.ensures.value ∙ ap window_length c.settings.ensures in
+    let rest : n % size ≡ c.args.progress.now.fed % c.window_length-wide.result =
+    remainder-is n c.args.progress.now.fed size c.window_length-wide.result count wide in
     let ends : (0 < n) × ((0 < c.args.progress.now.closed) ⊎ ((n % size ≡ 0) ⊎ (n ≡ p.wanted))) =
     elim c.if-count-gt0.branch [
-      | then-count-gt0+then-count-size-eq0 w ↦ (
+      | then-count-gt0+then-count-wide-eq0 w ↦ (
         omega (arith, count, w.if-count-gt0.true),
         elim w.if-progress-gt0.branch [
           | then-progress-gt0 v ↦ inl v.if-progress-gt0.true
           | else-progress-gt0 v ↦
-              let tested : eqb (c.args.progress.now.fed % c.data_block-size.result) 0 ≡ true =
-              sym v.value-is ∙ w.if-count-size-eq0.true in
-              let none : c.args.progress.now.fed % c.data_block-size.result ≡ 0 = grind (arith, nat_tests, tested) in
+              let tested : eqb (c.args.progress.now.fed % c.window_length-wide.result) 0 ≡ true =
+              sym v.value-is ∙ w.if-count-wide-eq0.true in
+              let none : c.args.progress.now.fed % c.window_length-wide.result ≡ 0 = grind (arith, nat_tests, tested) in
               inr (inl (rest ∙ none))
         ],
       )
-      | then-count-gt0+else-count-size-eq0 w ↦ (
+      | then-count-gt0+else-count-wide-eq0 w ↦ (
         omega (arith, count, w.if-count-gt0.true),
         let tested : eqb c.args.progress.now.fed w.wanted.result ≡ true = sym w.ends-is ∙ c.if-ends.true in
             let all : c.args.progress.now.fed ≡ w.wanted.result = grind (arith, nat_tests, tested) in
@@ -51,49 +54,51 @@ returns-then-climb-clause-stands c = λ levels fed enough room count h.
           absurd (omega (arith, some, w.if-count-gt0.false))
     ] in
     let most : n ≤ p.wanted = omega (arith, count, c.requires.most) in
-    let data_block : EndsDataBlock p n =
-    Stands-ends p levels c.args.progress.now.closed fed c.args.opened.now c.args.current.now
-    c.blocks-blocks.ensures.planned ends.0 most ends.1 h in
+    let ended : EndsWindow p n =
+    Stands-ends p levels c.args.progress.now.closed fed c.args.opened.now c.args.window.now
+    c.requires.planned ends.0 most ends.1 h in
     let all : c.args.progress.now.fed ≡ p.wanted → c.args.progress.now.closed < level_count_of p = λ last.
     elim c.requires.some [
       | inl some ↦ absurd (omega (arith, some, last, c.requires.most))
       | inr both ↦ both.1
     ] in
     let climbs : Climbs p levels fed c.args.progress.now.closed c.climb.result c.climb.new.opened =
-    c.climb.ensures.stands levels fed enough room count data_block all h in
+    c.climb.ensures.stands levels fed enough room count ended all h in
     let closed : Climbs p levels fed c.args.progress.now.closed true c.climb.new.opened =
     subst (λ (b : Bool). Climbs p levels fed c.args.progress.now.closed b c.climb.new.opened) c.if-climb.true climbs in
     FeedsOn-climbs p levels c.args.progress.now.closed c.climb.new.progress.closed fed c.climb.new.opened
-    c.climb.new.current (c.climb.ensures.closed c.if-climb.true).0 closed
+    c.climb.new.window (c.climb.ensures.closed c.if-climb.true).0 closed
 
 pub returns-clause-stands : goal.returns-clause-stands
 returns-clause-stands c = λ levels fed enough room count h.
     let p = c.args.plan.now in
-    let size = p.settings.data_block in
+    let size = window_length p.settings in
     let n = length fed in
-    let planned = c.blocks-blocks.ensures.planned in
+    let planned = c.requires.planned in
     let closed = c.args.progress.now.closed in
-    let rest : n % size ≡ c.args.progress.now.fed % c.data_block-size.result =
-    remainder-is n c.args.progress.now.fed size c.data_block-size.result count c.data_block-size.ensures in
+    let wide : c.window_length-wide.result ≡ size =
+    c.window_length-wide.ensures.value ∙ ap window_length c.settings.ensures in
+    let rest : n % size ≡ c.args.progress.now.fed % c.window_length-wide.result =
+    remainder-is n c.args.progress.now.fed size c.window_length-wide.result count wide in
     let most : n ≤ p.wanted = omega (arith, count, c.requires.most) in
-    let before : TakesMore p levels fed closed c.else-ends.opened c.else-ends.current =
+    let before : TakesMore p levels fed closed c.else-ends.opened c.else-ends.window =
     elim c.else-ends.branch [
       | else-ends-via-then-ends+else-climb w ↦
           let ends : (0 < n) × ((0 < closed) ⊎ ((n % size ≡ 0) ⊎ (n ≡ p.wanted))) =
           elim c.if-count-gt0.branch [
-            | then-count-gt0+then-count-size-eq0 u ↦ (
+            | then-count-gt0+then-count-wide-eq0 u ↦ (
               omega (arith, count, u.if-count-gt0.true),
               elim u.if-progress-gt0.branch [
                 | then-progress-gt0 v ↦ inl v.if-progress-gt0.true
                 | else-progress-gt0 v ↦
-                    let tested : eqb (c.args.progress.now.fed % c.data_block-size.result) 0 ≡ true =
-                    sym v.value-is ∙ u.if-count-size-eq0.true in
-                    let none : c.args.progress.now.fed % c.data_block-size.result ≡ 0 =
+                    let tested : eqb (c.args.progress.now.fed % c.window_length-wide.result) 0 ≡ true =
+                    sym v.value-is ∙ u.if-count-wide-eq0.true in
+                    let none : c.args.progress.now.fed % c.window_length-wide.result ≡ 0 =
                     grind (arith, nat_tests, tested) in
                     inr (inl (rest ∙ none))
               ],
             )
-            | then-count-gt0+else-count-size-eq0 u ↦ (
+            | then-count-gt0+else-count-wide-eq0 u ↦ (
               omega (arith, count, u.if-count-gt0.true),
               let tested : eqb c.args.progress.now.fed u.wanted.result ≡ true = sym u.ends-is ∙ w.if-ends.true in
                   let all : c.args.progress.now.fed ≡ u.wanted.result = grind (arith, nat_tests, tested) in
@@ -104,49 +109,49 @@ returns-clause-stands c = λ levels fed enough room count h.
                 let some : 0 < c.args.progress.now.fed = grind (arith, nat_tests, tested) in
                 absurd (omega (arith, some, u.if-count-gt0.false))
           ] in
-          let data_block : EndsDataBlock p n =
-          Stands-ends p levels closed fed c.args.opened.now c.args.current.now planned ends.0 most ends.1 h in
+          let ended : EndsWindow p n =
+          Stands-ends p levels closed fed c.args.opened.now c.args.window.now planned ends.0 most ends.1 h in
           let all : c.args.progress.now.fed ≡ p.wanted → closed < level_count_of p = λ last.
           elim c.requires.some [
             | inl some ↦ absurd (omega (arith, some, last, c.requires.most))
             | inr both ↦ both.1
           ] in
           let climbs : Climbs p levels fed closed w.climb.result w.climb.new.opened =
-          w.climb.ensures.stands levels fed enough room count data_block all h in
+          w.climb.ensures.stands levels fed enough room count ended all h in
           let stays : Climbs p levels fed closed false w.climb.new.opened =
           subst (λ (b : Bool). Climbs p levels fed closed b w.climb.new.opened) w.if-climb.false climbs in
-          subst (λ (xs : List ℕ). TakesMore p levels fed closed xs c.else-ends.current) (sym w.opened-is)
-          (Climbs-settled p levels closed fed w.climb.new.opened c.else-ends.current planned most stays)
+          subst (λ (xs : List ℕ). TakesMore p levels fed closed xs c.else-ends.window) (sym w.opened-is)
+          (Climbs-settled p levels closed fed w.climb.new.opened c.else-ends.window planned ends.0 most stays)
       | else-ends-via-else-ends w ↦
           let part : (n ≡ 0) ⊎ ((closed ≡ 0) × (0 < n % size)) =
           elim c.if-count-gt0.branch [
-            | then-count-gt0+then-count-size-eq0 u ↦
-                let bad : true ≡ false = sym u.if-count-size-eq0.true ∙ sym u.ends-is ∙ w.if-ends.false in absurd cc
-            | then-count-gt0+else-count-size-eq0 u ↦ elim u.if-progress-gt0.branch [
+            | then-count-gt0+then-count-wide-eq0 u ↦
+                let bad : true ≡ false = sym u.if-count-wide-eq0.true ∙ sym u.ends-is ∙ w.if-ends.false in absurd cc
+            | then-count-gt0+else-count-wide-eq0 u ↦ elim u.if-progress-gt0.branch [
               | then-progress-gt0 v ↦
-                  let tested : nat_lt 0 closed ≡ false = sym v.value-is ∙ u.if-count-size-eq0.false in
+                  let tested : nat_lt 0 closed ≡ false = sym v.value-is ∙ u.if-count-wide-eq0.false in
                   let none : closed ≤ 0 = grind (arith, nat_tests, tested) in
                   absurd (omega (arith, none, v.if-progress-gt0.true))
               | else-progress-gt0 v ↦
-                  let tested : eqb (c.args.progress.now.fed % c.data_block-size.result) 0 ≡ false =
-                  sym v.value-is ∙ u.if-count-size-eq0.false in
-                  let some : 0 < c.args.progress.now.fed % c.data_block-size.result = grind (arith, nat_tests, tested) in
+                  let tested : eqb (c.args.progress.now.fed % c.window_length-wide.result) 0 ≡ false =
+                  sym v.value-is ∙ u.if-count-wide-eq0.false in
+                  let some : 0 < c.args.progress.now.fed % c.window_length-wide.result = grind (arith, nat_tests, tested) in
                   inr (omega (arith, v.if-progress-gt0.false), omega (arith, some, rest))
             ]
             | else-count-gt0 u ↦ inl (omega (arith, count, u.if-count-gt0.false))
           ] in
-          subst (λ (xs : List ℕ). TakesMore p levels fed closed xs c.else-ends.current) (sym w.opened-is)
-          (subst (λ (xs : List ℕ). TakesMore p levels fed closed c.args.opened.now xs) (sym w.current-is)
-          (Stands-settled p levels closed fed c.args.opened.now c.args.current.now planned part h))
+          subst (λ (xs : List ℕ). TakesMore p levels fed closed xs c.else-ends.window) (sym w.opened-is)
+          (subst (λ (xs : List ℕ). TakesMore p levels fed closed c.args.opened.now xs) (sym w.window-is)
+          (Stands-settled p levels closed fed c.args.opened.now c.args.window.now planned most part h))
     ] in
     let taken = c.take_bytes-taken.result in
     let many : length (take taken c.args.piece.now) ≡ taken =
-    length-take-le taken c.args.piece.now c.take_bytes-taken.ensures.most in
+    length-take-le taken c.args.piece.now c.take_bytes-taken.ensures.takes.1 in
     let none : closed_after (fan p.settings) p.blocks (blocks_before p.settings (n + taken))
-    ≡ closed_after (fan p.settings) p.blocks (n / size) =
+    ≡ closed_after (fan p.settings) p.blocks (n / size * window_blocks p.settings) =
     ap (λ (k : ℕ). closed_after (fan p.settings) p.blocks (blocks_before p.settings (k + taken))) count
     ∙ c.take_bytes-taken.ensures.none_closes
-    ∙ ap (λ (k : ℕ). closed_after (fan p.settings) p.blocks (k / size)) (sym count) in
-    FeedsOn-takes p levels closed taken fed (take taken c.args.piece.now) c.else-ends.opened c.else-ends.current
-    c.take_bytes-taken.new.opened c.take_bytes-taken.new.current many c.take_bytes-taken.ensures.some before none
+    ∙ ap (λ (k : ℕ). closed_after (fan p.settings) p.blocks (k / size * window_blocks p.settings)) (sym count) in
+    FeedsOn-takes p levels closed taken fed (take taken c.args.piece.now) c.else-ends.opened c.else-ends.window
+    c.take_bytes-taken.new.opened c.take_bytes-taken.new.window many c.take_bytes-taken.ensures.takes.0 before none
     (c.take_bytes-taken.ensures.fed levels fed enough (omega (arith, room, c.else-ends.auto.opened)) count before.settled)

@@ -13,14 +13,14 @@ pub returns-then-level-levels-clause-stands : goal.returns-then-level-levels-cla
 returns-then-level-levels-clause-stands c = λ levels fed within room count ends more h.
     let p = c.args.plan.now in
     let carrying = c.digest_below-digest.ensures.carries levels fed within room count ends h in
-    absurd (climbs-past p levels c.args.progress.now.closed fed _ _ c.blocks-blocks.ensures.planned ends
+    absurd (climbs-past p levels c.args.progress.now.closed fed _ _ c.requires.planned ends
     (omega (arith, c.if-level-levels.true, c.levels.ensures)) c.requires.closed
     (λ all. more (sym count ∙ all)) carrying)
 
 pub returns-then-not-add_digest-clause-last : goal.returns-then-not-add_digest-clause-last
 returns-then-not-add_digest-clause-last c = λ all below.
     let p = c.args.plan.now in
-    let planned = c.blocks-blocks.ensures.planned in
+    let planned = c.requires.planned in
     let last : (c.args.progress.now.fed - 1) / c.data_block.result + 1 ≡ p.blocks =
     ap (λ (n : ℕ). (c.args.progress.now.fed - 1) / n + 1) c.data_block.ensures
     ∙ ap (λ (n : ℕ). blocks_before p.settings n + 1) all ∙ last-block p planned in
@@ -42,7 +42,7 @@ returns-then-not-add_digest-clause-stands c = λ levels fed within room count en
     (subst (λ (n : ℕ). IsCarrying s blocks (carry_state n level levels) c.digest_below-digest.new.opened
     c.digest_below-digest.result) same carrying) in
     climbs-kept p levels level fed c.digest_below-digest.new.opened c.digest_below-digest.result c.add_digest.new.opened
-    c.blocks-blocks.ensures.planned ends c.requires.closed carrying
+    c.requires.planned ends c.requires.closed carrying
     (subst (λ (n : ℕ). n / fan s ^ level % fan s + 1 < fan s) (sym same) (c.if-not-add_digest.ensures.room refl))
     (omega (arith, added.0, same))
     (subst (λ (n : ℕ). HasOpenBlocks s blocks 0 levels (n + 1) c.add_digest.new.opened) (sym same) added.1)

@@ -66,7 +66,7 @@ pieces-preserved c =
           append_assoc fed (take taken piece) (take count rest)
           ∙ ap (λ (xs : List ℕ). fed ++ xs) (take-rest taken count piece) in
           subst (λ (xs : List ℕ). Stands p levels xs c.advance-taken.new.progress.closed c.advance-taken.new.opened
-          c.advance-taken.new.current) bytes next.stands;
+          c.advance-taken.new.window) bytes next.stands;
     }
 
 pub returns : goal.returns
@@ -77,7 +77,7 @@ returns c = λ levels fed enough room many h.
     let all : c.pieces.taken ≡ length piece = omega (arith, inv.most, c.pieces-test.false) in
     let bytes : fed ++ take c.pieces.taken piece ≡ fed ++ piece =
     ap (λ (xs : List ℕ). fed ++ xs) (take_all c.pieces.taken piece (omega (arith, all))) in
-    let stands : Stands p levels (fed ++ piece) c.pieces.progress.closed c.pieces.opened c.pieces.current =
-    subst (λ (xs : List ℕ). Stands p levels xs c.pieces.progress.closed c.pieces.opened c.pieces.current) bytes
+    let stands : Stands p levels (fed ++ piece) c.pieces.progress.closed c.pieces.opened c.pieces.window =
+    subst (λ (xs : List ℕ). Stands p levels xs c.pieces.progress.closed c.pieces.opened c.pieces.window) bytes
     (inv.stands levels fed enough room many h) in
-    subst (λ (n : ℕ). Stands p levels (fed ++ piece) n c.pieces.opened c.pieces.current) (inv.none_closes all) stands
+    subst (λ (n : ℕ). Stands p levels (fed ++ piece) n c.pieces.opened c.pieces.window) (inv.none_closes all) stands

@@ -12,8 +12,8 @@ invariant-pieces l = record {
   none_closes : l.taken ≡ length l.piece → l.progress.closed ≡ 0;
   stands : (levels : ℕ) (fed : List ℕ) → level_count_of l.plan ≤ levels
       → levels * l.plan.settings.hash_block ≤ length l.fn.opened → length fed ≡ l.fn.count
-      → HasFed l.plan.settings levels fed l.fn.opened l.fn.current
-      → Stands l.plan levels (fed ++ take l.taken l.piece) l.progress.closed l.opened l.current;
+      → HasFed l.plan.settings levels fed l.fn.opened l.fn.window
+      → Stands l.plan levels (fed ++ take l.taken l.piece) l.progress.closed l.opened l.window;
 }
 
 -- a step takes bytes, or one level more closes

@@ -24,17 +24,17 @@ loop-taken-preserved c =
           let all : length (fed ++ take taken piece) ≡ c.loop-taken.progress.fed =
           length-fed fed piece c.args.progress.now.fed taken c.loop-taken.progress.fed many inv.most inv.fed in
           let next : FeedsOn p levels (fed ++ take taken piece) c.loop-taken.progress.closed (take count rest) false
-          c.advance-count.new.progress.closed c.advance-count.new.opened c.advance-count.new.current =
+          c.advance-count.new.progress.closed c.advance-count.new.opened c.advance-count.new.window =
           subst (λ (b : Bool). FeedsOn p levels (fed ++ take taken piece) c.loop-taken.progress.closed (take count rest) b
-          c.advance-count.new.progress.closed c.advance-count.new.opened c.advance-count.new.current) some
+          c.advance-count.new.progress.closed c.advance-count.new.opened c.advance-count.new.window) some
           (c.advance-count.ensures.stands levels (fed ++ take taken piece) enough
           (omega (arith, room, c.loop-taken.auto.opened)) all before.stands) in
           subst (λ (xs : List ℕ). FeedsOn p levels fed c.args.progress.now.closed xs false
-          c.advance-count.new.progress.closed c.advance-count.new.opened c.advance-count.new.current)
+          c.advance-count.new.progress.closed c.advance-count.new.opened c.advance-count.new.window)
           (take-rest taken count piece)
           (FeedsOn-more p levels c.args.progress.now.closed c.loop-taken.progress.closed
           c.advance-count.new.progress.closed fed (take taken piece) (take count rest) c.loop-taken.opened
-          c.loop-taken.current c.advance-count.new.opened c.advance-count.new.current false before next);
+          c.loop-taken.window c.advance-count.new.opened c.advance-count.new.window false before next);
     }
 
 pub returns-then-count-eq0-clause-rises : goal.returns-then-count-eq0-clause-rises

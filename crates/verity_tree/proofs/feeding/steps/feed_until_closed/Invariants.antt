@@ -12,8 +12,8 @@ invariant-loop-taken l = record {
   first : l.taken ≡ 0 → l.progress.closed ≡ l.fn.progress.closed;
   stands : (levels : ℕ) (fed : List ℕ) → level_count_of l.plan ≤ levels
       → levels * l.plan.settings.hash_block ≤ length l.fn.opened → length fed ≡ l.fn.progress.fed
-      → Stands l.plan levels fed l.fn.progress.closed l.fn.opened l.fn.current
-      → FeedsOn l.plan levels fed l.fn.progress.closed (take l.taken l.piece) false l.progress.closed l.opened l.current;
+      → Stands l.plan levels fed l.fn.progress.closed l.fn.opened l.fn.window
+      → FeedsOn l.plan levels fed l.fn.progress.closed (take l.taken l.piece) false l.progress.closed l.opened l.window;
 }
 
 abbrev pub decreases-loop-taken : goal.decreases-loop-taken

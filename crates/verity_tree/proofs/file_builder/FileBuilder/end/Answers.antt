@@ -16,7 +16,7 @@ root_of_fed-requires-clause-opened c =
     let s = c.args.self.now.settings in
     let room = file_room plan s c.args.self.now.fed (most_level_count s) _ c.in-Ok.ensures
     (c.split_at_mut-opened.ensures.front_len ∙ c.open_length.ensures.value) in
-    let most = file_levels plan s c.args.self.now.fed c.blocks-blocks.ensures.planned c.in-Ok.ensures in
+    let most = file_levels plan s c.args.self.now.fed c.planned.ensures c.in-Ok.ensures in
     omega (arith, mul_le _ _ plan.settings.hash_block most, room)
 
 -- the root hash of a file's bytes
@@ -37,12 +37,14 @@ returns-in-Ok-clause-root c = λ fed h.
     let s = c.args.self.now.settings in
     let count = c.args.self.now.fed in
     let levels = most_level_count s in
-    let planned = c.blocks-blocks.ensures.planned in
+    let planned = c.planned.ensures in
     let same : plan ≡ _ = FilePlan-is plan s count c.in-Ok.ensures in
     let stood = IsFedFile-parted c.args.self.now _ c.args.memory.now c.split_at_mut-opened.result.0.now
     c.split_at_mut-opened.result.1.now fed c.open_length.ensures.value c.split_at_mut-opened.ensures.front
     c.split_at_mut-opened.ensures.back h in
     c.root_of_fed.ensures.root levels fed (file_levels plan s count planned c.in-Ok.ensures)
+    (file_room plan s count levels _ c.in-Ok.ensures
+    (c.split_at_mut-opened.ensures.front_len ∙ c.open_length.ensures.value))
     (h.count ∙ sym (ap (λ (p : PlanFields). p.wanted) same))
     (subst (λ (t : TreeSettingsFields). HasFed t levels fed c.split_at_mut-opened.result.0.now c.split_at_mut-opened.result.1.now)
     (sym (ap (λ (p : PlanFields). p.settings) same)) stood)
@@ -54,21 +56,23 @@ returns-in-Ok-clause-stays c = λ fed h.
     let s = c.args.self.now.settings in
     let count = c.args.self.now.fed in
     let levels = most_level_count s in
-    let planned = c.blocks-blocks.ensures.planned in
+    let planned = c.planned.ensures in
     let same : plan ≡ _ = FilePlan-is plan s count c.in-Ok.ensures in
     let settings : plan.settings ≡ s = ap (λ (p : PlanFields). p.settings) same in
     let stood = IsFedFile-parted c.args.self.now _ c.args.memory.now c.split_at_mut-opened.result.0.now
     c.split_at_mut-opened.result.1.now fed c.open_length.ensures.value c.split_at_mut-opened.ensures.front
     c.split_at_mut-opened.ensures.back h in
     let stands = c.root_of_fed.ensures.stays levels fed (file_levels plan s count planned c.in-Ok.ensures)
+    (file_room plan s count levels _ c.in-Ok.ensures
+    (c.split_at_mut-opened.ensures.front_len ∙ c.open_length.ensures.value))
     (h.count ∙ sym (ap (λ (p : PlanFields). p.wanted) same))
     (subst (λ (t : TreeSettingsFields). HasFed t levels fed c.split_at_mut-opened.result.0.now c.split_at_mut-opened.result.1.now)
     (sym settings) stood) in
     record {
       count = h.count;
       stands = joined (λ (xs ys : List ℕ). HasFed s levels fed xs ys) (levels * s.hash_block)
-          c.root_of_fed.new.opened c.root_of_fed.new.current
+          c.root_of_fed.new.opened c.root_of_fed.new.window
           (c.root_of_fed.auto.opened ∙ c.split_at_mut-opened.ensures.front_len ∙ c.open_length.ensures.value)
-          (subst (λ (t : TreeSettingsFields). HasFed t levels fed c.root_of_fed.new.opened c.root_of_fed.new.current)
+          (subst (λ (t : TreeSettingsFields). HasFed t levels fed c.root_of_fed.new.opened c.root_of_fed.new.window)
           settings stands);
     }

@@ -1,6 +1,7 @@
-use Rattle.std.proofs.Common.{List, [], ap, arith, length, length-append, refl, subst, sym, ℕ, ◌*◌, ◌++◌, ◌+◌, ◌∷◌, ◌<◌}
+use Rattle.std.proofs.Common.{List, [], ap, arith, drop, length, length-append, refl, subst, sym, take, ℕ, ◌*◌, ◌++◌, ◌+◌}
+use Rattle.std.proofs.Common.{◌-◌, ◌∷◌, ◌<◌}
 use Rattle.std.proofs.Common.{◌∙◌, ◌≡◌}
-use Rattle.std.proofs.lemmas.List.{append-nil}
+use Rattle.std.proofs.lemmas.List.{append-nil, take-append-drop}
 use Rattle.std.specs.Prelude.{Err, None, Result, Some, if◌then◌else◌}
 use Rattle.verity_io.specs.Writing.{most_bytes}
 use Rattle.verity_plan.proofs.CountLemmas.{mul_le}
@@ -15,6 +16,7 @@ use Rattle.verity_tree.specs.declared.feed_fault.FeedFault.TheVariants.{TooLarge
 use Rattle.verity_tree.specs.declared.file_builder.FileBuilder.{FileBuilder}
 use Rattle.verity_tree.proofs.FeedingLemmas.{FilePlan-is, FilePlan-large, FilePlan-none, IsFedFile-parted, file_levels}
 use Rattle.verity_tree.proofs.FeedingLemmas.{file_room, joined}
+use Rattle.verity_tree.proofs.SmallFileLemmas.{small-plan}
 use Rattle.verity_tree.proofs.file_builder.FileBuilder.feed.Goals as goal
 
 pub returns-in_default-clause-fault : goal.returns-in_default-clause-fault
@@ -22,15 +24,16 @@ returns-in_default-clause-fault c =
     let count = c.args.self.now.fed + length c.args.piece.now in
     let past : most_bytes < count = omega (arith, c.in_default.ensures) in
     sym (ap (λ (r : Result PlanFields PlanFault). if is_too_large r then Some TooLarge else None)
-    (FilePlan-large c.args.self.now.settings count c.data_block-block.ensures.valid past))
+    (FilePlan-large c.args.self.now.settings count c.window_length.ensures.valid past))
 
 pub feed_all-requires-clause-opened : goal.feed_all-requires-clause-opened
 feed_all-requires-clause-opened c =
     let plan = c.in-Ok.plan in
     let s = c.args.self.now.settings in
-    let room = file_room plan s c.in-Some.count (most_level_count s) _ c.in-Ok.ensures
-    (c.split_at_mut-opened.ensures.front_len ∙ c.open_length.ensures.value) in
-    let most = file_levels plan s c.in-Some.count c.blocks-blocks.ensures.planned c.in-Ok.ensures in
+    let size : length c.split_at_mut-opened.result.0.now ≡ most_level_count s * s.hash_block =
+    omega (arith, c.split_at_mut-opened.ensures.front_len, c.window_length.ensures.value, c.requires) in
+    let room = file_room plan s c.in-Some.count (most_level_count s) _ c.in-Ok.ensures size in
+    let most = file_levels plan s c.in-Some.count c.planned.ensures c.in-Ok.ensures in
     omega (arith, mul_le _ _ plan.settings.hash_block most, room)
 
 pub returns-in-Ok-clause-fed : goal.returns-in-Ok-clause-fed
@@ -38,22 +41,28 @@ returns-in-Ok-clause-fed c = λ fed h.
     let plan = c.in-Ok.plan in
     let s = c.args.self.now.settings in
     let levels = most_level_count s in
-    let size = c.split_at_mut-opened.ensures.front_len ∙ c.open_length.ensures.value in
+    let from : length c.args.memory.now - c.window_length.result ≡ levels * s.hash_block =
+    omega (arith, c.window_length.ensures.value, c.requires) in
+    let size = c.split_at_mut-opened.ensures.front_len ∙ from in
     let same : plan.settings ≡ s =
     ap (λ (p : PlanFields). p.settings) (FilePlan-is plan s c.in-Some.count c.in-Ok.ensures) in
-    let stood = IsFedFile-parted c.args.self.now _ c.args.memory.now c.split_at_mut-opened.result.0.now
-    c.split_at_mut-opened.result.1.now fed c.open_length.ensures.value c.split_at_mut-opened.ensures.front
-    c.split_at_mut-opened.ensures.back h in
+    let window : c.take_short_piece.new.window ≡ c.split_at_mut-opened.result.1.now =
+    c.take_short_piece.ensures.refused c.if-take_short_piece.false in
+    let stood : HasFed s levels fed c.split_at_mut-opened.result.0.now c.take_short_piece.new.window =
+    subst (λ (xs : List ℕ). HasFed s levels fed c.split_at_mut-opened.result.0.now xs) (sym window)
+    (IsFedFile-parted c.args.self.now _ c.args.memory.now c.split_at_mut-opened.result.0.now
+    c.split_at_mut-opened.result.1.now fed from c.split_at_mut-opened.ensures.front
+    c.split_at_mut-opened.ensures.back h) in
     let stands = c.feed_all.ensures levels fed
-    (file_levels plan s c.in-Some.count c.blocks-blocks.ensures.planned c.in-Ok.ensures)
+    (file_levels plan s c.in-Some.count c.planned.ensures c.in-Ok.ensures)
     (file_room plan s c.in-Some.count levels _ c.in-Ok.ensures size) h.count
-    (subst (λ (t : TreeSettingsFields). HasFed t levels fed c.split_at_mut-opened.result.0.now c.split_at_mut-opened.result.1.now)
+    (subst (λ (t : TreeSettingsFields). HasFed t levels fed c.split_at_mut-opened.result.0.now c.take_short_piece.new.window)
     (sym same) stood) in
     record {
       count = omega (arith, length-append fed c.args.piece.now, h.count, c.in-Some.ensures);
       stands = joined (λ (xs ys : List ℕ). HasFed s levels (fed ++ c.args.piece.now) xs ys) (levels * s.hash_block)
-          c.feed_all.new.opened c.feed_all.new.current (c.feed_all.auto.opened ∙ size)
-          (subst (λ (t : TreeSettingsFields). HasFed t levels (fed ++ c.args.piece.now) c.feed_all.new.opened c.feed_all.new.current)
+          c.feed_all.new.opened c.feed_all.new.window (c.feed_all.auto.opened ∙ size)
+          (subst (λ (t : TreeSettingsFields). HasFed t levels (fed ++ c.args.piece.now) c.feed_all.new.opened c.feed_all.new.window)
           same stands);
     }
 
@@ -69,10 +78,57 @@ fed-none b memory fed piece none h =
     let empty : piece ≡ [] = no-bytes piece none in
     subst (λ (xs : List ℕ). IsFedFile b memory xs) (sym (ap (λ (xs : List ℕ). fed ++ xs) empty ∙ append-nil fed)) h
 
+-- memory whose parts are as they were
+memory-back : (from : ℕ) (memory opened window after : List ℕ) → opened ≡ take from memory → window ≡ drop from memory
+    → after ≡ window → opened ++ after ≡ memory
+memory-back from memory opened window after front back same =
+    ap (λ (xs : List ℕ). xs ++ after) front
+    ∙ ap (λ (xs : List ℕ). take from memory ++ xs) (same ∙ back)
+    ∙ take-append-drop from memory
+
 pub returns-in-Err-NoData-clause-fed : goal.returns-in-Err-NoData-clause-fed
 returns-in-Err-NoData-clause-fed c = λ fed h.
     let s = c.args.self.now.settings in
     let is : Err NoData ≡ plan_for_bytes s c.in-Some.count 0 =
     ap (λ (f : PlanFault). Err f) (sym c.in-Err-NoData.field-0-is) ∙ c.in-Err-NoData.ensures in
-    let none = FilePlan-none s c.in-Some.count c.data_block-block.ensures.valid is in
-    fed-none c.args.self.now c.args.memory.now fed c.args.piece.now (omega (arith, none, c.in-Some.ensures)) h
+    let none = FilePlan-none s c.in-Some.count c.window_length.ensures.valid is in
+    subst (λ (xs : List ℕ). IsFedFile c.args.self.now xs (fed ++ c.args.piece.now))
+    (sym (memory-back _ c.args.memory.now c.split_at_mut-opened.result.0.now c.split_at_mut-opened.result.1.now
+    c.take_short_piece.new.window c.split_at_mut-opened.ensures.front c.split_at_mut-opened.ensures.back
+    (c.take_short_piece.ensures.refused c.if-take_short_piece.false)))
+    (fed-none c.args.self.now c.args.memory.now fed c.args.piece.now (omega (arith, none, c.in-Some.ensures)) h)
+
+pub returns-in-Err-TooLarge-clause-refused : goal.returns-in-Err-TooLarge-clause-refused
+returns-in-Err-TooLarge-clause-refused c = (
+  refl,
+  memory-back _ c.args.memory.now c.split_at_mut-opened.result.0.now c.split_at_mut-opened.result.1.now
+      c.take_short_piece.new.window c.split_at_mut-opened.ensures.front c.split_at_mut-opened.ensures.back
+      (c.take_short_piece.ensures.refused c.if-take_short_piece.false),
+)
+
+pub returns-then-take_short_piece-clause-fault : goal.returns-then-take_short_piece-clause-fault
+returns-then-take_short_piece-clause-fault c =
+    let s = c.args.self.now.settings in
+    let count = c.args.self.now.fed + length c.args.piece.now in
+    let more = c.take_short_piece.ensures.some c.if-take_short_piece.true in
+    sym (ap (λ (r : Result PlanFields PlanFault). if is_too_large r then Some TooLarge else None)
+    (small-plan s count c.window_length.ensures.valid (omega (arith, more))
+    (c.take_short_piece.ensures.small c.if-take_short_piece.true)))
+
+pub returns-then-take_short_piece-clause-fed : goal.returns-then-take_short_piece-clause-fed
+returns-then-take_short_piece-clause-fed c = λ fed h.
+    let s = c.args.self.now.settings in
+    let levels = most_level_count s in
+    let from : length c.args.memory.now - c.window_length.result ≡ levels * s.hash_block =
+    omega (arith, c.window_length.ensures.value, c.requires) in
+    let stood = IsFedFile-parted c.args.self.now _ c.args.memory.now c.split_at_mut-opened.result.0.now
+    c.split_at_mut-opened.result.1.now fed from c.split_at_mut-opened.ensures.front
+    c.split_at_mut-opened.ensures.back h in
+    record {
+      count = omega (arith, length-append fed c.args.piece.now, h.count, c.in-Some.ensures);
+      stands = joined (λ (xs ys : List ℕ). HasFed s levels (fed ++ c.args.piece.now) xs ys) (levels * s.hash_block)
+          c.split_at_mut-opened.result.0.now c.take_short_piece.new.window
+          (c.split_at_mut-opened.ensures.front_len ∙ from)
+          (c.take_short_piece.ensures.fed c.if-take_short_piece.true levels fed c.split_at_mut-opened.result.0.now
+          h.count stood);
+    }

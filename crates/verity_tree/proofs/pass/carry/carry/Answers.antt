@@ -7,7 +7,7 @@ use Rattle.verity_plan.proofs.FanLemmas.{fan-some, fan-two}
 use Rattle.verity_tree.specs.ClosingOrder.{BlockIndex, block_index, closes, first_closing}
 use Rattle.verity_tree.specs.Steps.OpenBlocks.{IsCarrying, carry_state}
 use Rattle.verity_tree.specs.TreeOnDevice.{tree_block}
-use Rattle.verity_tree.proofs.ClosingLemmas.{closes-closed, closing-below, closing-done, closing-kept, ends-here}
+use Rattle.verity_tree.proofs.ClosingLemmas.{closes-closed, closing-below, closing-done, closing-kept}
 use Rattle.verity_tree.proofs.ClosedLevelLemmas.{part-is_chunk}
 use Rattle.verity_tree.proofs.OpenBlockSteps.{carry-all}
 use Rattle.verity_tree.proofs.OrderSplit.{first_closing-more}
@@ -46,12 +46,6 @@ returns-then-not-add_digest-clause-carries g c = λ blocks many first stands.
           (sym kept) (inv.closed tells blocks done start many first stands before);
       stops = λ tells done start before. tt;
     }
-
-pub returns-in-Err-clause-ends : goal.returns-in-Err-clause-ends
-returns-in-Err-clause-ends g c =
-    let p = c.args.plan.now in
-    ends-here (fan p.settings) p.blocks c.args.i c.loop-level.level c.loop-level.invariant.ends
-    (c.if-not-add_digest.ensures.ends refl)
 
 pub returns-in-Err-clause-carries : goal.returns-in-Err-clause-carries
 returns-in-Err-clause-carries g c = λ blocks many first stands.
@@ -92,7 +86,6 @@ loop-level-preserved g c =
     record {
       size = c.close_block-current.ensures.size;
       long = c.close_block-current.auto.opened ∙ c.add_digest.auto.opened ∙ inv.long;
-      ends = λ _. ends-here (fan s) p.blocks c.args.i m inv.ends (c.if-not-add_digest.ensures.ends refl);
       told = λ t. c.in-Ok.ensures.told (inv.told t);
       failures = c.in-Ok.ensures.count ∙ inv.failures;
       carries = λ blocks many first stands.

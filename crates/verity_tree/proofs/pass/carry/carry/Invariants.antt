@@ -2,7 +2,6 @@ use Rattle.std.proofs.Common.{◌≡◌, ◌<◌, ◌++◌, ℕ, List, length}
 use Rattle.verity_plan.specs.PlanCounts.{level_count_of}
 use Rattle.verity_plan.specs.Settings.{fan, digest_len}
 use Rattle.verity_tree.specs.ClosingOrder.{BlockIndex, first_closing}
-use Rattle.verity_tree.specs.Steps.Closing.{EndsBlock}
 use Rattle.verity_tree.specs.Steps.OpenBlocks.{HasOpenBlocks, level_digest, IsCarrying, carry_state}
 use Rattle.verity_tree.proofs.pass.carry.carry.Given as goal
 
@@ -11,7 +10,6 @@ abbrev pub invariant-loop-level : goal.invariant-loop-level
 invariant-loop-level g l = record {
   size : length l.current ≡ digest_len l.plan.settings;
   long : length l.opened ≡ length l.fn.opened;
-  ends : 0 < l.level → EndsBlock (fan l.plan.settings) l.plan.blocks l.i;
   told : g.D.Device.tells l.fn.device → g.D.Device.tells l.device;
   failures : g.D.Device.failures l.device ≡ g.D.Device.failures l.fn.device;
   carries : (blocks : List (List ℕ)) → l.plan.blocks ≡ length blocks

@@ -23,7 +23,7 @@ returns-then-closes-clause-fed c = λ fed h.
     let taken = c.feed_until_closed-taken.result.0 in
     let closed = c.feed_until_closed-taken.new.progress.closed in
     let opened = c.feed_until_closed-taken.new.opened in
-    let current = c.feed_until_closed-taken.new.current in
+    let window = c.feed_until_closed-taken.new.window in
     let all : c.levels-2.result * c.hash_block.result ≡ levels * p.settings.hash_block =
     product c.levels-2.result c.hash_block.result levels p.settings.hash_block c.levels-2.ensures
     c.hash_block.ensures in
@@ -34,10 +34,10 @@ returns-then-closes-clause-fed c = λ fed h.
     let has = count-taken fed c.args.piece.now c.args.self.now.fed c.feed_until_closed-taken.new.progress.fed taken
     h.count c.feed_until_closed-taken.ensures.fed c.feed_until_closed-taken.ensures.most in
     let on = subst
-    (λ (b : Bool). FeedsOn p levels fed c.args.self.now.closed (take taken c.args.piece.now) b closed opened current)
+    (λ (b : Bool). FeedsOn p levels fed c.args.self.now.closed (take taken c.args.piece.now) b closed opened window)
     c.if-closes.true
     (c.feed_until_closed-taken.ensures.stands levels fed (omega arith) (omega (arith, room)) h.count stood) in
-    Feeds-some c.args.self.now _ closed fed (take taken c.args.piece.now) opened current c.handed_out.result c.wanted.ensures.planned h.count has
+    Feeds-some c.args.self.now _ closed fed (take taken c.args.piece.now) opened window c.handed_out.result c.wanted.ensures.planned h.count has
     (c.feed_until_closed-taken.auto.opened ∙ room) on c.handed_out.ensures.level c.handed_out.ensures.index
     c.handed_out.ensures.byte c.handed_out.ensures.at
 
@@ -48,7 +48,7 @@ returns-else-closes-clause-fed c = λ fed h.
     let taken = c.feed_until_closed-taken.result.0 in
     let closed = c.feed_until_closed-taken.new.progress.closed in
     let opened = c.feed_until_closed-taken.new.opened in
-    let current = c.feed_until_closed-taken.new.current in
+    let window = c.feed_until_closed-taken.new.window in
     let all : c.levels-2.result * c.hash_block.result ≡ levels * p.settings.hash_block =
     product c.levels-2.result c.hash_block.result levels p.settings.hash_block c.levels-2.ensures
     c.hash_block.ensures in
@@ -59,8 +59,8 @@ returns-else-closes-clause-fed c = λ fed h.
     let has = count-taken fed c.args.piece.now c.args.self.now.fed c.feed_until_closed-taken.new.progress.fed taken
     h.count c.feed_until_closed-taken.ensures.fed c.feed_until_closed-taken.ensures.most in
     let on = subst
-    (λ (b : Bool). FeedsOn p levels fed c.args.self.now.closed (take taken c.args.piece.now) b closed opened current)
+    (λ (b : Bool). FeedsOn p levels fed c.args.self.now.closed (take taken c.args.piece.now) b closed opened window)
     c.if-closes.false
     (c.feed_until_closed-taken.ensures.stands levels fed (omega arith) (omega (arith, room)) h.count stood) in
-    Feeds-none c.args.self.now _ closed fed (take taken c.args.piece.now) opened current h.count has
+    Feeds-none c.args.self.now _ closed fed (take taken c.args.piece.now) opened window h.count has
     (c.feed_until_closed-taken.auto.opened ∙ room) on

@@ -1,13 +1,13 @@
 use Rattle.std.proofs.Common.{arith, ◌≤◌}
 use Rattle.std.proofs.Math.Nat.{mul-le-mul}
-use Rattle.verity_plan.proofs.FanLemmas.{data_most, hash_most}
+use Rattle.verity_plan.proofs.FanLemmas.{hash_most}
 use Rattle.verity_plan.proofs.PlanLemmas.{levels_few}
 use Rattle.verity_tree.proofs.tree_builder.TreeBuilder.memory_length.Goals as goal
 
 pub overflow_mul-result : goal.overflow_mul-result
 overflow_mul-result c =
     let p = c.args.plan.now in
-    let planned = c.blocks-blocks.ensures.planned in
+    let planned = c.planned.ensures in
     let levels : c.levels.result ≤ 63 = omega (arith, c.levels.ensures, levels_few p planned) in
     let size : c.hash_block.result ≤ 524288 =
     omega (arith, c.hash_block.ensures, hash_most p.settings planned.valid) in
@@ -16,8 +16,8 @@ overflow_mul-result c =
 pub overflow_add-result : goal.overflow_add-result
 overflow_add-result c =
     let p = c.args.plan.now in
-    let planned = c.blocks-blocks.ensures.planned in
+    let planned = c.planned.ensures in
     let levels : c.levels.result ≤ 63 = omega (arith, c.levels.ensures, levels_few p planned) in
     let size : c.hash_block.result ≤ 524288 =
     omega (arith, c.hash_block.ensures, hash_most p.settings planned.valid) in
-    omega (arith, mul-le-mul levels size, c.data_block.ensures, data_most p.settings planned.valid)
+    omega (arith, mul-le-mul levels size, c.window_length.ensures.most)

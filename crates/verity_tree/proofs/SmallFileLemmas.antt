@@ -1,0 +1,63 @@
+-- A file that isn't too large for any tree.
+use Rattle.std.proofs.Common.{◌≡◌, ◌∙◌, ℕ, zero, suc, ◌+◌, ◌-◌, ◌*◌, ◌^◌, ◌<◌, ◌≤◌, true, false, arith, ap, refl}
+use Rattle.std.proofs.Math.Nat.{mul-le-mul, mul-le-mul_left, mul-le-mul_right, one-le-pow}
+use Rattle.std.proofs.lemmas.Bool.Decides.{nat_tests}
+use Rattle.std.specs.Prelude.{Ok, nat_eq, nat_le}
+use Rattle.verity_hash.specs.Hashing.{digest_len_of}
+use Rattle.verity_hash.specs.declared.algorithm.Algorithm.{Algorithm}
+use Rattle.verity_hash.specs.declared.algorithm.Algorithm.TheVariants.{Sha256, Sha512, Sha1, Sha224, Sha384}
+use Rattle.verity_io.specs.Writing.{most_bytes}
+use Rattle.verity_plan.specs.Plans.{block_count, blocks_from, end_place, level_count, level_size}
+use Rattle.verity_plan.specs.Plans.{plan_for_bytes}
+use Rattle.verity_plan.specs.Settings.{IsValid, TreeSettingsFields, fan}
+use Rattle.verity_plan.proofs.CountLemmas.{div_ceil-le, div_ceil-pos, mul-lt_div_ceil}
+use Rattle.verity_plan.proofs.FanLemmas.{data_most, fan-some, fan-two, hash_most, some_data, two_digests}
+use Rattle.verity_plan.proofs.PlaceLemmas.{blocks_from-suc}
+use Rattle.verity_plan.proofs.PlanLemmas.{level_count-few}
+use Rattle.verity_tree.proofs.FeedingLemmas.{file_plan}
+
+-- no level has more blocks than there are data blocks
+blocks_from-most : (f n l k : ℕ) → 0 < f → blocks_from f n l k ≤ k * n
+blocks_from-most f n l zero some = omega arith
+blocks_from-most f n l (suc k) some =
+    let wide : 1 ≤ f ^ (l + 1) = one-le-pow (l + 1) f some in
+    let level : level_size f n l ≤ n =
+    div_ceil-le n (f ^ (l + 1)) n (omega (arith, wide)) (omega (arith, mul-le-mul_left n wide)) in
+    omega (arith, blocks_from-suc f n l k, level, blocks_from-most f n (l + 1) k some)
+
+-- a digest has at least 20 bytes
+digest_len_of-least : (algorithm : Algorithm) → 20 ≤ digest_len_of algorithm
+digest_len_of-least Sha256 = omega arith
+digest_len_of-least Sha512 = omega arith
+digest_len_of-least Sha1 = omega arith
+digest_len_of-least Sha224 = omega arith
+digest_len_of-least Sha384 = omega arith
+
+-- a file of up to 2 ^ 41 bytes has a plan
+pub small-plan : (s : TreeSettingsFields) (size : ℕ) → IsValid s → 0 < size → size ≤ 2199023255552
+    → plan_for_bytes s size 0 ≡ Ok (file_plan s size)
+small-plan s size valid some most =
+    let d = s.data_block in
+    let n = block_count s size in
+    let f = fan s in
+    let wide : 0 < d = some_data s valid in
+    let one : 0 < n = div_ceil-pos size d wide some in
+    let last : (n - 1) * d < size = mul-lt_div_ceil size d (n - 1) wide (omega (arith, one)) in
+    let next : n * d ≡ (n - 1) * d + d =
+    ap (λ (k : ℕ). k * d) (let e : n ≡ n - 1 + 1 = omega (arith, one) in e)
+    ∙ (let e : (n - 1 + 1) * d ≡ (n - 1) * d + d = omega arith in e) in
+    let bytes : n * d ≤ 2199023779840 = omega (arith, last, next, most, data_most s valid) in
+    let forty : 40 ≤ d = omega (arith, two_digests s valid, digest_len_of-least s.algorithm) in
+    let few : n * 40 ≤ 2199023779840 = omega (arith, bytes, mul-le-mul_left n forty) in
+    let levels : level_count f n ≤ 63 = level_count-few f n (fan-two s valid) (omega (arith, few)) in
+    let sum : blocks_from f n 0 (level_count f n) ≤ 63 * n =
+    omega (arith, blocks_from-most f n 0 (level_count f n) (fan-some s), mul-le-mul_right n levels) in
+    let total : blocks_from f n 0 (level_count f n) ≤ 3463462453249 = omega (arith, sum, few) in
+    let area : end_place f n 0 * s.hash_block ≤ 3463462453249 * 524288 =
+    mul-le-mul (let e : end_place f n 0 ≤ 3463462453249 = omega (arith, total) in e) (hash_most s valid) in
+    let first : nat_le (n * d) most_bytes ≡ true =
+    let h : n * d ≤ most_bytes = omega (arith, bytes) in grind (arith, nat_tests, h) in
+    let second : nat_le (end_place f n 0 * s.hash_block) most_bytes ≡ true =
+    let h : end_place f n 0 * s.hash_block ≤ most_bytes = omega (arith, area) in grind (arith, nat_tests, h) in
+    let tested : nat_eq n 0 ≡ false = grind (arith, nat_tests, one) in
+    rw (tested, first, second) refl

@@ -1,0 +1,264 @@
+-- The window of data blocks: how many it has, that no hash block closes within it, and where the last byte is in it.
+use Rattle.std.proofs.Common.{◌≡◌, ℕ, ◌+◌, ◌-◌, ◌*◌, ◌/◌, ◌%◌, ◌^◌, ◌<◌, ◌≤◌, arith, sym, ◌∙◌, ap, inl, inr}
+use Rattle.std.proofs.Common.{min}
+use Rattle.std.proofs.lemmas.Bool.{cases_lt}
+use Rattle.std.proofs.lemmas.Nat.{div-add-mod', div-mul-add, mod-mul-add, mod_below, pow-add}
+use Rattle.std.proofs.Math.Nat.{mul_assoc, mul-le-mul_left}
+use Rattle.std.proofs.Math.Pow.{pow-lt}
+use Rattle.verity_plan.specs.Plans.{IsPlan, PlanFields}
+use Rattle.verity_plan.specs.Settings.{IsValid, TreeSettingsFields, fan}
+use Rattle.verity_plan.proofs.CountLemmas.{le-div_ceil, mul_le}
+use Rattle.verity_plan.proofs.FanLemmas.{block_power, data_most, fan-power, fan-some, some_data}
+use Rattle.verity_plan.proofs.FitLemmas.{power_of_two-is}
+use Rattle.verity_tree.specs.ClosingOrder.{blocks_before}
+use Rattle.verity_tree.specs.Steps.Feeding.{IsBeforeWindow, windows_before}
+use Rattle.verity_tree.specs.Steps.Batches.{IsBatch}
+use Rattle.verity_tree.specs.Windows.{window_blocks, window_length}
+use Rattle.verity_tree.proofs.BatchLemmas.{none_closes-batch}
+
+-- a power of two that isn't above another divides it
+power-divides : (x y j k : ℕ) → x ≡ 2 ^ j → y ≡ 2 ^ k → x ≤ y → (g : ℕ) × (y ≡ g * x)
+power-divides x y j k first second most = elim (cases_lt k j) [
+  | inl less ↦ absurd (omega (arith, pow-lt less, first, second, most))
+  | inr within ↦
+      let split : k ≡ k - j + j = omega (arith, within) in (
+        2 ^ (k - j),
+        second ∙ ap (λ (n : ℕ). 2 ^ n) split ∙ pow-add 2 (k - j) j ∙ ap (λ (n : ℕ). 2 ^ (k - j) * n) (sym first),
+      )
+]
+
+-- the lesser of two powers of two is one
+power-min : (x y j k : ℕ) → x ≡ 2 ^ j → y ≡ 2 ^ k → (m : ℕ) × (min x y ≡ 2 ^ m)
+power-min x y j k first second = elim (cases_lt x y) [
+  | inl less ↦ let e : min x y ≡ x = omega arith in (j, e ∙ first)
+  | inr most ↦ let e : min x y ≡ y = omega arith in (k, e ∙ second)
+]
+
+-- the largest block, divided by a block's size
+power-quotient : (d k : ℕ) → 0 < d → d ≡ 2 ^ k → d ≤ 524288 → (m : ℕ) × (524288 / d ≡ 2 ^ m)
+power-quotient d k some is most =
+    let largest : 524288 ≡ 2 ^ 19 = omega arith in
+    elim (cases_lt 19 k) [
+      | inl less ↦ absurd (omega (arith, pow-lt less, largest, is, most))
+      | inr within ↦
+          let split : 19 ≡ 19 - k + k = omega (arith, within) in
+          let area : 524288 ≡ 2 ^ (19 - k) * d + 0 = omega (
+            arith,
+            largest ∙ ap (λ (n : ℕ). 2 ^ n) split ∙ pow-add 2 (19 - k) k ∙ ap (λ (n : ℕ). 2 ^ (19 - k) * n) (sym is),
+          ) in (
+            19 - k,
+            ap (λ (n : ℕ). n / d) area ∙ div-mul-add (2 ^ (19 - k)) d 0 some,
+          )
+    ]
+
+-- a hash block's slots are those of some windows
+pub window-fan : (s : TreeSettingsFields) → IsValid s → (g : ℕ) × (fan s ≡ g * window_blocks s)
+unfolding window_blocks
+window-fan s valid =
+    let some = some_data s valid in
+    let d = power_of_two-is s.data_block some (block_power _ s.data_block valid.data_size) in
+    let f = fan-power s in
+    let room = power-quotient s.data_block d.0 some d.1 (data_most s valid) in
+    let eight : 8 ≡ 2 ^ 3 = omega arith in
+    let rows = power-min 8 (524288 / s.data_block) 3 room.0 eight room.1 in
+    let blocks = power-min (min 8 (524288 / s.data_block)) (fan s) rows.0 f.0 rows.1 f.1 in
+    power-divides (min (min 8 (524288 / s.data_block)) (fan s)) (fan s) blocks.0 f.0 blocks.1 f.1 (omega arith)
+
+pub window-some : (s : TreeSettingsFields) → IsValid s → 0 < window_blocks s
+unfolding window_blocks
+window-some s valid =
+    let some = some_data s valid in
+    let split = div-add-mod' 524288 s.data_block in
+    let room : 0 < 524288 / s.data_block = elim (cases_lt 0 (524288 / s.data_block)) [
+      | inl more ↦ more
+      | inr none ↦
+          let zero_is : 524288 / s.data_block * s.data_block ≡ 0 * s.data_block =
+          ap (λ (n : ℕ). n * s.data_block) (let e : 524288 / s.data_block ≡ 0 = omega (arith, none) in e) in
+          absurd (omega (arith, split, zero_is, mod_below 524288 s.data_block some, data_most s valid))
+    ] in
+    omega (arith, room, fan-some s)
+
+pub window-eight : (s : TreeSettingsFields) → window_blocks s ≤ 8
+unfolding window_blocks
+window-eight s = omega arith
+
+pub window-wide : (s : TreeSettingsFields) → IsValid s → 0 < window_length s
+window-wide s valid =
+    let one : 1 * s.data_block ≤ window_blocks s * s.data_block =
+    mul_le 1 (window_blocks s) s.data_block (omega (arith, window-some s valid)) in
+    omega (arith, one, some_data s valid)
+
+-- a window has no fewer bytes than data blocks
+pub blocks-length : (s : TreeSettingsFields) → IsValid s → window_blocks s ≤ window_length s
+blocks-length s valid =
+    let some : 1 ≤ s.data_block = omega (arith, some_data s valid) in
+    omega (arith, mul-le-mul_left (window_blocks s) some)
+
+-- one window more
+pub windows-next : (s : TreeSettingsFields) (count : ℕ) → 0 < window_length s → count % window_length s ≡ 0
+    → (count + window_length s) / window_length s ≡ count / window_length s + 1
+windows-next s count wide whole =
+    let w = window_length s in
+    let q = count / w in
+    let split : q * w + count % w ≡ count = div-add-mod' count w in
+    let e : count + w ≡ (q + 1) * w + 0 = omega (arith, split, whole) in
+    ap (λ (n : ℕ). n / w) e ∙ div-mul-add (q + 1) w 0 wide
+
+-- from the first data block of a window to the end of the hash block above it there is room for the window
+pub window-room : (s : TreeSettingsFields) (w : ℕ) → IsValid s → w * window_blocks s % fan s + window_blocks s ≤ fan s
+window-room s w valid =
+    let b = window_blocks s in
+    let f = fan s in
+    let times = window-fan s valid in
+    let g = times.0 in
+    let whole : f ≡ g * b = times.1 in
+    let some : 0 < g = elim (cases_lt 0 g) [
+      | inl more ↦ more
+      | inr none ↦ absurd (omega (
+        arith,
+        ap (λ (n : ℕ). n * b) (let e : g ≡ 0 = omega (arith, none) in e),
+        whole,
+        fan-some s,
+      ))
+    ] in
+    let low : w % g < g = mod_below w g some in
+    let step : w % g + 1 ≤ g = omega (arith, low) in
+    let area : (w % g + 1) * b ≤ g * b = mul_le (w % g + 1) g b step in
+    let split : w * b ≡ w / g * f + w % g * b =
+    ap (λ (n : ℕ). n * b) (sym (div-add-mod' w g))
+    ∙ (let e : (w / g * g + w % g) * b ≡ w / g * g * b + w % g * b = omega arith in e)
+    ∙ ap (λ (n : ℕ). n + w % g * b) (mul_assoc (w / g) g b ∙ ap (λ (n : ℕ). w / g * n) (sym whole)) in
+    let one_more : (w % g + 1) * b ≡ w % g * b + b = omega arith in
+    let place : w * b % f ≡ w % g * b =
+    ap (λ (n : ℕ). n % f) split
+    ∙ mod-mul-add (w / g) f (w % g * b) (omega (arith, area, whole, one_more, window-some s valid)) in
+    omega (arith, place, area, whole, one_more)
+
+-- where the last of some bytes is: the data blocks before its window, its data block, and the bytes
+pub record IsPlacedInWindow (s : TreeSettingsFields) (count : ℕ) : Type 0 where
+  pub from : windows_before s count * window_blocks s ≤ blocks_before s count
+  pub to : blocks_before s count < windows_before s count * window_blocks s + window_blocks s
+  pub start : windows_before s count * window_blocks s * s.data_block ≡ windows_before s count * window_length s
+  pub before : windows_before s count * window_length s < count
+  pub within : count ≤ windows_before s count * window_length s + window_length s
+  pub block : blocks_before s count * s.data_block < count
+  pub end : count ≤ blocks_before s count * s.data_block + s.data_block
+
+-- the place of the last of some bytes in runs of a size
+pub last-place : (count size : ℕ) → 0 < size → 0 < count
+    → ((count - 1) / size * size < count) × (count ≤ (count - 1) / size * size + size)
+last-place count size wide some =
+    let split : (count - 1) / size * size + (count - 1) % size ≡ count - 1 = div-add-mod' (count - 1) size in
+    let low : (count - 1) % size < size = mod_below (count - 1) size wide in
+    (omega (arith, split, some), omega (arith, split, low))
+
+-- a number of blocks whose bytes come before a byte of a block is not past that block
+block-from : (k i d n : ℕ) → k * d < n → n ≤ i * d + d → k ≤ i
+block-from k i d n before end = elim (cases_lt i k) [
+  | inl past ↦
+      let step : i + 1 ≤ k = omega arith in
+      absurd (omega (arith, mul_le (i + 1) k d step, before, end))
+  | inr most ↦ most
+]
+
+pub placed-in-window : (s : TreeSettingsFields) (count : ℕ) → IsValid s → 0 < count → IsPlacedInWindow s count
+placed-in-window s count valid some =
+    let d = s.data_block in
+    let b = window_blocks s in
+    let i = blocks_before s count in
+    let w = windows_before s count in
+    let block = last-place count d (some_data s valid) some in
+    let window = last-place count (window_length s) (window-wide s valid) some in
+    let start : w * b * d ≡ w * window_length s = mul_assoc w b d in
+    let next : (w * b + b) * d ≡ w * window_length s + window_length s =
+    (let e : (w * b + b) * d ≡ w * b * d + b * d = omega arith in e) ∙ ap (λ (n : ℕ). n + b * d) start in
+    record {
+      from = block-from (w * b) i d count (omega (arith, start, window.0)) block.1;
+      to = elim (cases_lt i (w * b + b)) [
+        | inl less ↦ less
+        | inr past ↦ absurd (omega (arith, mul_le (w * b + b) i d past, next, window.1, block.0))
+      ];
+      start = start;
+      before = window.0;
+      within = window.1;
+      block = block.0;
+      end = block.1;
+    }
+
+-- the last of all bytes of windows that are full is the last of their last data block
+pub window-ended : (s : TreeSettingsFields) (count w : ℕ) → IsValid s → 0 < count → count ≡ w * window_length s
+    → blocks_before s count + 1 ≡ w * window_blocks s
+window-ended s count w valid some whole =
+    let d = s.data_block in
+    let i = blocks_before s count in
+    let k = w * window_blocks s in
+    let block = last-place count d (some_data s valid) some in
+    let all : k * d ≡ count = mul_assoc w (window_blocks s) d ∙ sym whole in
+    elim (cases_lt (i + 1) k) [
+      | inl less ↦
+          let step : i + 2 ≤ k = omega (arith, less) in
+          absurd (omega (arith, mul_le (i + 2) k d step, all, block.1, some_data s valid))
+      | inr most ↦ elim (cases_lt i k) [
+        | inl low ↦ omega (arith, most, low)
+        | inr past ↦ absurd (omega (arith, mul_le k i d past, all, block.0))
+      ]
+    ]
+
+-- of the data blocks up to the last byte's, from the first of its window on, none but the last closes a hash block
+pub window-batch : (p : PlanFields) (count : ℕ) → IsPlan p → 0 < count → blocks_before p.settings count < p.blocks
+    → IsBatch p (windows_before p.settings count * window_blocks p.settings)
+    (blocks_before p.settings count - windows_before p.settings count * window_blocks p.settings + 1)
+window-batch p count planned some below =
+    let s = p.settings in
+    let place = placed-in-window s count planned.valid some in
+    let i = blocks_before s count in
+    let first = windows_before s count * window_blocks s in
+    let room : i - first + 1 ≤ fan s - first % fan s =
+    omega (arith, place.from, place.to, window-room s (windows_before s count) planned.valid) in
+    let most : first + (i - first + 1) ≤ p.blocks = omega (arith, place.from, below) in
+    record {
+      below = most;
+      none_closes = λ k from to. none_closes-batch (fan s) p.blocks first (i - first + 1) k (fan-some s) room most from to;
+    }
+
+-- of the data blocks of a window none is the last below a hash block, if the last of them isn't
+pub before-window : (p : PlanFields) (count left : ℕ) → IsPlan p → count % window_length p.settings ≡ 0
+    → window_length p.settings < left → count + left ≤ p.wanted
+    → 0 < (count / window_length p.settings + 1) * window_blocks p.settings % fan p.settings → IsBeforeWindow p count
+before-window p count left planned whole more most apart =
+    let s = p.settings in
+    let d = s.data_block in
+    let f = fan s in
+    let b = window_blocks s in
+    let q = count / window_length s in
+    let n = p.blocks in
+    let split : q * window_length s + count % window_length s ≡ count = div-add-mod' count (window_length s) in
+    let next : (q + 1) * b ≡ q * b + b = omega arith in
+    let area : (q + 1) * b * d ≡ q * window_length s + window_length s =
+    mul_assoc (q + 1) b d ∙ (let e : (q + 1) * window_length s ≡ q * window_length s + window_length s = omega arith in e) in
+    let enough : p.wanted ≤ n * d =
+    le-div_ceil p.wanted d n (some_data s planned.valid) (omega (arith, planned.blocks_are)) in
+    let below : q * b + b < n = elim (cases_lt (q * b + b) n) [
+      | inl less ↦ less
+      | inr past ↦ absurd (omega (arith, mul_le n ((q + 1) * b) d (omega (arith, past, next)), area, split, whole, more, most, enough))
+    ] in
+    let room : b ≤ f - q * b % f = omega (arith, window-room s q planned.valid) in
+    let inside : q * b + b ≤ n = omega (arith, below) in
+    record {
+      whole = whole;
+      batch = record {
+        below = omega (arith, below);
+        none_closes = λ k from to ends. elim ends [
+          | inr last ↦ absurd (omega (arith, last, to, below))
+          | inl full ↦ elim (cases_lt (k + 1) (q * b + b)) [
+            | inl within ↦ absurd (none_closes-batch f n (q * b) b k (fan-some s) room inside from within (inl full))
+            | inr past ↦
+                let place : (q + 1) * b ≡ (k / f + 1) * f + 0 =
+                omega (arith, to, past, next, div-add-mod' k f, full) in
+                let zero_is : (q + 1) * b % f ≡ 0 =
+                ap (λ (m : ℕ). m % f) place ∙ mod-mul-add (k / f + 1) f 0 (fan-some s) in
+                absurd (omega (arith, zero_is, apart))
+          ]
+        ];
+      };
+    }

@@ -1,0 +1,147 @@
+//! The window: the data blocks in which bytes are collected, and which are hashed side by side.
+ghost use Rattle.std.specs.Prelude.{◌≡◌, ℕ, ◌+◌, ◌-◌, ◌*◌, ◌<◌, ◌≤◌, ◌++◌, List, [], length, slice_index_or};
+ghost use Rattle.std.specs.Prelude.{take, true, false};
+ghost use Rattle.verity_plan.specs.PlanCounts.{level_count_of};
+ghost use Rattle.verity_plan.specs.Plans.{IsPlan};
+ghost use Rattle.verity_plan.specs.Settings.{IsValid, digest_len, hash};
+ghost use Rattle.verity_tree.specs.Levels.{block_at};
+ghost use Rattle.verity_tree.specs.Steps.Feeding.{HasCome, HasFed, IsWindowPlace, windows_before};
+ghost use Rattle.verity_tree.specs.Windows.{window_blocks, window_length};
+
+use crate::open_blocks::add_rows;
+use crate::side_by_side::{ROWS, digest_rows};
+use verity_hash::Digest;
+use verity_plan::{Plan, TreeSettings};
+
+/// The window has no more bytes than the largest data block.
+const MOST_BYTES: usize = 524_288;
+
+/// The number of data blocks of the window.
+#[tactic(auto, unfolding(crate::specs::Windows::window_blocks))]
+pub(crate) fn window_blocks(settings: &TreeSettings) -> usize
+    ensures value { result ≡ window_blocks settings.now }
+    ensures some { 0 < result }
+    ensures most { result ≤ 8 }
+    ensures room { result * settings.now.data_block ≤ 524288 }
+{
+    let room = MOST_BYTES / settings.data_block() as usize;
+    ROWS.min(room).min(settings.fan())
+}
+
+/// The length of the window, in bytes.
+pub(crate) fn window_length(settings: &TreeSettings) -> usize
+    ensures value { result ≡ window_length settings.now }
+    ensures some { 0 < result }
+    ensures most { result ≤ 524288 }
+    ensures valid { IsValid settings.now }
+{
+    window_blocks(settings) * settings.data_block() as usize
+}
+
+/// Where the last of some bytes is in its window.
+#[derive(Clone, Copy)]
+pub(crate) struct WindowPlace {
+    /// The first data block of the window.
+    pub first: u64,
+    /// How many data blocks of the window are before the one that the byte is in.
+    pub rows: usize,
+    /// How many bytes of the window there are.
+    pub bytes: usize,
+}
+
+/// Where the last of so many bytes is in its window.
+pub(crate) fn window_place(plan: &Plan, count: u64) -> WindowPlace
+    requires planned { IsPlan plan.now }
+    requires some { 0 < count }
+    requires most { count ≤ plan.now.wanted }
+    ensures { IsWindowPlace plan.now count result }
+{
+    let settings = plan.settings();
+    let before = (count - 1) / window_length(settings) as u64;
+    let first = before * window_blocks(settings) as u64;
+    WindowPlace {
+        first,
+        rows: ((count - 1) / plan.data_block() as u64 - first) as usize,
+        bytes: (count - before * window_length(settings) as u64) as usize,
+    }
+}
+
+/// Takes bytes to the window, of which there are `at` in it: as many as the piece has, up to the window's end.
+pub(crate) fn fill_window(window: &mut [u8], at: usize, piece: &[u8]) -> usize
+    requires at { at < length window.old }
+    requires some { 0 < length piece.now }
+    ensures some { 0 < result }
+    ensures most { result ≤ length piece.now }
+    ensures within { at + result ≤ length window.old }
+    ensures all { at + length piece.now ≤ length window.old → result ≡ length piece.now }
+    ensures holds { take (at + result) window.new ≡ take at window.old ++ take result piece.now }
+{
+    let count = (window.len() - at).min(piece.len());
+    window[at..at + count].copy_from_slice(&piece[..count]);
+    count
+}
+
+/// Up to so many bytes, and those of a window more, are too many for no tree.
+const SMALL_FILE: u64 = 1 << 40;
+
+/// Takes a piece, when so many bytes were fed, if some of them are in the window and it has room for the piece, and no tree
+/// is too small for so many: whether it was taken. That needs no plan.
+pub(crate) fn take_short_piece(
+    settings: &TreeSettings,
+    window: &mut [u8],
+    count: u64,
+    piece: &[u8],
+) -> bool
+    requires room { length window.old ≡ window_length settings.now }
+    ensures some { result ≡ true → 0 < length piece.now }
+    ensures small { result ≡ true → count + length piece.now ≤ 2199023255552 }
+    ensures refused { result ≡ false → window.new ≡ window.old }
+    ensures fed { result ≡ true → (levels : ℕ) (fed opened : List ℕ) → length fed ≡ count
+        → HasFed settings.now levels fed opened window.old → HasFed settings.now levels (fed ++ piece.now) opened window.new }
+{
+    let at = (count % window_length(settings) as u64) as usize;
+    if at == 0 || count > SMALL_FILE || piece.is_empty() || piece.len() > window.len() - at {
+        return false;
+    }
+    fill_window(window, at, piece);
+    true
+}
+
+/// The digests of the data blocks of the window that have so many bytes: what is left of the last is filled with zeros.
+/// The digests after theirs count for nothing. The bytes stay, for more that come.
+pub(crate) fn digest_window(plan: &Plan, window: &mut [u8], bytes: usize) -> [Digest; ROWS]
+    requires planned { IsPlan plan.now }
+    requires room { length window.old ≡ window_length plan.now.settings }
+    requires some { 0 < bytes }
+    requires most { bytes ≤ length window.old }
+    ensures digests { (r : ℕ) → r * plan.now.settings.data_block < bytes
+        → slice_index_or result r []
+        ≡ hash plan.now.settings (block_at plan.now.settings.data_block (take bytes window.old) r) }
+    ensures stays { take bytes window.new ≡ take bytes window.old }
+{
+    let size = plan.data_block();
+    let count = bytes.div_ceil(size);
+    window[bytes..count * size].fill(0);
+    digest_rows(plan, &window[..count * size], count)
+}
+
+/// Adds the digests of the window's data blocks, when so many bytes were fed, but that of the last one, which is the
+/// result.
+pub(crate) fn add_window(plan: &Plan, opened: &mut [u8], window: &mut [u8], count: u64) -> Digest
+    requires planned { IsPlan plan.now }
+    requires opened { level_count_of plan.now * plan.now.settings.hash_block ≤ length opened.old }
+    requires window { length window.old ≡ window_length plan.now.settings }
+    requires some { 0 < count }
+    requires most { count ≤ plan.now.wanted }
+    ensures size { length result ≡ digest_len plan.now.settings }
+    ensures adds { (levels : ℕ) (fed : List ℕ) → level_count_of plan.now ≤ levels
+        → levels * plan.now.settings.hash_block ≤ length opened.old → length fed ≡ count
+        → HasFed plan.now.settings levels fed opened.old window.old → HasCome plan.now levels fed opened.new result }
+    ensures stays { take (count - windows_before plan.now.settings count * window_length plan.now.settings) window.new
+        ≡ take (count - windows_before plan.now.settings count * window_length plan.now.settings) window.old }
+{
+    let place = window_place(plan, count);
+    let digests = digest_window(plan, window, place.bytes);
+    add_rows(plan, opened, place.first, &digests, place.rows);
+    digests[place.rows]
+}
