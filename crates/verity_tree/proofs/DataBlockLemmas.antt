@@ -1,17 +1,15 @@
 -- One data block read from the source.
 use Rattle.std.proofs.Common.{List, [], ap, arith, drop, false, get_or, inl, inr, length, length-drop}
-use Rattle.std.proofs.Common.{map, min, refl, subst, sym, take, true, ℕ, ◌*◌, ◌+◌, ◌-◌, ◌/◌, ◌<◌, ◌∙◌}
+use Rattle.std.proofs.Common.{map, min, refl, subst, sym, take, true, ℕ, ◌*◌, ◌+◌, ◌-◌, ◌/◌, ◌<◌, ◌∙◌, ◌++◌, length-append}
 use Rattle.std.proofs.Common.{◌≡◌, ◌≤◌}
 use Rattle.std.proofs.lemmas.Bool.{cases_lt}
-use Rattle.std.proofs.lemmas.List.{take_all, take-take, drop-take, drop-drop, length-take, length-take-le}
+use Rattle.std.proofs.lemmas.List.{take_all, take-take, drop_at, drop-take, drop-drop, length-take}
 use Rattle.std.proofs.lemmas.List.FromFn.{get_or-map-range_with_len}
-use Rattle.std.proofs.lemmas.Slice.{between-put_mid}
-use borrow.Rule.Slice.PartMut.{put_mid}
 use Rattle.std.specs.List.{range_with_len}
 use Rattle.verity_hash.specs.Hashing.{with_zeros}
 use Rattle.verity_io.specs.Reading.{HasRead}
 use Rattle.verity_tree.specs.Reading.{EndsWithin, FailsWithin, bytes_of}
-use Rattle.verity_tree.specs.Steps.DataBlocks.{HoldsBlock, StopsWithin}
+use Rattle.verity_tree.specs.Steps.DataBlocks.{HoldsBlock}
 use Rattle.verity_tree.specs.Levels.{block_at, cut, blocks_up, data_blocks, whole_blocks}
 use Rattle.verity_tree.specs.Steps.PlainRoots.{digest_of_block}
 use Rattle.verity_tree.specs.Steps.OpenBlocks.{level_digest}
@@ -45,32 +43,6 @@ block-next bytes b size i data_len here w =
     ∙ ap (take b) (sym (drop-take (i * b) (size - i * b) bytes))
     ∙ ap (λ (k : ℕ). take b (drop (i * b) (take k bytes))) split)
 
--- the bytes so far and one more block
-record NextBlock (s : TreeSettingsFields) (size i : ℕ) (bytes after block : List ℕ) : Type 0 where
-  pub enough : min ((i + 1) * s.data_block) size ≤ length bytes
-  pub rest : after ≡ drop (min ((i + 1) * s.data_block) size) bytes
-  pub digest : hash s block ≡ digest_of_block s size bytes i
-
-NextBlock-read : (s : TreeSettingsFields) (size i data_len b : ℕ) (bytes rest after block : List ℕ) → b ≡ s.data_block
-    → i * s.data_block < size
-    → data_len ≡ min b (size - i * b) → min (i * s.data_block) size ≤ length bytes
-    → rest ≡ drop (min (i * s.data_block) size) bytes
-    → HoldsBlock data_len b rest after block → NextBlock s size i bytes after block
-NextBlock-read s size i data_len b bytes rest after block e here w have goes h =
-    let wanted : data_len ≡ min s.data_block (size - i * s.data_block) = w ∙ ap (λ (n : ℕ). min n (size - i * n)) e in
-    let place : min (i * s.data_block) size ≡ i * s.data_block = omega arith in
-    let next : min ((i + 1) * s.data_block) size ≡ i * s.data_block + data_len = omega (arith, wanted) in
-    let from : rest ≡ drop (i * s.data_block) bytes = goes ∙ ap (λ (k : ℕ). drop k bytes) place in
-    record {
-      enough = omega (arith, next, h.enough, ap length from, length-drop (i * s.data_block) bytes, have);
-      rest = h.rest ∙ ap (drop data_len) from ∙ drop-drop data_len (i * s.data_block) bytes
-          ∙ ap (λ (k : ℕ). drop k bytes) (sym next);
-      digest = ap (hash s)
-          (h.bytes ∙ ap (λ (xs : List ℕ). with_zeros b (take data_len xs)) from
-          ∙ ap (λ (n : ℕ). with_zeros n (take data_len (drop (i * s.data_block) bytes))) e
-          ∙ block-next bytes s.data_block size i data_len here wanted);
-    }
-
 -- the digest of data block i is what comes to level 0
 pub level_digest-data : (s : TreeSettingsFields) (n wanted i : ℕ) (bytes digest : List ℕ) → i < n
     → digest ≡ digest_of_block s wanted bytes i
@@ -83,31 +55,28 @@ level_digest-data s n wanted i bytes digest below is =
     ∙ ap (λ (k : ℕ). hash s (get_or (map (block_at s.data_block (take wanted bytes)) (range_with_len 0 n)) k []))
     (place-first i (fan s))
 
--- the next data block is read, and hashed where it stands
-pub data-next : (p : PlanFields) → IsPlan p → (i data_len b a : ℕ) (bytes rest after store new digest : List ℕ)
-    → b ≡ p.settings.data_block → i < p.blocks
-    → data_len ≡ min b (p.wanted - i * b) → a + b ≤ length store → length new ≡ length (take (a + b - a) (drop a store))
-    → HasRead (bytes_of p i) bytes rest → HoldsBlock data_len (length (take (a + b - a) (drop a store))) rest after new
-    → digest ≡ hash p.settings (take (a + b - a) (drop a (put_mid a (a + b - a) store new)))
-    → HasRead (bytes_of p (i + 1)) bytes after × (digest ≡ level_digest p.settings (data_blocks p bytes) i 0)
-data-next p planned i data_len b a bytes rest after store new digest e below w room len read_before block is =
+-- the next data block is read
+pub data-next : (p : PlanFields) → IsPlan p → (i data_len : ℕ) (bytes rest after block : List ℕ) → i < p.blocks
+    → data_len ≡ min (p.wanted - i * p.settings.data_block) p.settings.data_block → HasRead (bytes_of p i) bytes rest
+    → HoldsBlock data_len p.settings.data_block rest after block
+    → HasRead (bytes_of p (i + 1)) bytes after × (hash p.settings block ≡ level_digest p.settings (data_blocks p bytes) i 0)
+data-next p planned i data_len bytes rest after block below w read_before h =
     let s = p.settings in
-    let wanted = p.wanted in
-    let some = some_data s planned.valid in
-    let many = planned.blocks_are in
-    let here : i * s.data_block < wanted = mul-lt_div_ceil wanted s.data_block i some (omega (arith, below, many)) in
-    let wide : a + b - a ≡ b = omega arith in
-    let left : length (drop a store) ≡ length store - a = length-drop a store in
-    let size : length (take (a + b - a) (drop a store)) ≡ b =
-    length-take-le (a + b - a) (drop a store) (omega (arith, left, room)) ∙ wide in
-    let read : HoldsBlock data_len b rest after new = subst
-    (λ (k : ℕ). HoldsBlock data_len k rest after new) size block in
-    let next = NextBlock-read s wanted i data_len b bytes rest after new e here w read_before.enough read_before.rest
-    read in
-    let stands : take (a + b - a) (drop a (put_mid a (a + b - a) store new)) ≡ new =
-    between-put_mid a (a + b - a) store new (a + b) (omega (arith, room)) (len ∙ size ∙ sym wide) in (
-      record { enough = next.enough; rest = next.rest },
-      level_digest-data s p.blocks wanted i bytes digest below (is ∙ ap (hash s) stands ∙ next.digest),
+    let d = s.data_block in
+    let size = p.wanted in
+    let here : i * d < size = mul-lt_div_ceil size d i (some_data s planned.valid) (omega (arith, below, planned.blocks_are)) in
+    let wanted : data_len ≡ min d (size - i * d) = omega (arith, w) in
+    let next : bytes_of p (i + 1) ≡ i * d + data_len = omega (arith, wanted, here) in
+    let from : rest ≡ drop (i * d) bytes =
+    read_before.rest ∙ ap (λ (k : ℕ). drop k bytes) (let e : bytes_of p i ≡ i * d = omega (arith, here) in e) in
+    let digest : hash s block ≡ digest_of_block s size bytes i =
+    ap (hash s)
+    (h.bytes ∙ ap (λ (xs : List ℕ). with_zeros d (take data_len xs)) from ∙ block-next bytes d size i data_len here wanted) in (
+      record {
+        enough = omega (arith, next, h.enough, ap length from, length-drop (i * d) bytes, read_before.enough, here);
+        rest = h.rest ∙ ap (drop data_len) from ∙ drop-drop data_len (i * d) bytes ∙ ap (λ (k : ℕ). drop k bytes) (sym next);
+      },
+      level_digest-data s p.blocks size i bytes (hash s block) below digest,
     )
 
 -- nothing was read of the source
@@ -124,7 +93,7 @@ bytes_of-all p planned =
     omega (arith, le-div_ceil p.wanted size p.blocks (some_data p.settings planned.valid) most)
 
 -- runs that fit are within the quotient
-le-div : (i n a : ℕ) → 0 < a → i * a ≤ n → i ≤ n / a
+pub le-div : (i n a : ℕ) → 0 < a → i * a ≤ n → i ≤ n / a
 le-div i n a some h = elim (cases_lt (n / a) i) [
   | inl less ↦
       let next : n / a + 1 ≤ i = omega arith in
@@ -169,21 +138,16 @@ whole_blocks-above p planned i bytes within enough = elim (cases_lt (length byte
 ]
 
 -- the source ends within block i
-pub short-within : (p : PlanFields) → IsPlan p → (i data_len b : ℕ) (bytes rest after : List ℕ)
-    → b ≡ p.settings.data_block
-    → i < p.blocks
-    → data_len ≡ min b (p.wanted - i * b) → HasRead (bytes_of p i) bytes rest → length rest < data_len → after ≡ []
-    → EndsWithin p i bytes after
-short-within p planned i data_len b bytes rest after e below w read_before short none =
+pub short-within : (p : PlanFields) → IsPlan p → (i data_len : ℕ) (bytes rest after : List ℕ) → i < p.blocks
+    → data_len ≡ min (p.wanted - i * p.settings.data_block) p.settings.data_block → HasRead (bytes_of p i) bytes rest
+    → length rest < data_len → after ≡ [] → EndsWithin p i bytes after
+short-within p planned i data_len bytes rest after below w read_before short none =
     let s = p.settings in
-    let wanted = p.wanted in
-    let some = some_data s planned.valid in
-    let many = planned.blocks_are in
-    let here : i * s.data_block < wanted = mul-lt_div_ceil wanted s.data_block i some (omega (arith, below, many)) in
-    let left : length rest ≡ length bytes - min (i * s.data_block) wanted =
+    let here : i * s.data_block < p.wanted =
+    mul-lt_div_ceil p.wanted s.data_block i (some_data s planned.valid) (omega (arith, below, planned.blocks_are)) in
+    let left : length rest ≡ length bytes - bytes_of p i =
     ap length read_before.rest ∙ length-drop (bytes_of p i) bytes in
-    let wide : i * b ≡ i * s.data_block = ap (λ (k : ℕ). i * k) e in
-    let within : length bytes < bytes_of p (i + 1) = omega (arith, left, read_before.enough, here, wide, w, e, short) in
+    let within : length bytes < bytes_of p (i + 1) = omega (arith, left, read_before.enough, here, w, short) in
     record {
       below = below;
       whole_is = sym (whole-short p i bytes read_before.enough within);
@@ -193,27 +157,24 @@ short-within p planned i data_len b bytes rest after e below w read_before short
     }
 
 -- the source failed within block i
-pub failed-within : (p : PlanFields) → IsPlan p → (i data_len b : ℕ) (bytes rest after : List ℕ)
-    → b ≡ p.settings.data_block
-    → i < p.blocks
-    → data_len ≡ min b (p.wanted - i * b) → HasRead (bytes_of p i) bytes rest → StopsWithin data_len rest after
-    → FailsWithin p i bytes after
-failed-within p planned i data_len b bytes rest after e below w read_before stop =
+pub failed-within : (p : PlanFields) → IsPlan p → (i data_len : ℕ) (bytes rest after taken : List ℕ) → i < p.blocks
+    → data_len ≡ min (p.wanted - i * p.settings.data_block) p.settings.data_block → HasRead (bytes_of p i) bytes rest
+    → length taken < data_len → rest ≡ taken ++ after → FailsWithin p i bytes after
+failed-within p planned i data_len bytes rest after taken below w read_before less is =
     let s = p.settings in
-    let wanted = p.wanted in
-    let some = some_data s planned.valid in
-    let many = planned.blocks_are in
-    let here : i * s.data_block < wanted = mul-lt_div_ceil wanted s.data_block i some (omega (arith, below, many)) in
-    let left : length rest ≡ length bytes - min (i * s.data_block) wanted =
+    let here : i * s.data_block < p.wanted =
+    mul-lt_div_ceil p.wanted s.data_block i (some_data s planned.valid) (omega (arith, below, planned.blocks_are)) in
+    let left : length rest ≡ length bytes - bytes_of p i =
     ap length read_before.rest ∙ length-drop (bytes_of p i) bytes in
-    let wide : i * b ≡ i * s.data_block = ap (λ (k : ℕ). i * k) e in
+    let within : length taken ≤ length rest = omega (arith, ap length is, length-append taken after) in
     record {
       below = below;
-      count = bytes_of p i + stop.count;
+      count = bytes_of p i + length taken;
       from = omega arith;
-      to = omega (arith, here, wide, w, e, stop.less);
+      to = omega (arith, here, w, less);
       read = record {
-        enough = omega (arith, left, read_before.enough, stop.within);
-        rest = stop.rest ∙ ap (drop stop.count) read_before.rest ∙ drop-drop stop.count (bytes_of p i) bytes;
+        enough = omega (arith, left, read_before.enough, within);
+        rest = sym (ap (drop (length taken)) is ∙ drop_at taken after (length taken) refl)
+            ∙ ap (drop (length taken)) read_before.rest ∙ drop-drop (length taken) (bytes_of p i) bytes;
       };
     }

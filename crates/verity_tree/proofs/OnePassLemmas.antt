@@ -18,8 +18,8 @@ use Rattle.verity_io.specs.Counting.{Counts, TheDevice, TheSource, is_call_of}
 use Rattle.verity_io.specs.Reading.{HasRead}
 use Rattle.verity_tree.specs.Steps.Closing.{ClosesWith}
 use Rattle.verity_tree.specs.Steps.DataBlocks.{side_of as block_side}
-use Rattle.verity_tree.specs.declared.pass.data_block.BlockFault.{BlockFault}
-use Rattle.verity_tree.specs.declared.pass.data_block.BlockFault.TheVariants.{Short, Failed}
+use Rattle.verity_tree.specs.declared.pass.pass_fault.BlockFault.{BlockFault}
+use Rattle.verity_tree.specs.declared.pass.pass_fault.BlockFault.TheVariants.{Short, Failed}
 use Rattle.verity_plan.specs.Plans.{PlanFields}
 use Rattle.verity_tree.specs.Steps.OpenBlocks.{digests_under, open_block, HasOpenBlocks}
 use Rattle.verity_tree.proofs.OpenBlockSteps.{hash_block_of-none}

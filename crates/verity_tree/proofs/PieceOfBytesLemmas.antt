@@ -17,6 +17,7 @@ use Rattle.verity_plan.proofs.CountLemmas.{mul_le}
 use Rattle.verity_plan.proofs.FanLemmas.{fan-some}
 use Rattle.verity_tree.specs.ClosingOrder.{BlockIndex, blocks_before, closed_after, closing_with}
 use Rattle.verity_tree.specs.Levels.{block_at, blocks_up, cut, data_blocks}
+use Rattle.verity_tree.specs.Steps.Batches.{HoldsDataBlocks}
 use Rattle.verity_tree.specs.Steps.Closing.{EndsBlock}
 use Rattle.verity_tree.specs.Steps.Feeding.{HasCome, HasFed, HasWindow, IsBeforeWindow, IsSettled, after_windows}
 use Rattle.verity_tree.specs.Steps.Feeding.{IsWindowPlace, first_blocks, windows_before}
@@ -95,44 +96,87 @@ window-row p w r count fed window digest below most many holds is =
     (drop-drop (r * d) start fed ∙ ap (λ (n : ℕ). drop n fed) place)
     ∙ ap (λ (xs : List ℕ). hash s (block_at d xs (w * b + r))) (sym (take_all p.wanted fed most)))
 
+-- where the last data block of the window ends
+pub record EndsInWindow (s : TreeSettingsFields) (place : WindowPlace) : Type 0 where
+  pub enough : place.bytes ≤ (place.rows + 1) * s.data_block
+  pub room : (place.rows + 1) * s.data_block ≤ window_length s
+
+pub window-end : (p : PlanFields) (count : ℕ) (place : WindowPlace) → IsPlan p → 0 < count → IsWindowPlace p count place
+    → EndsInWindow p.settings place
+window-end p count place planned some is =
+    let s = p.settings in
+    let d = s.data_block in
+    let w = windows_before s count in
+    let at = placed-in-window s count planned.valid some in
+    let low : place.rows + 1 ≤ window_blocks s = omega (arith, is.first_is, is.rows_are, at.to) in
+    let first : place.first * d ≡ w * window_length s = ap (λ (n : ℕ). n * d) is.first_is ∙ at.start in
+    let all : (place.first + place.rows) * d ≡ blocks_before s count * d = ap (λ (n : ℕ). n * d) is.rows_are in
+    let split : (place.first + place.rows) * d ≡ place.first * d + place.rows * d = omega arith in
+    let next : (place.rows + 1) * d ≡ place.rows * d + d = omega arith in
+    record {
+      enough = omega (arith, is.bytes_are, at.end, all, split, first, next);
+      room = mul_le (place.rows + 1) (window_blocks s) d low;
+    }
+
+-- the rows of the window, filled with zeros up to that end
+pub window-filled : (s : TreeSettingsFields) (place : WindowPlace) (end bytes : ℕ) (window zeros : List ℕ)
+    → EndsInWindow s place → end ≡ (place.rows + 1) * s.data_block → bytes ≡ place.bytes
+    → ((r : ℕ) → r ≤ place.rows → r * s.data_block < place.bytes) → length window ≡ window_length s
+    → zeros ≡ replicate (length (take (end - bytes) (drop bytes window))) 0
+    → (r : ℕ) → r ≤ place.rows
+    → slice_chunk (take end (put_mid bytes (end - bytes) window zeros)) s.data_block r
+    ≡ block_at s.data_block (take place.bytes window) r
+window-filled s place end bytes window zeros at area here each wide are r low =
+    let d = s.data_block in
+    let n = place.bytes in
+    let k = end - bytes in
+    let held = take n window in
+    let long : length held ≡ n = length-take-le n window (omega (arith, at.enough, at.room, wide)) in
+    let all : end ≡ bytes + k = omega (arith, area, at.enough, here) in
+    let left : length (take k (drop bytes window)) ≡ k =
+    length-take-le k (drop bytes window) (omega (arith, length-drop bytes window, area, at.room, wide)) in
+    let filled : zeros ≡ replicate k 0 = are ∙ ap (λ (m : ℕ). replicate m 0) left in
+    let rest : k ≡ (place.rows + 1) * d - length held = omega (arith, area, here, long) in
+    let next : (place.rows + 1) * d ≡ place.rows * d + d = omega arith in
+    ap (λ (xs : List ℕ). slice_chunk xs d r)
+    (ap (λ (m : ℕ). take m (put_mid bytes k window zeros)) all
+    ∙ filled-front bytes k window zeros (omega (arith, area, at.enough, at.room, here, wide))
+    (ap length filled ∙ length-replicate k 0)
+    ∙ ap (λ (m : ℕ). take m window ++ zeros) here
+    ∙ ap (λ (xs : List ℕ). held ++ xs) (filled ∙ ap (λ (m : ℕ). replicate m 0) rest))
+    ∙ chunk-filled d (place.rows + 1) r held (omega (arith, low)) (omega (arith, long, each r low))
+    (omega (arith, long, at.enough)) (omega (arith, long, next, each place.rows (omega arith)))
+
 -- the data blocks of the window come to the open blocks, but the last
-pub HasCome-window : (p : PlanFields) (levels : ℕ) (place : WindowPlace) (fed opened window after digest : List ℕ)
-    (digests : List (List ℕ)) → IsPlan p → 0 < length fed → length fed ≤ p.wanted → IsWindowPlace p (length fed) place
-    → ((r : ℕ) → r * p.settings.data_block < place.bytes
-    → get_or digests r [] ≡ hash p.settings (block_at p.settings.data_block (take place.bytes window) r))
+pub HasCome-window : (p : PlanFields) (levels : ℕ) (place : WindowPlace) (fed opened window rows after digest : List ℕ)
+    → IsPlan p → 0 < length fed → length fed ≤ p.wanted → IsWindowPlace p (length fed) place
+    → ((r : ℕ) → r ≤ place.rows
+    → slice_chunk rows p.settings.data_block r ≡ block_at p.settings.data_block (take place.bytes window) r)
     → ((blocks : List (List ℕ)) → p.blocks ≡ length blocks
-    → ((r : ℕ) → r < place.rows → get_or digests r [] ≡ level_digest p.settings blocks (place.first + r) 0)
+    → HoldsDataBlocks p.settings blocks place.first (place.rows + 1) rows
     → HasOpenBlocks p.settings blocks 0 levels place.first opened
-    → HasOpenBlocks p.settings blocks 0 levels (place.first + place.rows) after)
-    → digest ≡ get_or digests place.rows []
+    → HasOpenBlocks p.settings blocks 0 levels (place.first + (place.rows + 1) - 1) after
+    × (digest ≡ level_digest p.settings blocks (place.first + (place.rows + 1) - 1) 0))
     → HasFed p.settings levels fed opened window → HasCome p levels fed after digest
-HasCome-window p levels place fed opened window after digest digests planned some most is hashed added digest_is h =
+HasCome-window p levels place fed opened window rows after digest planned some most is filled added h =
     let s = p.settings in
     let blocks = data_blocks p fed in
     let w = windows_before s (length fed) in
     let first : w * window_blocks s ≡ place.first = sym is.first_is in
     let at = placed-in-window s (length fed) planned.valid some in
-    let each : (r : ℕ) → r ≤ place.rows → get_or digests r [] ≡ level_digest s blocks (place.first + r) 0 = λ r low.
-    window-row p w r place.bytes fed window (get_or digests r []) (omega (arith, low, first, is.batch.below)) most
-    is.bytes_are h.holds (hashed r (is.each r low))
+    let holds : HoldsDataBlocks s blocks place.first (place.rows + 1) rows = λ r low.
+    window-row p w r place.bytes fed window (hash s (slice_chunk rows s.data_block r))
+    (omega (arith, low, first, is.batch.below)) most is.bytes_are h.holds (ap (hash s) (filled r (omega (arith, low))))
     ∙ ap (λ (n : ℕ). level_digest s blocks (n + r) 0) first in
     let before : HasOpenBlocks s blocks 0 levels place.first opened =
     subst (λ (n : ℕ). HasOpenBlocks s blocks 0 levels n opened) first
     (first_blocks-plan p (w * window_blocks s) levels fed opened planned (omega (arith, at.start, at.before)) most h.stands) in
+    let come = added blocks (sym (length-cut s p.blocks p.wanted fed)) holds before in
+    let last : place.first + (place.rows + 1) - 1 ≡ blocks_before s (length fed) = omega (arith, is.rows_are) in
     record {
-      stands = subst (λ (n : ℕ). HasOpenBlocks s blocks 0 levels n after) is.rows_are
-          (added blocks (sym (length-cut s p.blocks p.wanted fed)) (λ r low. each r (omega (arith, low))) before);
-      digest_is = digest_is ∙ each place.rows (omega arith) ∙ ap (λ (n : ℕ). level_digest s blocks n 0) is.rows_are;
+      stands = subst (λ (n : ℕ). HasOpenBlocks s blocks 0 levels n after) last come.0;
+      digest_is = come.1 ∙ ap (λ (n : ℕ). level_digest s blocks n 0) last;
     }
-
--- the digest of a data block that is whole is what comes to level 0
-pub level_digest-block : (s : TreeSettingsFields) (n wanted k : ℕ) (bytes : List ℕ) → k < n
-    → k * s.data_block + s.data_block ≤ wanted → k * s.data_block + s.data_block ≤ length bytes
-    → hash s (slice_chunk bytes s.data_block k) ≡ level_digest s (cut s n wanted bytes) k 0
-unfolding blocks_up
-level_digest-block s n wanted k bytes below within enough =
-    ap (hash s) (sym (cut-block s n wanted k bytes below within enough))
-    ∙ ap (λ (q : ℕ). hash s (get_or (cut s n wanted bytes) q [])) (place-first k (fan s))
 
 -- a data block that isn't the last below a hash block closes none
 closing-none : (f n k : ℕ) → 0 < f → k < n → ¬ EndsBlock f n k → closing_with f n k ≡ []
@@ -176,29 +220,6 @@ closed_after-placed p count planned some below =
     ∙ closed_after-none (fan s) p.blocks first (i - first) (fan-some s) (omega (arith, place.from, below))
     (λ k from to. batch.none_closes k from (omega (arith, to)))
 
--- nor those of a window with which none closes
-pub closed_after-next : (p : PlanFields) (count : ℕ) → IsPlan p → IsBeforeWindow p count
-    → closed_after (fan p.settings) p.blocks
-    ((count + window_length p.settings) / window_length p.settings * window_blocks p.settings)
-    ≡ closed_after (fan p.settings) p.blocks (count / window_length p.settings * window_blocks p.settings)
-closed_after-next p count planned h =
-    let s = p.settings in
-    let b = window_blocks s in
-    let q = count / window_length s in
-    let next : (count + window_length s) / window_length s * b ≡ q * b + b =
-    ap (λ (n : ℕ). n * b) (windows-next s count (window-wide s planned.valid) h.whole)
-    ∙ (let e : (q + 1) * b ≡ q * b + b = omega arith in e) in
-    ap (closed_after (fan s) p.blocks) next
-    ∙ closed_after-none (fan s) p.blocks (q * b) b (fan-some s) (omega (arith, h.batch.below))
-    (λ k from to. h.batch.none_closes k from (omega (arith, to)))
-
--- a data block of bytes that come after whole data blocks
-chunk-after : (size i r : ℕ) (fed taken : List ℕ) → length fed ≡ i * size
-    → drop ((i + r) * size) (fed ++ taken) ≡ drop (r * size) taken
-chunk-after size i r fed taken whole =
-    let e : (i + r) * size ≡ length fed + r * size = omega (arith, whole) in
-    ap (λ (k : ℕ). drop k (fed ++ taken)) e ∙ drop-append-add fed taken (r * size)
-
 -- after windows that are full no bytes are in the window
 pub HasWindow-full : (s : TreeSettingsFields) (levels windows : ℕ) (fed opened window : List ℕ)
     → length fed ≤ windows * window_length s
@@ -210,58 +231,6 @@ HasWindow-full s levels windows fed opened window full stands =
       stands = stands;
       holds = subst (λ (xs : List ℕ). take (length xs) window ≡ xs) (sym none) refl;
     }
-
--- a window that comes after windows that are full: its data blocks come to the open blocks
-pub IsSettled-window : (p : PlanFields) → IsPlan p → (levels : ℕ) (fed taken opened after window : List ℕ)
-    (digests : List (List ℕ)) → IsBeforeWindow p (length fed) → length taken ≡ window_length p.settings
-    → length fed + length taken ≤ p.wanted
-    → ((r : ℕ) → r < window_blocks p.settings
-    → get_or digests r [] ≡ hash p.settings (slice_chunk taken p.settings.data_block r))
-    → ((blocks : List (List ℕ)) → p.blocks ≡ length blocks
-    → ((r : ℕ) → r < window_blocks p.settings → get_or digests r []
-    ≡ level_digest p.settings blocks (length fed / window_length p.settings * window_blocks p.settings + r) 0)
-    → HasOpenBlocks p.settings blocks 0 levels (length fed / window_length p.settings * window_blocks p.settings) opened
-    → HasOpenBlocks p.settings blocks 0 levels
-    (length fed / window_length p.settings * window_blocks p.settings + window_blocks p.settings) after)
-    → IsSettled p.settings levels fed opened window → IsSettled p.settings levels (fed ++ taken) after window
-IsSettled-window p planned levels fed taken opened after window digests h wide most hashed added settled =
-    let s = p.settings in
-    let d = s.data_block in
-    let b = window_blocks s in
-    let bytes = fed ++ taken in
-    let q = length fed / window_length s in
-    let i = q * b in
-    let some = fan-some s in
-    let all : length fed ≡ q * window_length s =
-    omega (arith, div-add-mod' (length fed) (window_length s), h.whole) in
-    let whole : length fed ≡ i * d = all ∙ sym (mul_assoc q b d) in
-    let long : length bytes ≡ (i + b) * d =
-    length-append fed taken
-    ∙ (let e : length fed + length taken ≡ i * d + b * d = omega (arith, whole, wide) in e)
-    ∙ (let e : i * d + b * d ≡ (i + b) * d = omega arith in e) in
-    let within : length bytes ≤ p.wanted = omega (arith, length-append fed taken, most) in
-    let each : (r : ℕ) → r < b → get_or digests r [] ≡ level_digest s (data_blocks p bytes) (i + r) 0 = λ r low.
-    let step : i + r + 1 ≤ i + b = omega (arith, low) in
-    let past : (i + r) * d + d ≤ length bytes = omega (arith, long, mul_le (i + r + 1) (i + b) d step) in
-    hashed r low
-    ∙ ap (λ (xs : List ℕ). hash s (take d xs)) (sym (chunk-after d i r fed taken whole))
-    ∙ level_digest-block s p.blocks p.wanted (i + r) bytes (omega (arith, low, h.batch.below))
-    (omega (arith, past, within)) past in
-    let before : HasOpenBlocks s (data_blocks p bytes) 0 levels i opened =
-    first_blocks-plan p i levels bytes opened planned (omega (arith, length-append fed taken, whole)) within
-    (first_blocks-more s i levels fed taken opened some (omega (arith, whole)) settled.stands) in
-    let come : HasOpenBlocks s (data_blocks p bytes) 0 levels (i + b) after =
-    added (data_blocks p bytes) (sym (length-cut s p.blocks p.wanted bytes)) each before in
-    let next : q + 1 ≡ length bytes / window_length s =
-    sym (ap (λ (n : ℕ). n / window_length s) (length-append fed taken ∙ ap (λ (n : ℕ). length fed + n) wide)
-    ∙ windows-next s (length fed) (window-wide s planned.valid) h.whole) in
-    let one_more : i + b ≡ (q + 1) * b = omega arith in
-    let first : HasOpenBlocks s (first_blocks s ((q + 1) * b) bytes) 0 levels ((q + 1) * b) after =
-    subst (λ (n : ℕ). HasOpenBlocks s (first_blocks s n bytes) 0 levels n after) one_more
-    (plan-first_blocks p (i + b) levels bytes after planned (omega (arith, long)) within come) in
-    let full : length bytes ≤ (q + 1) * window_length s = omega (arith, length-append fed taken, all, wide) in
-    subst (λ (n : ℕ). HasWindow s levels n bytes after window) next
-    (HasWindow-full s levels (q + 1) bytes after window full first)
 
 -- bytes that come to the window, of which there are `at`, up to its end at most: the last byte is in that window
 pub windows_before-filled : (s : TreeSettingsFields) (count more : ℕ) → 0 < more

@@ -217,48 +217,8 @@ window-batch p count planned some below =
     omega (arith, place.from, place.to, window-room s (windows_before s count) planned.valid) in
     let most : first + (i - first + 1) ≤ p.blocks = omega (arith, place.from, below) in
     record {
+      some = omega arith;
+      most = omega (arith, place.from, place.to, window-eight s);
       below = most;
       none_closes = λ k from to. none_closes-batch (fan s) p.blocks first (i - first + 1) k (fan-some s) room most from to;
-    }
-
--- of the data blocks of a window none is the last below a hash block, if the last of them isn't
-pub before-window : (p : PlanFields) (count left : ℕ) → IsPlan p → count % window_length p.settings ≡ 0
-    → window_length p.settings < left → count + left ≤ p.wanted
-    → 0 < (count / window_length p.settings + 1) * window_blocks p.settings % fan p.settings → IsBeforeWindow p count
-before-window p count left planned whole more most apart =
-    let s = p.settings in
-    let d = s.data_block in
-    let f = fan s in
-    let b = window_blocks s in
-    let q = count / window_length s in
-    let n = p.blocks in
-    let split : q * window_length s + count % window_length s ≡ count = div-add-mod' count (window_length s) in
-    let next : (q + 1) * b ≡ q * b + b = omega arith in
-    let area : (q + 1) * b * d ≡ q * window_length s + window_length s =
-    mul_assoc (q + 1) b d ∙ (let e : (q + 1) * window_length s ≡ q * window_length s + window_length s = omega arith in e) in
-    let enough : p.wanted ≤ n * d =
-    le-div_ceil p.wanted d n (some_data s planned.valid) (omega (arith, planned.blocks_are)) in
-    let below : q * b + b < n = elim (cases_lt (q * b + b) n) [
-      | inl less ↦ less
-      | inr past ↦ absurd (omega (arith, mul_le n ((q + 1) * b) d (omega (arith, past, next)), area, split, whole, more, most, enough))
-    ] in
-    let room : b ≤ f - q * b % f = omega (arith, window-room s q planned.valid) in
-    let inside : q * b + b ≤ n = omega (arith, below) in
-    record {
-      whole = whole;
-      batch = record {
-        below = omega (arith, below);
-        none_closes = λ k from to ends. elim ends [
-          | inr last ↦ absurd (omega (arith, last, to, below))
-          | inl full ↦ elim (cases_lt (k + 1) (q * b + b)) [
-            | inl within ↦ absurd (none_closes-batch f n (q * b) b k (fan-some s) room inside from within (inl full))
-            | inr past ↦
-                let place : (q + 1) * b ≡ (k / f + 1) * f + 0 =
-                omega (arith, to, past, next, div-add-mod' k f, full) in
-                let zero_is : (q + 1) * b % f ≡ 0 =
-                ap (λ (m : ℕ). m % f) place ∙ mod-mul-add (k / f + 1) f 0 (fan-some s) in
-                absurd (omega (arith, zero_is, apart))
-          ]
-        ];
-      };
     }

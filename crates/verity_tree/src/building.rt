@@ -6,9 +6,8 @@ ghost use Rattle.verity_tree.specs.Levels.{data_blocks};
 ghost use Rattle.verity_plan.specs.PlanCounts.{store_length_of};
 ghost use Rattle.verity_plan.specs.Settings.{digest_len};
 
-use crate::pass::data_block::BlockFault;
 use crate::pass::one_pass::pass;
-use crate::pass::pass_fault::{PassFault, SourceStop, Stop};
+use crate::pass::pass_fault::{BlockFault, PassFault, SourceStop, Stop};
 use crate::pass::writing::Writing;
 use crate::store::Store;
 use verity_hash::Digest;

@@ -6,9 +6,8 @@ ghost use Rattle.verity_tree.specs.Comparing.{CompareReads, Judges, side_of};
 
 use crate::part::Part;
 use crate::pass::comparing::{CompareStop, Comparing};
-use crate::pass::data_block::BlockFault;
 use crate::pass::one_pass::pass;
-use crate::pass::pass_fault::{PassFault, SourceStop, Stop};
+use crate::pass::pass_fault::{BlockFault, PassFault, SourceStop, Stop};
 use crate::store::Store;
 use verity_hash::Digest;
 use verity_io::{Device, Source};

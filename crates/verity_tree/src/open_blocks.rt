@@ -6,9 +6,10 @@ ghost use Rattle.verity_plan.specs.Plans.{IsPlan};
 ghost use Rattle.verity_plan.specs.Settings.{digest_len, fan, hash};
 ghost use Rattle.verity_tree.specs.Steps.OpenBlocks.{Adds, HasClosed, HasOpenBlocks, IsCarrying, carry_state};
 ghost use Rattle.verity_tree.specs.Steps.OpenBlocks.{level_digest};
-ghost use Rattle.verity_tree.specs.Steps.Batches.{IsBatch};
+ghost use Rattle.verity_tree.specs.Steps.Batches.{HoldsDataBlocks, IsBatch};
 
 use crate::planned::planned;
+use crate::side_by_side::digest_rows;
 use verity_hash::Digest;
 use verity_plan::{Plan, TreeSettings};
 
@@ -112,23 +113,27 @@ pub(crate) fn digest_with(
     hash_with(plan.settings(), &mut opened[from..from + size], at, digest)
 }
 
-/// Adds the digests of the first `count` of some data blocks from `i` on, none of which is the last below a hash block.
-pub(crate) fn add_rows(plan: &Plan, opened: &mut [u8], i: u64, digests: &[Digest; 8], count: usize)
+/// Adds the digests of a batch of data blocks from `i` on, which stand one after another in `rows`, to the open block of
+/// level 0, but that of the last one, which is the result. No hash block closes with those that are added.
+pub(crate) fn add_batch(plan: &Plan, opened: &mut [u8], i: u64, rows: &[u8], count: usize) -> Digest
     requires planned { IsPlan plan.now }
     requires room { level_count_of plan.now * plan.now.settings.hash_block ≤ length opened.old }
-    requires most { count ≤ 8 }
-    requires batch { IsBatch plan.now i (count + 1) }
-    requires sizes { (r : ℕ) → r < count → length (slice_index_or digests.now r []) ≡ digest_len plan.now.settings }
-    ensures { (blocks : List (List ℕ)) (levels : ℕ) → plan.now.blocks ≡ length blocks → level_count_of plan.now ≤ levels
+    requires batch { IsBatch plan.now i count }
+    requires rows { length rows.now ≡ count * plan.now.settings.data_block }
+    ensures size { length result ≡ digest_len plan.now.settings }
+    ensures adds { (blocks : List (List ℕ)) (levels : ℕ) → plan.now.blocks ≡ length blocks → level_count_of plan.now ≤ levels
         → levels * plan.now.settings.hash_block ≤ length opened.old
-        → ((r : ℕ) → r < count
-        → slice_index_or digests.now r [] ≡ level_digest plan.now.settings blocks (i + r) 0)
+        → HoldsDataBlocks plan.now.settings blocks i count rows.now
         → HasOpenBlocks plan.now.settings blocks 0 levels i opened.old
-        → HasOpenBlocks plan.now.settings blocks 0 levels (i + count) opened.new }
+        → HasOpenBlocks plan.now.settings blocks 0 levels (i + count - 1) opened.new
+        × (result ≡ level_digest plan.now.settings blocks (i + count - 1) 0) }
 {
-    for r in 0..count {
-        add_digest(plan, opened, i + r as u64, 0, &digests[r]);
+    let digests = digest_rows(plan, rows, count);
+    for row in 0..count - 1 {
+        let digest = digests[row];
+        add_digest(plan, opened, i + row as u64, 0, &digest);
     }
+    digests[count - 1]
 }
 
 /// Clears the slots of a block from a byte on.

@@ -1,19 +1,19 @@
 -- Data blocks that are read together and hashed side by side.
 -- For the private steps; not needed to read a public contract.
 use Rattle.std.specs.Prelude.{◌≡◌, ◌⊎◌, ℕ, ◌+◌, ◌-◌, ◌*◌, ◌/◌, ◌%◌, ◌<◌, ◌≤◌, List, length, Result, Ok, Err}
-use Rattle.std.specs.Prelude.{nat_lt, nat_eq, if◌then◌else◌, min}
+use Rattle.std.specs.Prelude.{nat_lt, if◌then◌else◌, min}
 use Rattle.std.specs.Fork.{slice_chunk}
 use Rattle.verity_hash.specs.declared.digest.Digest.{Digest}
 use Rattle.verity_io.specs.Reading.{HasRead}
 use Rattle.verity_plan.specs.Plans.{PlanFields}
 use Rattle.verity_plan.specs.PlanCounts.{level_count_of}
-use Rattle.verity_plan.specs.Settings.{hash, fan}
+use Rattle.verity_plan.specs.Settings.{TreeSettingsFields, hash, fan}
 use Rattle.verity_tree.specs.Levels.{data_blocks}
 use Rattle.verity_tree.specs.Reading.{bytes_of}
 use Rattle.verity_tree.specs.Steps.Closing.{EndsBlock}
 use Rattle.verity_tree.specs.Steps.DataBlocks.{StopsInBlock}
 use Rattle.verity_tree.specs.Steps.OpenBlocks.{HasOpenBlocks, level_digest}
-use Rattle.verity_tree.specs.declared.pass.data_block.BlockFault.{BlockFault}
+use Rattle.verity_tree.specs.declared.pass.pass_fault.BlockFault.{BlockFault}
 use Rattle.verity_tree.specs.declared.pass.pass_fault.SourceStop.{SourceStop}
 use Rattle.verity_tree.specs.declared.pass.batches.Window.{Window}
 use Rattle.verity_tree.specs.declared.pass.batches.Window.TheVariants.{Empty, Small, Middle, Large}
@@ -25,23 +25,22 @@ ReadsRow p i bytes (Ok _) row after =
 ReadsRow p i bytes (Err fault) row after = StopsInBlock p i bytes fault after
 
 -- `count` data blocks from i on stand in the rows
-abbrev pub HoldsDataBlocks : PlanFields → ℕ → List ℕ → ℕ → List ℕ → Type 0
-HoldsDataBlocks p i bytes count rows = (r : ℕ) → r < count
-    → hash p.settings (slice_chunk rows p.settings.data_block r)
-    ≡ level_digest p.settings (data_blocks p bytes) (i + r) 0
+abbrev pub HoldsDataBlocks : TreeSettingsFields → List (List ℕ) → ℕ → ℕ → List ℕ → Type 0
+HoldsDataBlocks s blocks i count rows = (r : ℕ) → r < count
+    → hash s (slice_chunk rows s.data_block r) ≡ level_digest s blocks (i + r) 0
 
--- `count` data blocks from i on are there, and none of them but the last is the last below a hash block
+-- a batch: `count` data blocks from i on, one to eight, of which none but the last is the last below a hash block
 pub record IsBatch (p : PlanFields) (i count : ℕ) : Type 0 where
+  pub some : 0 < count
+  pub most : count ≤ 8
   pub below : i + count ≤ p.blocks
   pub none_closes : (k : ℕ) → i ≤ k → k + 1 < i + count → ¬ EndsBlock (fan p.settings) p.blocks k
 
--- how many data blocks from i on are hashed together, in a window of this length: as many as there are before a hash
--- block closes and as fit, eight at most; fewer than three are hashed one by one
+-- how many data blocks from i on are read together into a window of this length: as many as there are before a hash
+-- block closes and as fit, eight at most
 abbrev pub rows_from : PlanFields → ℕ → ℕ → ℕ
 rows_from p window i =
-    let left = min (p.blocks - i) (fan p.settings - i % fan p.settings) in
-    let rows = min left (min 8 (window / p.settings.data_block)) in
-    if nat_lt rows 3 then 1 else rows
+    min (min (p.blocks - i) (fan p.settings - i % fan p.settings)) (min 8 (window / p.settings.data_block))
 
 -- the length of a window
 abbrev pub length_of : Window → ℕ
@@ -50,9 +49,10 @@ length_of Small = 32768
 length_of Middle = 131072
 length_of Large = 524288
 
--- the smallest window with room for eight data blocks, or the large one; none if they are hashed one by one all the same
+-- the smallest window with room for eight data blocks, or the large one; none if no more than two would be read together,
+-- which are hashed one by one all the same
 abbrev pub window_for : PlanFields → Window
-window_for p = if nat_eq (rows_from p (length_of Large) 0) 1 then Empty
+window_for p = if nat_lt (rows_from p (length_of Large) 0) 3 then Empty
     else if nat_lt (length_of Small) (8 * p.settings.data_block) then
     (if nat_lt (length_of Middle) (8 * p.settings.data_block) then Large else Middle)
     else Small
@@ -74,7 +74,7 @@ pub record StopsInBatch (p : PlanFields) (b : Batch) (bytes : List ℕ) (stop : 
 -- the data blocks of a batch stand in the rows
 abbrev pub ReadsRows : PlanFields → Batch → List ℕ → Result Unit SourceStop → List ℕ → List ℕ → Type 0
 ReadsRows p b bytes (Ok _) rows after =
-    HasRead (bytes_of p (b.i + b.count)) bytes after × HoldsDataBlocks p b.i bytes b.count rows
+    HasRead (bytes_of p (b.i + b.count)) bytes after × HoldsDataBlocks p.settings (data_blocks p bytes) b.i b.count rows
 ReadsRows p b bytes (Err stop) rows after = StopsInBatch p b bytes stop after
 
 -- the data blocks of a batch have come to the open blocks, but for the last, whose digest this is

@@ -118,7 +118,7 @@ pub(crate) fn advance(
     if ends && climb(plan, progress, opened, window) {
         return 0;
     }
-    let taken = take_bytes(plan, opened, window, count, piece);
+    let taken = take_bytes(plan, window, count, piece);
     progress.fed = count + taken as u64;
     progress.closed = 0;
     taken

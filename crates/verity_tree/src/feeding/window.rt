@@ -8,8 +8,8 @@ ghost use Rattle.verity_tree.specs.Levels.{block_at};
 ghost use Rattle.verity_tree.specs.Steps.Feeding.{HasCome, HasFed, IsWindowPlace, windows_before};
 ghost use Rattle.verity_tree.specs.Windows.{window_blocks, window_length};
 
-use crate::open_blocks::add_rows;
-use crate::side_by_side::{ROWS, digest_rows};
+use crate::open_blocks::add_batch;
+use crate::side_by_side::ROWS;
 use verity_hash::Digest;
 use verity_plan::{Plan, TreeSettings};
 
@@ -107,26 +107,8 @@ pub(crate) fn take_short_piece(
     true
 }
 
-/// The digests of the data blocks of the window that have so many bytes: what is left of the last is filled with zeros.
-/// The digests after theirs count for nothing. The bytes stay, for more that come.
-pub(crate) fn digest_window(plan: &Plan, window: &mut [u8], bytes: usize) -> [Digest; ROWS]
-    requires planned { IsPlan plan.now }
-    requires room { length window.old ≡ window_length plan.now.settings }
-    requires some { 0 < bytes }
-    requires most { bytes ≤ length window.old }
-    ensures digests { (r : ℕ) → r * plan.now.settings.data_block < bytes
-        → slice_index_or result r []
-        ≡ hash plan.now.settings (block_at plan.now.settings.data_block (take bytes window.old) r) }
-    ensures stays { take bytes window.new ≡ take bytes window.old }
-{
-    let size = plan.data_block();
-    let count = bytes.div_ceil(size);
-    window[bytes..count * size].fill(0);
-    digest_rows(plan, &window[..count * size], count)
-}
-
 /// Adds the digests of the window's data blocks, when so many bytes were fed, but that of the last one, which is the
-/// result.
+/// result. What is left of that block is filled with zeros; the bytes stay, for more that come.
 pub(crate) fn add_window(plan: &Plan, opened: &mut [u8], window: &mut [u8], count: u64) -> Digest
     requires planned { IsPlan plan.now }
     requires opened { level_count_of plan.now * plan.now.settings.hash_block ≤ length opened.old }
@@ -141,7 +123,8 @@ pub(crate) fn add_window(plan: &Plan, opened: &mut [u8], window: &mut [u8], coun
         ≡ take (count - windows_before plan.now.settings count * window_length plan.now.settings) window.old }
 {
     let place = window_place(plan, count);
-    let digests = digest_window(plan, window, place.bytes);
-    add_rows(plan, opened, place.first, &digests, place.rows);
-    digests[place.rows]
+    let blocks = place.rows + 1;
+    let end = blocks * plan.data_block();
+    window[place.bytes..end].fill(0);
+    add_batch(plan, opened, place.first, &window[..end], blocks)
 }

@@ -1,6 +1,5 @@
 //! Data blocks that are read together and hashed side by side, up to eight.
 ghost use Rattle.std.specs.Prelude.{◌≡◌, ℕ, ◌+◌, ◌*◌, ◌<◌, ◌≤◌, List, length, IfOk};
-ghost use Rattle.std.specs.Fork.{slice_chunk};
 ghost use Rattle.verity_io.specs.Counting.{Counts, TheSource, failed_at};
 ghost use Rattle.verity_io.specs.Reading.{HasRead};
 ghost use Rattle.verity_plan.specs.PlanCounts.{level_count_of};
@@ -14,12 +13,11 @@ ghost use Rattle.verity_tree.specs.Steps.DataBlocks.{side_of};
 ghost use Rattle.verity_tree.specs.Steps.OpenBlocks.{HasOpenBlocks};
 ghost use Rattle.verity_tree.specs.Steps.PassFaults.{source_side};
 
-use crate::open_blocks::add_rows;
-use crate::pass::data_block::{BlockFault, read_data_block, take_data_block};
-use crate::pass::pass_fault::SourceStop;
-use crate::side_by_side::{LEAST_ROWS, ROWS, digest_rows};
+use crate::open_blocks::add_batch;
+use crate::pass::pass_fault::{BlockFault, SourceStop};
+use crate::side_by_side::{LEAST_ROWS, ROWS};
 use verity_hash::Digest;
-use verity_io::Source;
+use verity_io::{Source, read_block};
 use verity_plan::Plan;
 
 /// The windows that they are read into. They are of fixed size, and made anew for each pass.
@@ -45,23 +43,18 @@ pub(crate) const MIDDLE_WINDOW: usize = 131_072;
 pub(crate) const LARGE_WINDOW: usize = 524_288;
 
 /// How many data blocks from `i` on are read together into a window of this length: as many as it has room for, eight at
-/// most, and none past the last data block below a hash block. It is 1 if they are hashed one by one.
+/// most, and none past the last data block below a hash block.
 pub(crate) fn rows_from(plan: &Plan, window: usize, i: u64) -> usize
-    requires { i < plan.now.blocks }
+    requires below { i < plan.now.blocks }
+    requires room { plan.now.settings.data_block ≤ window }
     ensures value { result ≡ rows_from plan.now window i }
-    ensures some { 0 < result }
-    ensures most { result ≤ 8 }
     ensures batch { IsBatch plan.now i result }
-    ensures fits { 1 < result → result * plan.now.settings.data_block ≤ window }
+    ensures fits { result * plan.now.settings.data_block ≤ window }
 {
     let fan = plan.fan() as u64;
     let left = plan.blocks() - i;
     let room = ROWS.min(window / plan.data_block());
-    let rows = left.min(fan - i % fan).min(room as u64) as usize;
-    if rows < LEAST_ROWS {
-        return 1;
-    }
-    rows
+    left.min(fan - i % fan).min(room as u64) as usize
 }
 
 /// The window for a plan: the smallest with room for eight data blocks, or the large one if none has; and none if data
@@ -70,7 +63,7 @@ pub(crate) fn window_for(plan: &Plan) -> Window
     requires { IsPlan plan.now }
     ensures { result ≡ window_for plan.now }
 {
-    if rows_from(plan, LARGE_WINDOW, 0) == 1 {
+    if rows_from(plan, LARGE_WINDOW, 0) < LEAST_ROWS {
         return Window::Empty;
     }
     let wanted = ROWS * plan.data_block();
@@ -83,45 +76,32 @@ pub(crate) fn window_for(plan: &Plan) -> Window
     }
 }
 
-/// Reads `count` data blocks from `i` on, one alone into the work space after the open blocks and more into the window, and
-/// adds the digests of all but the last to the open blocks: the digest of the last, or where the source stops. No hash
-/// block closes with those that are added.
+/// Reads a batch of data blocks from `i` on into the window, and adds the digests of all but the last to the open blocks:
+/// the digest of the last, or where the source stops.
 pub(crate) fn take_batch<S: Source>(
     plan: &Plan,
-    work: &mut [u8],
+    opened: &mut [u8],
     window: &mut [u8],
     i: u64,
     count: usize,
     source: &mut S,
 ) -> Result<Digest, SourceStop>
     requires planned { IsPlan plan.now }
-    requires room { level_count_of plan.now * plan.now.settings.hash_block + plan.now.settings.data_block
-        ≤ length work.old }
-    requires some { 0 < count }
-    requires most { count ≤ 8 }
+    requires room { level_count_of plan.now * plan.now.settings.hash_block ≤ length opened.old }
     requires batch { IsBatch plan.now i count }
-    requires fits { 1 < count → count * plan.now.settings.data_block ≤ length window.old }
+    requires fits { count * plan.now.settings.data_block ≤ length window.old }
     ensures size { IfOk result (λ digest. length digest ≡ digest_len plan.now.settings) }
     ensures told { S.tells source.old → S.tells source.new }
     ensures count { Counts (failed_at source_side TheSource result) (S.failures source.old) (S.failures source.new) }
     ensures read { S.tells source.old → (bytes : List ℕ) → HasRead (bytes_of plan.now i) bytes (S.remaining source.old)
-        → HasOpenBlocks plan.now.settings (data_blocks plan.now bytes) 0 (level_count_of plan.now) i work.old
-        → TakesBatch plan.now (batch_of i count) bytes result work.new (S.remaining source.new) }
+        → HasOpenBlocks plan.now.settings (data_blocks plan.now bytes) 0 (level_count_of plan.now) i opened.old
+        → TakesBatch plan.now (batch_of i count) bytes result opened.new (S.remaining source.new) }
 {
-    if count == 1 {
-        return match take_data_block(plan, work, i, source) {
-            Ok(digest) => Ok(digest),
-            Err(why) => Err(SourceStop { block: i, why }),
-        };
-    }
     let rows = &mut window[..count * plan.data_block()];
     match read_rows(plan, rows, i, count, source) {
-        Ok(()) => {}
-        Err(stop) => return Err(stop),
+        Ok(()) => Ok(add_batch(plan, opened, i, rows, count)),
+        Err(stop) => Err(stop),
     }
-    let digests = digest_rows(plan, rows, count);
-    add_rows(plan, work, i, &digests, count - 1);
-    Ok(digests[count - 1])
 }
 
 /// Reads `count` data blocks from `i` on into the rows, one after another.
@@ -140,8 +120,10 @@ fn read_rows<S: Source>(
     ensures read { S.tells source.old → (bytes : List ℕ) → HasRead (bytes_of plan.now i) bytes (S.remaining source.old)
         → ReadsRows plan.now (batch_of i count) bytes result rows.new (S.remaining source.new) }
 {
+    let size = plan.data_block();
     for row in 0..count {
-        match read_row(plan, rows, i + row as u64, row, source) {
+        let from = row * size;
+        match read_row(plan, &mut rows[from..from + size], i + row as u64, source) {
             Ok(()) => {}
             Err(why) => {
                 return Err(SourceStop {
@@ -154,26 +136,25 @@ fn read_rows<S: Source>(
     Ok(())
 }
 
-/// Reads data block `i` into a row.
-fn read_row<S: Source>(
-    plan: &Plan,
-    rows: &mut [u8],
-    i: u64,
-    row: usize,
-    source: &mut S,
-) -> Result<(), BlockFault>
-    requires room { row * plan.now.settings.data_block + plan.now.settings.data_block ≤ length rows.old }
+/// Reads data block `i` into a row, and fills the rest of it with zeros.
+fn read_row<S: Source>(plan: &Plan, row: &mut [u8], i: u64, source: &mut S) -> Result<(), BlockFault>
+    requires room { length row.old ≡ plan.now.settings.data_block }
     requires below { i < plan.now.blocks }
     ensures told { S.tells source.old → S.tells source.new }
     ensures count { Counts (failed_at side_of TheSource result) (S.failures source.old) (S.failures source.new) }
-    ensures kept { (r : ℕ) → r < row → slice_chunk rows.new plan.now.settings.data_block r
-        ≡ slice_chunk rows.old plan.now.settings.data_block r }
     ensures read { S.tells source.old → (bytes : List ℕ) → HasRead (bytes_of plan.now i) bytes (S.remaining source.old)
-        → ReadsRow plan.now i bytes result (slice_chunk rows.new plan.now.settings.data_block row)
-        (S.remaining source.new) }
+        → ReadsRow plan.now i bytes result row.new (S.remaining source.new) }
 {
-    let size = plan.data_block();
-    let from = row * size;
-    let data_len = (size as u64).min(plan.wanted() - i * size as u64) as usize;
-    read_data_block(source, &mut rows[from..from + size], data_len)
+    let left = plan.wanted() - i * plan.data_block() as u64;
+    let data_len = left.min(row.len() as u64) as usize;
+    match read_block(source, &mut row[..data_len]) {
+        Ok(count) => {
+            if count < data_len {
+                return Err(BlockFault::Short);
+            }
+            row[data_len..].fill(0);
+            Ok(())
+        }
+        Err(_) => Err(BlockFault::Failed),
+    }
 }

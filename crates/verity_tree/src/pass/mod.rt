@@ -3,7 +3,6 @@
 pub(crate) mod batches;
 pub(crate) mod carry;
 pub(crate) mod comparing;
-pub(crate) mod data_block;
 pub(crate) mod on_closed;
 pub(crate) mod one_pass;
 pub(crate) mod pass_fault;

@@ -1,6 +1,13 @@
 //! Why a pass over the data ends early.
 
-use crate::pass::data_block::BlockFault;
+/// Why a data block isn't read.
+#[derive(Clone, Copy)]
+pub(crate) enum BlockFault {
+    /// The source ended before the block's end.
+    Short,
+    /// The source failed.
+    Failed,
+}
 
 /// The data block within which the source stops, counted from 0, and why.
 #[derive(Clone, Copy)]

@@ -1,36 +1,38 @@
-use Rattle.std.proofs.Common.{◌≡◌, ◌∙◌, ℕ, [], ap, arith, length, subst, sym}
-use Rattle.std.proofs.lemmas.List.{get_or_default}
+use Rattle.std.proofs.Common.{◌≡◌, ◌∙◌, ℕ, ◌+◌, ◌*◌, ◌≤◌, ap, arith, length, subst, sym}
+use Rattle.std.proofs.lemmas.Slice.{take-put_mid_below}
 use Rattle.verity_tree.specs.Steps.Feeding.{IsWindowPlace}
-use Rattle.verity_tree.proofs.OpenBlockLemmas.{length-hash}
-use Rattle.verity_tree.proofs.PieceOfBytesLemmas.{HasCome-window}
+use Rattle.verity_tree.proofs.PieceOfBytesLemmas.{HasCome-window, window-end, window-filled}
 use Rattle.verity_tree.proofs.feeding.window.add_window.Goals as goal
 
-pub add_rows-requires-clause-sizes : goal.add_rows-requires-clause-sizes
-add_rows-requires-clause-sizes c = λ r low.
-    let place = c.window_place-place.ensures in
-    ap length (c.digest_window-digests.ensures.digests r (place.each r (omega (arith, low))))
-    ∙ length-hash c.args.plan.now.settings _
+pub slice_bounds-fill-start : goal.slice_bounds-fill-start
+slice_bounds-fill-start c =
+    let p = c.args.plan.now in
+    let place = c.window_place-place.result in
+    let end : (place.rows + 1) * c.data_block.result ≡ (place.rows + 1) * p.settings.data_block =
+    ap (λ (n : ℕ). (place.rows + 1) * n) c.data_block.ensures in
+    let at = window-end p c.args.count place c.requires.planned c.requires.some c.window_place-place.ensures in
+    omega (arith, at.enough, at.room, end, c.requires.window)
 
-pub returns-clause-size : goal.returns-clause-size
-returns-clause-size c =
-    let place = c.window_place-place.ensures in
-    let rows = c.window_place-place.result.rows in
-    let long : length c.digest_window-digests.result ≡ 8 = omega arith in
-    ap length
-    (get_or_default c.digest_window-digests.result rows c.index-digests-place.result [] (omega (arith, long, place.few))
-    ∙ c.digest_window-digests.ensures.digests rows (place.each rows (omega arith)))
-    ∙ length-hash c.args.plan.now.settings _
+pub slice_bounds-fill-count : goal.slice_bounds-fill-count
+slice_bounds-fill-count c =
+    let p = c.args.plan.now in
+    let place = c.window_place-place.result in
+    let end : (place.rows + 1) * c.data_block.result ≡ (place.rows + 1) * p.settings.data_block =
+    ap (λ (n : ℕ). (place.rows + 1) * n) c.data_block.ensures in
+    let at = window-end p c.args.count place c.requires.planned c.requires.some c.window_place-place.ensures in
+    omega (arith, at.enough, at.room, end, c.requires.window)
 
 pub returns-clause-adds : goal.returns-clause-adds
 returns-clause-adds c = λ levels fed few room many h.
     let p = c.args.plan.now in
-    let place = c.window_place-place.ensures in
-    let digests = c.digest_window-digests.result in
-    let long : length digests ≡ 8 = omega arith in
-    HasCome-window p levels c.window_place-place.result fed c.args.opened.now c.args.window.now c.add_rows.new.opened _
-    digests c.requires.planned (omega (arith, many, c.requires.some)) (omega (arith, many, c.requires.most))
-    (subst (λ (n : ℕ). IsWindowPlace p n c.window_place-place.result) (sym many) place)
-    c.digest_window-digests.ensures.digests
-    (λ blocks are each before. c.add_rows.ensures blocks levels are few room each before)
-    (get_or_default digests c.window_place-place.result.rows c.index-digests-place.result []
-    (omega (arith, long, place.few))) h
+    let place = c.window_place-place.result in
+    let is = c.window_place-place.ensures in
+    let at = window-end p c.args.count place c.requires.planned c.requires.some is in
+    let end : (place.rows + 1) * c.data_block.result ≡ (place.rows + 1) * p.settings.data_block =
+    ap (λ (n : ℕ). (place.rows + 1) * n) c.data_block.ensures in
+    HasCome-window p levels place fed c.args.opened.now c.args.window.now _ c.add_batch.new.opened c.add_batch.result
+    c.requires.planned (omega (arith, many, c.requires.some)) (omega (arith, many, c.requires.most))
+    (subst (λ (n : ℕ). IsWindowPlace p n place) (sym many) is)
+    (window-filled p.settings place ((place.rows + 1) * c.data_block.result) place.bytes c.args.window.now c.fill.new.self at end
+    (let e : place.bytes ≡ place.bytes = omega arith in e) is.each c.requires.window (c.fill.ensures.after (λ y e. e)))
+    (λ blocks are holds before. c.add_batch.ensures.adds blocks levels are few room holds before) h

@@ -1,59 +1,85 @@
-use Rattle.std.proofs.Common.{◌≡◌, ℕ, ◌+◌, ◌-◌, ◌*◌, ◌<◌, ◌≤◌, min, List, length, take, drop, arith, refl, sym, ap, ◌∙◌}
-use Rattle.std.proofs.Common.{Ok, Err, Result}
+use Rattle.std.proofs.Common.{◌≡◌, ℕ, ◌-◌, ◌*◌, ◌<◌, ◌≤◌, [], replicate, min, List, length, take, drop, ◌++◌, length-append, length-drop, arith, sym, ap, ◌∙◌}
+use Rattle.std.proofs.lemmas.List.{append-nil, drop_all, drop_at, length-take-le, take_all, take_at}
 use borrow.Rule.Slice.PartMut.{put_mid}
-use Rattle.std.specs.Fork.{slice_chunk}
-use Rattle.verity_io.specs.Reading.{HasRead}
-use Rattle.verity_plan.specs.Plans.{PlanFields, IsPlan}
-use Rattle.verity_plan.specs.Settings.{hash}
-use Rattle.verity_tree.specs.Reading.{bytes_of}
-use Rattle.verity_tree.specs.Steps.DataBlocks.{ReadsBlock}
-use Rattle.verity_tree.specs.Steps.Batches.{ReadsRow}
-use Rattle.verity_tree.specs.declared.pass.data_block.BlockFault.{BlockFault}
-use Rattle.verity_tree.specs.declared.pass.data_block.BlockFault.TheVariants.{Short, Failed}
+use Rattle.verity_hash.specs.Hashing.{with_zeros}
 use Rattle.verity_tree.proofs.DataBlockLemmas.{data-next, failed-within, short-within}
-use Rattle.verity_hash.proofs.RowLemmas.{rows-within}
-use Rattle.verity_tree.proofs.BatchLemmas.{row-kept}
 use Rattle.verity_tree.proofs.pass.batches.read_row.Goals as goal
 
-reads : (p : PlanFields) → IsPlan p → (i row data_len b a : ℕ) (bytes rest after rows new : List ℕ)
-    (result : Result Unit BlockFault) → b ≡ p.settings.data_block → a ≡ row * p.settings.data_block → i < p.blocks
-    → data_len ≡ min b (p.wanted - i * b) → a + b ≤ length rows → length new ≡ length (take (a + b - a) (drop a rows))
-    → HasRead (bytes_of p i) bytes rest
-    → ReadsBlock result data_len (length (take (a + b - a) (drop a rows))) rest after new
-    → ReadsRow p i bytes result (slice_chunk (put_mid a (a + b - a) rows new) p.settings.data_block row) after
-reads p planned i row data_len b a bytes rest after rows new (Ok done) eb ea below w room len read_before h =
-    let now = put_mid a (a + b - a) rows new in
-    let wide : p.settings.data_block ≡ a + b - a = omega (arith, eb) in
-    let part : slice_chunk now p.settings.data_block row ≡ take (a + b - a) (drop a now) =
-    (λ k. take (wide k) (drop (sym ea k) now)) in
-    let next = data-next p planned i data_len b a bytes rest after rows new
-    (hash p.settings (take (a + b - a) (drop a now)))
-    eb below w room len read_before h refl in
-    (next.0, ap (hash p.settings) part ∙ next.1)
-reads p planned i row data_len b a bytes rest after rows new (Err Short) eb ea below w room len read_before h =
-    short-within p planned i data_len b bytes rest after eb below w read_before h.0 h.1
-reads p planned i row data_len b a bytes rest after rows new (Err Failed) eb ea below w room len read_before h =
-    failed-within p planned i data_len b bytes rest after eb below w read_before h
+-- how many bytes of the data block there are
+data-len : (wanted i len d result size wide : ℕ) → wanted ≡ result → size ≡ d → wide ≡ d
+    → len ≡ min (result - i * size) wide → len ≡ min (wanted - i * d) d
+data-len wanted i len d result size wide all same row is =
+    is ∙ ap (λ (n : ℕ). min (n - i * size) wide) (sym all) ∙ ap (λ (n : ℕ). min (wanted - i * n) wide) same
+    ∙ ap (λ (n : ℕ). min (wanted - i * d) n) row
 
-pub returns-clause-kept : goal.returns-clause-kept
-returns-clause-kept g c = λ r before.
-    let b = c.args.plan.now.settings.data_block in
-    let place : c.args.row * c.data_block-size.result ≡ c.args.row * b =
-    ap (λ (n : ℕ). c.args.row * n) c.data_block-size.ensures in
-    row-kept b r _ _ c.args.rows.now c.read_data_block.new.block
-    (omega (arith, place, rows-within r c.args.row b before))
-    (omega (arith, place, c.requires.room))
+-- the bytes that were read, and zeros up to the row's end
+row-filled : (n d : ℕ) (buf row zeros before : List ℕ) → n ≤ length row → length row ≡ d → length buf ≡ n
+    → buf ≡ take n before
+    → zeros ≡ replicate (length (take (length (buf ++ drop n row) - n) (drop n (buf ++ drop n row)))) 0
+    → put_mid n (length (buf ++ drop n row) - n) (buf ++ drop n row) zeros ≡ with_zeros d (take n before)
+row-filled n d buf row zeros before fits wide long is filled =
+    let xs = buf ++ drop n row in
+    let k = length xs - n in
+    let size : length xs ≡ d =
+    omega (arith, length-append buf (drop n row), length-drop n row, long, wide, fits) in
+    let rest : length (drop n xs) ≡ k = length-drop n xs in
+    let left : zeros ≡ replicate (d - n) 0 =
+    filled
+    ∙ ap (λ (m : ℕ). replicate m 0) (length-take-le k (drop n xs) (omega (arith, rest)))
+    ∙ ap (λ (m : ℕ). replicate (m - n) 0) size in
+    ap (λ (ys : List ℕ). ys ++ (zeros ++ drop k (drop n xs))) (take_at buf (drop n row) n long)
+    ∙ ap (λ (ys : List ℕ). buf ++ (zeros ++ ys)) (drop_all k (drop n xs) (omega (arith, rest)))
+    ∙ ap (λ (ys : List ℕ). buf ++ ys) (append-nil zeros ∙ left)
+    ∙ ap (λ (m : ℕ). buf ++ replicate (d - m) 0) (sym long)
+    ∙ ap (with_zeros d) is
 
-pub returns-clause-read : goal.returns-clause-read
-returns-clause-read g c = λ tells bytes read_before.
+pub returns-else-count-data_len-clause-read : goal.returns-else-count-data_len-clause-read
+returns-else-count-data_len-clause-read g c = λ tells bytes read_before.
     let p = c.args.plan.now in
-    let b = c.data_block-size.result in
-    let place : c.args.row * b ≡ c.args.row * p.settings.data_block =
-    ap (λ (n : ℕ). c.args.row * n) c.data_block-size.ensures in
-    let w : c.min-data_len.result ≡ min b (p.wanted - c.args.i * b) =
-    c.min-data_len.ensures ∙ ap (λ (n : ℕ). min b (n - c.args.i * b)) c.wanted.ensures.value in
-    reads p c.wanted.ensures.planned c.args.i c.args.row c.min-data_len.result b _ bytes
-    (g.S.Source.remaining c.args.source.now) (g.S.Source.remaining c.read_data_block.new.source) c.args.rows.now
-    c.read_data_block.new.block c.read_data_block.result c.data_block-size.ensures place c.requires.below w
-    (omega (arith, place, c.data_block-size.ensures, c.requires.room))
-    c.read_data_block.auto.block read_before (c.read_data_block.ensures.bytes tells)
+    let w = data-len p.wanted c.args.i c.min-data_len.result p.settings.data_block c.wanted.result c.data_block.result
+    (length c.args.row.now) (sym c.wanted.ensures.value) c.data_block.ensures c.requires.room c.min-data_len.ensures in
+    let fits : c.min-data_len.result ≤ length c.args.row.now = omega (arith, c.min-data_len.ensures) in
+    let long : length c.read_block.new.buf ≡ c.min-data_len.result =
+    c.read_block.auto.buf ∙ length-take-le c.min-data_len.result c.args.row.now fits in
+    let all : take c.in-Ok.count c.read_block.new.buf ≡ c.read_block.new.buf =
+    take_all c.in-Ok.count c.read_block.new.buf (omega (arith, long, c.if-count-data_len.false)) in
+    let before = g.S.Source.remaining c.args.source.now in
+    let after = g.S.Source.remaining c.read_block.new.source in
+    let split : before ≡ c.read_block.new.buf ++ after =
+    (c.in-Ok.ensures.bytes tells).0 ∙ ap (λ (xs : List ℕ). xs ++ after) all in
+    data-next p c.wanted.ensures.planned c.args.i c.min-data_len.result bytes before after _ c.requires.below w read_before
+    (record {
+      enough = omega (arith, long, ap length split, length-append c.read_block.new.buf after);
+      bytes = row-filled c.min-data_len.result p.settings.data_block c.read_block.new.buf c.args.row.now c.fill.new.self before
+          fits c.requires.room long (sym (ap (take c.min-data_len.result) split
+          ∙ take_at c.read_block.new.buf after c.min-data_len.result long)) (c.fill.ensures.after (λ y e. e));
+      rest = sym (ap (drop c.min-data_len.result) split ∙ drop_at c.read_block.new.buf after c.min-data_len.result long);
+    })
+
+pub returns-then-count-data_len-clause-read : goal.returns-then-count-data_len-clause-read
+returns-then-count-data_len-clause-read g c = λ tells bytes read_before.
+    let p = c.args.plan.now in
+    let w = data-len p.wanted c.args.i c.min-data_len.result p.settings.data_block c.wanted.result c.data_block.result
+    (length c.args.row.now) (sym c.wanted.ensures.value) c.data_block.ensures c.requires.room c.min-data_len.ensures in
+    let count = c.in-Ok.count in
+    let buf = c.read_block.new.buf in
+    let after = g.S.Source.remaining c.read_block.new.source in
+    let stop = c.in-Ok.ensures.bytes tells in
+    let less : count < length buf =
+    omega (arith, c.if-count-data_len.true, c.read_block.auto.buf,
+    length-take-le c.min-data_len.result c.args.row.now (omega (arith, c.min-data_len.ensures))) in
+    let none : after ≡ [] = stop.1 less in
+    let few : length (take count buf) ≡ count = length-take-le count buf (omega (arith, less)) in
+    short-within p c.wanted.ensures.planned c.args.i c.min-data_len.result bytes (g.S.Source.remaining c.args.source.now)
+    after c.requires.below w read_before
+    (omega (arith, ap length stop.0, length-append (take count buf) after, ap length none, few, c.if-count-data_len.true)) none
+
+pub returns-in-Err-clause-read : goal.returns-in-Err-clause-read
+returns-in-Err-clause-read g c = λ tells bytes read_before.
+    let p = c.args.plan.now in
+    let w = data-len p.wanted c.args.i c.min-data_len.result p.settings.data_block c.wanted.result c.data_block.result
+    (length c.args.row.now) (sym c.wanted.ensures.value) c.data_block.ensures c.requires.room c.min-data_len.ensures in
+    let stop = c.in-Err.ensures.bytes tells in
+    failed-within p c.wanted.ensures.planned c.args.i c.min-data_len.result bytes (g.S.Source.remaining c.args.source.now)
+    (g.S.Source.remaining c.read_block.new.source) stop.0 c.requires.below w read_before
+    (omega (arith, stop.1, c.read_block.auto.buf, length-take-le c.min-data_len.result c.args.row.now (omega (arith, c.min-data_len.ensures)))) stop.2

@@ -35,14 +35,13 @@ unfolding closed_after
 batches-init g c =
     let p = c.args.plan.now in
     record {
-      size = c.fill.ensures.len;
       within = omega arith;
       source_told = λ t. t;
       device_told = λ t. t;
       source_failures = refl;
       device_failures = refl;
       read = λ _. HasRead-none p _;
-      opened = λ _ _. HasOpenBlocks-zeros p.settings _ (level_count_of p) (length c.args.work.now) c.fill.new.self
+      opened = λ _ _. HasOpenBlocks-zeros p.settings _ (level_count_of p) (length c.args.opened.now) c.fill.new.self
           (fan-some p.settings) (c.fill.ensures.after (λ y e. e)) (omega (arith, c.requires.room));
       answer = λ _ none. absurd (omega (arith, none, blocks-some p c.requires.planned));
       root_size = search (rules, length-replicate);
@@ -85,8 +84,8 @@ returns-in-Err-carry-clause-run g c =
     let bytes = g.S.Source.remaining c.args.source.now in
     let blocks = data_blocks p bytes in
     let inv = c.batches.invariant in
-    let some = c.rows_from-count.ensures.some in
     let batch = c.rows_from-count.ensures.batch in
+    let some = batch.some in
     let many : p.blocks ≡ length blocks = sym (length-cut p.settings p.blocks p.wanted bytes) in
     let here : c.batches.i < p.blocks = omega (arith, c.batches-test.true, c.blocks-in-batches.ensures.value) in
     let below : last < p.blocks = omega (arith, some, batch.below) in
@@ -125,8 +124,8 @@ batches-preserved g c =
     let bytes = g.S.Source.remaining c.args.source.now in
     let blocks = data_blocks p bytes in
     let inv = c.batches.invariant in
-    let some = c.rows_from-count.ensures.some in
     let batch = c.rows_from-count.ensures.batch in
+    let some = batch.some in
     let many : p.blocks ≡ length blocks = sym (length-cut s p.blocks p.wanted bytes) in
     let here : c.batches.i < p.blocks = omega (arith, c.batches-test.true, c.blocks-in-batches.ensures.value) in
     let next : c.batches.i + count ≡ last + 1 = omega (arith, some) in
@@ -136,7 +135,6 @@ batches-preserved g c =
     let carries = λ (tells : g.S.Source.tells c.args.source.now).
     c.in-Ok-carry.ensures.carries blocks many (taken tells).2 (taken tells).1 in
     record {
-      size = c.carry.auto.opened ∙ c.take_batch.auto.work ∙ inv.size;
       within = omega (arith, some, batch.below);
       source_told = λ t. c.in-Ok.ensures.told (inv.source_told t);
       device_told = λ t. c.in-Ok-carry.ensures.told (inv.device_told t);

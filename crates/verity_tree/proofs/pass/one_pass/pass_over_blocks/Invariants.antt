@@ -11,7 +11,6 @@ use Rattle.verity_tree.proofs.pass.one_pass.pass_over_blocks.Given as goal
 -- the hash blocks have closed that do with i data blocks
 abbrev pub invariant-batches : goal.invariant-batches
 invariant-batches g l = record {
-  size : length l.work ≡ length l.fn.work;
   within : l.i ≤ l.plan.blocks;
   source_told : g.S.Source.tells l.fn.source → g.S.Source.tells l.source;
   device_told : g.D.Device.tells l.fn.device → g.D.Device.tells l.device;
@@ -21,7 +20,7 @@ invariant-batches g l = record {
       → HasRead (bytes_of l.plan l.i) (g.S.Source.remaining l.fn.source) (g.S.Source.remaining l.source);
   opened : g.S.Source.tells l.fn.source → l.i < l.plan.blocks
       → HasOpenBlocks l.plan.settings (data_blocks l.plan (g.S.Source.remaining l.fn.source)) 0
-      (level_count_of l.plan) l.i l.work;
+      (level_count_of l.plan) l.i l.opened;
   answer : g.S.Source.tells l.fn.source → l.i ≡ l.plan.blocks
       → l.root ≡ root l.plan.settings (data_blocks l.plan (g.S.Source.remaining l.fn.source));
   root_size : length l.root ≡ digest_len l.plan.settings;
