@@ -1,10 +1,11 @@
 -- Quotients rounded up.
-use Rattle.std.proofs.Common.{◌≡◌, ℕ, zero, suc, ◌+◌, ◌-◌, ◌*◌, ◌^◌, ◌<◌, ◌≤◌, true, false, leb, arith, sym, ◌∙◌, inl}
+use Rattle.std.proofs.Common.{◌≡◌, ℕ, zero, suc, ◌+◌, ◌-◌, ◌*◌, ◌^◌, ◌<◌, ◌≤◌, ◌/◌, ◌%◌, true, false, leb, arith, sym, ◌∙◌, inl}
 use Rattle.std.proofs.Common.{inr}
 use Rattle.std.proofs.lemmas.Grind.{div_ceil_times}
 use Rattle.std.proofs.lemmas.Bool.Decides.{nat_tests, leb_tells}
 use Rattle.std.proofs.Math.Nat.{mul-le-mul_left, mul-le-mul_right, mul-pos, pow-zero, pow-suc}
 use Rattle.std.proofs.lemmas.Bool.{cases_lt}
+use Rattle.std.proofs.lemmas.Nat.{div-add-mod', mod_below}
 use Rattle.std.specs.Int.{div_ceil}
 use Rattle.std.specs.Prelude.{nat_le}
 use Rattle.verity_plan.specs.Plans.{level_count}
@@ -95,3 +96,16 @@ div_ceil-pos n a some more =
 pub div_ceil-lt : (n a : ℕ) → 2 ≤ a → 1 < n → div_ceil n a < n
 div_ceil-lt n a two more =
     omega (arith, div_ceil-le n a (n - 1) (omega arith) (omega (arith, mul-le-mul_left (n - 1) two)))
+
+-- a quotient that is rounded up, by the one below
+pub div_ceil-below : (n a : ℕ) → 0 < a → 0 < n → (n - 1) / a + 1 ≡ div_ceil n a
+div_ceil-below n a some more =
+    let q = (n - 1) / a in
+    let split : q * a + (n - 1) % a ≡ n - 1 = div-add-mod' (n - 1) a in
+    let low : (n - 1) % a < a = mod_below (n - 1) a some in
+    let next : (q + 1) * a ≡ q * a + a = omega arith in
+    let most : div_ceil n a ≤ q + 1 = div_ceil-le n a (q + 1) some (omega (arith, split, low, next, more)) in
+    elim (cases_lt q (div_ceil n a)) [
+      | inl less ↦ omega (arith, less, most)
+      | inr few ↦ absurd (omega (arith, le-div_ceil n a q some few, split, more))
+    ]

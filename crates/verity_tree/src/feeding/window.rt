@@ -3,7 +3,7 @@ ghost use Rattle.std.specs.Prelude.{◌≡◌, ℕ, ◌+◌, ◌-◌, ◌*◌, �
 ghost use Rattle.std.specs.Prelude.{take, true, false};
 ghost use Rattle.verity_plan.specs.PlanCounts.{level_count_of};
 ghost use Rattle.verity_plan.specs.Plans.{IsPlan};
-ghost use Rattle.verity_plan.specs.Settings.{IsValid, digest_len, hash};
+ghost use Rattle.verity_plan.specs.Settings.{IsValid, TreeSettingsFields, digest_len, hash};
 ghost use Rattle.verity_tree.specs.Levels.{block_at};
 ghost use Rattle.verity_tree.specs.Steps.Feeding.{HasCome, HasFed, IsWindowPlace, windows_before};
 ghost use Rattle.verity_tree.specs.Windows.{window_blocks, window_length};
@@ -14,7 +14,7 @@ use verity_hash::Digest;
 use verity_plan::{Plan, TreeSettings};
 
 /// The window has no more bytes than the largest data block.
-const MOST_BYTES: usize = 524_288;
+const MOST_BYTES: u32 = 524_288;
 
 /// The number of data blocks of the window.
 #[tactic(auto, unfolding(crate::specs::Windows::window_blocks))]
@@ -24,8 +24,8 @@ pub(crate) fn window_blocks(settings: &TreeSettings) -> usize
     ensures most { result ≤ 8 }
     ensures room { result * settings.now.data_block ≤ 524288 }
 {
-    let room = MOST_BYTES / settings.data_block() as usize;
-    ROWS.min(room).min(settings.fan())
+    let room = MOST_BYTES / settings.data_block();
+    ROWS.min(room as usize).min(settings.fan())
 }
 
 /// The length of the window, in bytes.
@@ -81,26 +81,25 @@ pub(crate) fn fill_window(window: &mut [u8], at: usize, piece: &[u8]) -> usize
     count
 }
 
-/// Up to so many bytes, and those of a window more, are too many for no tree.
+/// Up to so many bytes are too many for no tree.
 const SMALL_FILE: u64 = 1 << 40;
 
 /// Takes a piece, when so many bytes were fed, if some of them are in the window and it has room for the piece, and no tree
 /// is too small for so many: whether it was taken. That needs no plan.
-pub(crate) fn take_short_piece(
-    settings: &TreeSettings,
-    window: &mut [u8],
-    count: u64,
-    piece: &[u8],
-) -> bool
-    requires room { length window.old ≡ window_length settings.now }
+pub(crate) fn take_short_piece(window: &mut [u8], count: u64, piece: &[u8]) -> bool
     ensures some { result ≡ true → 0 < length piece.now }
-    ensures small { result ≡ true → count + length piece.now ≤ 2199023255552 }
+    ensures small { result ≡ true → count + length piece.now ≤ 1099511627776 }
     ensures refused { result ≡ false → window.new ≡ window.old }
-    ensures fed { result ≡ true → (levels : ℕ) (fed opened : List ℕ) → length fed ≡ count
-        → HasFed settings.now levels fed opened window.old → HasFed settings.now levels (fed ++ piece.now) opened window.new }
+    ensures fed { result ≡ true → (s : TreeSettingsFields) (levels : ℕ) (fed opened : List ℕ)
+        → length window.old ≡ window_length s → length fed ≡ count
+        → HasFed s levels fed opened window.old → HasFed s levels (fed ++ piece.now) opened window.new }
 {
-    let at = (count % window_length(settings) as u64) as usize;
-    if at == 0 || count > SMALL_FILE || piece.is_empty() || piece.len() > window.len() - at {
+    let wide = window.len();
+    if wide == 0 || piece.is_empty() || count.saturating_add(piece.len() as u64) > SMALL_FILE {
+        return false;
+    }
+    let at = (count % wide as u64) as usize;
+    if at == 0 || piece.len() > wide - at {
         return false;
     }
     fill_window(window, at, piece);

@@ -1,6 +1,8 @@
-use Rattle.std.proofs.Common.{◌≡◌, ℕ, ◌-◌, ◌<◌, arith, ◌∙◌, ap}
+use Rattle.std.proofs.Common.{◌≡◌, ℕ, ◌+◌, ◌-◌, ◌/◌, ◌^◌, ◌<◌, ◌≤◌, arith, sym, ◌∙◌, ap}
+use Rattle.std.specs.Int.{div_ceil}
+use Rattle.verity_plan.proofs.FanLemmas.{log2-is}
 use Rattle.verity_plan.specs.Plans.{level_count, blocks_from}
-use Rattle.verity_plan.proofs.CountLemmas.{div_ceil-pos, div_ceil-lt}
+use Rattle.verity_plan.proofs.CountLemmas.{div_ceil-below, div_ceil-pos, div_ceil-lt}
 use Rattle.verity_plan.proofs.PlaceLemmas.{blocks_from-level}
 use Rattle.verity_plan.proofs.PlanLemmas.{size-more, levels-more, levels-all, div_ceil-half}
 use Rattle.verity_plan.proofs.plan.levels_above.Goals as goal
@@ -11,11 +13,19 @@ levels-preserved c =
     let some : 0 < c.args.fan = omega (arith, c.requires.two) in
     let more = levels-more c.args.fan c.args.blocks c.levels.tree.levels c.levels.size c.requires.two inv.size_is
     c.levels-test.true in
-    let next = c.div_ceil-size.ensures
+    let k = c.requires.power.0 in
+    let one : 1 ≤ 2 ^ k = omega (arith, some, c.requires.power.1) in
+    let log : c.ilog2-power.result ≡ k =
+    sym (log2-is c.args.fan c.ilog2-power.result c.ilog2-power.ensures.power_le c.ilog2-power.ensures.next_power_gt)
+    ∙ log2-is c.args.fan k (omega (arith, c.requires.power.1)) (omega (arith, c.requires.power.1, one)) in
+    let halved : (c.levels.size - 1) / 2 ^ c.ilog2-power.result + 1 ≡ div_ceil c.levels.size c.args.fan =
+    ap (λ (m : ℕ). (c.levels.size - 1) / m + 1) (ap (λ (m : ℕ). 2 ^ m) log ∙ sym c.requires.power.1)
+    ∙ div_ceil-below c.levels.size c.args.fan some inv.some in
+    let next = halved
     ∙ size-more c.args.fan c.args.blocks c.levels.tree.levels c.levels.size some inv.size_is in
     record {
       size_is = next;
-      some = omega (arith, c.div_ceil-size.ensures, div_ceil-pos c.levels.size c.args.fan some inv.some);
+      some = omega (arith, halved, div_ceil-pos c.levels.size c.args.fan some inv.some);
       within = omega (arith, more);
       counted = omega (
         arith,
@@ -26,13 +36,13 @@ levels-preserved c =
       most = omega (
         arith,
         inv.most,
-        c.div_ceil-size.ensures,
+        halved,
         div_ceil-half c.levels.size c.args.fan c.requires.two c.levels-test.true,
       );
       few = omega (
         arith,
         inv.few,
-        c.div_ceil-size.ensures,
+        halved,
         div_ceil-lt c.levels.size c.args.fan c.requires.two c.levels-test.true,
       );
     }

@@ -2,7 +2,7 @@ use Rattle.std.proofs.Common.{◌≡◌, ℕ, ◌+◌, ◌*◌, ◌<◌, arith, 
 use Rattle.std.proofs.Math.Nat.{mul-le-mul_right}
 use Rattle.verity_io.specs.Writing.{most_bytes}
 use Rattle.verity_plan.specs.Plans.{level_count, blocks_from, PlanFields, end_place_of}
-use Rattle.verity_plan.proofs.FanLemmas.{some_data, two_slots, digest_len_of-pos}
+use Rattle.verity_plan.proofs.FanLemmas.{some_data, two_slots, digest_len_of-pos, fan-power}
 use Rattle.verity_plan.proofs.PlanLemmas.{checked_plan-large, past-quotient, within-quotient, base-le-end, has_room-data}
 use Rattle.verity_plan.proofs.PlanLemmas.{has_room-hash, some_wanted}
 use Rattle.verity_plan.proofs.plan.Plan.try_new.Goals as goal
@@ -82,3 +82,7 @@ invariant_of-result c =
           ∙ ap (λ (f : ℕ). level_count f c.args.blocks) c.fan.ensures.value;
       end_is = end_is;
     }
+
+pub levels_above-tree-requires-clause-power : goal.levels_above-tree-requires-clause-power
+levels_above-tree-requires-clause-power c =
+    let power = fan-power c.args.settings.now in (power.0, c.fan.ensures.value ∙ power.1)

@@ -25,15 +25,14 @@ short-taken s levels count at taken fed piece opened before window wide many is 
     (ap (λ (n : ℕ). take (at + n) window) (sym all) ∙ filled ∙ ap (λ (xs : List ℕ). take at before ++ xs) whole) settled
 
 pub returns-clause-fed : goal.returns-clause-fed
-returns-clause-fed c = λ tested levels fed opened many h.
-    let s = c.args.settings.now in
-    let wide : c.window_length.result ≡ window_length s = c.window_length.ensures.value in
-    let at = c.args.count % c.window_length.result in
-    let low : at < c.window_length.result = mod_below c.args.count c.window_length.result c.window_length.ensures.some in
-    let within : at + length c.args.piece.now ≤ length c.args.window.now =
-    omega (arith, low, wide, c.requires.room, c.if-piece-window.false) in
+returns-clause-fed c = λ tested s levels fed opened room many h.
+    let wide = length c.args.window.now in
+    let at = c.args.count % wide in
+    let some : 0 < wide = omega (arith, c.if-wide-eq0.false) in
+    let low : at < wide = mod_below c.args.count wide some in
+    let within : at + length c.args.piece.now ≤ wide = omega (arith, low, c.if-piece-wide.false) in
     short-taken s levels c.args.count at c.fill_window.result fed c.args.piece.now opened c.args.window.now
-    c.fill_window.new.window (omega (arith, wide, c.window_length.ensures.some)) many
-    (ap (λ (n : ℕ). c.args.count % n) wide) (omega (arith, c.if-at-eq0.false))
-    (omega (arith, c.fill_window.ensures.some, c.fill_window.ensures.most)) (omega (arith, within, c.requires.room))
+    c.fill_window.new.window (omega (arith, room, some)) many
+    (ap (λ (n : ℕ). c.args.count % n) room) (omega (arith, c.if-at-eq0.false))
+    (omega (arith, c.fill_window.ensures.some, c.fill_window.ensures.most)) (omega (arith, within, room))
     (c.fill_window.ensures.all within) c.fill_window.ensures.holds h

@@ -113,7 +113,7 @@ returns-then-take_short_piece-clause-fault c =
     let more = c.take_short_piece.ensures.some c.if-take_short_piece.true in
     sym (ap (λ (r : Result PlanFields PlanFault). if is_too_large r then Some TooLarge else None)
     (small-plan s count c.window_length.ensures.valid (omega (arith, more))
-    (c.take_short_piece.ensures.small c.if-take_short_piece.true)))
+    (omega (arith, c.take_short_piece.ensures.small c.if-take_short_piece.true))))
 
 pub returns-then-take_short_piece-clause-fed : goal.returns-then-take_short_piece-clause-fed
 returns-then-take_short_piece-clause-fed c = λ fed h.
@@ -129,6 +129,6 @@ returns-then-take_short_piece-clause-fed c = λ fed h.
       stands = joined (λ (xs ys : List ℕ). HasFed s levels (fed ++ c.args.piece.now) xs ys) (levels * s.hash_block)
           c.split_at_mut-opened.result.0.now c.take_short_piece.new.window
           (c.split_at_mut-opened.ensures.front_len ∙ from)
-          (c.take_short_piece.ensures.fed c.if-take_short_piece.true levels fed c.split_at_mut-opened.result.0.now
-          h.count stood);
+          (c.take_short_piece.ensures.fed c.if-take_short_piece.true s levels fed c.split_at_mut-opened.result.0.now
+          (omega (arith, c.split_at_mut-opened.ensures.back_len, c.window_length.ensures.value, c.requires)) h.count stood);
     }
