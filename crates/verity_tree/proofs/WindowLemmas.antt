@@ -3,7 +3,7 @@ use Rattle.std.proofs.Common.{◌≡◌, ℕ, ◌+◌, ◌-◌, ◌*◌, ◌/◌
 use Rattle.std.proofs.Common.{min}
 use Rattle.std.proofs.lemmas.Bool.{cases_lt}
 use Rattle.std.proofs.lemmas.Nat.{div-add-mod', div-mul-add, mod-mul-add, mod_below, pow-add}
-use Rattle.std.proofs.Math.Nat.{mul_assoc, mul-le-mul_left}
+use Rattle.std.proofs.Math.Nat.{div-div-eq-div-mul, mul_assoc, mul-le-mul_left}
 use Rattle.std.proofs.Math.Pow.{pow-lt}
 use Rattle.verity_plan.specs.Plans.{IsPlan, PlanFields}
 use Rattle.verity_plan.specs.Settings.{IsValid, TreeSettingsFields, fan}
@@ -133,6 +133,28 @@ window-room s w valid =
     ap (λ (n : ℕ). n % f) split
     ∙ mod-mul-add (w / g) f (w % g * b) (omega (arith, area, whole, one_more, window-some s valid)) in
     omega (arith, place, area, whole, one_more)
+
+-- the windows before the last of so many bytes are those of the data blocks before it
+windows-are : (s : TreeSettingsFields) (count : ℕ) → windows_before s count ≡ blocks_before s count / window_blocks s
+windows-are s count =
+    let e : window_length s ≡ s.data_block * window_blocks s = omega arith in
+    ap (λ (n : ℕ). (count - 1) / n) e ∙ sym (div-div-eq-div-mul (count - 1) s.data_block (window_blocks s))
+
+-- the first data block of its window and its own are below one hash block of level 0
+pub window-beside : (s : TreeSettingsFields) (count : ℕ) → IsValid s
+    → windows_before s count * window_blocks s / fan s ≡ blocks_before s count / fan s
+window-beside s count valid =
+    let b = window_blocks s in
+    let w = windows_before s count in
+    let times = window-fan s valid in
+    let g = times.0 in
+    let split : (n : ℕ) → n / fan s ≡ n / b / g = λ n.
+    let e : g * b ≡ b * g = omega arith in
+    ap (λ (k : ℕ). n / k) (times.1 ∙ e) ∙ sym (div-div-eq-div-mul n b g) in
+    let e : w * b ≡ w * b + 0 = omega arith in
+    split (w * b)
+    ∙ ap (λ (n : ℕ). n / g) (ap (λ (n : ℕ). n / b) e ∙ div-mul-add w b 0 (window-some s valid) ∙ windows-are s count)
+    ∙ sym (split (blocks_before s count))
 
 -- where the last of some bytes is: the data blocks before its window, its data block, and the bytes
 pub record IsPlacedInWindow (s : TreeSettingsFields) (count : ℕ) : Type 0 where
