@@ -7,7 +7,7 @@ ghost use Rattle.verity_tree.specs.Steps.Feeding.{FeedsOn, HasFed, Stands};
 ghost use Rattle.verity_tree.specs.Windows.{window_length};
 
 use crate::feeding::advance::{Progress, advance};
-use crate::feeding::window::{add_window, digest_window, window_place};
+use crate::feeding::window::{add_window, window_place};
 use crate::open_blocks::digest_with;
 use verity_hash::Digest;
 use verity_plan::Plan;
@@ -90,9 +90,10 @@ pub(crate) fn root_of_fed(plan: &Plan, opened: &mut [u8], window: &mut [u8]) -> 
         → HasFed plan.now.settings levels fed opened.old window.old
         → HasFed plan.now.settings levels fed opened.new window.new }
 {
-    let first = window_place(plan, plan.wanted()).first;
+    let wanted = plan.wanted();
+    let first = window_place(plan, wanted).first;
     let last = plan.blocks() - 1;
-    let mut digest = add_window(plan, opened, window, plan.wanted());
+    let mut digest = add_window(plan, opened, window, wanted);
     for level in 0..plan.levels() {
         digest = digest_with(plan, opened, first, last, level, &digest);
     }
@@ -100,22 +101,21 @@ pub(crate) fn root_of_fed(plan: &Plan, opened: &mut [u8], window: &mut [u8]) -> 
 }
 
 /// The root hash, when the hash blocks of all levels have closed: of the top level's, or, without one, of the data block.
-pub(crate) fn digest_at_the_top(plan: &Plan, opened: &[u8], window: &mut [u8]) -> Digest
+pub(crate) fn digest_at_the_top(plan: &Plan, opened: &mut [u8], window: &mut [u8]) -> Digest
     requires planned { IsPlan plan.now }
-    requires opened { level_count_of plan.now * plan.now.settings.hash_block ≤ length opened.now }
+    requires opened { level_count_of plan.now * plan.now.settings.hash_block ≤ length opened.old }
     requires window { length window.old ≡ window_length plan.now.settings }
-    ensures root { (levels : ℕ) (fed : List ℕ) → length fed ≡ plan.now.wanted
-        → Stands plan.now levels fed (level_count_of plan.now) opened.now window.old
+    ensures root { (fed : List ℕ) → length fed ≡ plan.now.wanted
+        → Stands plan.now (level_count_of plan.now) fed (level_count_of plan.now) opened.old window.old
         → result ≡ root plan.now.settings (data_blocks plan.now fed) }
-    ensures stays { (levels : ℕ) (fed : List ℕ) → length fed ≡ plan.now.wanted
-        → Stands plan.now levels fed (level_count_of plan.now) opened.now window.old
-        → Stands plan.now levels fed (level_count_of plan.now) opened.now window.new }
+    ensures stays { (fed : List ℕ) → length fed ≡ plan.now.wanted
+        → Stands plan.now (level_count_of plan.now) fed (level_count_of plan.now) opened.old window.old
+        → Stands plan.now (level_count_of plan.now) fed (level_count_of plan.now) opened.new window.new }
 {
     let size = plan.hash_block();
     let levels = plan.levels();
     if levels == 0 {
-        let digests = digest_window(plan, window, plan.wanted() as usize);
-        return digests[0];
+        return root_of_fed(plan, opened, window);
     }
     plan.settings()
         .hash(&opened[(levels - 1) * size..levels * size])

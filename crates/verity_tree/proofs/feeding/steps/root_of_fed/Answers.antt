@@ -1,12 +1,10 @@
 -- The digest goes up level after level.
-use Rattle.std.proofs.Common.{◌≡◌, ℕ, ◌+◌, ◌-◌, ◌*◌, ◌/◌, ◌≤◌, length, arith, ap, sym, ◌∙◌}
+use Rattle.std.proofs.Common.{◌≡◌, ℕ, ◌+◌, ◌-◌, ◌/◌, ◌≤◌, arith, ap, sym, ◌∙◌}
 use Rattle.verity_plan.specs.Plans.{IsPlan, PlanFields}
 use Rattle.verity_plan.specs.Settings.{fan}
 use Rattle.verity_tree.specs.ClosingOrder.{blocks_before}
 use Rattle.verity_tree.specs.Levels.{data_blocks}
-use Rattle.verity_tree.specs.Steps.Feeding.{windows_before}
-use Rattle.verity_tree.specs.Windows.{window_blocks, window_length}
-use Rattle.verity_tree.proofs.AskingLemmas.{HasFed-stays, IsAsking-first, asked-stands, root-above}
+use Rattle.verity_tree.proofs.AskingLemmas.{HasFed-asked, IsAsking-first, root-above}
 use Rattle.verity_tree.proofs.ClimbLemmas.{last-block}
 use Rattle.verity_tree.proofs.DataBlockLemmas.{blocks-some}
 use Rattle.verity_tree.proofs.LevelLemmas.{length-cut}
@@ -23,17 +21,17 @@ loop-level-init c = record {
   asks = λ levels fed enough room all h.
       IsAsking-first c.args.plan.now levels _ _ fed _ _ c.requires.planned all
       (last-is _ _ c.requires.planned c.blocks-last.ensures.value)
-      (c.add_window-digest.ensures.adds levels fed enough room (all ∙ sym c.wanted-2.ensures.value) h);
+      (c.add_window-digest.ensures.adds levels fed enough room (all ∙ sym c.wanted-wanted.ensures.value) h);
 }
 
 pub digest_with-digest-requires-clause-beside : goal.digest_with-digest-requires-clause-beside
 digest_with-digest-requires-clause-beside c =
     let p = c.args.plan.now in
     let s = p.settings in
-    let last : blocks_before s c.wanted.result ≡ c.blocks-last.result - 1 =
-    ap (blocks_before s) c.wanted.ensures.value ∙ omega (arith, last-block p c.requires.planned, c.blocks-last.ensures.value) in
+    let last : blocks_before s c.wanted-wanted.result ≡ c.blocks-last.result - 1 =
+    ap (blocks_before s) c.wanted-wanted.ensures.value ∙ omega (arith, last-block p c.requires.planned, c.blocks-last.ensures.value) in
     ap (λ (n : ℕ). n / fan s) c.window_place-first.ensures.first_is
-    ∙ window-beside s c.wanted.result c.requires.planned.valid
+    ∙ window-beside s c.wanted-wanted.result c.requires.planned.valid
     ∙ ap (λ (n : ℕ). n / fan s) last
 
 pub loop-level-preserved : goal.loop-level-preserved
@@ -60,14 +58,9 @@ returns-clause-root c = λ levels fed enough room all h.
 pub returns-clause-stays : goal.returns-clause-stays
 returns-clause-stays c = λ levels fed enough room all h.
     let p = c.args.plan.now in
-    let s = p.settings in
-    let is = c.window_place-first.ensures in
-    let count : c.wanted-2.result ≡ length fed = c.wanted-2.ensures.value ∙ sym all in
-    let start = is.first_is ∙ ap (λ (n : ℕ). windows_before s n * window_blocks s) c.wanted.ensures.value in
-    HasFed-stays s levels _ fed c.args.opened.now c.loop-level.opened c.args.window.now c.add_window-digest.new.window
-    (ap (λ (n : ℕ). n - windows_before s n * window_length s) count) c.add_window-digest.ensures.stays
-    (asked-stands p levels _ _ _ fed _ _ c.requires.planned all start
-    (omega (arith, is.batch.below, c.blocks-last.ensures.value))
+    HasFed-asked p levels _ _ _ _ fed c.args.opened.now c.loop-level.opened c.args.window.now c.add_window-digest.new.window
+    _ c.requires.planned (all ∙ sym c.wanted-wanted.ensures.value) c.wanted-wanted.ensures.value
     (last-is p c.blocks-last.result c.requires.planned c.blocks-last.ensures.value)
     (top-is _ _ _ c.loop-level.auto.level-end c.loop-level-test.false c.levels-level-end.ensures)
-    (c.loop-level.invariant.asks levels fed enough room all h)) h
+    c.window_place-first.ensures c.add_window-digest.ensures.stays
+    (c.loop-level.invariant.asks levels fed enough room all h) h
