@@ -6,28 +6,26 @@ use Rattle.std.proofs.lemmas.Bool.{cases_lt}
 use Rattle.std.proofs.lemmas.Bool.Decides.{nat_tests}
 use Rattle.std.proofs.lemmas.Nat.{div-add-mod', div-mul-add, mod_below}
 use Rattle.std.proofs.lemmas.List.{append-nil, drop-take, length-take-le, take-append-drop, take-take, take_all}
-use Rattle.std.proofs.lemmas.List.FromFn.{get_or-map-range_with_len}
-use Rattle.std.proofs.Math.Nat.{div-eq_of_lt, mul_assoc, pow-zero, zero-div}
+use Rattle.std.proofs.Math.Nat.{div-eq_of_lt, mul_assoc, zero-div}
 use Rattle.std.specs.Fork.{slice_chunk}
 use Rattle.verity_plan.specs.Plans.{IsPlan, PlanFields, block_count, level_count}
 use Rattle.verity_plan.specs.PlanCounts.{level_count_of}
 use Rattle.verity_plan.specs.Settings.{fan, hash}
-use Rattle.verity_plan.proofs.CountLemmas.{IsLevelCount-level_count, le-div_ceil, mul_le}
+use Rattle.verity_plan.proofs.CountLemmas.{IsLevelCount-level_count}
 use Rattle.verity_plan.proofs.FanLemmas.{fan-some, fan-two, some_data}
 use Rattle.verity_plan.proofs.IndexLemmas.{quotient-below}
 use Rattle.verity_tree.specs.ClosingOrder.{BlockIndex, closed_after, handed_out, blocks_before}
-use Rattle.verity_tree.specs.Levels.{block_at, blocks_up, cut, data_blocks, height, root}
+use Rattle.verity_tree.specs.Levels.{blocks_up, data_blocks, height, root}
 use Rattle.verity_tree.specs.Steps.Feeding.{Climbs, EndsWindow, FeedsOn, Hands, HasFed, HasWindow, IsHandingOut}
-use Rattle.verity_tree.specs.Steps.Feeding.{IsSettled, Stands, after_windows, first_blocks, handed_at, windows_before}
+use Rattle.verity_tree.specs.Steps.Feeding.{IsSettled, Stands, first_blocks, handed_at, windows_before}
 use Rattle.verity_tree.specs.Steps.OpenBlocks.{HasOpenBlocks}
 use Rattle.verity_tree.specs.Windows.{window_blocks, window_length}
 use Rattle.verity_tree.proofs.ClimbLemmas.{last-below}
-use Rattle.verity_tree.proofs.DataBlockLemmas.{blocks-some}
 use Rattle.verity_tree.proofs.FirstBlockLemmas.{plan-first_blocks}
 use Rattle.verity_tree.proofs.LevelLemmas.{length-cut}
 use Rattle.verity_tree.proofs.PieceOfBytesLemmas.{HasWindow-full, closed_after-placed}
 use Rattle.verity_tree.proofs.TreeLemmas.{height-level_count}
-use Rattle.verity_tree.proofs.WindowLemmas.{window-ended, window-some, window-wide}
+use Rattle.verity_tree.proofs.WindowLemmas.{window-ended, window-wide}
 
 -- a number that is a multiple is the one after those of the runs before its last
 last-multiple : (n w : ℕ) → 0 < w → 0 < n → n % w ≡ 0 → n ≡ ((n - 1) / w + 1) * w
@@ -259,56 +257,6 @@ height-is p fed =
 -- the data blocks of a plan are no more than its levels have room for
 pub blocks-most : (p : PlanFields) → IsPlan p → p.blocks ≤ fan p.settings ^ level_count_of p
 blocks-most p planned = (IsLevelCount-level_count (fan p.settings) p.blocks (fan-two p.settings planned.valid)).enough
-
--- without levels there is one data block
-single-most : (p : PlanFields) → IsPlan p → level_count_of p ≡ 0 → p.wanted ≤ p.settings.data_block
-single-most p planned none =
-    let s = p.settings in
-    let one : p.blocks ≤ 1 =
-    omega (arith, blocks-most p planned, ap (λ (n : ℕ). fan s ^ n) none, pow-zero (fan s)) in
-    omega (
-      arith,
-      le-div_ceil p.wanted s.data_block 1 (some_data s planned.valid) (omega (arith, one, planned.blocks_are)),
-    )
-
--- which has room in the window
-pub single-room : (p : PlanFields) → IsPlan p → level_count_of p ≡ 0 → p.wanted ≤ window_length p.settings
-single-room p planned none =
-    let s = p.settings in
-    let wide : 1 * s.data_block ≤ window_length s =
-    mul_le 1 (window_blocks s) s.data_block (omega (arith, window-some s planned.valid)) in
-    omega (arith, single-most p planned none, wide)
-
--- and the window begins with its bytes
-pub single-window : (p : PlanFields) (levels : ℕ) (fed opened window : List ℕ) → IsPlan p → level_count_of p ≡ 0
-    → length fed ≡ p.wanted → HasFed p.settings levels fed opened window
-    → (windows_before p.settings (length fed) ≡ 0) × (take p.wanted window ≡ fed)
-single-window p levels fed opened window planned none all h =
-    let s = p.settings in
-    let less : length fed - 1 < window_length s =
-    omega (arith, single-room p planned none, all, planned.some) in
-    let first : windows_before s (length fed) ≡ 0 = div-eq_of_lt less in
-    let start : 0 * window_length s ≡ 0 = omega arith in
-    let whole : after_windows s (windows_before s (length fed)) fed ≡ fed =
-    ap (λ (n : ℕ). drop (n * window_length s) fed) first ∙ ap (λ (n : ℕ). drop n fed) start in (
-      first,
-      ap (λ (n : ℕ). take n window) (sym all)
-          ∙ subst (λ (xs : List ℕ). take (length xs) window ≡ xs) whole h.holds,
-    )
-
--- its digest is the root
-pub single-root : (p : PlanFields) (fed : List ℕ) → IsPlan p → level_count_of p ≡ 0 → length fed ≡ p.wanted
-    → hash p.settings (block_at p.settings.data_block fed 0) ≡ root p.settings (data_blocks p fed)
-unfolding root blocks_up cut
-single-root p fed planned none all =
-    let s = p.settings in
-    let size = s.data_block in
-    let wanted : take p.wanted fed ≡ fed = take_all p.wanted fed (omega (arith, all)) in
-    let first : get_or (data_blocks p fed) 0 [] ≡ block_at size fed 0 =
-    get_or-map-range_with_len (block_at size (take p.wanted fed)) 0 p.blocks 0 0 [] (blocks-some p planned) (omega arith)
-    ∙ ap (λ (xs : List ℕ). block_at size xs 0) wanted in
-    sym (ap (λ (l : ℕ). hash s (get_or (blocks_up s (data_blocks p fed) l) 0 [])) (height-is p fed ∙ none)
-    ∙ ap (hash s) first)
 
 -- the hash block of the top level that closed above the last byte gives the root
 pub top-root : (p : PlanFields) (levels level : ℕ) (fed opened : List ℕ) → IsPlan p → level_count_of p ≡ level + 1

@@ -1,57 +1,82 @@
 -- The root hash is asked for when all data of a plan has come: the last data block's digest goes up through all levels.
-use Rattle.std.proofs.Common.{◌≡◌, ℕ, ◌-◌, ◌*◌, ◌/◌, ◌^◌, ◌<◌, List, [], get_or, length, length-drop, take, arith, sym}
-use Rattle.std.proofs.Common.{◌∙◌, ap, subst}
-use Rattle.std.proofs.Math.Nat.{div-eq_of_lt}
+use Rattle.std.proofs.Common.{◌≡◌, ℕ, ◌+◌, ◌-◌, ◌*◌, ◌/◌, ◌^◌, ◌<◌, ◌≤◌, List, [], get_or, length, length-drop, take}
+use Rattle.std.proofs.Common.{arith, sym, ◌∙◌, ap, subst, inl, inr}
+use Rattle.std.proofs.lemmas.Bool.{cases_lt}
+use Rattle.std.proofs.Math.Nat.{div-eq_of_lt, pow-le-pow_right}
 use Rattle.verity_plan.specs.Plans.{IsPlan, PlanFields}
 use Rattle.verity_plan.specs.PlanCounts.{level_count_of}
-use Rattle.verity_plan.specs.Settings.{TreeSettingsFields, fan, hash}
+use Rattle.verity_plan.specs.Settings.{fan, hash}
+use Rattle.verity_plan.proofs.FanLemmas.{fan-some}
 use Rattle.verity_tree.specs.ClosingOrder.{blocks_before}
 use Rattle.verity_tree.specs.Levels.{blocks_up, data_blocks, root}
-use Rattle.verity_tree.specs.Steps.Feeding.{HasCome, HasFed, after_windows, first_blocks, windows_before}
-use Rattle.verity_tree.specs.Steps.OpenBlocks.{HasOpenBlocks, level_digest}
+use Rattle.verity_tree.specs.Steps.Feeding.{HasCome, HasFed, IsWindowPlace, after_windows, windows_before}
+use Rattle.verity_tree.specs.Steps.OpenBlocks.{HasOpenBlocks, IsAsking, carry_state, digests_under, level_digest}
+use Rattle.verity_tree.specs.Steps.OpenBlocks.{open_block}
 use Rattle.verity_tree.specs.Windows.{window_blocks, window_length}
+use Rattle.verity_tree.specs.declared.feeding.window.WindowPlace.{WindowPlace}
 use Rattle.verity_tree.proofs.AdvanceLemmas.{blocks-most, height-is}
 use Rattle.verity_tree.proofs.ClimbLemmas.{last-block}
-use Rattle.verity_tree.proofs.DataBlockLemmas.{blocks-some}
+use Rattle.verity_tree.proofs.FirstBlockLemmas.{plan-first_blocks}
+use Rattle.verity_tree.proofs.WindowLemmas.{placed-in-window}
 
--- the last data block's digest, and the open blocks before it
-pub come-last : (p : PlanFields) (levels : ℕ) (fed opened digest : List ℕ) → IsPlan p → length fed ≡ p.wanted
-    → HasCome p levels fed opened digest
-    → HasOpenBlocks p.settings (data_blocks p fed) 0 levels (p.blocks - 1) opened
-    × (digest ≡ level_digest p.settings (data_blocks p fed) (p.blocks - 1) 0)
-come-last p levels fed opened digest planned all h =
+-- the last data block's digest comes to level 0
+pub IsAsking-first : (p : PlanFields) (levels first last : ℕ) (fed opened digest : List ℕ) → IsPlan p → length fed ≡ p.wanted
+    → last + 1 ≡ p.blocks → HasCome p levels fed opened digest
+    → IsAsking p.settings (data_blocks p fed) first (carry_state last 0 levels) opened digest
+IsAsking-first p levels first last fed opened digest planned all last_is h =
     let s = p.settings in
-    let last : blocks_before s (length fed) ≡ p.blocks - 1 =
-    ap (blocks_before s) all ∙ omega (arith, last-block p planned) in (
-      subst (λ (n : ℕ). HasOpenBlocks s (data_blocks p fed) 0 levels n opened) last h.stands,
-      h.digest_is ∙ ap (λ (n : ℕ). level_digest s (data_blocks p fed) n 0) last,
-    )
+    let e : blocks_before s (length fed) ≡ last = ap (blocks_before s) all ∙ omega (arith, last-block p planned, last_is) in
+    record {
+      below = λ l from to. absurd (omega (arith, to));
+      above = subst (λ (n : ℕ). HasOpenBlocks s (data_blocks p fed) 0 levels n opened) e h.stands;
+      digest_is = h.digest_is ∙ ap (λ (n : ℕ). level_digest s (data_blocks p fed) n 0) e;
+    }
+
+-- above all levels there is one place
+top-place : (p : PlanFields) (i l : ℕ) → IsPlan p → i < p.blocks → level_count_of p ≤ l → i / fan p.settings ^ l ≡ 0
+top-place p i l planned below high =
+    div-eq_of_lt (omega (arith, below, blocks-most p planned, pow-le-pow_right (fan-some p.settings) high))
 
 -- what comes out of the top level is the root
-pub root-above : (p : PlanFields) (fed : List ℕ) → IsPlan p
-    → level_digest p.settings (data_blocks p fed) (p.blocks - 1) (level_count_of p)
-    ≡ root p.settings (data_blocks p fed)
+pub root-above : (p : PlanFields) (last top : ℕ) (fed : List ℕ) → IsPlan p → last + 1 ≡ p.blocks → top ≡ level_count_of p
+    → level_digest p.settings (data_blocks p fed) last top ≡ root p.settings (data_blocks p fed)
 unfolding root
-root-above p fed planned =
+root-above p last top fed planned last_is top_is =
     let s = p.settings in
-    let f = fan s in
     let blocks = data_blocks p fed in
-    let top = level_count_of p in
-    let few : p.blocks - 1 < f ^ top = omega (arith, blocks-some p planned, blocks-most p planned) in
-    let first : (p.blocks - 1) / f ^ top ≡ 0 = div-eq_of_lt few in
+    let first = top-place p last top planned (omega (arith, last_is)) (omega (arith, top_is)) in
     ap (λ (k : ℕ). hash s (get_or (blocks_up s blocks top) k [])) first
-    ∙ ap (λ (l : ℕ). hash s (get_or (blocks_up s blocks l) 0 [])) (sym (height-is p fed))
+    ∙ ap (λ (l : ℕ). hash s (get_or (blocks_up s blocks l) 0 [])) (top_is ∙ sym (height-is p fed))
 
--- the window's bytes that were fed are as they were
-pub HasFed-stays : (s : TreeSettingsFields) (levels count : ℕ) (fed before opened held window : List ℕ)
-    → count ≡ length fed - windows_before s (length fed) * window_length s → take count window ≡ take count held
-    → HasOpenBlocks s (first_blocks s (windows_before s (length fed) * window_blocks s) fed) 0 levels
-    (windows_before s (length fed) * window_blocks s) opened
-    → HasFed s levels fed before held → HasFed s levels fed opened window
-HasFed-stays s levels count fed before opened held window many same stands h =
-    let rest = after_windows s (windows_before s (length fed)) fed in
-    let long : length rest ≡ count = length-drop (windows_before s (length fed) * window_length s) fed ∙ sym many in
+-- the open blocks are those before the last window, and the window's bytes that were fed are as they were
+pub HasFed-asked : (p : PlanFields) (levels last top n : ℕ) (place : WindowPlace)
+    (fed before opened held window digest : List ℕ) → IsPlan p → length fed ≡ n → n ≡ p.wanted → last + 1 ≡ p.blocks
+    → top ≡ level_count_of p → IsWindowPlace p n place
+    → take (n - windows_before p.settings n * window_length p.settings) window
+    ≡ take (n - windows_before p.settings n * window_length p.settings) held
+    → IsAsking p.settings (data_blocks p fed) place.first (carry_state last top levels) opened digest
+    → HasFed p.settings levels fed before held → HasFed p.settings levels fed opened window
+HasFed-asked p levels last top n place fed before opened held window digest planned many all last_is top_is is same h fed_is =
+    let s = p.settings in
+    let k = windows_before s (length fed) in
+    let rest = after_windows s k fed in
+    let placed = placed-in-window s (length fed) planned.valid (omega (arith, many, all, planned.some)) in
+    let start : place.first ≡ k * window_blocks s =
+    is.first_is ∙ ap (λ (m : ℕ). windows_before s m * window_blocks s) (sym many) in
+    let long : length rest ≡ n - windows_before s n * window_length s =
+    length-drop (k * window_length s) fed ∙ ap (λ (m : ℕ). m - windows_before s m * window_length s) many in
     record {
-      stands = stands;
-      holds = ap (λ (n : ℕ). take n window) long ∙ same ∙ ap (λ (n : ℕ). take n held) (sym long) ∙ h.holds;
+      stands = plan-first_blocks p (k * window_blocks s) levels fed opened planned (omega (arith, placed.start, placed.before))
+          (omega (arith, many, all))
+          (subst (λ (m : ℕ). HasOpenBlocks s (data_blocks p fed) 0 levels m opened) start
+          (λ l from to. elim (cases_lt l top) [
+            | inl low ↦ h.below l from low
+            | inr high ↦
+                let past : level_count_of p ≤ l = omega (arith, high, top_is) in
+                h.above l high to
+                ∙ ap (open_block s (digests_under s (data_blocks p fed) l))
+                (top-place p last l planned (omega (arith, last_is)) past
+                ∙ sym (top-place p place.first l planned (omega (arith, is.batch.below)) past))
+          ]));
+      holds = ap (λ (m : ℕ). take m window) long ∙ same ∙ ap (λ (m : ℕ). take m held) (sym long) ∙ fed_is.holds;
     }

@@ -1,5 +1,5 @@
 -- A digest that comes to the open block of its level, and a hash block that has closed and still stands there.
-use Rattle.std.proofs.Common.{◌≡◌, ℕ, suc, ◌+◌, ◌*◌, ◌/◌, ◌%◌, ◌^◌, ◌<◌, ◌≤◌, ◌⊎◌, Bool, true, false, eqb, List}
+use Rattle.std.proofs.Common.{◌≡◌, ℕ, suc, ◌+◌, ◌-◌, ◌*◌, ◌/◌, ◌%◌, ◌^◌, ◌<◌, ◌≤◌, ◌⊎◌, Bool, true, false, eqb, List}
 use Rattle.std.proofs.Common.{◌++◌, take, drop, length, replicate, arith, sym, ◌∙◌, ap, subst, inl, inr}
 use Rattle.std.proofs.Common.{length-drop, refl}
 use Rattle.std.proofs.lemmas.Bool.{cases_lt}
@@ -7,19 +7,19 @@ use Rattle.std.proofs.lemmas.Bool.Decides.{eqb_tells}
 use Rattle.std.proofs.lemmas.Nat.{div-add-mod', div-mul-add, mod-mul-add}
 use Rattle.std.proofs.lemmas.List.{length-replicate, length-take-le}
 use Rattle.std.proofs.Math.Nat.{one-le-pow, pow-suc, pow-zero}
-use borrow.Rule.Slice.PartMut.{put_mid, put_same}
+use borrow.Rule.Slice.PartMut.{put_mid}
 use Rattle.std.specs.Fork.{slice_chunk}
 use Rattle.verity_plan.specs.Plans.{level_count}
-use Rattle.verity_plan.specs.Settings.{TreeSettingsFields, digest_len, hash, fan, slot_width}
+use Rattle.verity_plan.specs.Settings.{TreeSettingsFields, hash, fan, slot_width}
 use Rattle.verity_plan.proofs.CountLemmas.{IsLevelCount-level_count, mul_le}
 use Rattle.verity_plan.proofs.FitLemmas.{digest-slot}
 use Rattle.verity_tree.specs.Levels.{hash_block_of, blocks_up}
-use Rattle.verity_tree.specs.Steps.OpenBlocks.{HasOpenBlocks, IsCarrying, IsReached, carry_state, digests_under}
-use Rattle.verity_tree.specs.Steps.OpenBlocks.{level_digest, open_block}
+use Rattle.verity_tree.specs.Steps.OpenBlocks.{HasOpenBlocks, IsAsking, IsCarrying, IsReached, carry_state, digests_under}
+use Rattle.verity_tree.specs.Steps.OpenBlocks.{open_block}
 use Rattle.verity_tree.proofs.ClosingLemmas.{level_digest-is_next}
-use Rattle.verity_tree.proofs.OpenBlockLemmas.{open-same}
+use Rattle.verity_tree.proofs.OpenBlockLemmas.{open-cleared}
 use Rattle.verity_tree.proofs.OpenBlockSteps.{HasOpenBlocks-kept, chunk-other, chunk-same, level_digest-below}
-use Rattle.verity_tree.proofs.OpenBlockSteps.{hash_block_of-none, level_digest-next, open_block_with-put}
+use Rattle.verity_tree.proofs.OpenBlockSteps.{hash_block_of-none, level_digest-next, open_block_with-put, quotient-same, slots-order}
 use Rattle.verity_tree.proofs.QuotientLemmas.{IsReached-full}
 use Rattle.verity_tree.specs.Steps.OpenBlocks.{Adds, HasClosed}
 use Rattle.verity_tree.proofs.OpenBlockSteps.{open_block_with}
@@ -194,55 +194,62 @@ HasOpenBlocks-added s blocks i levels true opened more apart h = absurd (apart (
 HasOpenBlocks-added s blocks i levels false opened more apart h = h.1
 
 -- the last data block has come to a level with this digest
-IsCarrying-last : (s : TreeSettingsFields) (blocks : List (List ℕ)) (i m levels : ℕ) (store digest : List ℕ)
-    → i + 1 ≡ length blocks → HasOpenBlocks s blocks 0 levels i store → digest ≡ level_digest s blocks i m
+IsCarrying-last : (s : TreeSettingsFields) (blocks : List (List ℕ)) (first i m levels : ℕ) (store digest : List ℕ)
+    → i + 1 ≡ length blocks → IsAsking s blocks first (carry_state i m levels) store digest
     → IsCarrying s blocks (carry_state i m levels) store digest
-IsCarrying-last s blocks i m levels store digest last stands is = record {
+IsCarrying-last s blocks first i m levels store digest last h = record {
   reached = λ more. absurd (omega (arith, more, last));
-  above = λ l low high. stands l (omega arith) high;
+  above = h.above;
   below = λ more. absurd (omega (arith, more, last));
-  digest_is = is;
+  digest_is = h.digest_is;
 }
 
--- with it the level's block closes, and its digest comes one level up
-pub digest-last : (s : TreeSettingsFields) (blocks : List (List ℕ)) (i m levels index f w a k : ℕ)
-    (store digest above : List ℕ) → f ≡ fan s → w ≡ slot_width s → 2 ≤ f → fan s * slot_width s ≤ s.hash_block
-    → i + 1 ≡ length blocks → m < levels → index ≡ i / fan s ^ m → a ≡ m * s.hash_block → k ≡ s.hash_block
-    → above ≡ hash s (take (index % f * w) (take k (drop a store)) ++ digest
-    ++ drop (index % f * w + length digest) (take k (drop a store)))
-    → HasOpenBlocks s blocks 0 levels i store → digest ≡ level_digest s blocks i m
-    → above ≡ level_digest s blocks i (m + 1)
-digest-last s blocks i m levels index f w a k store digest above ef ew two fits last inside place from wide is stands comes =
+-- with it the level's block closes, and its digest comes one level up; the digests before another data block stay
+pub IsAsking-up : (s : TreeSettingsFields) (blocks : List (List ℕ)) (first i m levels index f w a k at n : ℕ)
+    (store block after digest above : List ℕ) → f ≡ fan s → w ≡ slot_width s → 2 ≤ f
+    → fan s * slot_width s ≤ s.hash_block → i + 1 ≡ length blocks → first ≤ i → first / fan s ≡ i / fan s → m < levels
+    → levels * s.hash_block ≤ length store → index ≡ i / fan s ^ m → at ≡ first / fan s ^ m % fan s * slot_width s
+    → a ≡ m * s.hash_block → k ≡ s.hash_block
+    → block ≡ take (index % f * w) (take k (drop a store)) ++ digest
+    ++ drop (index % f * w + length digest) (take k (drop a store))
+    → above ≡ hash s block → after ≡ take at block ++ replicate (n - at) 0 → length after ≡ n → n ≡ s.hash_block
+    → IsAsking s blocks first (carry_state i m levels) store digest
+    → IsAsking s blocks first (carry_state i (m + 1) levels) (put_mid a k store after) above
+IsAsking-up s blocks first i m levels index f w a k at n store block after digest above ef ew two fits last order same inside
+    room place start from wide put above_is is after_long long h =
+    let size = s.hash_block in
     let some : 0 < fan s = omega (arith, two, ef) in
     let below : i < length blocks = omega (arith, last) in
+    let q = first / fan s ^ m in
+    let digests = digests_under s blocks m in
+    let step : m + 1 ≤ levels = omega arith in
+    let there : m * size + size ≤ length store = omega (arith, room, mul_le (m + 1) levels size step) in
+    let with_digest : block ≡ open_block_with s digests (i / fan s ^ m) =
+    put-is_with s blocks i m levels index f w a k store block digest ef ew two fits below inside place from wide put
+    (IsCarrying-last s blocks first i m levels store digest last h) in
+    let len : length after ≡ size = after_long ∙ long in
+    let count = i / fan s ^ m % fan s + 1 in
+    let within : q % fan s ≤ count = omega (arith, slots-order (fan s) first i m some order same) in
+    let cleared : after ≡ open_block s digests q =
     is
-    ∙ ap (hash s) (put-is_with s blocks i m levels index f w a k store _ digest ef ew two fits below inside place from wide
-    refl (IsCarrying-last s blocks i m levels store digest last stands comes))
-    ∙ ap (hash s) (sym (level_digest-next s blocks i m some below (inr last)))
-
--- the digest's slot was zeros, and where it is zeros again all is as it was
-pub slot-back : (s : TreeSettingsFields) (blocks : List (List ℕ)) (i m levels index f w a k n : ℕ) (store after : List ℕ)
-    → f ≡ fan s → w ≡ slot_width s → 2 ≤ f → fan s * slot_width s ≤ s.hash_block
-    → i < length blocks → m < levels → index ≡ i / fan s ^ m → a ≡ m * s.hash_block → k ≡ s.hash_block
-    → n ≡ digest_len s
-    → after ≡ take (index % f * w) (take k (drop a store)) ++ replicate n 0
-    ++ drop (index % f * w + n) (take k (drop a store))
-    → HasOpenBlocks s blocks 0 levels i store → put_mid a k store after ≡ store
-slot-back s blocks i m levels index f w a k n store after ef ew two fits below inside place from wide size is stands =
-    let some : 0 < fan s = omega (arith, two, ef) in
-    let at = index % f * w in
-    let block = take k (drop a store) in
-    let opened = open_block s (digests_under s blocks m) index in
-    let stood : block ≡ opened =
-    part-is_chunk s.hash_block m a k store from wide ∙ stands m (omega arith) inside
-    ∙ ap (open_block s (digests_under s blocks m)) (sym place) in
-    let slot : at ≡ index % fan s * slot_width s =
-    ap (λ (x : ℕ). index % x * w) ef ∙ ap (λ (x : ℕ). index % fan s * x) ew in
-    let here : index < length (blocks_up s blocks m) =
-    omega (arith, level_digest-below s blocks i m some below, place) in
-    let same : after ≡ block =
-    is
-    ∙ ap (λ (xs : List ℕ). take at xs ++ replicate n 0 ++ drop (at + n) xs) stood
-    ∙ open-same s (blocks_up s blocks m) index n at (omega (arith, digest-slot s)) fits some here size slot
-    ∙ sym stood in
-    ap (put_mid a k store) same ∙ put_same a k store
+    ∙ ap (λ (x : ℕ). take at block ++ replicate (x - at) 0) long
+    ∙ ap (λ (xs : List ℕ). take at xs ++ replicate (size - at) 0) (with_digest
+    ∙ ap (λ (x : ℕ). hash_block_of s (take count (drop (x * fan s) digests))) (sym (quotient-same (fan s) first i m same)))
+    ∙ open-cleared s (blocks_up s blocks m) q count at (omega (arith, digest-slot s)) some
+    (level_digest-below s blocks first m some (omega (arith, order, below))) start within in
+    record {
+      below = λ l low high. elim (cases_lt l m) [
+        | inl before ↦
+            chunk-other store after size m l a k from wide len there (inl before) ∙ h.below l low before
+        | inr past ↦
+            let e : l ≡ m = omega (arith, past, high) in
+            ap (slice_chunk (put_mid a k store after) size) e
+            ∙ chunk-same store after size m a k from len there
+            ∙ cleared
+            ∙ ap (λ (x : ℕ). open_block s (digests_under s blocks x) (first / fan s ^ x)) (sym e)
+      ];
+      above = λ l low high.
+          let apart : (l < m) ⊎ (m < l) = inr (omega (arith, low)) in
+          chunk-other store after size m l a k from wide len there apart ∙ h.above l (omega (arith, low)) high;
+      digest_is = above_is ∙ ap (hash s) (with_digest ∙ sym (level_digest-next s blocks i m some below (inr last)));
+    }

@@ -2,9 +2,9 @@
 use Rattle.std.proofs.Common.{◌≡◌, ℕ, suc, ◌+◌, ◌-◌, ◌*◌, ◌/◌, ◌%◌, ◌<◌, ◌≤◌, ◌⊎◌, List, [], ◌∷◌, ◌++◌, get_or, take}
 use Rattle.std.proofs.Common.{drop, length, map, replicate, arith, sym, ◌∙◌, ap, inl, inr, length-append, length-drop}
 use Rattle.std.proofs.Common.{append_assoc}
-use Rattle.std.proofs.lemmas.Nat.{div-add-mod', div-mul-add, mod-mul-add, mod_below}
+use Rattle.std.proofs.lemmas.Nat.{div-add-mod', mod_below}
 use Rattle.std.proofs.lemmas.List.{length-map, length-take-le, get_or-map, get_or-drop, take-map, drop-map, take_at}
-use Rattle.std.proofs.lemmas.List.{drop-replicate, drop-take, length-replicate, replicate-append-replicate, take_all}
+use Rattle.std.proofs.lemmas.List.{drop-replicate, length-replicate, replicate-append-replicate, take_all}
 use Rattle.std.proofs.lemmas.List.{append-nil, take-append-drop, take-take}
 use Rattle.std.proofs.lemmas.List.Concat.{flat_map-cons}
 use Rattle.std.proofs.lemmas.Grind.{flat_map-append}
@@ -81,22 +81,6 @@ block-more k w at slots digest len fits room =
     ∙ sym (append_assoc (slots ++ digest) slot_zeros after)
     ∙ ap (λ (xs : List ℕ). xs ++ after) (append_assoc slots digest slot_zeros)
 
--- zeros put after the slots of a block leave it
-pub block-same : (k at n : ℕ) (slots : List ℕ) → length slots ≡ at → at + n ≤ k
-    → take at (with_zeros k slots) ++ replicate n 0 ++ drop (at + n) (with_zeros k slots) ≡ with_zeros k slots
-block-same k at n slots len room =
-    let zeros = replicate (k - length slots) 0 in
-    let rest = replicate (k - length slots - n) 0 in
-    let e : at + n ≡ length slots + n = omega (arith, len) in
-    let back : drop (at + n) (with_zeros k slots) ≡ rest =
-    ap (λ (m : ℕ). drop m (with_zeros k slots)) e ∙ drop-append-add slots zeros n ∙ drop-replicate n (k - length slots) 0 in
-    let all : n + (k - length slots - n) ≡ k - length slots = omega (arith, len, room) in
-    ap (λ (xs : List ℕ). xs ++ replicate n 0 ++ drop (at + n) (with_zeros k slots)) (take_at slots zeros at len)
-    ∙ ap (λ (xs : List ℕ). slots ++ replicate n 0 ++ xs) back
-    ∙ append_assoc slots (replicate n 0) rest
-    ∙ ap (λ (xs : List ℕ). slots ++ xs)
-    (replicate-append-replicate n (k - length slots - n) 0 ∙ ap (λ (m : ℕ). replicate m 0) all)
-
 -- the slots of an open block
 length-open : (s : TreeSettingsFields) (xs : List (List ℕ)) (q at : ℕ) → digest_len s ≤ slot_width s → 0 < fan s
     → q < length xs → at ≡ q % fan s * slot_width s
@@ -119,49 +103,27 @@ open-inside s q at room some place =
     let within : q % fan s + 1 ≤ fan s = omega (arith, mod_below q (fan s) some) in
     omega (arith, place, mul_le (q % fan s + 1) (fan s) (slot_width s) within, room)
 
--- the next slot of an open block is zeros
-pub open-same : (s : TreeSettingsFields) (xs : List (List ℕ)) (q n at : ℕ) → digest_len s ≤ slot_width s
-    → fan s * slot_width s ≤ s.hash_block
-    → 0 < fan s → q < length xs → n ≡ digest_len s → at ≡ q % fan s * slot_width s
-    → take at (open_block s (map (hash s) xs) q) ++ replicate n 0 ++ drop (at + n) (open_block s (map (hash s) xs) q)
+-- a hash block cleared from a slot on holds the digests before it
+pub open-cleared : (s : TreeSettingsFields) (xs : List (List ℕ)) (q n at : ℕ) → digest_len s ≤ slot_width s → 0 < fan s
+    → q < length xs → at ≡ q % fan s * slot_width s → q % fan s ≤ n
+    → take at (hash_block_of s (take n (drop (q / fan s * fan s) (map (hash s) xs)))) ++ replicate (s.hash_block - at) 0
     ≡ open_block s (map (hash s) xs) q
-open-same s xs q n at fits room some below size place =
-    block-same s.hash_block at n _ (length-open s xs q at fits some below place)
-    (omega (arith, open-inside s q at room some place, size, fits))
-
--- an open block cleared from a slot on holds the digests before it
-pub open-cleared : (s : TreeSettingsFields) (xs : List (List ℕ)) (q count at : ℕ) → digest_len s ≤ slot_width s → 0 < fan s
-    → q < length xs → at ≡ q % fan s * slot_width s → q % fan s + count < fan s
-    → take at (open_block s (map (hash s) xs) (q + count)) ++ replicate (s.hash_block - at) 0
-    ≡ open_block s (map (hash s) xs) q
-open-cleared s xs q count at fits some below place within =
-    let f = fan s in
-    let digests = map (hash s) xs in
-    let split : q / f * f + q % f ≡ q = div-add-mod' q f in
-    let sum : q + count ≡ q / f * f + (q % f + count) = omega (arith, split) in
-    let slot_is : (q + count) % f ≡ q % f + count =
-    ap (λ (n : ℕ). n % f) sum ∙ mod-mul-add (q / f) f (q % f + count) within in
-    let run : (q + count) / f ≡ q / f = ap (λ (n : ℕ). n / f) sum ∙ div-mul-add (q / f) f (q % f + count) within in
-    let rest = drop (q / f * f) digests in
-    let first = flat_map (slot s) (take (q % f) rest) in
-    let more = flat_map (slot s) (take count (drop (q % f) rest)) in
-    let both : flat_map (slot s) (take (q % f + count) rest) ≡ first ++ more =
+open-cleared s xs q n at fits some below place within =
+    let k = q % fan s in
+    let rest = drop (q / fan s * fan s) (map (hash s) xs) in
+    let first = flat_map (slot s) (take k rest) in
+    let more = flat_map (slot s) (drop k (take n rest)) in
+    let both : flat_map (slot s) (take n rest) ≡ first ++ more =
     ap (flat_map (slot s))
-    (sym (take-append-drop (q % f) (take (q % f + count) rest))
-    ∙ ap (λ (ys : List (List ℕ)). ys ++ drop (q % f) (take (q % f + count) rest))
-    (take-take (q % f) (q % f + count) rest (omega arith))
-    ∙ ap (λ (ys : List (List ℕ)). take (q % f) rest ++ ys) (drop-take (q % f) count rest))
-    ∙ flat_map-append (slot s) (take (q % f) rest) (take count (drop (q % f) rest)) in
+    (sym (take-append-drop k (take n rest))
+    ∙ ap (λ (ys : List (List ℕ)). ys ++ drop k (take n rest)) (take-take k n rest within))
+    ∙ flat_map-append (slot s) (take k rest) (drop k (take n rest)) in
     let len : length first ≡ at = length-open s xs q at fits some below place in
     let zeros = replicate (s.hash_block - length (first ++ more)) 0 in
-    let front : take at (open_block s digests (q + count)) ≡ first =
-    ap (λ (n : ℕ). take at (hash_block_of s (take n (drop ((q + count) / f * f) digests)))) slot_is
-    ∙ ap (λ (n : ℕ). take at (hash_block_of s (take (q % f + count) (drop (n * f) digests)))) run
-    ∙ ap (λ (ys : List ℕ). take at (with_zeros s.hash_block ys)) both
-    ∙ ap (take at) (append_assoc first more zeros)
-    ∙ take_at first (more ++ zeros) at len in
-    ap (λ (ys : List ℕ). ys ++ replicate (s.hash_block - at) 0) front
-    ∙ ap (λ (n : ℕ). first ++ replicate (s.hash_block - n) 0) (sym len)
+    ap (λ (ys : List ℕ). take at (with_zeros s.hash_block ys) ++ replicate (s.hash_block - at) 0) both
+    ∙ ap (λ (ys : List ℕ). take at ys ++ replicate (s.hash_block - at) 0) (append_assoc first more zeros)
+    ∙ ap (λ (ys : List ℕ). ys ++ replicate (s.hash_block - at) 0) (take_at first (more ++ zeros) at len)
+    ∙ ap (λ (m : ℕ). first ++ replicate (s.hash_block - m) 0) (sym len)
 
 -- one more digest of an open block
 pub open-push : (s : TreeSettingsFields) (xs : List (List ℕ)) (q : ℕ) (digest : List ℕ) (at : ℕ) → digest_len s ≤ slot_width s

@@ -1,10 +1,10 @@
 -- A digest that comes to the open block of its level.
-use Rattle.std.proofs.Common.{◌≡◌, ℕ, zero, suc, ◌+◌, ◌-◌, ◌*◌, ◌/◌, ◌%◌, ◌^◌, ◌<◌, ◌≤◌, ◌⊎◌, List, []}
+use Rattle.std.proofs.Common.{◌≡◌, ℕ, ◌+◌, ◌-◌, ◌*◌, ◌/◌, ◌%◌, ◌^◌, ◌<◌, ◌≤◌, ◌⊎◌, List, []}
 use Rattle.std.proofs.Common.{◌++◌, get_or, take, drop, length, map, replicate, arith, sym, ◌∙◌, ap, subst, inl, inr}
 use Rattle.std.proofs.lemmas.Bool.{cases_lt}
 use Rattle.std.proofs.lemmas.Nat.{div-add-mod', div-mul-add, mod_below}
-use Rattle.std.proofs.lemmas.List.{drop-drop, length-map, take_at}
-use Rattle.std.proofs.Math.Seq.{drop-append-add}
+use Rattle.std.proofs.Math.Nat.{div-div-eq-div-mul}
+use Rattle.std.proofs.lemmas.List.{length-map}
 use Rattle.std.proofs.lemmas.Slice.{between_is, take-put_mid_below, drop-put_mid, between-put_mid}
 use borrow.Rule.Slice.PartMut.{put_mid}
 use Rattle.std.proofs.Math.Nat.{one-le-pow, pow-zero}
@@ -21,7 +21,7 @@ use Rattle.verity_tree.proofs.TreeLemmas.{length-blocks_up, height-level_count}
 use Rattle.verity_plan.proofs.IndexLemmas.{quotient-next, quotient-below}
 use Rattle.verity_tree.proofs.QuotientLemmas.{div_ceil-last, IsReached-zero}
 use Rattle.verity_tree.proofs.QuotientLemmas.{quotient-reached, slots-more, quotient-stays}
-use Rattle.verity_tree.proofs.OpenBlockLemmas.{open-cleared, open-push, open-close, block-up}
+use Rattle.verity_tree.proofs.OpenBlockLemmas.{open-push, open-close, block-up}
 use Rattle.verity_plan.proofs.FitLemmas.{digest-slot}
 
 -- that block once digest q has come too
@@ -251,70 +251,30 @@ place-first i f =
     omega (arith, e)
 
 -- data blocks below one hash block of level 0 are below one of each level
-quotient-same : (f i count m : ℕ) → i % f + count < f → (i + count) / f ^ (m + 1) ≡ i / f ^ (m + 1)
-quotient-same f i count zero within =
-    let split : i / f * f + i % f ≡ i = div-add-mod' i f in
-    let sum : i + count ≡ i / f * f + (i % f + count) = omega (arith, split) in
-    let run : (i + count) / f ≡ i / f = ap (λ (n : ℕ). n / f) sum ∙ div-mul-add (i / f) f (i % f + count) within in
-    quotient-next f (i + count) 0 ∙ ap (λ (n : ℕ). n / f) (sym (place-first (i + count) f))
-    ∙ run
-    ∙ sym (quotient-next f i 0 ∙ ap (λ (n : ℕ). n / f) (sym (place-first i f)))
-quotient-same f i count (suc m) within =
-    let e : suc m + 1 ≡ m + 1 + 1 = omega arith in
-    ap (λ (n : ℕ). (i + count) / f ^ n) e
-    ∙ quotient-next f (i + count) (m + 1)
-    ∙ ap (λ (n : ℕ). n / f) (quotient-same f i count m within)
-    ∙ sym (ap (λ (n : ℕ). i / f ^ n) e ∙ quotient-next f i (m + 1))
+pub quotient-same : (f i j m : ℕ) → i / f ≡ j / f → i / f ^ m / f ≡ j / f ^ m / f
+quotient-same f i j m same =
+    let turn : (x : ℕ) → x / f ^ m / f ≡ x / f / f ^ m = λ x.
+    let e : f ^ m * f ≡ f * f ^ m = omega arith in
+    div-div-eq-div-mul x (f ^ m) f ∙ ap (λ (n : ℕ). x / n) e ∙ sym (div-div-eq-div-mul x f (f ^ m)) in
+    turn i ∙ ap (λ (n : ℕ). n / f ^ m) same ∙ sym (turn j)
 
--- below level 0 are the data blocks
-first-level : (s : TreeSettingsFields) (blocks : List (List ℕ)) (i : ℕ) → i < length blocks
-    → i < length (blocks_up s blocks 0)
-unfolding blocks_up
-first-level s blocks i below = below
-
--- digests are taken out of the open block of level 0 again
-pub HasOpenBlocks-out : (s : TreeSettingsFields) (blocks : List (List ℕ)) (i count levels at : ℕ) (store block : List ℕ)
-    → 0 < fan s → 0 < levels → i < length blocks → levels * s.hash_block ≤ length store
-    → i % fan s + count < fan s → at ≡ i % fan s * slot_width s
-    → block ≡ take at (take s.hash_block store) ++ replicate (s.hash_block - at) 0 → length block ≡ s.hash_block
-    → HasOpenBlocks s blocks 0 levels (i + count) store
-    → HasOpenBlocks s blocks 0 levels i (block ++ drop s.hash_block store)
-HasOpenBlocks-out s blocks i count levels at store block some level below room within place is long h =
-    let f = fan s in
-    let size = s.hash_block in
-    let digests = digests_under s blocks 0 in
-    let new = block ++ drop size store in
-    let one : 1 * size ≤ levels * size = mul_le 1 levels size (omega (arith, level)) in
-    let start : 0 * size ≡ 0 = omega arith in
-    λ l from to. elim (cases_lt 0 l) [
-      | inl above ↦
-          let step : 1 ≤ l = omega (arith, above) in
-          let far : size ≤ l * size = omega (arith, mul_le 1 l size step) in
-          let past : l * size ≡ length block + (l * size - size) = omega (arith, far, long) in
-          let back : size + (l * size - size) ≡ l * size = omega (arith, far) in
-          let next : l ≡ l - 1 + 1 = omega (arith, above) in
-          ap (take size)
-          (ap (λ (n : ℕ). drop n new) past
-          ∙ drop-append-add block (drop size store) (l * size - size)
-          ∙ drop-drop (l * size - size) size store
-          ∙ ap (λ (n : ℕ). drop n store) back)
-          ∙ h l from to
-          ∙ ap (open_block s (digests_under s blocks l))
-          (ap (λ (n : ℕ). (i + count) / f ^ n) next ∙ quotient-same f i count (l - 1) within
-          ∙ sym (ap (λ (n : ℕ). i / f ^ n) next))
-      | inr none ↦
-          let zero_is : l ≡ 0 = omega (arith, none) in
-          let stood : take size store ≡ open_block s digests (i + count) =
-          sym (ap (λ (n : ℕ). take size (drop n store)) start)
-          ∙ h 0 (omega arith) (omega (arith, level))
-          ∙ ap (open_block s digests) (sym (place-first (i + count) f)) in
-          ap (slice_chunk new size) zero_is
-          ∙ ap (λ (n : ℕ). take size (drop n new)) start
-          ∙ take_at block (drop size store) size long
-          ∙ is
-          ∙ ap (λ (xs : List ℕ). take at xs ++ replicate (size - at) 0) stood
-          ∙ open-cleared s (blocks_up s blocks 0) i count at (omega (arith, digest-slot s)) some
-          (first-level s blocks i below) place within
-          ∙ ap (open_block s digests) (place-first i f)
-          ∙ ap (λ (n : ℕ). open_block s (digests_under s blocks n) (i / f ^ n)) (sym zero_is)
-    ]
+-- of two places below one hash block the one of the earlier data block is not the later
+pub slots-order : (f i j m : ℕ) → 0 < f → i ≤ j → i / f ≡ j / f → i / f ^ m % f ≤ j / f ^ m % f
+slots-order f i j m some order same =
+    let w = f ^ m in
+    let wide : 0 < w = one-le-pow m f some in
+    let before : i / w ≤ j / w = elim (cases_lt (j / w) (i / w)) [
+      | inl past ↦
+          let step : j / w + 1 ≤ i / w = omega (arith, past) in
+          absurd (omega (
+            arith,
+            mul_le (j / w + 1) (i / w) w step,
+            div-add-mod' i w,
+            div-add-mod' j w,
+            mod_below j w wide,
+            order,
+          ))
+      | inr most ↦ most
+    ] in
+    let run : i / w / f * f ≡ j / w / f * f = ap (λ (n : ℕ). n * f) (quotient-same f i j m same) in
+    omega (arith, before, run, div-add-mod' (i / w) f, div-add-mod' (j / w) f)

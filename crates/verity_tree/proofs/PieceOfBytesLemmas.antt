@@ -214,7 +214,7 @@ closed_after-placed p count planned some below =
     let i = blocks_before s count in
     let first = windows_before s count * window_blocks s in
     let place = placed-in-window s count planned.valid some in
-    let batch = window-batch p count planned some below in
+    let batch = window-batch p count first (i - first) planned some below refl (omega (arith, place.from)) in
     let split : i ≡ first + (i - first) = omega (arith, place.from) in
     ap (closed_after (fan s) p.blocks) split
     ∙ closed_after-none (fan s) p.blocks first (i - first) (fan-some s) (omega (arith, place.from, below))

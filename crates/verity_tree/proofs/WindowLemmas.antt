@@ -3,7 +3,7 @@ use Rattle.std.proofs.Common.{◌≡◌, ℕ, ◌+◌, ◌-◌, ◌*◌, ◌/◌
 use Rattle.std.proofs.Common.{min}
 use Rattle.std.proofs.lemmas.Bool.{cases_lt}
 use Rattle.std.proofs.lemmas.Nat.{div-add-mod', div-mul-add, mod-mul-add, mod_below, pow-add}
-use Rattle.std.proofs.Math.Nat.{mul_assoc, mul-le-mul_left}
+use Rattle.std.proofs.Math.Nat.{div-div-eq-div-mul, mul_assoc, mul-le-mul_left}
 use Rattle.std.proofs.Math.Pow.{pow-lt}
 use Rattle.verity_plan.specs.Plans.{IsPlan, PlanFields}
 use Rattle.verity_plan.specs.Settings.{IsValid, TreeSettingsFields, fan}
@@ -134,6 +134,28 @@ window-room s w valid =
     ∙ mod-mul-add (w / g) f (w % g * b) (omega (arith, area, whole, one_more, window-some s valid)) in
     omega (arith, place, area, whole, one_more)
 
+-- the windows before the last of so many bytes are those of the data blocks before it
+pub windows-are : (s : TreeSettingsFields) (count : ℕ) → windows_before s count ≡ blocks_before s count / window_blocks s
+windows-are s count =
+    let e : window_length s ≡ s.data_block * window_blocks s = omega arith in
+    ap (λ (n : ℕ). (count - 1) / n) e ∙ sym (div-div-eq-div-mul (count - 1) s.data_block (window_blocks s))
+
+-- the first data block of its window and its own are below one hash block of level 0
+pub window-beside : (s : TreeSettingsFields) (count : ℕ) → IsValid s
+    → windows_before s count * window_blocks s / fan s ≡ blocks_before s count / fan s
+window-beside s count valid =
+    let b = window_blocks s in
+    let w = windows_before s count in
+    let times = window-fan s valid in
+    let g = times.0 in
+    let split : (n : ℕ) → n / fan s ≡ n / b / g = λ n.
+    let e : g * b ≡ b * g = omega arith in
+    ap (λ (k : ℕ). n / k) (times.1 ∙ e) ∙ sym (div-div-eq-div-mul n b g) in
+    let e : w * b ≡ w * b + 0 = omega arith in
+    split (w * b)
+    ∙ ap (λ (n : ℕ). n / g) (ap (λ (n : ℕ). n / b) e ∙ div-mul-add w b 0 (window-some s valid) ∙ windows-are s count)
+    ∙ sym (split (blocks_before s count))
+
 -- where the last of some bytes is: the data blocks before its window, its data block, and the bytes
 pub record IsPlacedInWindow (s : TreeSettingsFields) (count : ℕ) : Type 0 where
   pub from : windows_before s count * window_blocks s ≤ blocks_before s count
@@ -152,33 +174,18 @@ last-place count size wide some =
     let low : (count - 1) % size < size = mod_below (count - 1) size wide in
     (omega (arith, split, some), omega (arith, split, low))
 
--- a number of blocks whose bytes come before a byte of a block is not past that block
-block-from : (k i d n : ℕ) → k * d < n → n ≤ i * d + d → k ≤ i
-block-from k i d n before end = elim (cases_lt i k) [
-  | inl past ↦
-      let step : i + 1 ≤ k = omega arith in
-      absurd (omega (arith, mul_le (i + 1) k d step, before, end))
-  | inr most ↦ most
-]
-
 pub placed-in-window : (s : TreeSettingsFields) (count : ℕ) → IsValid s → 0 < count → IsPlacedInWindow s count
 placed-in-window s count valid some =
-    let d = s.data_block in
     let b = window_blocks s in
     let i = blocks_before s count in
-    let w = windows_before s count in
-    let block = last-place count d (some_data s valid) some in
+    let block = last-place count s.data_block (some_data s valid) some in
     let window = last-place count (window_length s) (window-wide s valid) some in
-    let start : w * b * d ≡ w * window_length s = mul_assoc w b d in
-    let next : (w * b + b) * d ≡ w * window_length s + window_length s =
-    (let e : (w * b + b) * d ≡ w * b * d + b * d = omega arith in e) ∙ ap (λ (n : ℕ). n + b * d) start in
+    let split : windows_before s count * b + i % b ≡ i =
+    ap (λ (n : ℕ). n * b + i % b) (windows-are s count) ∙ div-add-mod' i b in
     record {
-      from = block-from (w * b) i d count (omega (arith, start, window.0)) block.1;
-      to = elim (cases_lt i (w * b + b)) [
-        | inl less ↦ less
-        | inr past ↦ absurd (omega (arith, mul_le (w * b + b) i d past, next, window.1, block.0))
-      ];
-      start = start;
+      from = omega (arith, split);
+      to = omega (arith, split, mod_below i b (window-some s valid));
+      start = mul_assoc (windows_before s count) b s.data_block;
       before = window.0;
       within = window.1;
       block = block.0;
@@ -205,20 +212,19 @@ window-ended s count w valid some whole =
     ]
 
 -- of the data blocks up to the last byte's, from the first of its window on, none but the last closes a hash block
-pub window-batch : (p : PlanFields) (count : ℕ) → IsPlan p → 0 < count → blocks_before p.settings count < p.blocks
-    → IsBatch p (windows_before p.settings count * window_blocks p.settings)
-    (blocks_before p.settings count - windows_before p.settings count * window_blocks p.settings + 1)
-window-batch p count planned some below =
+pub window-batch : (p : PlanFields) (count first rows : ℕ) → IsPlan p → 0 < count → blocks_before p.settings count < p.blocks
+    → first ≡ windows_before p.settings count * window_blocks p.settings → first + rows ≡ blocks_before p.settings count
+    → IsBatch p first (rows + 1)
+window-batch p count first rows planned some below start sum =
     let s = p.settings in
     let place = placed-in-window s count planned.valid some in
-    let i = blocks_before s count in
-    let first = windows_before s count * window_blocks s in
-    let room : i - first + 1 ≤ fan s - first % fan s =
-    omega (arith, place.from, place.to, window-room s (windows_before s count) planned.valid) in
-    let most : first + (i - first + 1) ≤ p.blocks = omega (arith, place.from, below) in
+    let slot : first % fan s ≡ windows_before s count * window_blocks s % fan s = ap (λ (n : ℕ). n % fan s) start in
+    let room : rows + 1 ≤ fan s - first % fan s =
+    omega (arith, place.to, start, sum, slot, window-room s (windows_before s count) planned.valid) in
+    let most : first + (rows + 1) ≤ p.blocks = omega (arith, sum, below) in
     record {
       some = omega arith;
       most = omega (arith, place.from, place.to, window-eight s);
       below = most;
-      none_closes = λ k from to. none_closes-batch (fan s) p.blocks first (i - first + 1) k (fan-some s) room most from to;
+      none_closes = λ k from to. none_closes-batch (fan s) p.blocks first (rows + 1) k (fan-some s) room most from to;
     }

@@ -4,7 +4,7 @@ ghost use Rattle.std.specs.Prelude.{replicate, slice_index_or, true, false};
 ghost use Rattle.verity_plan.specs.PlanCounts.{level_count_of};
 ghost use Rattle.verity_plan.specs.Plans.{IsPlan};
 ghost use Rattle.verity_plan.specs.Settings.{digest_len, fan, hash};
-ghost use Rattle.verity_tree.specs.Steps.OpenBlocks.{Adds, HasClosed, HasOpenBlocks, IsCarrying, carry_state};
+ghost use Rattle.verity_tree.specs.Steps.OpenBlocks.{Adds, HasClosed, HasOpenBlocks, IsAsking, IsCarrying, carry_state};
 ghost use Rattle.verity_tree.specs.Steps.OpenBlocks.{level_digest};
 ghost use Rattle.verity_tree.specs.Steps.Batches.{HoldsDataBlocks, IsBatch};
 
@@ -71,46 +71,56 @@ pub(crate) fn close_block(plan: &Plan, opened: &mut [u8], level: usize) -> Diges
     digest
 }
 
-/// The digest of a block with a digest more, which is put over zeros and taken out again.
-fn hash_with(settings: &TreeSettings, block: &mut [u8], from: usize, digest: &Digest) -> Digest
-    requires { from + length digest.now ≤ length block.old }
+/// The digest of a block with a digest more. Then the block is cleared from a byte on.
+fn hash_with(
+    settings: &TreeSettings,
+    block: &mut [u8],
+    from: usize,
+    digest: &Digest,
+    clear: usize,
+) -> Digest
+    requires from { from + length digest.now ≤ length block.old }
+    requires clear { clear ≤ length block.old }
     ensures digest { result
         ≡ hash settings.now (take from block.old ++ digest.now ++ drop (from + length digest.now) block.old) }
     ensures zeros { block.new
-        ≡ take from block.old ++ replicate (length digest.now) 0 ++ drop (from + length digest.now) block.old }
+        ≡ take clear (take from block.old ++ digest.now ++ drop (from + length digest.now) block.old)
+        ++ replicate (length block.old - clear) 0 }
 {
     put_slot(block, from, digest);
     let above = settings.hash(block);
-    block[from..from + digest.as_bytes().len()].fill(0);
+    block[clear..].fill(0);
     above
 }
 
-/// The digest of a level's open block above the last data block, which is `i`, with the digest that comes to it. That is
-/// taken out again: the open block stays as it was.
+/// The digest of a level's open block above the last data block with the digest that comes to it. Then the open block
+/// is as it was before data block `first`, which the last one is below the same hash block with.
 pub(crate) fn digest_with(
     plan: &Plan,
     opened: &mut [u8],
-    i: u64,
+    first: u64,
+    last: u64,
     level: usize,
     digest: &Digest,
 ) -> Digest
     requires room { level * plan.now.settings.hash_block + plan.now.settings.hash_block ≤ length opened.old }
     requires size { length digest.now ≡ digest_len plan.now.settings }
-    requires last { i + 1 ≡ plan.now.blocks }
+    requires last { last + 1 ≡ plan.now.blocks }
+    requires order { first ≤ last }
+    requires beside { first / fan plan.now.settings ≡ last / fan plan.now.settings }
     ensures size { length result ≡ digest_len plan.now.settings }
-    ensures digest { (blocks : List (List ℕ)) (levels : ℕ) → plan.now.blocks ≡ length blocks → level < levels
-        → HasOpenBlocks plan.now.settings blocks 0 levels i opened.old
-        → digest.now ≡ level_digest plan.now.settings blocks i level
-        → result ≡ level_digest plan.now.settings blocks i (level + 1) }
-    ensures stays { (blocks : List (List ℕ)) (levels : ℕ) → plan.now.blocks ≡ length blocks → level < levels
-        → HasOpenBlocks plan.now.settings blocks 0 levels i opened.old → opened.new ≡ opened.old }
+    ensures asks { (blocks : List (List ℕ)) (levels : ℕ) → plan.now.blocks ≡ length blocks → level < levels
+        → levels * plan.now.settings.hash_block ≤ length opened.old
+        → IsAsking plan.now.settings blocks first (carry_state last level levels) opened.old digest.now
+        → IsAsking plan.now.settings blocks first (carry_state last (level + 1) levels) opened.new result }
 {
-    planned(plan);
     let size = plan.hash_block();
-    let slot = (plan.index_above(i, level) % plan.fan() as u64) as usize;
-    let at = slot * plan.settings().slot_width();
-    let from = level * size;
-    hash_with(plan.settings(), &mut opened[from..from + size], at, digest)
+    let fan = plan.fan() as u64;
+    let width = plan.settings().slot_width();
+    let slot = (plan.index_above(last, level) % fan) as usize;
+    let clear = (plan.index_above(first, level) % fan) as usize;
+    let block = &mut opened[level * size..level * size + size];
+    hash_with(plan.settings(), block, slot * width, digest, clear * width)
 }
 
 /// Adds the digests of a batch of data blocks from `i` on, which stand one after another in `rows`, to the open block of
@@ -134,28 +144,4 @@ pub(crate) fn add_batch(plan: &Plan, opened: &mut [u8], i: u64, rows: &[u8], cou
         add_digest(plan, opened, i + row as u64, 0, &digest);
     }
     digests[count - 1]
-}
-
-/// Clears the slots of a block from a byte on.
-fn clear_slots(block: &mut [u8], from: usize)
-    requires { from ≤ length block.old }
-    ensures { block.new ≡ take from block.old ++ replicate (length block.old - from) 0 }
-{
-    block[from..].fill(0);
-}
-
-/// Takes the digests of data blocks from `i` on out of the open block of level 0 again.
-pub(crate) fn take_out_rows(plan: &Plan, opened: &mut [u8], i: u64)
-    requires planned { IsPlan plan.now }
-    requires room { plan.now.settings.hash_block ≤ length opened.old }
-    requires below { i < plan.now.blocks }
-    ensures { (blocks : List (List ℕ)) (levels count : ℕ) → plan.now.blocks ≡ length blocks → 0 < levels
-        → levels * plan.now.settings.hash_block ≤ length opened.old
-        → i % fan plan.now.settings + count < fan plan.now.settings
-        → HasOpenBlocks plan.now.settings blocks 0 levels (i + count) opened.old
-        → HasOpenBlocks plan.now.settings blocks 0 levels i opened.new }
-{
-    let slot = (i % plan.fan() as u64) as usize;
-    let at = slot * plan.settings().slot_width();
-    clear_slots(&mut opened[..plan.hash_block()], at);
 }

@@ -3,13 +3,12 @@ ghost use Rattle.std.specs.Prelude.{◌≡◌, ◌⊎◌, ℕ, ◌+◌, ◌-◌,
 ghost use Rattle.verity_plan.specs.PlanCounts.{level_count_of};
 ghost use Rattle.verity_plan.specs.Plans.{IsPlan};
 ghost use Rattle.verity_tree.specs.Levels.{data_blocks, root};
-ghost use Rattle.verity_tree.specs.Steps.Feeding.{FeedsOn, HasFed, Stands, windows_before};
-ghost use Rattle.verity_tree.specs.Steps.OpenBlocks.{HasOpenBlocks};
-ghost use Rattle.verity_tree.specs.Windows.{window_blocks, window_length};
+ghost use Rattle.verity_tree.specs.Steps.Feeding.{FeedsOn, HasFed, Stands};
+ghost use Rattle.verity_tree.specs.Windows.{window_length};
 
 use crate::feeding::advance::{Progress, advance};
 use crate::feeding::window::{add_window, window_place};
-use crate::open_blocks::{digest_with, take_out_rows};
+use crate::open_blocks::digest_with;
 use verity_hash::Digest;
 use verity_plan::Plan;
 
@@ -76,22 +75,6 @@ pub(crate) fn feed_all(plan: &Plan, count: u64, opened: &mut [u8], window: &mut 
     }
 }
 
-/// Takes the digests of the last window's data blocks out of the open block of level 0 again.
-fn take_out_window(plan: &Plan, opened: &mut [u8])
-    requires planned { IsPlan plan.now }
-    requires opened { level_count_of plan.now * plan.now.settings.hash_block ≤ length opened.old }
-    ensures { (blocks : List (List ℕ)) (levels : ℕ) → plan.now.blocks ≡ length blocks → level_count_of plan.now ≤ levels
-        → levels * plan.now.settings.hash_block ≤ length opened.old
-        → HasOpenBlocks plan.now.settings blocks 0 levels (plan.now.blocks - 1) opened.old
-        → HasOpenBlocks plan.now.settings blocks 0 levels
-        (windows_before plan.now.settings plan.now.wanted * window_blocks plan.now.settings) opened.new }
-{
-    if plan.levels() > 0 {
-        let place = window_place(plan, plan.wanted());
-        take_out_rows(plan, opened, place.first);
-    }
-}
-
 /// The root hash of the data that the plan wants, when all of it has come: digests go up through the open blocks, and are
 /// taken out again. All stays for more bytes, of a plan that wants more.
 pub(crate) fn root_of_fed(plan: &Plan, opened: &mut [u8], window: &mut [u8]) -> Digest
@@ -107,12 +90,13 @@ pub(crate) fn root_of_fed(plan: &Plan, opened: &mut [u8], window: &mut [u8]) -> 
         → HasFed plan.now.settings levels fed opened.old window.old
         → HasFed plan.now.settings levels fed opened.new window.new }
 {
+    let wanted = plan.wanted();
+    let first = window_place(plan, wanted).first;
     let last = plan.blocks() - 1;
-    let mut digest = add_window(plan, opened, window, plan.wanted());
+    let mut digest = add_window(plan, opened, window, wanted);
     for level in 0..plan.levels() {
-        digest = digest_with(plan, opened, last, level, &digest);
+        digest = digest_with(plan, opened, first, last, level, &digest);
     }
-    take_out_window(plan, opened);
     digest
 }
 
@@ -121,12 +105,12 @@ pub(crate) fn digest_at_the_top(plan: &Plan, opened: &mut [u8], window: &mut [u8
     requires planned { IsPlan plan.now }
     requires opened { level_count_of plan.now * plan.now.settings.hash_block ≤ length opened.old }
     requires window { length window.old ≡ window_length plan.now.settings }
-    ensures root { (levels : ℕ) (fed : List ℕ) → length fed ≡ plan.now.wanted
-        → Stands plan.now levels fed (level_count_of plan.now) opened.old window.old
+    ensures root { (fed : List ℕ) → length fed ≡ plan.now.wanted
+        → Stands plan.now (level_count_of plan.now) fed (level_count_of plan.now) opened.old window.old
         → result ≡ root plan.now.settings (data_blocks plan.now fed) }
-    ensures stays { (levels : ℕ) (fed : List ℕ) → length fed ≡ plan.now.wanted
-        → Stands plan.now levels fed (level_count_of plan.now) opened.old window.old
-        → Stands plan.now levels fed (level_count_of plan.now) opened.old window.new }
+    ensures stays { (fed : List ℕ) → length fed ≡ plan.now.wanted
+        → Stands plan.now (level_count_of plan.now) fed (level_count_of plan.now) opened.old window.old
+        → Stands plan.now (level_count_of plan.now) fed (level_count_of plan.now) opened.new window.new }
 {
     let size = plan.hash_block();
     let levels = plan.levels();

@@ -57,12 +57,12 @@ pub(crate) fn window_place(plan: &Plan, count: u64) -> WindowPlace
     ensures { IsWindowPlace plan.now count result }
 {
     let settings = plan.settings();
-    let before = (count - 1) / window_length(settings) as u64;
-    let first = before * window_blocks(settings) as u64;
+    let i = (count - 1) / plan.data_block() as u64;
+    let rows = i % window_blocks(settings) as u64;
     WindowPlace {
-        first,
-        rows: ((count - 1) / plan.data_block() as u64 - first) as usize,
-        bytes: (count - before * window_length(settings) as u64) as usize,
+        first: i - rows,
+        rows: rows as usize,
+        bytes: ((count - 1) % window_length(settings) as u64 + 1) as usize,
     }
 }
 

@@ -153,5 +153,5 @@ returns-clause-stands c = λ levels fed enough room count h.
     ∙ c.take_bytes-taken.ensures.none_closes
     ∙ ap (λ (k : ℕ). closed_after (fan p.settings) p.blocks (k / size * window_blocks p.settings)) (sym count) in
     FeedsOn-takes p levels closed taken fed (take taken c.args.piece.now) c.else-ends.opened c.else-ends.window
-    c.take_bytes-taken.new.opened c.take_bytes-taken.new.window many c.take_bytes-taken.ensures.takes.0 before none
-    (c.take_bytes-taken.ensures.fed levels fed enough (omega (arith, room, c.else-ends.auto.opened)) count before.settled)
+    c.else-ends.opened c.take_bytes-taken.new.window many c.take_bytes-taken.ensures.takes.0 before none
+    (c.take_bytes-taken.ensures.fed levels fed c.else-ends.opened count before.settled)
