@@ -9,8 +9,7 @@ ghost use Rattle.verity_tree.specs.ClosingOrder.{blocks_before};
 ghost use Rattle.verity_tree.specs.Steps.OpenBlocks.{IsCarrying, carry_state};
 ghost use Rattle.verity_tree.specs.Windows.{window_length};
 
-use crate::feeding::piece::take_bytes;
-use crate::feeding::window::{add_window, window_length};
+use crate::feeding::window::{add_window, take_bytes, window_length};
 use crate::open_blocks::{add_digest, close_block};
 use verity_hash::Digest;
 use verity_plan::Plan;

@@ -67,7 +67,7 @@ pub(crate) fn window_place(plan: &Plan, count: u64) -> WindowPlace
 }
 
 /// Takes bytes to the window, of which there are `at` in it: as many as the piece has, up to the window's end.
-pub(crate) fn fill_window(window: &mut [u8], at: usize, piece: &[u8]) -> usize
+fn fill_window(window: &mut [u8], at: usize, piece: &[u8]) -> usize
     requires at { at < length window.old }
     requires some { 0 < length piece.now }
     ensures some { 0 < result }
@@ -79,6 +79,25 @@ pub(crate) fn fill_window(window: &mut [u8], at: usize, piece: &[u8]) -> usize
     let count = (window.len() - at).min(piece.len());
     window[at..at + count].copy_from_slice(&piece[..count]);
     count
+}
+
+/// Takes bytes of a piece when all windows before them that are full have been added: how many.
+pub(crate) fn take_bytes(plan: &Plan, window: &mut [u8], count: u64, piece: &[u8]) -> usize
+    requires planned { IsPlan plan.now }
+    requires window { length window.old ≡ window_length plan.now.settings }
+    requires some { 0 < length piece.now }
+    requires most { count + length piece.now ≤ plan.now.wanted }
+    ensures takes { (0 < result) × (result ≤ length piece.now) }
+    ensures none_closes { closed_after (fan plan.now.settings) plan.now.blocks
+        (blocks_before plan.now.settings (count + result))
+        ≡ closed_after (fan plan.now.settings) plan.now.blocks
+        (count / window_length plan.now.settings * window_blocks plan.now.settings) }
+    ensures fed { (levels : ℕ) (fed opened : List ℕ) → length fed ≡ count
+        → IsSettled plan.now.settings levels fed opened window.old
+        → HasFed plan.now.settings levels (fed ++ take result piece.now) opened window.new }
+{
+    let at = count % window_length(plan.settings()) as u64;
+    fill_window(window, at as usize, piece)
 }
 
 /// Up to so many bytes are too many for no tree.
