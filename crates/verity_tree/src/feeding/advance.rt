@@ -23,34 +23,6 @@ pub(crate) struct Progress {
     pub closed: usize,
 }
 
-/// The digest that comes to a level above the last byte: of the data block that the byte is in, the last of its window, or
-/// of the hash block below the level, which was handed out.
-fn digest_below(
-    plan: &Plan,
-    count: u64,
-    level: usize,
-    opened: &mut [u8],
-    window: &mut [u8],
-) -> Digest
-    requires planned { IsPlan plan.now }
-    requires opened { level_count_of plan.now * plan.now.settings.hash_block ≤ length opened.old }
-    requires window { length window.old ≡ window_length plan.now.settings }
-    requires some { 0 < count }
-    requires most { count ≤ plan.now.wanted }
-    requires level { level ≤ level_count_of plan.now }
-    ensures size { length result ≡ digest_len plan.now.settings }
-    ensures carries { (levels : ℕ) (fed : List ℕ) → level_count_of plan.now ≤ levels
-        → levels * plan.now.settings.hash_block ≤ length opened.old → length fed ≡ count
-        → EndsWindow plan.now (length fed) → Stands plan.now levels fed level opened.old window.old
-        → IsCarrying plan.now.settings (data_blocks plan.now fed)
-        (carry_state (blocks_before plan.now.settings (length fed)) level levels) opened.new result }
-{
-    if level == 0 {
-        return add_window(plan, opened, window, count);
-    }
-    close_block(plan, opened, level - 1)
-}
-
 /// Carries the digest of the last byte's data block, or of the hash block above it that was handed out last, one level
 /// up: whether the hash block there has closed.
 fn climb(plan: &Plan, progress: &mut Progress, opened: &mut [u8], window: &mut [u8]) -> bool
@@ -74,7 +46,11 @@ fn climb(plan: &Plan, progress: &mut Progress, opened: &mut [u8], window: &mut [
 {
     let i = (progress.fed - 1) / plan.data_block() as u64;
     let level = progress.closed;
-    let digest = digest_below(plan, progress.fed, level, opened, window);
+    let digest = if level == 0 {
+        add_window(plan, opened, window, progress.fed)
+    } else {
+        close_block(plan, opened, level - 1)
+    };
     if level >= plan.levels() {
         return false;
     }
