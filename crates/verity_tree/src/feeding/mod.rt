@@ -1,6 +1,5 @@
 //! The steps of a tree that is built as pieces of its data come.
 
 pub(crate) mod advance;
-mod piece;
 pub(crate) mod steps;
 pub(crate) mod window;

@@ -1,11 +1,10 @@
 //! The window: the data blocks in which bytes are collected, and which are hashed side by side.
-ghost use Rattle.std.specs.Prelude.{◌≡◌, ℕ, ◌+◌, ◌-◌, ◌*◌, ◌<◌, ◌≤◌, ◌++◌, List, [], length, slice_index_or};
-ghost use Rattle.std.specs.Prelude.{take, true, false};
+ghost use Rattle.std.specs.Prelude.{◌≡◌, ℕ, ◌+◌, ◌-◌, ◌*◌, ◌/◌, ◌<◌, ◌≤◌, ◌++◌, List, length, take, true, false};
 ghost use Rattle.verity_plan.specs.PlanCounts.{level_count_of};
 ghost use Rattle.verity_plan.specs.Plans.{IsPlan};
-ghost use Rattle.verity_plan.specs.Settings.{IsValid, TreeSettingsFields, digest_len, hash};
-ghost use Rattle.verity_tree.specs.Levels.{block_at};
-ghost use Rattle.verity_tree.specs.Steps.Feeding.{HasCome, HasFed, IsWindowPlace, windows_before};
+ghost use Rattle.verity_plan.specs.Settings.{IsValid, TreeSettingsFields, digest_len, fan};
+ghost use Rattle.verity_tree.specs.ClosingOrder.{blocks_before, closed_after};
+ghost use Rattle.verity_tree.specs.Steps.Feeding.{HasCome, HasFed, IsSettled, IsWindowPlace, windows_before};
 ghost use Rattle.verity_tree.specs.Windows.{window_blocks, window_length};
 
 use crate::open_blocks::add_batch;

@@ -137,7 +137,12 @@ fn read_rows<S: Source>(
 }
 
 /// Reads data block `i` into a row, and fills the rest of it with zeros.
-fn read_row<S: Source>(plan: &Plan, row: &mut [u8], i: u64, source: &mut S) -> Result<(), BlockFault>
+fn read_row<S: Source>(
+    plan: &Plan,
+    row: &mut [u8],
+    i: u64,
+    source: &mut S,
+) -> Result<(), BlockFault>
     requires room { length row.old ≡ plan.now.settings.data_block }
     requires below { i < plan.now.blocks }
     ensures told { S.tells source.old → S.tells source.new }

@@ -73,15 +73,7 @@ fn pass_with_window<const N: usize, C: OnClosed, S: Source, D: Device>(
         (change S.tells S.remaining S.failures source.old source.new)
         (change D.tells D.content D.failures device.old device.new) }
 {
-    pass_over_blocks(
-        plan,
-        on_closed,
-        opened,
-        &mut [0; N],
-        stored,
-        source,
-        device,
-    )
+    pass_over_blocks(plan, on_closed, opened, &mut [0; N], stored, source, device)
 }
 
 /// The pass over the data blocks. As many of them as the window has room for are read into it together, and hashed side by

@@ -26,8 +26,17 @@ returns-clause-batch c =
     let room : c.args.i + rows ≤ p.blocks =
     omega (arith, c.requires.below, c.blocks-2.ensures.value, c.min-2.ensures, c.min.ensures) in
     record {
-      some = omega (arith, part, low, c.requires.below, c.blocks-2.ensures.value, one, c.min-2.ensures, c.min.ensures,
-          c.min-room.ensures);
+      some = omega (
+        arith,
+        part,
+        low,
+        c.requires.below,
+        c.blocks-2.ensures.value,
+        one,
+        c.min-2.ensures,
+        c.min.ensures,
+        c.min-room.ensures,
+      );
       most = omega (arith, c.min-2.ensures, c.min-room.ensures);
       below = room;
       none_closes = λ k from to. none_closes-batch f p.blocks c.args.i rows k some within room from to;
