@@ -35,14 +35,6 @@ last-below p count planned some most =
       planned.blocks_are,
     )
 
--- the last byte's data block comes to level 0
-pub carrying-come : (p : PlanFields) (levels : ℕ) (fed opened digest : List ℕ) → HasCome p levels fed opened digest
-    → IsCarrying p.settings (data_blocks p fed) (carry_state (blocks_before p.settings (length fed)) 0 levels) opened
-    digest
-carrying-come p levels fed opened digest h =
-    IsCarrying-first p.settings (data_blocks p fed) (blocks_before p.settings (length fed)) levels opened digest
-    h.digest_is h.stands
-
 -- a hash block was handed out
 pub handing-out : (p : PlanFields) (levels level : ℕ) (fed opened window : List ℕ) → 0 < level
     → Stands p levels fed level opened window → IsHandingOut p levels (level - 1) fed opened

@@ -2,7 +2,7 @@
 -- For the private steps; a public contract says only that bytes were fed, and it needs none of these to be read.
 use Rattle.std.specs.Prelude.{◌≡◌, ◌⊎◌, ◌<◌, ◌≤◌, ℕ, zero, suc, ◌+◌, ◌-◌, ◌*◌, ◌/◌, ◌%◌, ◌^◌, Bool, true, false, List}
 use Rattle.std.specs.Prelude.{◌++◌, ◌∷◌, [], length, take, drop}
-use Rattle.verity_plan.specs.Plans.{PlanFields}
+use Rattle.verity_plan.specs.Plans.{IsPlan, PlanFields}
 use Rattle.verity_plan.specs.PlanCounts.{level_count_of}
 use Rattle.verity_plan.specs.Settings.{TreeSettingsFields, fan}
 use Rattle.verity_tree.specs.ClosingOrder.{BlockIndex, block_index, blocks_before, closed_after, handed_out}
@@ -89,6 +89,15 @@ Climbs p levels fed closed false opened = (length fed ≡ (windows_before p.sett
     × HasOpenBlocks p.settings (data_blocks p fed) 0 levels (blocks_before p.settings (length fed) + 1) opened
     × (closed_after (fan p.settings) p.blocks (blocks_before p.settings (length fed) + 1)
     ≡ handed_out p (length fed) closed)
+
+-- what a step needs of what it is given: memory for the open blocks and the window of a plan that can be carried out, and
+-- no more bytes, nor levels whose hash blocks were handed out, than the plan has
+pub record CanStep (p : PlanFields) (count closed : ℕ) (opened window : List ℕ) : Type 0 where
+  pub planned : IsPlan p
+  pub open_room : level_count_of p * p.settings.hash_block ≤ length opened
+  pub window_room : length window ≡ window_length p.settings
+  pub most : count ≤ p.wanted
+  pub within : closed ≤ level_count_of p
 
 -- some bytes more were fed and no hash block has closed, or one has
 abbrev pub Hands : PlanFields → ℕ → ℕ → ℕ → ℕ → Bool → Type 0

@@ -4,7 +4,7 @@ ghost use Rattle.verity_plan.specs.PlanCounts.{level_count_of};
 ghost use Rattle.verity_plan.specs.Plans.{IsPlan};
 ghost use Rattle.verity_plan.specs.Settings.{digest_len};
 ghost use Rattle.verity_tree.specs.Levels.{data_blocks};
-ghost use Rattle.verity_tree.specs.Steps.Feeding.{Climbs, EndsWindow, FeedsOn, Stands};
+ghost use Rattle.verity_tree.specs.Steps.Feeding.{CanStep, Climbs, EndsWindow, FeedsOn, Stands};
 ghost use Rattle.verity_tree.specs.ClosingOrder.{blocks_before};
 ghost use Rattle.verity_tree.specs.Steps.OpenBlocks.{IsCarrying, carry_state};
 ghost use Rattle.verity_tree.specs.Windows.{window_length};
@@ -26,12 +26,8 @@ pub(crate) struct Progress {
 /// Carries the digest of the last byte's data block, or of the hash block above it that was handed out last, one level
 /// up: whether the hash block there has closed.
 fn climb(plan: &Plan, progress: &mut Progress, opened: &mut [u8], window: &mut [u8]) -> bool
-    requires planned { IsPlan plan.now }
-    requires opened { level_count_of plan.now * plan.now.settings.hash_block ≤ length opened.old }
-    requires window { length window.old ≡ window_length plan.now.settings }
+    requires step { CanStep plan.now progress.old.fed progress.old.closed opened.old window.old }
     requires some { 0 < progress.old.fed }
-    requires most { progress.old.fed ≤ plan.now.wanted }
-    requires closed { progress.old.closed ≤ level_count_of plan.now }
     ensures fed { progress.new.fed ≡ progress.old.fed }
     ensures closed { result ≡ true → (progress.new.closed ≡ progress.old.closed + 1)
         × (progress.old.closed < level_count_of plan.now) }
@@ -69,11 +65,7 @@ pub(crate) fn advance(
     window: &mut [u8],
     piece: &[u8],
 ) -> usize
-    requires planned { IsPlan plan.now }
-    requires opened { level_count_of plan.now * plan.now.settings.hash_block ≤ length opened.old }
-    requires window { length window.old ≡ window_length plan.now.settings }
-    requires most { progress.old.fed + length piece.now ≤ plan.now.wanted }
-    requires closed { progress.old.closed ≤ level_count_of plan.now }
+    requires step { CanStep plan.now (progress.old.fed + length piece.now) progress.old.closed opened.old window.old }
     requires some { (0 < length piece.now)
         ⊎ ((progress.old.fed ≡ plan.now.wanted) × (progress.old.closed < level_count_of plan.now)) }
     ensures most { result ≤ length piece.now }

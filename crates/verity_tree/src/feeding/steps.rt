@@ -3,7 +3,7 @@ ghost use Rattle.std.specs.Prelude.{◌≡◌, ◌⊎◌, ℕ, ◌+◌, ◌-◌,
 ghost use Rattle.verity_plan.specs.PlanCounts.{level_count_of};
 ghost use Rattle.verity_plan.specs.Plans.{IsPlan};
 ghost use Rattle.verity_tree.specs.Levels.{data_blocks, root};
-ghost use Rattle.verity_tree.specs.Steps.Feeding.{FeedsOn, HasFed, Stands};
+ghost use Rattle.verity_tree.specs.Steps.Feeding.{CanStep, FeedsOn, HasFed, Stands};
 ghost use Rattle.verity_tree.specs.Windows.{window_length};
 
 use crate::feeding::advance::{Progress, advance};
@@ -21,11 +21,7 @@ pub(crate) fn feed_until_closed(
     window: &mut [u8],
     piece: &[u8],
 ) -> (usize, bool)
-    requires planned { IsPlan plan.now }
-    requires opened { level_count_of plan.now * plan.now.settings.hash_block ≤ length opened.old }
-    requires window { length window.old ≡ window_length plan.now.settings }
-    requires most { progress.old.fed + length piece.now ≤ plan.now.wanted }
-    requires closed { progress.old.closed ≤ level_count_of plan.now }
+    requires step { CanStep plan.now (progress.old.fed + length piece.now) progress.old.closed opened.old window.old }
     ensures most { result.0 ≤ length piece.now }
     ensures fed { progress.new.fed ≡ progress.old.fed + result.0 }
     ensures closed { progress.new.closed ≤ level_count_of plan.now }
@@ -56,10 +52,7 @@ pub(crate) fn feed_until_closed(
 
 /// Takes all of a piece. The window so far stays open for more bytes.
 pub(crate) fn feed_all(plan: &Plan, count: u64, opened: &mut [u8], window: &mut [u8], piece: &[u8])
-    requires planned { IsPlan plan.now }
-    requires opened { level_count_of plan.now * plan.now.settings.hash_block ≤ length opened.old }
-    requires window { length window.old ≡ window_length plan.now.settings }
-    requires most { count + length piece.now ≤ plan.now.wanted }
+    requires { CanStep plan.now (count + length piece.now) 0 opened.old window.old }
     ensures { (levels : ℕ) (fed : List ℕ) → level_count_of plan.now ≤ levels
         → levels * plan.now.settings.hash_block ≤ length opened.old → length fed ≡ count
         → HasFed plan.now.settings levels fed opened.old window.old

@@ -53,13 +53,13 @@ returns-then-climb-clause-stands c = λ levels fed enough room count h.
           let some : 0 < c.args.progress.now.fed = grind (arith, nat_tests, tested) in
           absurd (omega (arith, some, w.if-count-gt0.false))
     ] in
-    let most : n ≤ p.wanted = omega (arith, count, c.requires.most) in
+    let most : n ≤ p.wanted = omega (arith, count, c.requires.step.most) in
     let ended : EndsWindow p n =
     Stands-ends p levels c.args.progress.now.closed fed c.args.opened.now c.args.window.now
-    c.requires.planned ends.0 most ends.1 h in
+    c.requires.step.planned ends.0 most ends.1 h in
     let all : c.args.progress.now.fed ≡ p.wanted → c.args.progress.now.closed < level_count_of p = λ last.
     elim c.requires.some [
-      | inl some ↦ absurd (omega (arith, some, last, c.requires.most))
+      | inl some ↦ absurd (omega (arith, some, last, c.requires.step.most))
       | inr both ↦ both.1
     ] in
     let climbs : Climbs p levels fed c.args.progress.now.closed c.climb.result c.climb.new.opened =
@@ -74,13 +74,13 @@ returns-clause-stands c = λ levels fed enough room count h.
     let p = c.args.plan.now in
     let size = window_length p.settings in
     let n = length fed in
-    let planned = c.requires.planned in
+    let planned = c.requires.step.planned in
     let closed = c.args.progress.now.closed in
     let wide : c.window_length-wide.result ≡ size =
     c.window_length-wide.ensures.value ∙ ap window_length c.settings.ensures in
     let rest : n % size ≡ c.args.progress.now.fed % c.window_length-wide.result =
     remainder-is n c.args.progress.now.fed size c.window_length-wide.result count wide in
-    let most : n ≤ p.wanted = omega (arith, count, c.requires.most) in
+    let most : n ≤ p.wanted = omega (arith, count, c.requires.step.most) in
     let before : TakesMore p levels fed closed c.else-ends.opened c.else-ends.window =
     elim c.else-ends.branch [
       | else-ends-via-then-ends+else-climb w ↦
@@ -113,7 +113,7 @@ returns-clause-stands c = λ levels fed enough room count h.
           Stands-ends p levels closed fed c.args.opened.now c.args.window.now planned ends.0 most ends.1 h in
           let all : c.args.progress.now.fed ≡ p.wanted → closed < level_count_of p = λ last.
           elim c.requires.some [
-            | inl some ↦ absurd (omega (arith, some, last, c.requires.most))
+            | inl some ↦ absurd (omega (arith, some, last, c.requires.step.most))
             | inr both ↦ both.1
           ] in
           let climbs : Climbs p levels fed closed w.climb.result w.climb.new.opened =

@@ -5,9 +5,10 @@ use Rattle.verity_tree.specs.Levels.{data_blocks}
 use Rattle.verity_tree.specs.ClosingOrder.{blocks_before}
 use Rattle.verity_tree.specs.Steps.OpenBlocks.{HasClosed, HasOpenBlocks, IsCarrying, carry_state}
 use Rattle.verity_tree.specs.Steps.Feeding.{Stands}
-use Rattle.verity_tree.proofs.ClimbLemmas.{carrying-come, climbs-closed, climbs-kept, climbs-past, handing-out, last-block}
+use Rattle.verity_tree.proofs.ClimbLemmas.{climbs-closed, climbs-kept, climbs-past, handing-out, last-block}
 use Rattle.verity_tree.proofs.ClimbLemmas.{nothing-out}
 use Rattle.verity_tree.proofs.LevelLemmas.{length-cut}
+use Rattle.verity_tree.proofs.OpenBlockSteps.{IsCarrying-first}
 use Rattle.verity_tree.proofs.feeding.advance.climb.Goals as goal
 use Rattle.verity_tree.proofs.feeding.advance.climb.Goals.{Joined-level-eq0, else-level-eq0, then-level-eq0}
 
@@ -23,15 +24,16 @@ carrying c levels fed within room count h =
     let level = c.args.progress.now.closed in
     elim c.if-level-eq0.branch [
       | then-level-eq0 w ↦
-          rw w.opened-is (rw w.digest-is (rw w.if-level-eq0.true (carrying-come p levels fed w.add_window-digest.new.opened w.add_window-digest.result
-          (w.add_window-digest.ensures.adds levels fed within room count
-          (nothing-out p levels level fed c.args.opened.now c.args.window.now w.if-level-eq0.true h)))))
+          let come = w.add_window-digest.ensures.adds levels fed within room count
+          (nothing-out p levels level fed c.args.opened.now c.args.window.now w.if-level-eq0.true h) in
+          rw w.opened-is (rw w.digest-is (rw w.if-level-eq0.true
+          (IsCarrying-first p.settings _ _ levels _ _ come.digest_is come.stands)))
       | else-level-eq0 w ↦
           let some : 0 < level = omega (arith, w.if-level-eq0.false) in
           let up : level - 1 + 1 ≡ level = omega (arith, some) in
           rw w.opened-is (rw w.digest-is (rw (sym up)
           (w.close_block-digest.ensures.closes (data_blocks p fed) (blocks_before p.settings (length fed)) levels
-          (omega (arith, some, c.requires.closed, within)) room
+          (omega (arith, some, c.requires.step.within, within)) room
           (handing-out p levels level fed c.args.opened.now c.args.window.now some h).closed)))
     ]
 
@@ -39,14 +41,14 @@ pub returns-then-level-levels-clause-stands : goal.returns-then-level-levels-cla
 returns-then-level-levels-clause-stands c = λ levels fed within room count ends more h.
     let p = c.args.plan.now in
     let comes = carrying (goal.at.returns-then-level-levels-clause-stands c).Joined-level-eq0 levels fed within room count h in
-    absurd (climbs-past p levels c.args.progress.now.closed fed _ _ c.requires.planned ends
-    (omega (arith, c.if-level-levels.true, c.levels.ensures)) c.requires.closed
+    absurd (climbs-past p levels c.args.progress.now.closed fed _ _ c.requires.step.planned ends
+    (omega (arith, c.if-level-levels.true, c.levels.ensures)) c.requires.step.within
     (λ all. more (sym count ∙ all)) comes)
 
 pub returns-then-not-add_digest-clause-last : goal.returns-then-not-add_digest-clause-last
 returns-then-not-add_digest-clause-last c = λ all below.
     let p = c.args.plan.now in
-    let planned = c.requires.planned in
+    let planned = c.requires.step.planned in
     let last : (c.args.progress.now.fed - 1) / c.data_block.result + 1 ≡ p.blocks =
     ap (λ (n : ℕ). (c.args.progress.now.fed - 1) / n + 1) c.data_block.ensures
     ∙ ap (λ (n : ℕ). blocks_before p.settings n + 1) all ∙ last-block p planned in
@@ -68,7 +70,7 @@ returns-then-not-add_digest-clause-stands c = λ levels fed within room count en
     (subst (λ (n : ℕ). IsCarrying s blocks (carry_state n level levels) c.if-level-eq0.opened
     c.if-level-eq0.digest) same comes) in
     climbs-kept p levels level fed c.if-level-eq0.opened c.if-level-eq0.digest c.add_digest.new.opened
-    c.requires.planned ends c.requires.closed comes
+    c.requires.step.planned ends c.requires.step.within comes
     (subst (λ (n : ℕ). n / fan s ^ level % fan s + 1 < fan s) (sym same) (c.if-not-add_digest.ensures.room refl))
     (omega (arith, added.0, same))
     (subst (λ (n : ℕ). HasOpenBlocks s blocks 0 levels (n + 1) c.add_digest.new.opened) (sym same) added.1)

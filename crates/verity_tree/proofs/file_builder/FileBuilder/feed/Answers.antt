@@ -1,4 +1,4 @@
-use Rattle.std.proofs.Common.{List, [], ap, arith, drop, length, length-append, refl, subst, sym, take, ℕ, ◌*◌, ◌++◌, ◌+◌}
+use Rattle.std.proofs.Common.{List, [], ap, arith, drop, length, length-append, refl, rules, subst, sym, take, ℕ, ◌*◌, ◌++◌, ◌+◌}
 use Rattle.std.proofs.Common.{◌-◌, ◌∷◌, ◌<◌}
 use Rattle.std.proofs.Common.{◌∙◌, ◌≡◌}
 use Rattle.std.proofs.lemmas.List.{append-nil, take-append-drop}
@@ -26,15 +26,21 @@ returns-in_default-clause-fault c =
     sym (ap (λ (r : Result PlanFields PlanFault). if is_too_large r then Some TooLarge else None)
     (FilePlan-large c.args.self.now.settings count c.window_length.ensures.valid past))
 
-pub feed_all-requires-clause-opened : goal.feed_all-requires-clause-opened
-feed_all-requires-clause-opened c =
+pub feed_all-requires : goal.feed_all-requires
+feed_all-requires c =
     let plan = c.in-Ok.plan in
     let s = c.args.self.now.settings in
     let size : length c.split_at_mut-opened.result.0.now ≡ most_level_count s * s.hash_block =
     omega (arith, c.split_at_mut-opened.ensures.front_len, c.window_length.ensures.value, c.requires) in
     let room = file_room plan s c.in-Some.count (most_level_count s) _ c.in-Ok.ensures size in
     let most = file_levels plan s c.in-Some.count c.planned.ensures c.in-Ok.ensures in
-    omega (arith, mul_le _ _ plan.settings.hash_block most, room)
+    record {
+      planned = c.planned.ensures;
+      open_room = omega (arith, mul_le _ _ plan.settings.hash_block most, room);
+      window_room = search rules;
+      most = search rules;
+      within = omega arith;
+    }
 
 pub returns-in-Ok-clause-fed : goal.returns-in-Ok-clause-fed
 returns-in-Ok-clause-fed c = λ fed h.
