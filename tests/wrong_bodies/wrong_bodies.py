@@ -233,7 +233,11 @@ class Run:
                     self.report.tell(change, verdict)
                 else:
                     left.append(change)
-            gate.take_libraries(self.crates.below(work.crate.name) if left else [], self.libraries)
+            below = self.crates.below(work.crate.name)
+            if left and gate.state(below) != "proved":
+                self.tell({it: Verdict("nothing", "the crates below its own aren't proved") for it in left})
+                continue
+            gate.take_libraries(below if left else [], self.libraries)
             for group in groups_of(left):
                 self.begin(self.checks.group, work.crate, self.seeds.get(work.crate.name), group, then=self.tell)
         while self.running:
