@@ -1,6 +1,6 @@
 -- A digest on its way up: which hash blocks close with its data block.
 use Rattle.std.proofs.Common.{List, [], ap, arith, drop, get_or, inl, inr, length, refl, subst, suc}
-use Rattle.std.proofs.Common.{sym, take, true, zero, ℕ, ◌%◌, ◌*◌, ◌+◌, ◌-◌, ◌/◌, ◌<◌, ◌^◌, ◌∙◌, ◌≡◌, ◌≤◌, ◌⊎◌}
+use Rattle.std.proofs.Common.{sym, take, true, zero, ℕ, ◌%◌, ◌*◌, ◌+◌, ◌-◌, ◌/◌, ◌<◌, ◌^◌, ◌∙◌, ◌≡◌, ◌≤◌}
 use Rattle.std.proofs.lemmas.Bool.{cases_lt}
 use Rattle.std.proofs.lemmas.Nat.{div-add-mod', div-mul-add}
 use Rattle.std.proofs.Math.Nat.{one-le-pow, pow-suc}
@@ -8,12 +8,11 @@ use Rattle.verity_plan.specs.Settings.{TreeSettingsFields, hash, fan}
 use Rattle.verity_tree.specs.Levels.{blocks_up}
 use Rattle.verity_plan.specs.Plans.{level_count, level_size, place}
 use Rattle.verity_tree.specs.ClosingOrder.{closing_with, closes, first_closing}
-use Rattle.verity_tree.specs.Steps.Closing.{EndsBlock}
 use Rattle.verity_tree.specs.Steps.OpenBlocks.{digests_under, open_block, IsReached, IsCarrying}
 use Rattle.verity_tree.specs.Steps.OpenBlocks.{carry_state}
 use Rattle.verity_plan.proofs.FanLemmas.{fan-some}
 use Rattle.verity_plan.proofs.IndexLemmas.{quotient-below}
-use Rattle.verity_tree.proofs.OpenBlockSteps.{level_digest-below, level_digest-root, place-first}
+use Rattle.verity_tree.proofs.OpenBlockSteps.{level_digest-below, level_digest-root}
 use Rattle.verity_tree.proofs.OrderSplit.{closing-prefix, closes-reached, closes-last, closes-none}
 use Rattle.verity_tree.specs.Steps.OpenBlocks.{HasClosed}
 use Rattle.verity_tree.proofs.OpenBlockSteps.{IsNext, arrival}

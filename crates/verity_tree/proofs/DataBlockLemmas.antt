@@ -1,6 +1,6 @@
 -- One data block read from the source.
 use Rattle.std.proofs.Common.{List, [], ap, arith, drop, false, get_or, inl, inr, length, length-drop}
-use Rattle.std.proofs.Common.{map, min, refl, subst, sym, take, true, ℕ, ◌*◌, ◌+◌, ◌-◌, ◌/◌, ◌<◌, ◌∙◌, ◌++◌, length-append}
+use Rattle.std.proofs.Common.{map, min, refl, sym, take, true, ℕ, ◌*◌, ◌+◌, ◌-◌, ◌/◌, ◌<◌, ◌∙◌, ◌++◌, length-append}
 use Rattle.std.proofs.Common.{◌≡◌, ◌≤◌}
 use Rattle.std.proofs.lemmas.Bool.{cases_lt}
 use Rattle.std.proofs.lemmas.List.{take_all, take-take, drop_at, drop-take, drop-drop, length-take}
@@ -9,7 +9,6 @@ use Rattle.std.specs.List.{range_with_len}
 use Rattle.verity_hash.specs.Hashing.{with_zeros}
 use Rattle.verity_io.specs.Reading.{HasRead}
 use Rattle.verity_tree.specs.Reading.{EndsWithin, FailsWithin, bytes_of}
-use Rattle.verity_tree.specs.Steps.DataBlocks.{HoldsBlock}
 use Rattle.verity_tree.specs.Levels.{block_at, cut, blocks_up, data_blocks, whole_blocks}
 use Rattle.verity_tree.specs.Steps.PlainRoots.{digest_of_block}
 use Rattle.verity_tree.specs.Steps.OpenBlocks.{level_digest}
@@ -58,9 +57,9 @@ level_digest-data s n wanted i bytes digest below is =
 -- the next data block is read
 pub data-next : (p : PlanFields) → IsPlan p → (i data_len : ℕ) (bytes rest after block : List ℕ) → i < p.blocks
     → data_len ≡ min (p.wanted - i * p.settings.data_block) p.settings.data_block → HasRead (bytes_of p i) bytes rest
-    → HoldsBlock data_len p.settings.data_block rest after block
+    → data_len ≤ length rest → block ≡ with_zeros p.settings.data_block (take data_len rest) → after ≡ drop data_len rest
     → HasRead (bytes_of p (i + 1)) bytes after × (hash p.settings block ≡ level_digest p.settings (data_blocks p bytes) i 0)
-data-next p planned i data_len bytes rest after block below w read_before h =
+data-next p planned i data_len bytes rest after block below w read_before more is goes =
     let s = p.settings in
     let d = s.data_block in
     let size = p.wanted in
@@ -71,10 +70,10 @@ data-next p planned i data_len bytes rest after block below w read_before h =
     read_before.rest ∙ ap (λ (k : ℕ). drop k bytes) (let e : bytes_of p i ≡ i * d = omega (arith, here) in e) in
     let digest : hash s block ≡ digest_of_block s size bytes i =
     ap (hash s)
-    (h.bytes ∙ ap (λ (xs : List ℕ). with_zeros d (take data_len xs)) from ∙ block-next bytes d size i data_len here wanted) in (
+    (is ∙ ap (λ (xs : List ℕ). with_zeros d (take data_len xs)) from ∙ block-next bytes d size i data_len here wanted) in (
       record {
-        enough = omega (arith, next, h.enough, ap length from, length-drop (i * d) bytes, read_before.enough, here);
-        rest = h.rest ∙ ap (drop data_len) from ∙ drop-drop data_len (i * d) bytes ∙ ap (λ (k : ℕ). drop k bytes) (sym next);
+        enough = omega (arith, next, more, ap length from, length-drop (i * d) bytes, read_before.enough, here);
+        rest = goes ∙ ap (drop data_len) from ∙ drop-drop data_len (i * d) bytes ∙ ap (λ (k : ℕ). drop k bytes) (sym next);
       },
       level_digest-data s p.blocks size i bytes (hash s block) below digest,
     )

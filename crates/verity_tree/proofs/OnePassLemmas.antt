@@ -2,9 +2,7 @@
 use Rattle.std.proofs.Common.{List, [], ap, append_assoc, arith, drop, length, refl, replicate, subst, sym, take, ℕ}
 use Rattle.std.proofs.Common.{◌%◌, ◌*◌, ◌++◌, ◌+◌, ◌-◌, ◌/◌, ◌<◌, ◌^◌, ◌∙◌, ◌∷◌, ◌≡◌, ◌≤◌}
 use Rattle.std.proofs.lemmas.List.{drop-replicate, take-replicate}
-use Rattle.std.proofs.lemmas.Slice.{between_is, take-put_mid_below}
 use Rattle.std.proofs.lemmas.Nat.{div-mul-add, mod-mul-add}
-use borrow.Rule.Slice.PartMut.{put_mid}
 use Rattle.std.proofs.Math.Nat.{one-le-pow}
 use Rattle.std.proofs.lemmas.List.Elements.{Contains-append_left, Contains-append_right}
 use Rattle.std.specs.Prelude.{Bool, true, false, Contains, Some, None, if◌then◌else◌}
@@ -50,22 +48,6 @@ HasOpenBlocks-zeros s blocks levels len store some zeros room = λ l from to.
     ∙ sym (hash_block_of-none s (0 / f * f) (digests_under s blocks l))
     ∙ ap (λ (n : ℕ). hash_block_of s (take n (drop (0 / f * f) (digests_under s blocks l)))) (sym (zero_mod f some))
     ∙ ap (open_block s (digests_under s blocks l)) (sym place)
-
--- a write after the open blocks leaves them
-pub HasOpenBlocks-after : (s : TreeSettingsFields) (blocks : List (List ℕ)) (levels i a k : ℕ) (store new : List ℕ)
-    → a ≡ levels * s.hash_block → a ≤ length store
-    → HasOpenBlocks s blocks 0 levels i store → HasOpenBlocks s blocks 0 levels i (put_mid a k store new)
-HasOpenBlocks-after s blocks levels i a k store new place within h = λ l from to.
-    let size = s.hash_block in
-    let step : l + 1 ≤ levels = omega (arith, to) in
-    let before : l * size + size ≤ a = omega (arith, place, mul_le (l + 1) levels size step) in
-    let e : l * size + size - l * size ≡ size = omega arith in
-    ap (λ (n : ℕ). take n (drop (l * size) (put_mid a k store new))) (sym e)
-    ∙ between_is (put_mid a k store new) (l * size) (l * size + size)
-    ∙ ap (drop (l * size)) (take-put_mid_below a k store new (l * size + size) before within)
-    ∙ sym (between_is store (l * size) (l * size + size))
-    ∙ ap (λ (n : ℕ). take n (drop (l * size) store)) e
-    ∙ h l from to
 
 -- an element in the middle of a list is in it
 middle : (xs ys : List BlockIndex) (x : BlockIndex) → Contains (xs ++ x ∷ [] ++ ys) x

@@ -1,9 +1,8 @@
 -- Pieces of bytes that come one after another: the data block that the last byte is in, and those before it.
 use Rattle.std.proofs.Common.{◌≡◌, ℕ, zero, suc, ◌+◌, ◌-◌, ◌*◌, ◌/◌, ◌%◌, ◌^◌, ◌<◌, ◌≤◌, List, [], ◌++◌, length, take}
-use Rattle.std.proofs.Common.{drop, get_or, replicate, arith, sym, ◌∙◌, ap, refl, inl, inr, subst}
+use Rattle.std.proofs.Common.{drop, replicate, arith, sym, ◌∙◌, ap, refl, inl, inr, subst}
 use Rattle.std.proofs.Common.{append_assoc, length-append, length-drop}
 use Rattle.std.proofs.Math.Nat.{mul_assoc}
-use Rattle.std.proofs.Math.Seq.{drop-append-add}
 use Rattle.std.proofs.lemmas.Bool.{cases_lt}
 use Rattle.std.proofs.lemmas.List.{append-nil, drop-append-le, drop-drop, drop_all, length-replicate, length-take-le}
 use Rattle.std.proofs.lemmas.List.{take-append-le, take_all, take_at}
@@ -16,22 +15,22 @@ use Rattle.verity_plan.specs.Settings.{TreeSettingsFields, fan, hash}
 use Rattle.verity_plan.proofs.CountLemmas.{mul_le}
 use Rattle.verity_plan.proofs.FanLemmas.{fan-some}
 use Rattle.verity_tree.specs.ClosingOrder.{BlockIndex, blocks_before, closed_after, closing_with}
-use Rattle.verity_tree.specs.Levels.{block_at, blocks_up, cut, data_blocks}
+use Rattle.verity_tree.specs.Levels.{block_at, data_blocks}
 use Rattle.verity_tree.specs.Steps.Batches.{HoldsDataBlocks}
 use Rattle.verity_tree.specs.Steps.Closing.{EndsBlock}
-use Rattle.verity_tree.specs.Steps.Feeding.{HasCome, HasFed, HasWindow, IsBeforeWindow, IsSettled, after_windows}
+use Rattle.verity_tree.specs.Steps.Feeding.{HasCome, HasFed, HasWindow, IsSettled, after_windows}
 use Rattle.verity_tree.specs.Steps.Feeding.{IsWindowPlace, first_blocks, windows_before}
 use Rattle.verity_tree.specs.Steps.OpenBlocks.{HasOpenBlocks, level_digest}
 use Rattle.verity_tree.specs.Windows.{window_blocks, window_length}
 use Rattle.verity_tree.specs.declared.feeding.window.WindowPlace.{WindowPlace}
 use Rattle.verity_tree.proofs.DataBlockLemmas.{level_digest-data}
-use Rattle.verity_tree.proofs.FirstBlockLemmas.{cut-block, first_blocks-more, first_blocks-plan, plan-first_blocks}
+use Rattle.verity_tree.proofs.FirstBlockLemmas.{first_blocks-more, first_blocks-plan}
 use Rattle.verity_tree.proofs.FirstBlockLemmas.{with_zeros-whole}
 use Rattle.verity_tree.proofs.LevelLemmas.{length-cut}
 use Rattle.verity_tree.proofs.OpenBlockSteps.{place-first}
 use Rattle.verity_tree.proofs.OrderSplit.{closed_after-more, closes-none, closing-prefix}
 use Rattle.verity_tree.proofs.QuotientLemmas.{IsReached-zero}
-use Rattle.verity_tree.proofs.WindowLemmas.{placed-in-window, window-batch, window-wide, windows-next}
+use Rattle.verity_tree.proofs.WindowLemmas.{placed-in-window, window-batch}
 
 -- a run of bytes that are filled with zeros up to whole runs
 pub chunk-filled : (size n r : ℕ) (bytes : List ℕ) → r < n → r * size < length bytes → length bytes ≤ n * size

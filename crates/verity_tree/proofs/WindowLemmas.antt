@@ -3,15 +3,15 @@ use Rattle.std.proofs.Common.{◌≡◌, ℕ, ◌+◌, ◌-◌, ◌*◌, ◌/◌
 use Rattle.std.proofs.Common.{min}
 use Rattle.std.proofs.lemmas.Bool.{cases_lt}
 use Rattle.std.proofs.lemmas.Nat.{div-add-mod', div-mul-add, mod-mul-add, mod_below, pow-add}
-use Rattle.std.proofs.Math.Nat.{div-div-eq-div-mul, mul_assoc, mul-le-mul_left}
+use Rattle.std.proofs.Math.Nat.{div-div-eq-div-mul, mul_assoc}
 use Rattle.std.proofs.Math.Pow.{pow-lt}
 use Rattle.verity_plan.specs.Plans.{IsPlan, PlanFields}
 use Rattle.verity_plan.specs.Settings.{IsValid, TreeSettingsFields, fan}
-use Rattle.verity_plan.proofs.CountLemmas.{le-div_ceil, mul_le}
+use Rattle.verity_plan.proofs.CountLemmas.{mul_le}
 use Rattle.verity_plan.proofs.FanLemmas.{block_power, data_most, fan-power, fan-some, some_data}
 use Rattle.verity_plan.proofs.FitLemmas.{power_of_two-is}
 use Rattle.verity_tree.specs.ClosingOrder.{blocks_before}
-use Rattle.verity_tree.specs.Steps.Feeding.{IsBeforeWindow, windows_before}
+use Rattle.verity_tree.specs.Steps.Feeding.{windows_before}
 use Rattle.verity_tree.specs.Steps.Batches.{IsBatch}
 use Rattle.verity_tree.specs.Windows.{window_blocks, window_length}
 use Rattle.verity_tree.proofs.BatchLemmas.{none_closes-batch}
@@ -87,22 +87,6 @@ window-wide s valid =
     let one : 1 * s.data_block ≤ window_blocks s * s.data_block =
     mul_le 1 (window_blocks s) s.data_block (omega (arith, window-some s valid)) in
     omega (arith, one, some_data s valid)
-
--- a window has no fewer bytes than data blocks
-pub blocks-length : (s : TreeSettingsFields) → IsValid s → window_blocks s ≤ window_length s
-blocks-length s valid =
-    let some : 1 ≤ s.data_block = omega (arith, some_data s valid) in
-    omega (arith, mul-le-mul_left (window_blocks s) some)
-
--- one window more
-pub windows-next : (s : TreeSettingsFields) (count : ℕ) → 0 < window_length s → count % window_length s ≡ 0
-    → (count + window_length s) / window_length s ≡ count / window_length s + 1
-windows-next s count wide whole =
-    let w = window_length s in
-    let q = count / w in
-    let split : q * w + count % w ≡ count = div-add-mod' count w in
-    let e : count + w ≡ (q + 1) * w + 0 = omega (arith, split, whole) in
-    ap (λ (n : ℕ). n / w) e ∙ div-mul-add (q + 1) w 0 wide
 
 -- from the first data block of a window to the end of the hash block above it there is room for the window
 pub window-room : (s : TreeSettingsFields) (w : ℕ) → IsValid s → w * window_blocks s % fan s + window_blocks s ≤ fan s

@@ -1,6 +1,6 @@
 -- A tree that is built as pieces of its data come: the memory between two calls, and each step.
 -- For the private steps; a public contract says only that bytes were fed, and it needs none of these to be read.
-use Rattle.std.specs.Prelude.{◌≡◌, ◌⊎◌, ◌<◌, ◌≤◌, ℕ, zero, suc, ◌+◌, ◌-◌, ◌*◌, ◌/◌, ◌%◌, ◌^◌, Bool, true, false, List}
+use Rattle.std.specs.Prelude.{◌≡◌, ◌⊎◌, ◌<◌, ◌≤◌, ℕ, zero, suc, ◌+◌, ◌-◌, ◌*◌, ◌/◌, ◌^◌, Bool, true, false, List}
 use Rattle.std.specs.Prelude.{◌++◌, ◌∷◌, [], length, take, drop}
 use Rattle.verity_plan.specs.Plans.{IsPlan, PlanFields}
 use Rattle.verity_plan.specs.PlanCounts.{level_count_of}
@@ -34,7 +34,6 @@ pub record HasWindow (s : TreeSettingsFields) (levels windows : ℕ) (fed opened
 pub record IsWindowPlace (p : PlanFields) (count : ℕ) (place : WindowPlace) : Type 0 where
   pub first_is : place.first ≡ windows_before p.settings count * window_blocks p.settings
   pub rows_are : place.first + place.rows ≡ blocks_before p.settings count
-  pub few : place.rows < 8
   pub bytes_are : place.bytes ≡ count - windows_before p.settings count * window_length p.settings
   pub some : 0 < place.bytes
   pub most : place.bytes ≤ window_length p.settings
@@ -53,11 +52,6 @@ IsSettled s levels fed opened window = HasWindow s levels (length fed / window_l
 pub record HasCome (p : PlanFields) (levels : ℕ) (fed opened digest : List ℕ) : Type 0 where
   pub stands : HasOpenBlocks p.settings (data_blocks p fed) 0 levels (blocks_before p.settings (length fed)) opened
   pub digest_is : digest ≡ level_digest p.settings (data_blocks p fed) (blocks_before p.settings (length fed)) 0
-
--- so many bytes fill windows; no hash block closes with the next window, and another data block comes after it
-pub record IsBeforeWindow (p : PlanFields) (count : ℕ) : Type 0 where
-  pub whole : count % window_length p.settings ≡ 0
-  pub batch : IsBatch p (count / window_length p.settings * window_blocks p.settings) (window_blocks p.settings + 1)
 
 -- the last byte is the last of a window, or of all
 pub record EndsWindow (p : PlanFields) (count : ℕ) : Type 0 where

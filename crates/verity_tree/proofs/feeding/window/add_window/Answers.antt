@@ -1,5 +1,4 @@
-use Rattle.std.proofs.Common.{◌≡◌, ◌∙◌, ℕ, ◌+◌, ◌*◌, ◌≤◌, ap, arith, length, subst, sym}
-use Rattle.std.proofs.lemmas.Slice.{take-put_mid_below}
+use Rattle.std.proofs.Common.{◌≡◌, ℕ, ◌+◌, ◌*◌, ap, arith, subst, sym}
 use Rattle.verity_tree.specs.Steps.Feeding.{IsWindowPlace}
 use Rattle.verity_tree.proofs.PieceOfBytesLemmas.{HasCome-window, window-end, window-filled}
 use Rattle.verity_tree.proofs.feeding.window.add_window.Goals as goal

@@ -6,7 +6,7 @@ use Rattle.verity_tree.specs.ClosingOrder.{blocks_before}
 use Rattle.verity_tree.specs.Steps.Feeding.{windows_before, IsWindowPlace}
 use Rattle.verity_tree.specs.Windows.{window_blocks, window_length}
 use Rattle.verity_tree.proofs.ClimbLemmas.{last-below}
-use Rattle.verity_tree.proofs.WindowLemmas.{placed-in-window, window-batch, window-eight, windows-are}
+use Rattle.verity_tree.proofs.WindowLemmas.{placed-in-window, window-batch, windows-are}
 use Rattle.verity_tree.proofs.feeding.window.window_place.Goals as goal
 
 -- the place from its numbers: the last byte's data block, and what its window has
@@ -38,7 +38,6 @@ place-is p count i b long planned some most i_is b_is long_is =
     record {
       first_is = first_is;
       rows_are = sum;
-      few = omega (arith, first_is, sum, place.to, window-eight s);
       bytes_are = bytes_are;
       some = omega arith;
       most = omega (arith, bytes_are, place.within);

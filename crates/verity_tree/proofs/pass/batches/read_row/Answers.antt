@@ -48,13 +48,12 @@ returns-else-count-data_len-clause-read g c = λ tells bytes read_before.
     let split : before ≡ c.read_block.new.buf ++ after =
     (c.in-Ok.ensures.bytes tells).0 ∙ ap (λ (xs : List ℕ). xs ++ after) all in
     data-next p c.wanted.ensures.planned c.args.i c.min-data_len.result bytes before after _ c.requires.below w read_before
-    (record {
-      enough = omega (arith, long, ap length split, length-append c.read_block.new.buf after);
-      bytes = row-filled c.min-data_len.result p.settings.data_block c.read_block.new.buf c.args.row.now c.fill.new.self before
-          fits c.requires.room long (sym (ap (take c.min-data_len.result) split
-          ∙ take_at c.read_block.new.buf after c.min-data_len.result long)) (c.fill.ensures.after (λ y e. e));
-      rest = sym (ap (drop c.min-data_len.result) split ∙ drop_at c.read_block.new.buf after c.min-data_len.result long);
-    })
+    (omega (arith, long, ap length split, length-append c.read_block.new.buf after))
+    (row-filled c.min-data_len.result p.settings.data_block c.read_block.new.buf c.args.row.now c.fill.new.self before fits
+    c.requires.room long
+    (sym (ap (take c.min-data_len.result) split ∙ take_at c.read_block.new.buf after c.min-data_len.result long))
+    (c.fill.ensures.after (λ y e. e)))
+    (sym (ap (drop c.min-data_len.result) split ∙ drop_at c.read_block.new.buf after c.min-data_len.result long))
 
 pub returns-then-count-data_len-clause-read : goal.returns-then-count-data_len-clause-read
 returns-then-count-data_len-clause-read g c = λ tells bytes read_before.

@@ -1,4 +1,4 @@
-use Rattle.std.proofs.Common.{ℕ, ◌*◌, length, arith, sym, ap, ◌∙◌}
+use Rattle.std.proofs.Common.{arith, sym}
 use Rattle.verity_tree.specs.Levels.{data_blocks}
 use Rattle.verity_plan.specs.PlanCounts.{level_count_of}
 use Rattle.verity_tree.proofs.LevelLemmas.{length-cut}

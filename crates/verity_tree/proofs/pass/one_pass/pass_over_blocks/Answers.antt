@@ -9,9 +9,8 @@ use Rattle.verity_plan.proofs.FanLemmas.{fan-some}
 use Rattle.verity_tree.specs.ClosingOrder.{BlockIndex, closed_after, closing_with, first_closing}
 use Rattle.verity_tree.specs.Levels.{data_blocks}
 use Rattle.verity_tree.specs.Reading.{bytes_of}
-use Rattle.verity_tree.specs.Steps.Batches.{Batch, IsBatch, batch_of}
+use Rattle.verity_tree.specs.Steps.Batches.{IsBatch}
 use Rattle.verity_tree.specs.Steps.OnClosed.{effects}
-use Rattle.verity_tree.specs.Steps.OpenBlocks.{HasOpenBlocks}
 use Rattle.verity_tree.specs.Steps.PassFaults.{side_of, source_side}
 use Rattle.verity_tree.specs.declared.pass.pass_fault.PassFault.TheVariants.{AtBlock}
 use Rattle.verity_tree.proofs.DataBlockLemmas.{HasRead-none, blocks-some, bytes_of-all}
