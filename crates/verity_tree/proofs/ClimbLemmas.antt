@@ -12,13 +12,12 @@ use Rattle.verity_plan.proofs.FanLemmas.{fan-some, fan-two, some_data}
 use Rattle.verity_plan.proofs.IndexLemmas.{quotient-below}
 use Rattle.verity_tree.specs.ClosingOrder.{BlockIndex, closed_after, first_closing, blocks_before}
 use Rattle.verity_tree.specs.Levels.{data_blocks}
-use Rattle.verity_tree.specs.Steps.Feeding.{Climbs, EndsWindow, HasCome, HasFed, IsHandingOut, Stands}
+use Rattle.verity_tree.specs.Steps.Feeding.{Climbs, EndsWindow, HasFed, IsHandingOut, Stands}
 use Rattle.verity_tree.specs.Steps.Feeding.{handed_at, windows_before}
 use Rattle.verity_tree.specs.Steps.OpenBlocks.{HasClosed, HasOpenBlocks, IsCarrying, carry_state}
 use Rattle.verity_tree.specs.Windows.{window_blocks, window_length}
 use Rattle.verity_tree.proofs.ClosingLemmas.{reached-down}
 use Rattle.verity_tree.proofs.LevelLemmas.{length-cut}
-use Rattle.verity_tree.proofs.OpenBlockSteps.{IsCarrying-first}
 use Rattle.verity_tree.proofs.QuotientLemmas.{div_ceil-last}
 use Rattle.verity_tree.proofs.OrderSplit.{closed_after-more, closes-none, closes-reached, closing-prefix}
 use Rattle.verity_tree.proofs.OrderSplit.{first_closing-more}
