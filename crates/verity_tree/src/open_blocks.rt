@@ -93,8 +93,8 @@ fn hash_with(
     above
 }
 
-/// The digest of a level's open block above the last data block with the digest that comes to it. Then the open block
-/// is as it was before data block `first`, which the last one is below the same hash block with.
+/// The digest of a level's open block above the last data block, with the digest that comes to it. The open block is left
+/// as it was before data block `first`, which is below the same hash block of level 0 as the last one.
 pub(crate) fn digest_with(
     plan: &Plan,
     opened: &mut [u8],

@@ -45,8 +45,8 @@ pub record IsCarrying (s : TreeSettingsFields) (blocks : List (List ℕ)) (c : C
   pub below : c.i + 1 < length blocks → HasOpenBlocks s blocks 0 c.level (c.i + 1) store
   pub digest_is : digest ≡ level_digest s blocks c.i c.level
 
--- the digest of the last data block has come to a level as this one, and from the open blocks below it all digests of data
--- blocks from one on were taken out again
+-- the digest of the last data block has come to a level as this one, and the open blocks below it are again those before
+-- data block `first`
 pub record IsAsking (s : TreeSettingsFields) (blocks : List (List ℕ)) (first : ℕ) (c : CarryState)
     (store digest : List ℕ) : Type 0 where
   pub below : HasOpenBlocks s blocks 0 c.level first store

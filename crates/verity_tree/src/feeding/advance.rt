@@ -1,17 +1,11 @@
 //! One step of a tree that is built as pieces of its data come.
 ghost use Rattle.std.specs.Prelude.{◌≡◌, ◌⊎◌, ℕ, ◌+◌, ◌*◌, ◌<◌, ◌≤◌, ◌==◌, List, length, take, true};
 ghost use Rattle.verity_plan.specs.PlanCounts.{level_count_of};
-ghost use Rattle.verity_plan.specs.Plans.{IsPlan};
-ghost use Rattle.verity_plan.specs.Settings.{digest_len};
-ghost use Rattle.verity_tree.specs.Levels.{data_blocks};
 ghost use Rattle.verity_tree.specs.Steps.Feeding.{CanStep, Climbs, EndsWindow, FeedsOn, Stands};
-ghost use Rattle.verity_tree.specs.ClosingOrder.{blocks_before};
-ghost use Rattle.verity_tree.specs.Steps.OpenBlocks.{IsCarrying, carry_state};
 ghost use Rattle.verity_tree.specs.Windows.{window_length};
 
 use crate::feeding::window::{add_window, take_bytes, window_length};
 use crate::open_blocks::{add_digest, close_block};
-use verity_hash::Digest;
 use verity_plan::Plan;
 
 /// How far feeding has come.
