@@ -1,5 +1,5 @@
 -- Fan-outs and slot widths as powers of two.
-use Rattle.std.proofs.Common.{◌≡◌, ℕ, zero, suc, ◌+◌, ◌*◌, ◌/◌, ◌^◌, ◌<◌, ◌≤◌, max, true, false, ltb, leb, arith, ap}
+use Rattle.std.proofs.Common.{sym, ◌∙◌, ◌≡◌, ℕ, zero, suc, ◌+◌, ◌*◌, ◌/◌, ◌^◌, ◌<◌, ◌≤◌, max, true, false, ltb, leb, arith, ap}
 use Rattle.std.proofs.Common.{refl, inl, inr}
 use Rattle.std.proofs.lemmas.Bool.Decides.{nat_tests}
 use Rattle.std.proofs.Math.Nat.{pow-suc, pow-zero, pow-le-pow_right, mul-le-mul_right, le_trans, div-mul-le_self}
@@ -40,6 +40,11 @@ log2-is n k low high =
           let below : 2 ^ (m + 1) ≤ n = le_trans (pow-le-pow_right two more) low in
           let failing : ltb n (2 ^ (m + 1)) ≡ false = grind (arith, nat_tests, below) in failing;
     })
+
+-- the exponent of a power of two, from the powers that it lies between
+pub exponent-is : (n k m : ℕ) → n ≡ 2 ^ k → 0 < n → 2 ^ m ≤ n → n < 2 * 2 ^ m → m ≡ k
+exponent-is n k m is some low high =
+    sym (log2-is n m low high) ∙ log2-is n k (omega (arith, is)) (omega (arith, is, some))
 
 power_low : (n k : ℕ) → 0 < n → IsLeast (λ m. nat_lt n (2 ^ (m + 1))) 0 k → 2 ^ k ≤ n
 power_low n zero some found = omega (arith, pow-zero 2)

@@ -109,7 +109,7 @@ impl Plan {
         ensures value { result ≡ most_level_count settings.now }
         ensures few { result ≤ 63 }
     {
-        let largest = MOST_BYTES / u64::from(settings.data_block());
+        let largest = MOST_BYTES >> settings.data_block().ilog2();
         levels_above(settings.fan() as u64, largest).levels
     }
 

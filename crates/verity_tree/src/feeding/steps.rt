@@ -25,11 +25,10 @@ pub(crate) fn feed_until_closed(
     ensures most { result.0 ≤ length piece.now }
     ensures fed { progress.new.fed ≡ progress.old.fed + result.0 }
     ensures closed { progress.new.closed ≤ level_count_of plan.now }
-    ensures all { result.1 ≡ false → result.0 ≡ length piece.now }
-    ensures done { result.1 ≡ false → progress.new.fed ≡ plan.now.wanted
-        → progress.new.closed ≡ level_count_of plan.now }
-    ensures closes { result.1 ≡ true → (0 < progress.new.closed) × (0 < progress.new.fed) }
-    ensures rises { result.1 ≡ true → result.0 ≡ 0 → progress.new.closed ≡ progress.old.closed + 1 }
+    ensures none_closes { result.1 ≡ false → (result.0 ≡ length piece.now)
+        × (progress.new.fed ≡ plan.now.wanted → progress.new.closed ≡ level_count_of plan.now) }
+    ensures closes { result.1 ≡ true → (0 < progress.new.closed) × (0 < progress.new.fed)
+        × (result.0 ≡ 0 → progress.new.closed ≡ progress.old.closed + 1) }
     ensures waits { result.1 ≡ true → (result.0 < length piece.now) ⊎ (progress.new.fed ≡ plan.now.wanted) }
     ensures stands { (levels : ℕ) (fed : List ℕ) → level_count_of plan.now ≤ levels
         → levels * plan.now.settings.hash_block ≤ length opened.old → length fed ≡ progress.old.fed

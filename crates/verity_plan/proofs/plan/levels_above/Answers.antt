@@ -1,6 +1,6 @@
 use Rattle.std.proofs.Common.{◌≡◌, ℕ, ◌+◌, ◌-◌, ◌/◌, ◌^◌, ◌<◌, ◌≤◌, arith, sym, ◌∙◌, ap}
 use Rattle.std.specs.Int.{div_ceil}
-use Rattle.verity_plan.proofs.FanLemmas.{log2-is}
+use Rattle.verity_plan.proofs.FanLemmas.{exponent-is}
 use Rattle.verity_plan.specs.Plans.{level_count, blocks_from}
 use Rattle.verity_plan.proofs.CountLemmas.{div_ceil-below, div_ceil-pos, div_ceil-lt}
 use Rattle.verity_plan.proofs.PlaceLemmas.{blocks_from-level}
@@ -14,10 +14,9 @@ levels-preserved c =
     let more = levels-more c.args.fan c.args.blocks c.levels.tree.levels c.levels.size c.requires.two inv.size_is
     c.levels-test.true in
     let k = c.requires.power.0 in
-    let one : 1 ≤ 2 ^ k = omega (arith, some, c.requires.power.1) in
     let log : c.ilog2-power.result ≡ k =
-    sym (log2-is c.args.fan c.ilog2-power.result c.ilog2-power.ensures.power_le c.ilog2-power.ensures.next_power_gt)
-    ∙ log2-is c.args.fan k (omega (arith, c.requires.power.1)) (omega (arith, c.requires.power.1, one)) in
+    exponent-is c.args.fan k c.ilog2-power.result c.requires.power.1 some c.ilog2-power.ensures.power_le
+    c.ilog2-power.ensures.next_power_gt in
     let halved : (c.levels.size - 1) / 2 ^ c.ilog2-power.result + 1 ≡ div_ceil c.levels.size c.args.fan =
     ap (λ (m : ℕ). (c.levels.size - 1) / m + 1) (ap (λ (m : ℕ). 2 ^ m) log ∙ sym c.requires.power.1)
     ∙ div_ceil-below c.levels.size c.args.fan some inv.some in

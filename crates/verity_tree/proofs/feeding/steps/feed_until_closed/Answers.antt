@@ -37,6 +37,10 @@ loop-taken-preserved c =
           c.loop-taken.window c.advance-count.new.opened c.advance-count.new.window false before next);
     }
 
-pub returns-then-count-eq0-clause-rises : goal.returns-then-count-eq0-clause-rises
-returns-then-count-eq0-clause-rises c = λ _ none.
-    omega (arith, c.loop-taken.invariant.first none, c.advance-count.ensures.closed, c.if-count-eq0.true)
+pub returns-then-count-eq0-clause-closes : goal.returns-then-count-eq0-clause-closes
+returns-then-count-eq0-clause-closes c = λ _.
+    let closed = c.advance-count.ensures.closed in (
+      omega (arith, closed, c.if-count-eq0.true),
+      omega (arith, closed, c.if-count-eq0.true, c.advance-count.ensures.fed),
+      λ none. omega (arith, c.loop-taken.invariant.first none, closed, c.if-count-eq0.true),
+    )
