@@ -155,7 +155,7 @@ help:
 	@echo 'make search          30 minutes +  random command lines, for differences from Debian that no row names [SECONDS, SEED]'
 	@echo 'make kernel          10 minutes +  has the Linux kernel open the images, in a virtual machine [KERNEL, MODULES]'
 	@echo 'make bench           7 minutes +   measures speed and memory, beside bare hashing and the programs of Debian'
-	@echo 'make bench-feeding   1 minute +    measures the library that is fed with pieces of a file'
+	@echo 'make bench-feeding   2 minutes +   measures the library that is fed with pieces of a file'
 	@echo 'make reproducible    5 minutes +   builds once more in another folder, and compares the programs'
 	@echo 'make install         seconds       installs programs, manual pages and completion, and the library if it is built'
 	@echo '                                   [PREFIX, DESTDIR, SUFFIX, STRIP=yes, BINDIR, SBINDIR, MANDIR, BASHCOMPDIR, LIBDIR,'

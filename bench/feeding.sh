@@ -1,7 +1,8 @@
 #!/bin/bash
 # Measures the library of LIB, fed with the pieces of one file in the page cache as they are read, beside bin/fsverity,
-# Debian's fsverity and Debian's libfsverity (packages fsverity and libfsverity-dev; what isn't there is left out), all
-# in one run, and prints a table. SIZE=MEBIBYTES and ROUNDS=COUNT change the defaults.
+# Debian's fsverity and Debian's libfsverity (packages fsverity and libfsverity-dev; what isn't there is left out). Then
+# pieces of several lengths, of the same bytes in memory, and short files. All is done in one run, which prints three
+# tables. SIZE=MEBIBYTES and ROUNDS=COUNT change the defaults.
 set -eu
 cd "$(dirname "$0")/.."
 . tests/lib/checks.sh
@@ -20,7 +21,11 @@ fi
 for program in "$BIN/fsverity" fsverity; do
     if type -P "$program" >/dev/null; then programs+=("$program"); else echo "left out: $program is not there"; fi
 done
-gcc -std=c11 -O2 -Wall -Wextra -Iinclude bench/feeding.c "$LIB/libverity.a" "${words[@]}" -o "$scratch/feeding"
+for name in feeding pieces; do
+    gcc -std=c11 -O2 -Wall -Wextra -Iinclude "bench/$name.c" "$LIB/libverity.a" "${words[@]}" -o "$scratch/$name"
+done
 head -c $((${SIZE:-512} << 20)) /dev/urandom >"$scratch/data"
 if [ -e "$LIB/libverity.a.made" ]; then echo "Library for $(head -n 1 "$LIB/libverity.a.made"):"; fi
 "$scratch/feeding" "${ROUNDS:-5}" "$scratch/data" "${programs[@]}"
+echo
+"$scratch/pieces" "${ROUNDS:-5}" "$scratch/data"
