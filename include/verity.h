@@ -358,7 +358,7 @@ uint32_t fsverity_build_memory(const struct fsverity_params *params, size_t *len
 
 /*
  * Begins a file's tree: the memory is that of no bytes, and the size of the parameters becomes 0. What size and memory
- * were before doesn't count, but as everywhere is to be initialised.
+ * were before doesn't count, but as everywhere is to be initialised; some of it stays in the memory until bytes come.
  *
  * VERITY_BAD_HASH_ALGORITHM, VERITY_BAD_DATA_BLOCK_SIZE, VERITY_BAD_SALT_SIZE, VERITY_BAD_LENGTH.
  */

@@ -37,7 +37,7 @@ static uint32_t status;
 /* What is fed: so many data blocks and a byte, up to the end of a tree, or across the middle of a large file's. */
 static struct verity_build build;
 static struct verity_fed fed;
-static uint8_t memory[1 << 16], piece[(MOST_BLOCKS + 1) * 4096], bytes_out[SUPERBLOCK_SIZE];
+static uint8_t memory[1 << 17], piece[(MOST_BLOCKS + 1) * 4096], bytes_out[SUPERBLOCK_SIZE];
 static size_t memory_length, found_length, piece_length;
 static size_t superblock_length = SUPERBLOCK_SIZE, descriptor_length = DESCRIPTOR_SIZE;
 static uint64_t all_bytes;

@@ -1,6 +1,6 @@
-//! How a pass reads its data blocks: several together, each into a row of a window, or one by one. A source can't see
-//! the window, but it sees what stands in the buffer that it is to fill: zeros at first, and later the data block that
-//! was read into the same row before.
+//! How a pass reads its data blocks: several together, each into a row of a window, or one by one into the store. A
+//! source can't see the window, but it sees what stands in the buffer that it is to fill: zeros at first, and later the
+//! data block that was read into the same row before.
 use crate::cases::{CURRENT, FILE, SHA256, SHA512};
 use std::alloc::Global;
 use std::test::Fail;
@@ -68,18 +68,15 @@ impl Source for Watcher {
     }
 }
 
-/// What stands in the buffers if data blocks are read in these batches: in the rows of a window, or, in a batch of one,
-/// where each that is read alone stands.
+/// What stands in the buffers if data blocks are read in these batches, each into a row of its own.
 fn held_in(batches: &[usize]) -> Held {
     let mut held = [0; MOST_READS];
     let mut rows = [0_u8; 8];
-    let mut alone = 0_u8;
     let mut read = 0_usize;
     for &count in batches {
         for row in 0..count {
-            let last = match rows.get_mut(row) {
-                Some(last) if count > 1 => last,
-                _ => &mut alone,
+            let Some(last) = rows.get_mut(row) else {
+                return held;
             };
             if let Some(place) = held.get_mut(read) {
                 *place = *last;
@@ -95,11 +92,10 @@ fn held_in(batches: &[usize]) -> Held {
 /// blocks are read together, one batch after another.
 type Batches = (SaltRule, Algorithm, (u32, u32), &'static [usize]);
 
-/// In windows of 32 and of 128 KiB eight data blocks are read together, and fewer where a hash block closes after fewer;
-/// one or two go one by one.
+/// In windows of 32 and of 128 KiB eight data blocks are read together, and fewer where a hash block closes after fewer.
 const SMALLER: [Batches; 14] = [
     (CURRENT, SHA256, (512, 512), &[8, 8, 3]),
-    (CURRENT, SHA256, (512, 512), &[8, 8, 1, 1]),
+    (CURRENT, SHA256, (512, 512), &[8, 8, 2]),
     (CURRENT, SHA256, (512, 512), &[8, 5]),
     (CURRENT, SHA256, (512, 4096), &[8, 8, 8, 4]),
     (CURRENT, SHA512, (1024, 512), &[8, 8, 1]),
@@ -109,7 +105,7 @@ const SMALLER: [Batches; 14] = [
     (CURRENT, SHA256, (4096, 4096), &[3]),
     (FILE, SHA256, (128, 128), &[4, 4, 3]),
     (FILE, SHA256, (256, 256), &[8, 8, 4]),
-    (FILE, SHA512, (512, 512), &[8, 8, 1, 1]),
+    (FILE, SHA512, (512, 512), &[8, 8, 2]),
     (CURRENT, SHA256, (8192, 512), &[8, 8, 3]),
     (CURRENT, SHA512, (16_384, 512), &[8, 3]),
 ];
@@ -121,7 +117,7 @@ const LARGEST: [Batches; 3] = [
     (CURRENT, SHA256, (131_072, 512), &[4, 1]),
 ];
 
-/// There is no window if it would have room for two data blocks at most, if a hash block has no more, and for one or two
+/// The store's room for one data block is the window if a larger one would have room for two data blocks at most, if a hash block has no more, and for one or two
 /// data blocks in all.
 const NONE: [Batches; 5] = [
     (CURRENT, SHA256, (262_144, 512), &[1, 1, 1]),

@@ -14,7 +14,7 @@ use verity_hash::Digest;
 use verity_plan::{Plan, TreeSettings};
 
 /// Puts a digest into a block.
-pub(crate) fn put_slot(block: &mut [u8], from: usize, digest: &Digest)
+fn put_slot(block: &mut [u8], from: usize, digest: &Digest)
     requires { from + length digest.now ≤ length block.old }
     ensures { block.new ≡ take from block.old ++ digest.now ++ drop (from + length digest.now) block.old }
 {

@@ -1,4 +1,4 @@
--- How one data block is read from a source and hashed.
+-- How a source stops within a data block.
 -- For the private steps; not needed to read a public contract.
 use Rattle.std.specs.Prelude.{ℕ, List, Option, Some, None}
 use Rattle.verity_io.specs.Counting.{Side, TheSource}

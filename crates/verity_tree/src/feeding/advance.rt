@@ -17,8 +17,8 @@ pub(crate) struct Progress {
     pub closed: usize,
 }
 
-/// Carries the digest of the last byte's data block, or of the hash block above it that was handed out last, one level
-/// up: whether the hash block there has closed.
+/// Adds the window's data blocks, or takes the hash block above the last byte that was handed out last, and carries the
+/// digest of the last of them, or of that block, one level up: whether the hash block there has closed.
 fn climb(plan: &Plan, progress: &mut Progress, opened: &mut [u8], window: &mut [u8]) -> bool
     requires step { CanStep plan.now progress.old.fed progress.old.closed opened.old window.old }
     requires some { 0 < progress.old.fed }

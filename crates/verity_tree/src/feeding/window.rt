@@ -17,7 +17,7 @@ const MOST_BYTES: u32 = 524_288;
 
 /// The number of data blocks of the window.
 #[tactic(auto, unfolding(crate::specs::Windows::window_blocks))]
-pub(crate) fn window_blocks(settings: &TreeSettings) -> usize
+fn window_blocks(settings: &TreeSettings) -> usize
     ensures value { result ≡ window_blocks settings.now }
     ensures some { 0 < result }
     ensures most { result ≤ 8 }

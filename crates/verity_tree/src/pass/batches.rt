@@ -23,7 +23,7 @@ use verity_plan::Plan;
 /// The windows that they are read into. They are of fixed size, and made anew for each pass.
 #[derive(Clone, Copy)]
 pub(crate) enum Window {
-    /// None: data blocks are read and hashed one by one.
+    /// None but the store's room for one data block: they are read and hashed one by one.
     Empty,
     /// Room for eight data blocks of up to 4096 bytes.
     Small,

@@ -38,7 +38,10 @@ pub(crate) fn pass<C: OnClosed, S: Source, D: Device>(
     let (work, stored) = store.split_at_mut(store.len() - plan.hash_block());
     let (opened, block) = work.split_at_mut(plan.levels() * plan.hash_block());
     match window_for(plan) {
-        Window::Empty => pass_over_blocks(plan, on_closed, opened, block, stored, source, device),
+        Window::Empty => {
+            block.fill(0);
+            pass_over_blocks(plan, on_closed, opened, block, stored, source, device)
+        }
         Window::Small => pass_with_window::<SMALL_WINDOW, C, S, D>(
             plan, on_closed, opened, stored, source, device,
         ),
