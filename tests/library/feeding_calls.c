@@ -90,7 +90,8 @@ static size_t window_length(size_t data_block_size, uint64_t fan_out)
     return blocks * data_block_size;
 }
 
-size_t memory_length_of(const struct tree *tree)
+/* The memory has a hash block for each level, and then the window. */
+static size_t open_length_of(const struct tree *tree)
 {
     struct shape shape;
     uint64_t blocks, fan_out, power;
@@ -98,13 +99,24 @@ size_t memory_length_of(const struct tree *tree)
 
     if (!tree->is_file) {
         shape = shape_of(tree);
-        return shape.levels * shape.hash_block_size + window_length(shape.data_block_size, shape.fan_out);
+        return shape.levels * shape.hash_block_size;
     }
     blocks = LARGEST / size;
     fan_out = size / digest_size_of(tree->file.hash_algorithm);
     for (power = 1; power < blocks; power *= fan_out)
         levels++;
-    return levels * size + window_length(size, fan_out);
+    return levels * size;
+}
+
+size_t memory_length_of(const struct tree *tree)
+{
+    struct shape shape;
+    size_t size = tree->file.block_size;
+
+    if (tree->is_file)
+        return open_length_of(tree) + window_length(size, size / digest_size_of(tree->file.hash_algorithm));
+    shape = shape_of(tree);
+    return open_length_of(tree) + window_length(shape.data_block_size, shape.fan_out);
 }
 
 uint32_t call_build_memory(const struct tree *tree, size_t *length)
@@ -163,8 +175,9 @@ uint32_t call_build_begin(struct building *building)
         }
         if (round == 0)
             take_over(building, &placed);
-        /* What it begins with doesn't depend on what stood there. */
-        check_building(building, &placed, call);
+        /* What it begins with doesn't depend on what stood there, but for the window, whose bytes don't count yet. */
+        check_params(building, &placed, false, call);
+        check_same(building->memory, placed.memory, open_length_of(&building->tree), call, "the open blocks");
         if (building->tree.is_file)
             check(placed.file->size == 0, "%s: size", call);
         else

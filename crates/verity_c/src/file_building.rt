@@ -136,6 +136,7 @@ pub extern "C" fn fsverity_build_end(
 
 /// The settings of the parameters, if the memory is as long as their builder wants; or the first fault: that of the
 /// settings, `Length`.
+#[inline(always)]
 fn tree_with(params: &FsverityParams, room: usize) -> Result<TreeSettings, Fault>
     ensures value { result ≡ with_file_memory (fsverity_tree_of params.now) room }
     ensures made { IfOk result (λ tree. fsverity_tree_of params.now ≡ Ok tree) }
