@@ -24,7 +24,7 @@
  *
  * Vector registers must be switched on: SSE2 to SSE4.2 on x86-64 (AVX2 if the library was built for x86-64-v3), NEON
  * on 64-bit ARM. A call takes up to 12 KiB of stack on either, and one that feeds or ends up to 16 KiB: measured are
- * 12.8 for feeding, 10.6 for the end of a file, 8.8 for a file digest, 8.3 for a block with its path, and up to 3.1
+ * 13.5 for feeding, 11.2 for the end of a file, 8.8 for a file digest, 8.3 for a block with its path, and up to 3.1
  * for those that hash nothing.
  *
  * Data that is written, copied or downloaded is fed to a tree as it comes, in pieces of any length, 0 too. The

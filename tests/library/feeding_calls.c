@@ -258,13 +258,20 @@ uint32_t call_build_end(struct building *building, uint8_t *root, size_t root_le
 {
     bool is_file = building->tree.is_file;
     const char *call = is_file ? "fsverity_build_end" : "verity_build_end";
+    static uint8_t memory[MOST_BUFFER];
+    struct building before;
     struct placed placed;
     uint8_t *roots, *digests;
     uint32_t status = 0;
     int round;
 
+    memcpy(&before, building, sizeof before);
+    if (building->is_disturbed) {
+        memcpy(memory, building->memory, building->memory_length);
+        before.memory = memory;
+    }
     for (round = 0; round < 2; round++) {
-        placed = place_building(building);
+        placed = place_building(&before);
         roots = painted(FIRST_FILLED, root_length, round);
         digests = painted(SECOND_FILLED, digest_length, round);
         status = answered(call, round, status,

@@ -13,6 +13,7 @@ struct building {
     struct verity_build build;
     uint8_t *memory;
     size_t memory_length;
+    bool is_disturbed;
 };
 
 /*
@@ -29,7 +30,10 @@ uint32_t call_build_memory(const struct tree *tree, size_t *length);
 uint32_t call_build_begin(struct building *building);
 uint32_t call_build_feed(struct building *building, struct bytes piece, struct verity_fed *fed);
 
-/* The same of the end: the second call is made over what the first one left. digest is a file's alone. */
+/*
+ * The same of the end: the second call is made over what the first one left, or, of a building that was disturbed, over
+ * the same as the first. digest is a file's alone.
+ */
 uint32_t call_build_end(struct building *building, uint8_t *root, size_t root_length, uint8_t *digest,
                         size_t digest_length);
 

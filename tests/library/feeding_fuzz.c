@@ -118,7 +118,7 @@ static void disturb(struct run *run)
     struct verity_params *device = &building->tree.device;
     struct fsverity_params *file = &building->tree.file;
 
-    run->is_disturbed = true;
+    run->is_disturbed = run->building.is_disturbed = true;
     switch (random_below(6)) {
     case 0:
         building->build.closed = (size_t)some_number(run->shape.levels);
