@@ -181,6 +181,9 @@ fn digest_in_pieces(
         if is_asked {
             end_file(&builder, memory.as_mut_slice())?;
         }
+        if rest.is_empty() {
+            break;
+        }
     }
     end_file(&builder, memory.as_mut_slice())
 }
