@@ -47,15 +47,17 @@ for word in "$@"; do
 done
 
 # run INDEX [WORD..]: runs a part, behind these words. Its status, its seconds and those of processor time go to a file,
-# and then its index to the pipe that `waits` reads.
+# which is there once they are in it, and then a line to the pipe that `waits` reads. The line says no more than that a
+# part has ended: a `read` whose time is over may have taken half of a number.
 run() {
     local index=$1 status=0
     shift
     # shellcheck disable=SC2086
     "$@" ${parts[$index]} 4>&- || status=$?
     times >"$logs/$index.times"
-    echo "$status $((SECONDS - begun[index])) $(processor_seconds "$logs/$index.times")" >"$logs/$index.ended"
-    echo "$index" >&4
+    echo "$status $((SECONDS - begun[index])) $(processor_seconds "$logs/$index.times")" >"$logs/$index.ends"
+    mv "$logs/$index.ends" "$logs/$index.ended"
+    echo >&4
 }
 
 # processor_seconds FILE: the seconds that `times` gives in its second line, those of a shell's children.
@@ -91,9 +93,9 @@ has_place() {
 # waits: until a part ends, for a second at most. What was killed has said nothing.
 waits() {
     local index
-    if read -r -t 1 index <&4; then unset "running[$index]"; fi
+    read -r -t 1 <&4
     for index in "${!running[@]}"; do
-        kill -0 "${running[$index]}" 2>/dev/null || unset "running[$index]"
+        if [ -e "$logs/$index.ended" ] || ! kill -0 "${running[$index]}" 2>/dev/null; then unset "running[$index]"; fi
     done
 }
 
