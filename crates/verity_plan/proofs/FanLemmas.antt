@@ -96,12 +96,6 @@ least_power-is len k high low =
     let found = IsLeast-least_from (λ m. nat_le len (2 ^ m)) 0 len k (omega arith) (omega (arith, within)) passing in
     ap (λ (m : ℕ). 2 ^ m) (IsLeast-same (λ m. nat_le len (2 ^ m)) 0 _ k found here)
 
--- the fan-out from the powers that the quotient lies between
-pub slot_count-quotient : (len size k : ℕ) → 2 ^ k ≤ size / len → size / len < 2 * 2 ^ k
-    → slot_count len size ≡ 2 ^ k
-unfolding slot_count
-slot_count-quotient len size k low high = ap (λ (m : ℕ). 2 ^ m) (log2-is (size / len) k low high)
-
 -- a number whose product with the divisor fits is within the quotient
 le-quotient : (n size len : ℕ) → 0 < len → n * len ≤ size → n ≤ size / len
 le-quotient n size len some fits = elim (cases_lt (size / len) n) [
@@ -110,6 +104,17 @@ le-quotient n size len some fits = elim (cases_lt (size / len) n) [
       absurd (omega (arith, mul-le-mul_right len next, div-add-mod' size len, mod_below size len some, fits))
   | inr le ↦ le
 ]
+
+-- the fan-out from the powers of two that many digests fit, and twice as many don't
+pub slot_count-between : (len size k : ℕ) → 0 < len → 2 ^ k * len ≤ size → size < 2 * 2 ^ k * len
+    → slot_count len size ≡ 2 ^ k
+unfolding slot_count
+slot_count-between len size k some low high =
+    let more : size / len < 2 * 2 ^ k = elim (cases_lt (size / len) (2 * 2 ^ k)) [
+      | inl less ↦ less
+      | inr past ↦ absurd (omega (arith, mul-le-mul_right len past, div-mul-le_self size len, high))
+    ] in
+    ap (λ (m : ℕ). 2 ^ m) (log2-is (size / len) k (le-quotient (2 ^ k) size len some low) more)
 
 -- a digest has at least one byte
 pub digest_len_of-pos : (algorithm : Algorithm) → 0 < digest_len_of algorithm

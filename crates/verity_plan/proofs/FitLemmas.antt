@@ -13,7 +13,8 @@ use Rattle.verity_plan.specs.Settings.{TreeSettingsFields, IsValid, fan, digest_
 use Rattle.verity_plan.specs.Settings.{least_up_to, slot_count, least_power}
 use Rattle.verity_plan.proofs.LeastLemmas.{IsLeast, IsLeast-least_from}
 use Rattle.verity_plan.proofs.CountLemmas.{lt-pow_self, mul_le}
-use Rattle.verity_plan.proofs.FanLemmas.{block_power, digest_len_of-pos, fan-two, slot_count-fits, two_slots}
+use Rattle.verity_plan.proofs.FanLemmas.{block_power, digest_len_of-pos, exponent-is, fan-two, slot_count-between, slot_count-fits}
+use Rattle.verity_plan.proofs.FanLemmas.{hash_most, two_slots}
 
 -- a number with one bit set is a power of two
 pub power_of_two-is : (n : ℕ) → 0 < n → is_power_of_two n ≡ true → (k : ℕ) × (n ≡ 2 ^ k)
@@ -33,12 +34,22 @@ power_of_two-is n some h =
     let none : n - 2 ^ top.0 ≡ 0 = zero_from_ones (n - 2 ^ top.0) (omega (arith, one, apart, bit)) in
     (top.0, omega (arith, low, none))
 
+-- its exponent, from the powers that it lies between
+pub power_of_two-exponent : (n k : ℕ) → 0 < n → is_power_of_two n ≡ true → 2 ^ k ≤ n → n < 2 * 2 ^ k → n ≡ 2 ^ k
+power_of_two-exponent n k some power low high =
+    let whole = power_of_two-is n some power in
+    whole.1 ∙ ap (λ (m : ℕ). 2 ^ m) (sym (exponent-is n whole.0 k whole.1 some low high))
+
 -- the least power of two that is not below a length
 least_power-found : (len : ℕ) → IsLeast (λ m. nat_le len (2 ^ m)) 0 (least_up_to len (λ m. nat_le len (2 ^ m)))
 least_power-found len =
     let high : len ≤ 2 ^ len = omega (arith, lt-pow_self 2 len (omega arith)) in
     let passing : leb len (2 ^ len) ≡ true = grind (arith, nat_tests, high) in
     IsLeast-least_from (λ m. nat_le len (2 ^ m)) 0 len len (omega arith) (omega arith) passing
+
+pub least_power-power : (len : ℕ) → (k : ℕ) × (least_power len ≡ 2 ^ k)
+unfolding least_power
+least_power-power len = (least_up_to len (λ k. nat_le len (2 ^ k)), refl)
 
 pub least_power-above : (len : ℕ) → len ≤ least_power len
 unfolding least_power
@@ -120,8 +131,8 @@ fan-digests s one = slot_count-fits (digest_len s) s.hash_block (digest_len_of-p
 
 -- dm-verity's slots: the least power of two that is not below the digest
 pub slot-power : (s : TreeSettingsFields) → s.rule ≡ Before → (k : ℕ) × (slot_width s ≡ 2 ^ k)
-unfolding slot_width least_power
-slot-power s before = rw before (least_up_to (digest_len s) (λ k. nat_le (digest_len s) (2 ^ k)), refl)
+unfolding slot_width
+slot-power s before = rw before (least_power-power (digest_len s))
 
 pub slot-least : (s : TreeSettingsFields) → s.rule ≡ Before → slot_width s < 2 * digest_len s
 unfolding slot_width
@@ -135,3 +146,50 @@ slot-after s after = rw after refl
 pub slot-same : (s : TreeSettingsFields) → s.rule ≡ PaddedBefore → slot_width s ≡ digest_len s
 unfolding slot_width
 slot-same s padded = rw padded refl
+
+-- a hash block has no more slots than bytes
+pub fan-most : (s : TreeSettingsFields) → IsValid s → fan s ≤ 524288
+fan-most s valid =
+    let some : 1 ≤ digest_len s = digest_len_of-pos s.algorithm in
+    omega (arith, fan-digests s (omega (arith, two_slots s valid)), mul-le-mul_left (fan s) some, hash_most s valid)
+
+-- the fan-out by the exponents of a hash block and of the least power of two that holds a digest
+pub record ByExponents (s : TreeSettingsFields) (block slot : ℕ) : Type 0 where
+  pub within : slot ≤ block
+  pub fan_is : fan s ≡ 2 ^ (block - slot)
+
+pub fan-exponents : (s : TreeSettingsFields) (block slot : ℕ) → IsValid s → 2 ^ block ≤ s.hash_block
+    → s.hash_block < 2 * 2 ^ block → 2 ^ slot ≤ least_power (digest_len s) → least_power (digest_len s) < 2 * 2 ^ slot
+    → ByExponents s block slot
+unfolding fan
+fan-exponents s block slot valid block_low block_high slot_low slot_high =
+    let len = digest_len s in
+    let some : 0 < len = digest_len_of-pos s.algorithm in
+    let room = two_slots s valid in
+    let size : s.hash_block ≡ 2 ^ block =
+    power_of_two-exponent s.hash_block block (omega (arith, some, room)) (block_power _ s.hash_block valid.hash_size)
+    block_low block_high in
+    let least = least_power-power len in
+    let above = least_power-above len in
+    let width : least_power len ≡ 2 ^ slot =
+    least.1 ∙ ap (λ (n : ℕ). 2 ^ n)
+    (sym (exponent-is (least_power len) least.0 slot least.1 (omega (arith, some, above)) slot_low slot_high)) in
+    let half = least_power-half len some in
+    let within : slot ≤ block = elim (cases_lt block slot) [
+      | inl past ↦
+          let more : 2 ^ block ≤ 2 ^ slot = pow-le-pow_right (let two : 0 < 2 = omega arith in two) (omega (arith, past)) in
+          absurd (omega (arith, more, size, width, half, room))
+      | inr le ↦ le
+    ] in
+    let parts : 2 ^ block ≡ 2 ^ (block - slot) * 2 ^ slot =
+    ap (λ (n : ℕ). 2 ^ n) (let e : block ≡ block - slot + slot = omega (arith, within) in e) ∙ pow-add 2 (block - slot) slot in
+    let slots : s.hash_block ≡ 2 ^ (block - slot) * least_power len =
+    size ∙ parts ∙ ap (λ (n : ℕ). 2 ^ (block - slot) * n) (sym width) in
+    let low : 2 ^ (block - slot) * len ≤ s.hash_block = omega (arith, slots, mul-le-mul_left (2 ^ (block - slot)) above) in
+    let next : least_power len + 1 ≤ 2 * len = omega (arith, half) in
+    let high : s.hash_block < 2 * 2 ^ (block - slot) * len =
+    omega (arith, slots, mul-le-mul_left (2 ^ (block - slot)) next, pow_pos (block - slot)) in
+    record {
+      within = within;
+      fan_is = slot_count-between len s.hash_block (block - slot) some low high;
+    }

@@ -16,14 +16,13 @@ use verity_plan::{Plan, TreeSettings};
 const MOST_BYTES: u32 = 524_288;
 
 /// The number of data blocks of the window.
-#[tactic(auto, unfolding(crate::specs::Windows::window_blocks))]
 fn window_blocks(settings: &TreeSettings) -> usize
     ensures value { result ≡ window_blocks settings.now }
     ensures some { 0 < result }
     ensures most { result ≤ 8 }
     ensures room { result * settings.now.data_block ≤ 524288 }
 {
-    let room = MOST_BYTES / settings.data_block();
+    let room = MOST_BYTES >> settings.data_block().ilog2();
     ROWS.min(room as usize).min(settings.fan())
 }
 
@@ -113,10 +112,15 @@ pub(crate) fn take_short_piece(window: &mut [u8], count: u64, piece: &[u8]) -> b
         → HasFed s levels fed opened window.old → HasFed s levels (fed ++ piece.now) opened window.new }
 {
     let wide = window.len();
-    if wide == 0 || piece.is_empty() || count.saturating_add(piece.len() as u64) > SMALL_FILE {
+    if !wide.is_power_of_two() || piece.is_empty() {
         return false;
     }
-    let at = (count % wide as u64) as usize;
+    if count.saturating_add(piece.len() as u64) > SMALL_FILE {
+        return false;
+    }
+    // A window's length is a power of two: shifts do it, in a fraction of the time that a division takes.
+    let power = wide.ilog2();
+    let at = (count - (count >> power << power)) as usize;
     if at == 0 || piece.len() > wide - at {
         return false;
     }

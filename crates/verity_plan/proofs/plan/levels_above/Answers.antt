@@ -1,4 +1,4 @@
-use Rattle.std.proofs.Common.{◌≡◌, ℕ, ◌+◌, ◌-◌, ◌/◌, ◌^◌, ◌<◌, ◌≤◌, arith, sym, ◌∙◌, ap}
+use Rattle.std.proofs.Common.{◌≡◌, ℕ, ◌+◌, ◌-◌, ◌/◌, ◌^◌, ◌<◌, arith, sym, ◌∙◌, ap}
 use Rattle.std.specs.Int.{div_ceil}
 use Rattle.verity_plan.proofs.FanLemmas.{exponent-is}
 use Rattle.verity_plan.specs.Plans.{level_count, blocks_from}

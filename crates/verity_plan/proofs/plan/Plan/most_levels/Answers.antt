@@ -3,8 +3,8 @@ use Rattle.std.proofs.Math.Nat.{div-le_self}
 use Rattle.verity_io.specs.Writing.{most_bytes}
 use Rattle.verity_plan.specs.Plans.{level_count}
 use Rattle.verity_plan.specs.Settings.{IsValid, TreeSettingsFields}
-use Rattle.verity_plan.proofs.FanLemmas.{block_power, exponent-is, fan-power, some_data}
-use Rattle.verity_plan.proofs.FitLemmas.{power_of_two-is}
+use Rattle.verity_plan.proofs.FanLemmas.{block_power, fan-power, some_data}
+use Rattle.verity_plan.proofs.FitLemmas.{power_of_two-exponent}
 use Rattle.verity_plan.proofs.PlanLemmas.{level_count-few}
 use Rattle.verity_plan.proofs.plan.Plan.most_levels.Goals as goal
 
@@ -12,11 +12,9 @@ use Rattle.verity_plan.proofs.plan.Plan.most_levels.Goals as goal
 largest-is : (s : TreeSettingsFields) (size log : ℕ) → IsValid s → size ≡ s.data_block → 2 ^ log ≤ size
     → size < 2 * 2 ^ log → most_bytes / 2 ^ log ≡ most_bytes / s.data_block
 largest-is s size log valid same low high =
-    let some = some_data s valid in
-    let power = power_of_two-is s.data_block some (block_power _ s.data_block valid.data_size) in
-    let is : log ≡ power.0 =
-    exponent-is s.data_block power.0 log power.1 some (omega (arith, low, same)) (omega (arith, high, same)) in
-    ap (λ (n : ℕ). most_bytes / n) (ap (λ (n : ℕ). 2 ^ n) is ∙ sym power.1)
+    ap (λ (n : ℕ). most_bytes / n)
+    (sym (power_of_two-exponent s.data_block log (some_data s valid) (block_power _ s.data_block valid.data_size)
+    (omega (arith, low, same)) (omega (arith, high, same))))
 
 pub returns-clause-value : goal.returns-clause-value
 returns-clause-value c =

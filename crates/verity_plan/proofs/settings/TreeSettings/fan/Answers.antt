@@ -1,20 +1,50 @@
-use Rattle.std.proofs.Common.{ℕ, ◌≤◌, ◌*◌, sym, ◌∙◌, ap, subst}
+use Rattle.std.proofs.Common.{◌≡◌, ℕ, ◌≤◌, ◌-◌, arith, sym, ◌∙◌, ap, subst}
 use Rattle.std.proofs.lemmas.Nat.{one_shl}
-use Rattle.verity_plan.specs.Settings.{TreeSettingsFields, fan, slot_width, slot_count}
-use Rattle.verity_plan.proofs.FitLemmas.{fan-fits}
-use Rattle.verity_plan.proofs.FanLemmas.{slot_count-quotient}
+use Rattle.verity_plan.specs.Settings.{IsValid, TreeSettingsFields, digest_len, least_power, most_block}
+use Rattle.verity_plan.proofs.FitLemmas.{ByExponents, fan-exponents, fan-fits, fan-most, least_power-above}
+use Rattle.verity_plan.proofs.FanLemmas.{digest_len_of-pos, fan-two}
 use Rattle.verity_plan.proofs.settings.TreeSettings.fan.Goals as goal
+use Rattle.verity_plan.proofs.settings.TreeSettings.fan.Goals.{After-ilog2-slot}
+
+pub ilog2-slot-requires : goal.ilog2-slot-requires
+ilog2-slot-requires c = omega (
+  arith,
+  c.least_power.ensures.value,
+  least_power-above c.digest_len.result,
+  c.digest_len.ensures,
+  digest_len_of-pos c.self.inside.algorithm,
+)
+
+-- the exponents are those of the hash block and of the least power of two that holds a digest
+exponents : (c : After-ilog2-slot) → ByExponents c.args.self.now c.ilog2-block.result c.ilog2-slot.result
+exponents c =
+    let s = c.args.self.now in
+    let valid = subst (λ (t : TreeSettingsFields). IsValid t) c.self.view_is c.self.invariant in
+    let size : c.self.inside.hash_block ≡ s.hash_block = ap (λ (t : TreeSettingsFields). t.hash_block) c.self.view_is in
+    let width : c.least_power.result ≡ least_power (digest_len s) =
+    c.least_power.ensures.value
+    ∙ ap least_power (c.digest_len.ensures ∙ ap (λ (t : TreeSettingsFields). digest_len t) c.self.view_is) in
+    fan-exponents s c.ilog2-block.result c.ilog2-slot.result valid
+    (omega (arith, size, c.ilog2-block.ensures.power_le)) (omega (arith, size, c.ilog2-block.ensures.next_power_gt))
+    (omega (arith, width, c.ilog2-slot.ensures.power_le)) (omega (arith, width, c.ilog2-slot.ensures.next_power_gt))
+
+pub overflow_sub-result : goal.overflow_sub-result
+overflow_sub-result c = (exponents (goal.at.overflow_sub-result c).After-ilog2-slot).within
 
 pub returns-clause-value : goal.returns-clause-value
-unfolding fan
 returns-clause-value c =
-    let size = c.self.inside.hash_block in
-    one_shl c.ilog2.result 64 c.ilog2.ensures.bound
-    ∙ sym (slot_count-quotient c.digest_len.result size c.ilog2.result c.ilog2.ensures.power_le
-    c.ilog2.ensures.next_power_gt)
-    ∙ ap (λ (len : ℕ). slot_count len size) c.digest_len.ensures
-    ∙ ap fan c.self.view_is
+    one_shl (c.ilog2-block.result - c.ilog2-slot.result) 64 (omega (arith, c.ilog2-block.ensures.bound))
+    ∙ sym (exponents (goal.at.returns-clause-value c).After-ilog2-slot).fan_is
+
+pub returns-clause-two : goal.returns-clause-two
+returns-clause-two c =
+    subst (λ (n : ℕ). 2 ≤ n) (sym (returns-clause-value c))
+    (fan-two _ (subst (λ (t : TreeSettingsFields). IsValid t) c.self.view_is c.self.invariant))
+
+pub returns-clause-most : goal.returns-clause-most
+returns-clause-most c =
+    subst (λ (n : ℕ). n ≤ most_block) (sym (returns-clause-value c))
+    (fan-most _ (subst (λ (t : TreeSettingsFields). IsValid t) c.self.view_is c.self.invariant))
 
 pub returns-clause-fits : goal.returns-clause-fits
-returns-clause-fits c = let view = c.self.view_is in subst (λ (s : TreeSettingsFields). fan s * slot_width s ≤ s.hash_block) view
-    (fan-fits _ c.self.invariant)
+returns-clause-fits c = fan-fits _ (subst (λ (t : TreeSettingsFields). IsValid t) c.self.view_is c.self.invariant)
