@@ -5,13 +5,6 @@ use Rattle.verity_hash.specs.Hashing.{with_zeros}
 use Rattle.verity_tree.proofs.DataBlockLemmas.{data-next, failed-within, short-within}
 use Rattle.verity_tree.proofs.pass.batches.read_row.Goals as goal
 
--- how many bytes of the data block there are
-data-len : (wanted i len d result size wide : ℕ) → wanted ≡ result → size ≡ d → wide ≡ d
-    → len ≡ min (result - i * size) wide → len ≡ min (wanted - i * d) d
-data-len wanted i len d result size wide all same row is =
-    is ∙ ap (λ (n : ℕ). min (n - i * size) wide) (sym all) ∙ ap (λ (n : ℕ). min (wanted - i * n) wide) same
-    ∙ ap (λ (n : ℕ). min (wanted - i * d) n) row
-
 -- the bytes that were read, and zeros up to the row's end
 row-filled : (n d : ℕ) (buf row zeros before : List ℕ) → n ≤ length row → length row ≡ d → length buf ≡ n
     → buf ≡ take n before
@@ -22,22 +15,16 @@ row-filled n d buf row zeros before fits wide long is filled =
     let k = length xs - n in
     let size : length xs ≡ d =
     omega (arith, length-append buf (drop n row), length-drop n row, long, wide, fits) in
-    let rest : length (drop n xs) ≡ k = length-drop n xs in
-    let left : zeros ≡ replicate (d - n) 0 =
-    filled
-    ∙ ap (λ (m : ℕ). replicate m 0) (length-take-le k (drop n xs) (omega (arith, rest)))
-    ∙ ap (λ (m : ℕ). replicate (m - n) 0) size in
-    ap (λ (ys : List ℕ). ys ++ (zeros ++ drop k (drop n xs))) (take_at buf (drop n row) n long)
-    ∙ ap (λ (ys : List ℕ). buf ++ (zeros ++ ys)) (drop_all k (drop n xs) (omega (arith, rest)))
-    ∙ ap (λ (ys : List ℕ). buf ++ ys) (append-nil zeros ∙ left)
-    ∙ ap (λ (m : ℕ). buf ++ replicate (d - m) 0) (sym long)
-    ∙ ap (with_zeros d) is
+    let rest = length-take-le k (drop n xs) (omega (arith, length-drop n xs)) in
+    let front = take_at buf (drop n row) n long in
+    let none = drop_all k (drop n xs) (omega (arith, length-drop n xs)) in
+    let end = append-nil zeros in
+    cc
 
 pub returns-else-count-data_len-clause-read : goal.returns-else-count-data_len-clause-read
 returns-else-count-data_len-clause-read g c = λ tells bytes read_before.
     let p = c.args.plan.now in
-    let w = data-len p.wanted c.args.i c.min-data_len.result p.settings.data_block c.wanted.result c.data_block.result
-    (length c.args.row.now) (sym c.wanted.ensures.value) c.data_block.ensures c.requires.room c.min-data_len.ensures in
+    let w : c.min-data_len.result ≡ min (p.wanted - c.args.i * p.settings.data_block) p.settings.data_block = cc in
     let fits : c.min-data_len.result ≤ length c.args.row.now = omega (arith, c.min-data_len.ensures) in
     let long : length c.read_block.new.buf ≡ c.min-data_len.result =
     c.read_block.auto.buf ∙ length-take-le c.min-data_len.result c.args.row.now fits in
@@ -58,8 +45,7 @@ returns-else-count-data_len-clause-read g c = λ tells bytes read_before.
 pub returns-then-count-data_len-clause-read : goal.returns-then-count-data_len-clause-read
 returns-then-count-data_len-clause-read g c = λ tells bytes read_before.
     let p = c.args.plan.now in
-    let w = data-len p.wanted c.args.i c.min-data_len.result p.settings.data_block c.wanted.result c.data_block.result
-    (length c.args.row.now) (sym c.wanted.ensures.value) c.data_block.ensures c.requires.room c.min-data_len.ensures in
+    let w : c.min-data_len.result ≡ min (p.wanted - c.args.i * p.settings.data_block) p.settings.data_block = cc in
     let count = c.in-Ok.count in
     let buf = c.read_block.new.buf in
     let after = g.S.Source.remaining c.read_block.new.source in
@@ -80,8 +66,7 @@ returns-then-count-data_len-clause-read g c = λ tells bytes read_before.
 pub returns-in-Err-clause-read : goal.returns-in-Err-clause-read
 returns-in-Err-clause-read g c = λ tells bytes read_before.
     let p = c.args.plan.now in
-    let w = data-len p.wanted c.args.i c.min-data_len.result p.settings.data_block c.wanted.result c.data_block.result
-    (length c.args.row.now) (sym c.wanted.ensures.value) c.data_block.ensures c.requires.room c.min-data_len.ensures in
+    let w : c.min-data_len.result ≡ min (p.wanted - c.args.i * p.settings.data_block) p.settings.data_block = cc in
     let stop = c.in-Err.ensures.bytes tells in
     failed-within p c.wanted.ensures.planned c.args.i c.min-data_len.result bytes (g.S.Source.remaining c.args.source.now)
     (g.S.Source.remaining c.read_block.new.source) stop.0 c.requires.below w read_before

@@ -1,11 +1,10 @@
 -- How many data blocks are read together.
 use Rattle.std.proofs.Common.{◌≡◌, ◌+◌, ◌-◌, ◌*◌, ◌/◌, ◌%◌, ◌<◌, ◌≤◌, ℕ, arith, ap}
-use Rattle.std.proofs.lemmas.Nat.{div-add-mod', mod_below}
+use Rattle.std.proofs.lemmas.Nat.{div-add-mod', le-div, mod_below}
 use Rattle.verity_plan.specs.Settings.{fan}
 use Rattle.verity_plan.proofs.CountLemmas.{mul_le}
 use Rattle.verity_plan.proofs.FanLemmas.{some_data}
 use Rattle.verity_tree.proofs.BatchLemmas.{none_closes-batch}
-use Rattle.verity_tree.proofs.DataBlockLemmas.{le-div}
 use Rattle.verity_tree.proofs.pass.batches.rows_from.Goals as goal
 
 pub returns-clause-batch : goal.returns-clause-batch

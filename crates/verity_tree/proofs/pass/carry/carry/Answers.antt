@@ -1,4 +1,4 @@
-use Rattle.std.proofs.Common.{List, ap, arith, refl, subst, sym, true, ℕ, ◌*◌, ◌+◌, ◌++◌, ◌∷◌, [], ◌/◌, ◌^◌}
+use Rattle.std.proofs.Common.{List, ap, arith, refl, subst, sym, true, ℕ, ◌+◌, ◌++◌, ◌∷◌, [], ◌/◌, ◌^◌}
 use Rattle.std.proofs.Common.{◌<◌, ◌∙◌, ◌≡◌, ◌≤◌, append_assoc}
 use Rattle.verity_plan.specs.Plans.{level_count}
 use Rattle.verity_plan.specs.PlanCounts.{level_count_of}
@@ -8,8 +8,7 @@ use Rattle.verity_tree.specs.ClosingOrder.{BlockIndex, block_index, closes, firs
 use Rattle.verity_tree.specs.Steps.OpenBlocks.{IsCarrying, carry_state}
 use Rattle.verity_tree.specs.TreeOnDevice.{tree_block}
 use Rattle.verity_tree.proofs.ClosingLemmas.{closes-closed, closing-below, closing-done, closing-kept}
-use Rattle.verity_tree.proofs.ClosedLevelLemmas.{part-is_chunk}
-use Rattle.verity_tree.proofs.OpenBlockSteps.{carry-all}
+use Rattle.verity_tree.proofs.OpenBlockSteps.{carry-all, part-is_run}
 use Rattle.verity_tree.proofs.OrderSplit.{first_closing-more}
 use Rattle.verity_tree.proofs.pass.carry.carry.Goals as goal
 
@@ -53,7 +52,6 @@ returns-in-Err-clause-carries g c = λ blocks many first stands.
     let s = p.settings in
     let m = c.loop-level.level in
     let inv = c.loop-level.invariant in
-    let size : c.hash_block-size.result ≡ s.hash_block = c.hash_block-size.ensures in
     let inside : m < level_count_of p = omega (arith, c.loop-level-test.true, c.levels-level-end.ensures) in
     let closed = c.if-not-add_digest.ensures.adds blocks (level_count_of p) many inside
     (omega (arith, c.requires.room, inv.long)) (inv.carries blocks many first stands) in
@@ -69,7 +67,7 @@ returns-in-Err-clause-carries g c = λ blocks many first stands.
       leaves = λ tells done start before. tt;
       stops = λ tells done start before.
           c.in-Err.ensures.stops (inv.told tells) blocks (done ++ first_closing (fan s) c.args.i m) start many
-          (part-is_chunk s.hash_block m _ _ c.add_digest.new.opened (ap (λ (n : ℕ). m * n) size) (omega (arith, size))
+          (part-is_run s.hash_block m _ c.add_digest.new.opened c.hash_block-size.ensures
           ∙ closed.stands ∙ ap (tree_block s blocks m) (sym c.index_above-block.ensures))
           (inv.closed tells blocks done start many first stands before);
     }
@@ -81,7 +79,6 @@ loop-level-preserved g c =
     let m = c.loop-level.level in
     let levels = level_count_of p in
     let inv = c.loop-level.invariant in
-    let size : c.hash_block-size.result ≡ s.hash_block = c.hash_block-size.ensures in
     let inside : m + 1 ≤ levels = omega (arith, c.loop-level-test.true, c.levels-level-end.ensures) in
     record {
       size = c.close_block-current.ensures.size;
@@ -105,7 +102,7 @@ loop-level-preserved g c =
           subst (λ (xs : List BlockIndex). g.C.OnClosed.leaves p blocks xs start
           (g.D.Device.content c.take.new.device)) more
           (c.in-Ok.ensures.leaves (inv.told tells) blocks (done ++ first_closing (fan s) c.args.i m) start many
-          (part-is_chunk s.hash_block m _ _ c.add_digest.new.opened (ap (λ (n : ℕ). m * n) size) (omega (arith, size))
+          (part-is_run s.hash_block m _ c.add_digest.new.opened c.hash_block-size.ensures
           ∙ closed.stands ∙ ap (tree_block s blocks m) (sym c.index_above-block.ensures))
           (inv.closed tells blocks done start many first stands before));
     }
