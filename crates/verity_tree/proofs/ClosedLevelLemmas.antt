@@ -1,10 +1,9 @@
 -- A digest that comes to the open block of its level, and a hash block that has closed and still stands there.
-use Rattle.std.proofs.Common.{◌≡◌, ℕ, suc, ◌+◌, ◌-◌, ◌*◌, ◌/◌, ◌%◌, ◌^◌, ◌<◌, ◌≤◌, ◌⊎◌, Bool, true, false, List}
+use Rattle.std.proofs.Common.{◌≡◌, ℕ, zero, suc, ◌+◌, ◌-◌, ◌*◌, ◌/◌, ◌%◌, ◌^◌, ◌<◌, ◌≤◌, ◌⊎◌, Bool, true, false, List}
 use Rattle.std.proofs.Common.{◌++◌, take, drop, length, replicate, arith, sym, ◌∙◌, ap, subst, inl, inr, refl}
-use Rattle.std.proofs.lemmas.Bool.{cases_lt}
-use Rattle.std.proofs.lemmas.Nat.{div-add-mod', div-mul-add, mod-mul-add, mod_below}
+use Rattle.std.proofs.lemmas.Nat.{div-add-mod', mod_below}
 use Rattle.std.proofs.lemmas.List.{length-replicate}
-use Rattle.std.proofs.Math.Nat.{one-le-pow, pow-suc, pow-zero}
+use Rattle.std.proofs.Math.Nat.{div-eq_of_eq-mul_left, mul-mod_left, one-le-pow, pow-suc, pow-zero}
 use Rattle.verity_plan.specs.Plans.{level_count}
 use Rattle.verity_plan.specs.Settings.{TreeSettingsFields, hash, fan, slot_width}
 use Rattle.verity_plan.proofs.CountLemmas.{IsLevelCount-level_count}
@@ -20,21 +19,15 @@ use Rattle.verity_tree.proofs.QuotientLemmas.{IsReached-full, quotient-reached, 
 use Rattle.verity_tree.specs.Steps.OpenBlocks.{Adds, HasClosed}
 use Rattle.verity_tree.proofs.OpenBlockSteps.{open_block_with}
 
+-- a power above 1 has an exponent
+some-exponent : (f k : ℕ) → 1 < f ^ k → 0 < k
+some-exponent f zero more = omega (arith, pow-zero f)
+some-exponent f (suc k) more = omega arith
+
 -- above two data blocks or more there is a level
 pub some-level : (f n : ℕ) → 2 ≤ f → 1 < n → 0 < level_count f n
 some-level f n two more =
-    elim (cases_lt 0 (level_count f n)) [
-      | inl some ↦ some
-      | inr none ↦
-          let zero_levels : level_count f n ≡ 0 = omega (arith, none) in
-          absurd (omega (
-            arith,
-            (IsLevelCount-level_count f n two).enough,
-            ap (λ (l : ℕ). f ^ l) zero_levels,
-            pow-zero f,
-            more,
-          ))
-    ]
+    some-exponent f (level_count f n) (omega (arith, (IsLevelCount-level_count f n two).enough, more))
 
 -- after the last place below a block comes the first below the next one
 next-first : (f i m : ℕ) → 0 < f → IsReached f i (m + 1) → (i + 1) / f ^ m % f ≡ 0
@@ -42,10 +35,8 @@ next-first f i m some h =
     let k = i / f ^ (m + 1) + 1 in
     let e : m + 1 ≡ suc m = omega arith in
     let power : f ^ (m + 1) ≡ f ^ m * f = ap (λ (n : ℕ). f ^ n) e ∙ pow-suc f m in
-    let whole : i + 1 ≡ k * f * f ^ m + 0 = omega (arith, h.whole, ap (λ (n : ℕ). k * n) power) in
-    let quotient = div-mul-add (k * f) (f ^ m) 0 (one-le-pow m f some) in
-    let start : (i + 1) / f ^ m ≡ k * f + 0 = ap (λ (x : ℕ). x / f ^ m) whole ∙ omega (arith, quotient) in
-    ap (λ (x : ℕ). x % f) start ∙ mod-mul-add k f 0 some
+    let whole : i + 1 ≡ k * f * f ^ m = omega (arith, h.whole, ap (λ (n : ℕ). k * n) power) in
+    ap (λ (x : ℕ). x % f) (div-eq_of_eq-mul_left (one-le-pow m f some) whole) ∙ mul-mod_left k f
 
 -- a data block that fills a block of level 0 is the last below it
 full-first : (f i : ℕ) → IsReached f i 1 → i % f + 1 ≡ f
@@ -79,8 +70,8 @@ Adds-written s blocks i m levels false store after digest below inside h written
     let stands : open_block_with s (digests_under s blocks m) (i / f ^ m)
     ≡ open_block s (digests_under s blocks m) ((i + 1) / f ^ m) = cc in (
       free.1,
-      HasOpenBlocks-written s blocks 0 levels (i + 1) m store _ after written stands (λ l low high apart. elim apart [
-        | inl before ↦ h.below free.1 l low before
+      HasOpenBlocks-written s blocks levels (i + 1) written stands (λ l high apart. elim apart [
+        | inl before ↦ h.below free.1 l (omega arith) before
         | inr past ↦ h.above l (omega (arith, past)) high
             ∙ ap (open_block s (digests_under s blocks l)) (sym (quotient-stays f i m l (fan-some s) reached free.0 past))
       ]),
@@ -125,10 +116,10 @@ IsCarrying-up s blocks i m levels n store zeros digest en room none is h =
       below = λ more.
           let q = (i + 1) / f ^ m in
           let empty : q % f ≡ 0 = next-first f i m (fan-some s) (h.reached more) in
-          HasOpenBlocks-written s blocks 0 (m + 1) (i + 1) m store zeros (with_part store m n zeros) written
+          HasOpenBlocks-written s blocks (m + 1) (i + 1) written
           (all ∙ sym (hash_block_of-none s (q / f * f) digests)
           ∙ ap (λ (k : ℕ). hash_block_of s (take k (drop (q / f * f) digests))) (sym empty))
-          (λ l low high apart. h.below more l low (elim apart [ inl before ↦ before | inr past ↦ absurd (omega arith) ]));
+          (λ l high apart. h.below more l (omega arith) (omega arith));
       digest_is = is ∙ ap (hash s) (part-is_run size m n store en ∙ h.stands);
     }
 
@@ -165,8 +156,8 @@ IsAsking-up s blocks first i m levels index start f w n store block after digest
     let cleared : after ≡ open_block s digests q = cc in
     let written = IsWritten-part s.hash_block m n store after en room (long ∙ size) in
     record {
-      below = HasOpenBlocks-written s blocks 0 (m + 1) first m store after (with_part store m n after) written cleared
-          (λ l low high apart. h.below l low (elim apart [ inl before ↦ before | inr past ↦ absurd (omega arith) ]));
+      below = HasOpenBlocks-written s blocks (m + 1) first written cleared
+          (λ l high apart. h.below l (omega arith) (omega arith));
       above = λ l low high. written.others l (inr (omega (arith, low))) ∙ h.above l (omega (arith, low)) high;
       digest_is = above_is ∙ ap (hash s) (closes ∙ sym (level_digest-next s blocks i m below (inr last)));
     }

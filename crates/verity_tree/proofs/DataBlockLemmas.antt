@@ -1,6 +1,6 @@
 -- One data block read from the source.
 use Rattle.std.proofs.Common.{List, [], ap, arith, drop, false, inl, inr, length, length-drop}
-use Rattle.std.proofs.Common.{min, refl, sym, take, true, ℕ, ◌*◌, ◌+◌, ◌-◌, ◌<◌, ◌∙◌, ◌++◌, length-append}
+use Rattle.std.proofs.Common.{min, refl, sym, take, true, ℕ, ◌*◌, ◌+◌, ◌-◌, ◌/◌, ◌<◌, ◌∙◌, ◌++◌, length-append}
 use Rattle.std.proofs.Common.{◌≡◌, ◌≤◌}
 use Rattle.std.proofs.lemmas.Bool.{cases_lt}
 use Rattle.std.proofs.lemmas.List.{take_all, take-take, drop_at, drop-take, drop-drop, length-take}
@@ -104,15 +104,18 @@ pub whole_blocks-all : (p : PlanFields) (bytes : List ℕ) → p.wanted ≤ leng
 whole_blocks-all p bytes enough =
     let tested : nat_le p.wanted (length bytes) ≡ true = grind (arith, nat_tests, enough) in rw tested refl
 
+-- bytes that hold less hold the blocks that fit
+whole_blocks-less : (p : PlanFields) (bytes : List ℕ) → length bytes < p.wanted
+    → whole_blocks p bytes ≡ length bytes / p.settings.data_block
+whole_blocks-less p bytes less =
+    let tested : nat_le p.wanted (length bytes) ≡ false = grind (arith, nat_tests, less) in rw tested refl
+
 -- bytes that end within block i hold i blocks
 pub whole-short : (p : PlanFields) (i : ℕ) (bytes : List ℕ) → bytes_of p i ≤ length bytes
     → length bytes < bytes_of p (i + 1) → whole_blocks p bytes ≡ i
 whole-short p i bytes enough short =
-    let less : length bytes < p.wanted = omega (arith, short) in
-    let tested : nat_le p.wanted (length bytes) ≡ false = grind (arith, nat_tests, less) in
-    let from : i * p.settings.data_block ≤ length bytes = omega (arith, enough, less) in
-    let to : length bytes < (i + 1) * p.settings.data_block = omega (arith, short) in
-    rw tested (div-eq_of_lt-le p.settings.data_block from to)
+    whole_blocks-less p bytes (omega (arith, short))
+    ∙ div-eq_of_lt-le p.settings.data_block (omega (arith, enough, short)) (omega (arith, short))
 
 -- bytes of which i blocks were read hold at least i blocks
 pub whole_blocks-above : (p : PlanFields) → IsPlan p → (i : ℕ) (bytes : List ℕ) → i ≤ p.blocks
@@ -120,9 +123,8 @@ pub whole_blocks-above : (p : PlanFields) → IsPlan p → (i : ℕ) (bytes : Li
     → i ≤ whole_blocks p bytes
 whole_blocks-above p planned i bytes within enough = elim (cases_lt (length bytes) p.wanted) [
   | inl less ↦
-      let tested : nat_le p.wanted (length bytes) ≡ false = grind (arith, nat_tests, less) in
-      let from : i * p.settings.data_block ≤ length bytes = omega (arith, enough, less) in
-      rw tested (le-div i (length bytes) p.settings.data_block (some_data p.settings planned.valid) from)
+      let fits = le-div i (length bytes) p.settings.data_block (some_data p.settings planned.valid) (omega arith) in
+      omega (arith, whole_blocks-less p bytes less, fits)
   | inr all ↦ omega (arith, whole_blocks-all p bytes all, within)
 ]
 

@@ -1,7 +1,7 @@
 -- What the open blocks hold after some whole data blocks depends on these alone.
 use Rattle.std.proofs.Common.{◌≡◌, ℕ, zero, suc, ◌+◌, ◌-◌, ◌*◌, ◌/◌, ◌%◌, ◌^◌, ◌<◌, ◌≤◌, List, [], ◌++◌, get_or, drop, take, length}
 use Rattle.std.proofs.Common.{replicate, map, arith, sym, ◌∙◌, ap, subst, length-drop}
-use Rattle.std.proofs.lemmas.List.{length-map, length-take, length-take-le, get_or-take, take-map}
+use Rattle.std.proofs.lemmas.List.{length-map, length-take-le, get_or-take, take-map}
 use Rattle.std.proofs.lemmas.List.{append-nil, drop-take, ext_get_or, take-append-le, take-take}
 use Rattle.std.proofs.lemmas.List.FromFn.{fill_by_all, get_or-map-range_with_len, take-map-range_with_len}
 use Rattle.std.proofs.lemmas.Nat.{div-add-mod'}
@@ -46,7 +46,7 @@ pack-front s digests k some within =
     ∙ sym (fill_by_all (λ j. hash_block_of s (slice_chunk digests f j)) (pack s front) k [] count (λ j low.
     get_or-pack s front j (omega (arith, low, count, length-pack s front))
     ∙ ap (hash_block_of s)
-    (run-of_front front digests f j (take-take (j * f + f) (k * f) digests (omega (arith, mul_le (j + 1) k f low))))))
+    (run-of_front front digests f j (take-take (j * f + f) (k * f) digests (omega (arith, mul_le (j + 1) k f (omega (arith, low))))))))
 
 -- the blocks of a level that stand above whole data blocks are those of these data blocks alone
 blocks_up-front : (s : TreeSettingsFields) (xs : List (List ℕ)) (l k : ℕ) → 0 < fan s → k * fan s ^ l ≤ length xs
@@ -128,7 +128,7 @@ open-same p n fed planned enough most l =
     let front : first_blocks s n fed ≡ take n (data_blocks p fed) =
     ext_get_or [] _ _ (count ∙ sym (length-take-le n (data_blocks p fed) many)) (λ k low.
     let below : k < n = omega (arith, low, count) in
-    let room : k * size + size ≤ n * size = omega (arith, mul_le (k + 1) n size below) in
+    let room : k * size + size ≤ n * size = omega (arith, mul_le (k + 1) n size (omega (arith, below))) in
     cut-block s n (n * size) k fed below room (omega (arith, room, enough))
     ∙ sym (get_or-take n (data_blocks p fed) k [] below
     ∙ cut-block s p.blocks p.wanted k fed (omega (arith, below, few)) (omega (arith, room, enough, most))

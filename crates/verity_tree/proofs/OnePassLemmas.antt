@@ -1,15 +1,14 @@
 -- The loop over the data blocks.
-use Rattle.std.proofs.Common.{List, [], ap, append_assoc, arith, drop, length, refl, replicate, subst, sym, take, ℕ}
-use Rattle.std.proofs.Common.{◌%◌, ◌*◌, ◌++◌, ◌+◌, ◌-◌, ◌/◌, ◌<◌, ◌^◌, ◌∙◌, ◌∷◌, ◌≡◌, ◌≤◌}
+use Rattle.std.proofs.Common.{List, [], ap, append_assoc, arith, length, refl, replicate, ℕ}
+use Rattle.std.proofs.Common.{◌*◌, ◌++◌, ◌+◌, ◌-◌, ◌/◌, ◌<◌, ◌^◌, ◌∙◌, ◌∷◌, ◌≡◌, ◌≤◌}
 use Rattle.std.proofs.lemmas.List.{drop-replicate, take-replicate}
-use Rattle.std.proofs.lemmas.Nat.{div-mul-add, mod-mul-add}
 use Rattle.std.proofs.Math.Nat.{zero-div, zero-mod}
 use Rattle.std.proofs.lemmas.List.Elements.{Contains-append_left, Contains-append_right}
-use Rattle.std.specs.Prelude.{Bool, true, false, Contains, Some, None, if◌then◌else◌}
+use Rattle.std.specs.Prelude.{Bool, true, false, Some, None, if◌then◌else◌}
 use Rattle.verity_plan.proofs.CountLemmas.{mul_le}
 use Rattle.verity_plan.specs.Settings.{TreeSettingsFields, fan}
-use Rattle.verity_tree.specs.Levels.{hash_block_of, data_blocks}
-use Rattle.verity_tree.specs.ClosingOrder.{closing_with, closed_after, BlockIndex, ComesNext, block_index, first_closing}
+use Rattle.verity_tree.specs.Levels.{data_blocks}
+use Rattle.verity_tree.specs.ClosingOrder.{closed_after, ComesNext, block_index, first_closing}
 use Rattle.verity_tree.proofs.OrderSplit.{closing-front, closed_after-more, closed_after-prefix}
 use Rattle.verity_tree.specs.Reading.{ReadsUpTo, bytes_of}
 use Rattle.verity_io.specs.Counting.{Counts, TheDevice, TheSource, is_call_of}
@@ -19,7 +18,7 @@ use Rattle.verity_tree.specs.Steps.DataBlocks.{side_of as block_side}
 use Rattle.verity_tree.specs.declared.pass.pass_fault.BlockFault.{BlockFault}
 use Rattle.verity_tree.specs.declared.pass.pass_fault.BlockFault.TheVariants.{Short, Failed}
 use Rattle.verity_plan.specs.Plans.{PlanFields}
-use Rattle.verity_tree.specs.Steps.OpenBlocks.{digests_under, open_block, HasOpenBlocks}
+use Rattle.verity_tree.specs.Steps.OpenBlocks.{digests_under, HasOpenBlocks}
 use Rattle.verity_tree.proofs.OpenBlockSteps.{hash_block_of-none}
 use Rattle.verity_tree.specs.Steps.OnClosed.{stop_side}
 use Rattle.verity_tree.specs.Steps.OnClosed.{Effects}
@@ -91,9 +90,7 @@ stops-next w p bytes stop before after stops =
     let e : p.blocks ≡ stops.i + 1 + (p.blocks - (stops.i + 1)) = omega (arith, stops.below) in
     record {
       rest = stops.next.rest ++ rest.0;
-      in_order = ap (closed_after f p.blocks) e ∙ rest.1
-          ∙ ap (λ (ps : List BlockIndex). ps ++ rest.0) stops.next.in_order
-          ∙ simp append_assoc;
+      in_order = ap (closed_after f p.blocks) e ∙ rest.1 ∙ rw stops.next.in_order (simp append_assoc);
     }
 
 -- a failure at a hash block is none of the source

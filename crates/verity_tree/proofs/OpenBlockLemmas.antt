@@ -117,15 +117,12 @@ open-push s xs q digest room below same =
     let inside : q % f * w + w ≤ s.hash_block =
     omega (arith, mul_le (q % f + 1) f w (omega (arith, mod_below q f (fan-some s))), room) in
     let size : length digest ≤ w = omega (arith, ap length same, length-hash s (get_or xs q []), digest-slot s) in
-    let element : get_or rest (q % f) [] ≡ digest =
-    get_or-drop (q / f * f) digests (q % f) [] ∙ ap (λ (n : ℕ). get_or digests n []) split
-    ∙ get_or-map (hash s) xs q [] [] below ∙ sym same in
-    let pushed : flat_map (slot s) (take (q % f + 1) rest) ≡ slots ++ slot s digest =
-    ap (flat_map (slot s))
-    (take_more rest (q % f) [] here ∙ ap (λ (x : List ℕ). take (q % f) rest ++ x ∷ []) element)
-    ∙ sym (flat_map_more (slot s) [] (take (q % f) rest) digest) in
-    block-more s.hash_block w (q % f * w) slots digest (length-open s xs q below) size inside
-    ∙ ap (with_zeros s.hash_block) (sym pushed)
+    let read = get_or-drop (q / f * f) digests (q % f) [] in
+    let hashed = get_or-map (hash s) xs q [] [] below in
+    let next = take_more rest (q % f) [] here in
+    let joined = flat_map_more (slot s) [] (take (q % f) rest) digest in
+    let put = block-more s.hash_block w (q % f * w) slots digest (length-open s xs q below) size inside in
+    cc
 
 -- a block that is full, or the last, is the block of its run
 pub open-close : (s : TreeSettingsFields) (xs : List (List ℕ)) (q : ℕ) → (q % fan s + 1 ≡ fan s) ⊎ (q + 1 ≡ length xs)

@@ -61,10 +61,9 @@ chunk-other xs ys size m l a k place wide len room apart =
 pub chunk-same : (xs ys : List ℕ) (size m a k : ℕ) → a ≡ m * size → length ys ≡ size → m * size + size ≤ length xs
     → slice_chunk (put_mid a k xs ys) size m ≡ ys
 chunk-same xs ys size m a k place len room =
-    let e : size ≡ m * size + size - a = omega (arith, place) in
-    ap (λ (n : ℕ). take n (drop (m * size) (put_mid a k xs ys))) e
-    ∙ ap (λ (n : ℕ). take (m * size + size - a) (drop n (put_mid a k xs ys))) (sym place)
-    ∙ between-put_mid a k xs ys (m * size + size) (omega (arith, place, room)) (len ∙ e)
+    let wide : m * size + size - a ≡ size = omega (arith, place) in
+    let own = between-put_mid a k xs ys (m * size + size) (omega (arith, place, room)) (omega (arith, place, len)) in
+    cc
 
 -- a part of a store is a run of it
 pub part-is_run : (size m n : ℕ) (store : List ℕ) → n ≡ size → part_at store m n ≡ slice_chunk store size m
@@ -91,15 +90,16 @@ IsWritten-part size m n store block is room len =
     }
 
 -- the open blocks once one of them is written
-pub HasOpenBlocks-written : (s : TreeSettingsFields) (blocks : List (List ℕ)) (from to j m : ℕ) (store block after : List ℕ)
-    → IsWritten s.hash_block m store block after → block ≡ open_block s (digests_under s blocks m) (j / fan s ^ m)
-    → ((l : ℕ) → from ≤ l → l < to → (l < m) ⊎ (m < l)
+pub HasOpenBlocks-written : (s : TreeSettingsFields) (blocks : List (List ℕ)) (levels j : ℕ)
+    {m : ℕ} {store block after : List ℕ} → IsWritten s.hash_block m store block after
+    → block ≡ open_block s (digests_under s blocks m) (j / fan s ^ m)
+    → ((l : ℕ) → l < levels → (l < m) ⊎ (m < l)
     → slice_chunk store s.hash_block l ≡ open_block s (digests_under s blocks l) (j / fan s ^ l))
-    → HasOpenBlocks s blocks from to j after
-HasOpenBlocks-written s blocks from to j m store block after written is rest = λ l low high. elim (cases_lt l m) [
-  | inl before ↦ written.others l (inl before) ∙ rest l low high (inl before)
+    → HasOpenBlocks s blocks 0 levels j after
+HasOpenBlocks-written s blocks levels j {m = m} {after = after} written is rest = λ l low high. elim (cases_lt l m) [
+  | inl before ↦ written.others l (inl before) ∙ rest l high (inl before)
   | inr most ↦ elim (cases_lt m l) [
-    | inl past ↦ written.others l (inr past) ∙ rest l low high (inr past)
+    | inl past ↦ written.others l (inr past) ∙ rest l high (inr past)
     | inr least ↦
         let same : m ≡ l = omega (arith, most, least) in
         subst (λ (x : ℕ). slice_chunk after s.hash_block x ≡ open_block s (digests_under s blocks x) (j / fan s ^ x)) same
@@ -163,10 +163,7 @@ level_digest-root s blocks i levels store digest two below count h =
       | inr past ↦ omega (arith, past, below)
     ] in (
       last,
-      h.digest_is
-          ∙ ap (λ (n : ℕ). hash s (get_or (blocks_up s blocks levels) n [])) zero_place
-          ∙ ap (λ (l : ℕ). hash s (get_or (blocks_up s blocks l) 0 []))
-          (count ∙ sym (height-level_count s blocks some)),
+      (let top = height-level_count s blocks some in let is = h.digest_is in cc),
     )
 
 -- a slot is within its block

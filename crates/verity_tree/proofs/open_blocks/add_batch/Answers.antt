@@ -1,11 +1,11 @@
-use Rattle.std.proofs.Common.{◌≡◌, ℕ, ◌+◌, ◌-◌, ◌%◌, ◌<◌, ◌≤◌, [], List, get_or, length, arith, ap, ◌∙◌, inl, subst}
+use Rattle.std.proofs.Common.{◌≡◌, ℕ, ◌+◌, ◌-◌, ◌%◌, ◌<◌, ◌≤◌, [], List, get_or, length, arith, ap, ◌∙◌, inl}
 use Rattle.std.proofs.lemmas.List.{get_or_default}
 use Rattle.verity_plan.proofs.CountLemmas.{mul_le}
 use Rattle.verity_plan.proofs.FanLemmas.{fan-two}
 use Rattle.verity_plan.specs.PlanCounts.{level_count_of}
 use Rattle.verity_plan.specs.Plans.{IsPlan, PlanFields}
 use Rattle.verity_plan.specs.Settings.{fan}
-use Rattle.verity_tree.specs.Steps.OpenBlocks.{HasOpenBlocks, level_digest}
+use Rattle.verity_tree.specs.Steps.OpenBlocks.{level_digest}
 use Rattle.verity_tree.proofs.ClosedLevelLemmas.{HasOpenBlocks-added, some-level}
 use Rattle.verity_tree.proofs.OpenBlockLemmas.{length-hash}
 use Rattle.verity_tree.proofs.OpenBlockSteps.{IsCarrying-first}
@@ -24,7 +24,7 @@ has-level p planned more = some-level (fan p.settings) p.blocks (fan-two p.setti
 pub loop-row-init : goal.loop-row-init
 loop-row-init c = λ blocks levels many enough room holds stands.
     let e : c.args.i ≡ c.args.i + 0 = omega arith in
-    subst (λ (n : ℕ). HasOpenBlocks c.args.plan.now.settings blocks 0 levels n c.args.opened.now) e stands
+    rw e at stands
 
 pub add_digest-requires-clause-room : goal.add_digest-requires-clause-room
 add_digest-requires-clause-room c =
@@ -51,7 +51,7 @@ loop-row-preserved c = λ blocks levels many enough room holds stands.
     (c.add_digest.ensures.adds blocks levels many (omega (arith, some, enough))
     (omega (arith, room, c.loop-row.auto.opened)) carrying) in
     let e : i + 1 ≡ c.args.i + (r + 1) = omega arith in
-    subst (λ (n : ℕ). HasOpenBlocks s blocks 0 levels n c.add_digest.new.opened) e added
+    rw e at added
 
 pub returns-clause-adds : goal.returns-clause-adds
 returns-clause-adds c = λ blocks levels many enough room holds stands.
@@ -61,8 +61,7 @@ returns-clause-adds c = λ blocks levels many enough room holds stands.
     let last : c.args.i + m ≡ c.args.i + c.args.count - 1 = omega (arith, some) in
     let all : c.args.i + c.loop-row.row ≡ c.args.i + c.args.count - 1 =
     omega (arith, c.loop-row-test.false, c.loop-row.auto.row-end, some) in (
-      subst (λ (n : ℕ). HasOpenBlocks s blocks 0 levels n c.loop-row.opened) all
-          (c.loop-row.invariant blocks levels many enough room holds stands),
+      rw all at (c.loop-row.invariant blocks levels many enough room holds stands),
       row-digest c.digest_rows-digests.result m c.args.count c.index-digests-count.result _ (omega arith)
           c.requires.batch.most c.digest_rows-digests.ensures (omega (arith, some))
           ∙ holds m (omega (arith, some)) ∙ ap (λ (n : ℕ). level_digest s blocks n 0) last,

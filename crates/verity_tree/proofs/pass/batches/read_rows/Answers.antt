@@ -1,12 +1,6 @@
-use Rattle.std.proofs.Common.{◌≡◌, ℕ, ◌+◌, ◌*◌, ◌≤◌, length, arith, inl, inr, ap, ◌∙◌, subst}
-use Rattle.std.specs.Fork.{slice_chunk}
+use Rattle.std.proofs.Common.{◌≡◌, ◌+◌, ◌*◌, ◌≤◌, length, arith, inl, inr, ap, ◌∙◌}
 use Rattle.std.proofs.lemmas.Bool.{cases_lt}
-use Rattle.verity_io.specs.Reading.{HasRead}
 use Rattle.verity_plan.specs.Settings.{hash}
-use Rattle.verity_tree.specs.Levels.{data_blocks}
-use Rattle.verity_tree.specs.Reading.{bytes_of}
-use Rattle.verity_tree.specs.Steps.Batches.{HoldsDataBlocks}
-use Rattle.verity_tree.specs.Steps.OpenBlocks.{level_digest}
 use Rattle.verity_hash.proofs.RowLemmas.{rows-within}
 use Rattle.verity_tree.proofs.OpenBlockSteps.{IsWritten-part, length-part, with_part}
 use Rattle.verity_tree.proofs.pass.batches.read_rows.Goals as goal
@@ -33,13 +27,12 @@ loop-row-preserved g c =
             | inl before ↦ ap (hash s) (written.others r (inl before)) ∙ inv.rows tells bytes read_before r before
             | inr here ↦
                 let e : n ≡ r = omega arith in
-                subst (λ (k : ℕ). hash s (slice_chunk rows d k) ≡ level_digest s (data_blocks p bytes) (c.args.i + k) 0) e
-                (ap (hash s) written.own ∙ (c.in-Ok.ensures.read (inv.told tells) bytes (inv.read tells bytes read_before)).1)
+                rw (← e) (ap (hash s) written.own ∙ (c.in-Ok.ensures.read (inv.told tells) bytes (inv.read tells bytes read_before)).1)
           ];
       read = λ tells bytes read_before.
           let next = (c.in-Ok.ensures.read (inv.told tells) bytes (inv.read tells bytes read_before)).0 in
           let e : c.args.i + n + 1 ≡ c.args.i + (n + 1) = omega arith in
-          subst (λ (k : ℕ). HasRead (bytes_of p k) bytes (g.S.Source.remaining c.read_row.new.source)) e next;
+          rw e at next;
     }
 
 pub returns-in-Err-clause-read : goal.returns-in-Err-clause-read
@@ -55,8 +48,6 @@ pub returns-clause-read : goal.returns-clause-read
 returns-clause-read g c = λ tells bytes read_before.
     let inv = c.loop-row.invariant in
     let all : c.loop-row.row ≡ c.args.count = omega (arith, c.loop-row-test.false, c.loop-row.auto.row-end) in (
-      subst (λ (n : ℕ). HasRead (bytes_of c.args.plan.now (c.args.i + n)) bytes (g.S.Source.remaining c.loop-row.source)) all
-          (inv.read tells bytes read_before),
-      subst (λ (n : ℕ). HoldsDataBlocks c.args.plan.now.settings (data_blocks c.args.plan.now bytes) c.args.i n c.loop-row.rows) all
-          (inv.rows tells bytes read_before),
+      rw all at (inv.read tells bytes read_before),
+      rw all at (inv.rows tells bytes read_before),
     )

@@ -1,11 +1,10 @@
-use Rattle.std.proofs.Common.{List, ap, arith, refl, subst, sym, true, ℕ, ◌+◌, ◌++◌, ◌∷◌, [], ◌/◌, ◌^◌}
+use Rattle.std.proofs.Common.{ap, arith, refl, sym, ℕ, ◌+◌, ◌++◌, ◌∷◌, []}
 use Rattle.std.proofs.Common.{◌<◌, ◌∙◌, ◌≡◌, ◌≤◌, append_assoc}
 use Rattle.verity_plan.specs.Plans.{level_count}
 use Rattle.verity_plan.specs.PlanCounts.{level_count_of}
 use Rattle.verity_plan.specs.Settings.{fan}
 use Rattle.verity_plan.proofs.FanLemmas.{fan-some, fan-two}
-use Rattle.verity_tree.specs.ClosingOrder.{BlockIndex, block_index, closes, first_closing}
-use Rattle.verity_tree.specs.Steps.OpenBlocks.{IsCarrying, carry_state}
+use Rattle.verity_tree.specs.ClosingOrder.{block_index, first_closing}
 use Rattle.verity_tree.specs.TreeOnDevice.{tree_block}
 use Rattle.verity_tree.proofs.ClosingLemmas.{closes-closed, closing-below, closing-done, closing-kept}
 use Rattle.verity_tree.proofs.OpenBlockSteps.{carry-all, part-is_run}
@@ -40,9 +39,7 @@ returns-then-not-add_digest-clause-carries g c = λ blocks many first stands.
       carried = record { stands = λ _. added.1; root_is = λ same. absurd (omega (arith, added.0, same)) };
       place = tt;
       leaves = λ tells done start before.
-          subst (λ (xs : List BlockIndex). g.C.OnClosed.leaves p blocks (done ++ xs) start
-          (g.D.Device.content c.loop-level.device))
-          (sym kept) (inv.closed tells blocks done start many first stands before);
+          rw kept (inv.closed tells blocks done start many first stands before);
       stops = λ tells done start before. tt;
     }
 
@@ -60,8 +57,7 @@ returns-in-Err-clause-carries g c = λ blocks many first stands.
       place = record {
         level_below = inside;
         block_is = c.index_above-block.ensures;
-        all = λ k low. subst (λ (n : ℕ). closes (fan s) n c.args.i k ≡ true) (sym many)
-            (closes-closed s blocks c.args.i m (level_count_of p) c.add_digest.new.opened
+        all = λ k low. rw many (closes-closed s blocks c.args.i m (level_count_of p) c.add_digest.new.opened
             (omega (arith, c.requires.below, many)) closed k low);
       };
       leaves = λ tells done start before. tt;
@@ -96,12 +92,10 @@ loop-level-preserved g c =
           (omega (arith, c.requires.room, inv.long)) (inv.carries blocks many first stands) in
           let more : (done ++ first_closing (fan s) c.args.i m) ++ block_index m c.index_above-block.result ∷ []
           ≡ done ++ first_closing (fan s) c.args.i (m + 1) =
-          ap (λ (j : ℕ). (done ++ first_closing (fan s) c.args.i m) ++ block_index m j ∷ []) c.index_above-block.ensures
-          ∙ append_assoc done (first_closing (fan s) c.args.i m) (block_index m (c.args.i / fan s ^ (m + 1)) ∷ [])
-          ∙ ap (λ (xs : List BlockIndex). done ++ xs) (sym (first_closing-more (fan s) c.args.i m)) in
-          subst (λ (xs : List BlockIndex). g.C.OnClosed.leaves p blocks xs start
-          (g.D.Device.content c.take.new.device)) more
-          (c.in-Ok.ensures.leaves (inv.told tells) blocks (done ++ first_closing (fan s) c.args.i m) start many
+          let joined = append_assoc done (first_closing (fan s) c.args.i m) (block_index m c.index_above-block.result ∷ []) in
+          let next = first_closing-more (fan s) c.args.i m in
+          cc in
+          rw (← more) (c.in-Ok.ensures.leaves (inv.told tells) blocks (done ++ first_closing (fan s) c.args.i m) start many
           (part-is_run s.hash_block m _ c.add_digest.new.opened c.hash_block-size.ensures
           ∙ closed.stands ∙ ap (tree_block s blocks m) (sym c.index_above-block.ensures))
           (inv.closed tells blocks done start many first stands before));
@@ -115,8 +109,7 @@ returns-clause-carries g c = λ blocks many first stands.
     let inv = c.loop-level.invariant in
     let all : c.loop-level.level ≡ levels =
     omega (arith, c.loop-level.auto.level-end, c.loop-level-test.false, c.levels-level-end.ensures) in
-    let carrying = subst (λ (m : ℕ). IsCarrying s blocks (carry_state c.args.i m levels) c.loop-level.opened c.loop-level.current)
-    all (inv.carries blocks many first stands) in
+    let carrying = rw all at (inv.carries blocks many first stands) in
     let whole = closing-done s blocks c.args.i levels p.blocks c.loop-level.opened c.loop-level.current
     (fan-two s c.requires.planned.valid) c.requires.below refl many carrying in
     record {
@@ -125,8 +118,6 @@ returns-clause-carries g c = λ blocks many first stands.
           (ap (λ (n : ℕ). level_count (fan s) n) many) carrying;
       place = tt;
       leaves = λ tells done start before.
-          subst (λ (xs : List BlockIndex). g.C.OnClosed.leaves p blocks (done ++ xs) start
-          (g.D.Device.content c.loop-level.device))
-          (ap (first_closing (fan s) c.args.i) all ∙ sym whole) (inv.closed tells blocks done start many first stands before);
+          rw (whole, ← all) (inv.closed tells blocks done start many first stands before);
       stops = λ tells done start before. tt;
     }
