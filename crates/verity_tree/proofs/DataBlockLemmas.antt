@@ -133,10 +133,9 @@ pub short-within : (p : PlanFields) → IsPlan p → (i data_len : ℕ) (bytes r
     → data_len ≡ min (p.wanted - i * p.settings.data_block) p.settings.data_block → HasRead (bytes_of p i) bytes rest
     → length rest < data_len → after ≡ [] → EndsWithin p i bytes after
 short-within p planned i data_len bytes rest after below w read_before short none =
-    let here = begins-within p planned i below in
-    let left : length rest ≡ length bytes - bytes_of p i =
-    ap length read_before.rest ∙ length-drop (bytes_of p i) bytes in
-    let within : length bytes < bytes_of p (i + 1) = omega (arith, left, read_before.enough, here, w, short) in
+    let left = ap length read_before.rest ∙ length-drop (bytes_of p i) bytes in
+    let within : length bytes < bytes_of p (i + 1) =
+    omega (arith, left, read_before.enough, begins-within p planned i below, w, short) in
     record {
       below = below;
       whole_is = sym (whole-short p i bytes read_before.enough within);
@@ -150,15 +149,13 @@ pub failed-within : (p : PlanFields) → IsPlan p → (i data_len : ℕ) (bytes 
     → data_len ≡ min (p.wanted - i * p.settings.data_block) p.settings.data_block → HasRead (bytes_of p i) bytes rest
     → length taken < data_len → rest ≡ taken ++ after → FailsWithin p i bytes after
 failed-within p planned i data_len bytes rest after taken below w read_before less is =
-    let here = begins-within p planned i below in
-    let left : length rest ≡ length bytes - bytes_of p i =
-    ap length read_before.rest ∙ length-drop (bytes_of p i) bytes in
+    let left = ap length read_before.rest ∙ length-drop (bytes_of p i) bytes in
     let within : length taken ≤ length rest = omega (arith, ap length is, length-append taken after) in
     record {
       below = below;
       count = bytes_of p i + length taken;
       from = omega arith;
-      to = omega (arith, here, w, less);
+      to = omega (arith, begins-within p planned i below, w, less);
       read = record {
         enough = omega (arith, left, read_before.enough, within);
         rest = sym (ap (drop (length taken)) is ∙ drop_at taken after (length taken) refl)

@@ -6,7 +6,6 @@ use Rattle.std.proofs.lemmas.Nat.{div-add-mod', mod_below}
 use Rattle.std.proofs.lemmas.List.{length-map, length-take-le, get_or-map, get_or-drop, take-map, drop-map, take_at}
 use Rattle.std.proofs.lemmas.List.{drop-replicate, length-replicate, replicate-append-replicate, take_all}
 use Rattle.std.proofs.lemmas.List.{flat_map_more, take-append-drop, take-take, take_more}
-use Rattle.std.proofs.lemmas.List.Concat.{flat_map-cons}
 use Rattle.std.proofs.lemmas.Grind.{flat_map-append}
 use Rattle.std.proofs.Math.Seq.{drop-append-add}
 use Rattle.std.specs.List.{flat_map}
@@ -35,8 +34,7 @@ pub length-slots : (s : TreeSettingsFields) (xs : List (List ℕ)) → digest_le
     → length (flat_map (slot s) (map (hash s) xs)) ≡ length xs * slot_width s
 length-slots s [] fits = let e : 0 ≡ 0 * slot_width s = omega arith in e
 length-slots s (x ∷ xs) fits =
-    ap length (flat_map-cons (slot s) (hash s x) (map (hash s) xs))
-    ∙ omega (
+    omega (
       arith,
       length-append (slot s (hash s x)) (flat_map (slot s) (map (hash s) xs)),
       length-append (hash s x) (replicate (slot_width s - length (hash s x)) 0),

@@ -15,7 +15,7 @@ use Rattle.verity_tree.specs.Levels.{hash_block_of, blocks_up, root}
 use Rattle.verity_plan.specs.Plans.{level_count}
 use Rattle.verity_tree.specs.Steps.OpenBlocks.{digests_under, open_block, HasOpenBlocks, level_digest}
 use Rattle.verity_tree.specs.Steps.OpenBlocks.{IsCarrying}
-use Rattle.verity_tree.specs.Steps.OpenBlocks.{IsCarriedOn, carry_state}
+use Rattle.verity_tree.specs.Steps.OpenBlocks.{carry_state}
 use Rattle.verity_plan.proofs.CountLemmas.{IsLevelCount-level_count, mul_le}
 use Rattle.verity_plan.proofs.FanLemmas.{fan-some}
 use Rattle.verity_plan.proofs.FitLemmas.{digest-slot}
@@ -190,13 +190,10 @@ pub open_block_with-put : (s : TreeSettingsFields) (blocks : List (List ℕ)) (i
     → digest ≡ level_digest s blocks i m → block ≡ with_digest (part_at store m n) (index % f * w) digest
     → block ≡ open_block_with s (digests_under s blocks m) (i / fan s ^ m)
 open_block_with-put s blocks i m levels index f w n store block digest ef ew en fits below inside place stands digest_is put =
-    let q = i / fan s ^ m in
-    let at : index % f * w ≡ q % fan s * slot_width s = cc in
     let part = part-is_run s.hash_block m n store en ∙ stands m (omega arith) inside in
-    put
-    ∙ ap (λ (xs : List ℕ). with_digest xs (index % f * w) digest) part
-    ∙ ap (λ (k : ℕ). with_digest (open_block s (digests_under s blocks m) q) k digest) at
-    ∙ open-push s (blocks_up s blocks m) q digest fits (level_digest-below s blocks i m (fan-some s) below) digest_is
+    let here = level_digest-below s blocks i m (fan-some s) below in
+    let pushed = open-push s (blocks_up s blocks m) (i / fan s ^ m) digest fits here digest_is in
+    cc
 
 -- the loop over the levels begins
 pub IsCarrying-first : (s : TreeSettingsFields) (blocks : List (List ℕ)) (i levels : ℕ) (store digest : List ℕ)
@@ -208,18 +205,6 @@ IsCarrying-first s blocks i levels store digest is stands = record {
   below = λ _ l from to. absurd (omega (arith, to));
   digest_is = is;
 }
-
--- past the last level
-pub carry-all : (s : TreeSettingsFields) (blocks : List (List ℕ)) (i levels : ℕ) (store digest : List ℕ) → 2 ≤ fan s
-    → i < length blocks
-    → levels ≡ level_count (fan s) (length blocks) → IsCarrying s blocks (carry_state i levels levels) store digest
-    → IsCarriedOn s blocks i levels store digest
-carry-all s blocks i levels store digest two below many h =
-    let done = level_digest-root s blocks i levels store digest two below many h in
-    record {
-      stands = λ more. absurd (omega (arith, more, done.0));
-      root_is = λ _. done.1;
-    }
 
 -- at level 0 the place is the data block's number
 pub place-first : (i f : ℕ) → i ≡ i / f ^ 0

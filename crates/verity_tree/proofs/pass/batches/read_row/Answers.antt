@@ -1,4 +1,4 @@
-use Rattle.std.proofs.Common.{◌≡◌, ℕ, ◌-◌, ◌*◌, ◌<◌, ◌≤◌, [], replicate, min, List, length, take, drop, ◌++◌, length-append, length-drop, arith, sym, ap, ◌∙◌}
+use Rattle.std.proofs.Common.{◌≡◌, ℕ, ◌-◌, ◌*◌, ◌<◌, ◌≤◌, [], replicate, min, List, length, take, drop, ◌++◌, length-append, length-drop, arith, ap, ◌∙◌}
 use Rattle.std.proofs.lemmas.List.{append-nil, drop_all, drop_at, length-take-le, take_all, take_at}
 use borrow.Rule.Slice.PartMut.{put_mid}
 use Rattle.verity_hash.specs.Hashing.{with_zeros}
@@ -25,22 +25,21 @@ pub returns-else-count-data_len-clause-read : goal.returns-else-count-data_len-c
 returns-else-count-data_len-clause-read g c = λ tells bytes read_before.
     let p = c.args.plan.now in
     let w : c.min-data_len.result ≡ min (p.wanted - c.args.i * p.settings.data_block) p.settings.data_block = cc in
-    let fits : c.min-data_len.result ≤ length c.args.row.now = omega (arith, c.min-data_len.ensures) in
-    let long : length c.read_block.new.buf ≡ c.min-data_len.result =
-    c.read_block.auto.buf ∙ length-take-le c.min-data_len.result c.args.row.now fits in
-    let all : take c.in-Ok.count c.read_block.new.buf ≡ c.read_block.new.buf =
-    take_all c.in-Ok.count c.read_block.new.buf (omega (arith, long, c.if-count-data_len.false)) in
+    let n = c.min-data_len.result in
+    let buf = c.read_block.new.buf in
     let before = g.S.Source.remaining c.args.source.now in
     let after = g.S.Source.remaining c.read_block.new.source in
-    let split : before ≡ c.read_block.new.buf ++ after =
-    (c.in-Ok.ensures.bytes tells).0 ∙ ap (λ (xs : List ℕ). xs ++ after) all in
-    data-next p c.wanted.ensures.planned c.args.i c.min-data_len.result bytes before after _ c.requires.below w read_before
-    (omega (arith, long, ap length split, length-append c.read_block.new.buf after))
-    (row-filled c.min-data_len.result p.settings.data_block c.read_block.new.buf c.args.row.now c.fill.new.self before fits
-    c.requires.room long
-    (sym (ap (take c.min-data_len.result) split ∙ take_at c.read_block.new.buf after c.min-data_len.result long))
-    (c.fill.ensures.after (λ y e. e)))
-    (sym (ap (drop c.min-data_len.result) split ∙ drop_at c.read_block.new.buf after c.min-data_len.result long))
+    let fits : n ≤ length c.args.row.now = omega (arith, c.min-data_len.ensures) in
+    let long : length buf ≡ n = c.read_block.auto.buf ∙ length-take-le n c.args.row.now fits in
+    let all = take_all c.in-Ok.count buf (omega (arith, long, c.if-count-data_len.false)) in
+    let read = (c.in-Ok.ensures.bytes tells).0 in
+    let front = take_at buf after n long in
+    let back = drop_at buf after n long in
+    let split : before ≡ buf ++ after = cc in
+    data-next p c.wanted.ensures.planned c.args.i n bytes before after _ c.requires.below w read_before
+    (omega (arith, long, ap length split, length-append buf after))
+    (row-filled n p.settings.data_block buf c.args.row.now c.fill.new.self before fits c.requires.room long (cc)
+    (c.fill.ensures.after (λ y e. e))) (cc)
 
 pub returns-then-count-data_len-clause-read : goal.returns-then-count-data_len-clause-read
 returns-then-count-data_len-clause-read g c = λ tells bytes read_before.

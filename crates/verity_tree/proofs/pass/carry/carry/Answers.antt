@@ -1,4 +1,4 @@
-use Rattle.std.proofs.Common.{ap, arith, refl, sym, ℕ, ◌+◌, ◌++◌, ◌∷◌, []}
+use Rattle.std.proofs.Common.{ap, arith, refl, sym, ◌+◌, ◌++◌, ◌∷◌, []}
 use Rattle.std.proofs.Common.{◌<◌, ◌∙◌, ◌≡◌, ◌≤◌, append_assoc}
 use Rattle.verity_plan.specs.Plans.{level_count}
 use Rattle.verity_plan.specs.PlanCounts.{level_count_of}
@@ -7,7 +7,7 @@ use Rattle.verity_plan.proofs.FanLemmas.{fan-some, fan-two}
 use Rattle.verity_tree.specs.ClosingOrder.{block_index, first_closing}
 use Rattle.verity_tree.specs.TreeOnDevice.{tree_block}
 use Rattle.verity_tree.proofs.ClosingLemmas.{closes-closed, closing-below, closing-done, closing-kept}
-use Rattle.verity_tree.proofs.OpenBlockSteps.{carry-all, part-is_run}
+use Rattle.verity_tree.proofs.OpenBlockSteps.{level_digest-root, part-is_run}
 use Rattle.verity_tree.proofs.OrderSplit.{first_closing-more}
 use Rattle.verity_tree.proofs.pass.carry.carry.Goals as goal
 
@@ -112,10 +112,10 @@ returns-clause-carries g c = λ blocks many first stands.
     let carrying = rw all at (inv.carries blocks many first stands) in
     let whole = closing-done s blocks c.args.i levels p.blocks c.loop-level.opened c.loop-level.current
     (fan-two s c.requires.planned.valid) c.requires.below refl many carrying in
+    let done = level_digest-root s blocks c.args.i levels c.loop-level.opened c.loop-level.current
+    (fan-two s c.requires.planned.valid) (omega (arith, c.requires.below, many)) (ap (level_count (fan s)) many) carrying in
     record {
-      carried = carry-all s blocks c.args.i levels c.loop-level.opened c.loop-level.current
-          (fan-two s c.requires.planned.valid) (omega (arith, c.requires.below, many))
-          (ap (λ (n : ℕ). level_count (fan s) n) many) carrying;
+      carried = record { stands = λ more. absurd (omega (arith, more, done.0)); root_is = λ _. done.1 };
       place = tt;
       leaves = λ tells done start before.
           rw (whole, ← all) (inv.closed tells blocks done start many first stands before);
