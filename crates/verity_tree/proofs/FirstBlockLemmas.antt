@@ -33,14 +33,10 @@ unfolding pack
 pack-front s digests k some within =
     let f = fan s in
     let front = take (k * f) digests in
-    let count : length (pack s front) ≡ k =
-    omega (
-      arith,
-      length-pack s front,
-      length-take-le (k * f) digests within,
-      div_ceil-le (length front) f k some (omega (arith, length-take-le (k * f) digests within)),
-      div_ceil-most (length front) f k some (omega (arith, length-take-le (k * f) digests within)),
-    ) in
+    let size = length-take-le (k * f) digests within in
+    let least = div_ceil-most (length front) f k some (omega (arith, size)) in
+    let most = div_ceil-le (length front) f k some (omega (arith, size)) in
+    let count : length (pack s front) ≡ k = omega (arith, length-pack s front, least, most) in
     take-map-range_with_len (λ j. hash_block_of s (slice_chunk digests f j)) 0 (div_ceil (length digests) f) k
     (div_ceil-most (length digests) f k some within)
     ∙ sym (fill_by_all (λ j. hash_block_of s (slice_chunk digests f j)) (pack s front) k [] count (λ j low.

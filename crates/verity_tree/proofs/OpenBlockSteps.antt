@@ -157,9 +157,7 @@ level_digest-root s blocks i levels store digest two below count h =
     let last : i + 1 ≡ length blocks = elim (cases_lt (i + 1) (length blocks)) [
       | inl more ↦
           let whole = (h.reached more).whole in
-          let e : (i / f ^ levels + 1) * f ^ levels ≡ (0 + 1) * f ^ levels =
-          ap (λ (n : ℕ). (n + 1) * f ^ levels) zero_place in
-          absurd (omega (arith, whole, e, most, more))
+          absurd (omega (arith, whole, ap (λ (n : ℕ). (n + 1) * f ^ levels) zero_place, most))
       | inr past ↦ omega (arith, past, below)
     ] in (
       last,

@@ -49,15 +49,10 @@ returns-then-count-data_len-clause-read g c = λ tells bytes read_before.
     let buf = c.read_block.new.buf in
     let after = g.S.Source.remaining c.read_block.new.source in
     let stop = c.in-Ok.ensures.bytes tells in
-    let less : count < length buf =
-    omega (
-      arith,
-      c.if-count-data_len.true,
-      c.read_block.auto.buf,
-      length-take-le c.min-data_len.result c.args.row.now (omega (arith, c.min-data_len.ensures)),
-    ) in
+    let long = length-take-le c.min-data_len.result c.args.row.now (omega (arith, c.min-data_len.ensures)) in
+    let less : count < length buf = omega (arith, c.if-count-data_len.true, c.read_block.auto.buf, long) in
     let none : after ≡ [] = stop.1 less in
-    let few : length (take count buf) ≡ count = length-take-le count buf (omega (arith, less)) in
+    let few = length-take-le count buf (omega (arith, less)) in
     short-within p c.wanted.ensures.planned c.args.i c.min-data_len.result bytes (g.S.Source.remaining c.args.source.now)
     after c.requires.below w read_before
     (omega (arith, ap length stop.0, length-append (take count buf) after, ap length none, few, c.if-count-data_len.true)) none

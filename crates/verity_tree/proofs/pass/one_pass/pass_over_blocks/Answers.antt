@@ -76,12 +76,11 @@ returns-in-Err-carry-clause-run g c =
     let blocks = data_blocks p bytes in
     let inv = c.batches.invariant in
     let batch = c.rows_from-count.ensures.batch in
-    let some = batch.some in
     let many : p.blocks ≡ length blocks = sym (length-cut p.settings p.blocks p.wanted bytes) in
     let here : c.batches.i < p.blocks = omega (arith, c.batches-test.true, c.blocks-in-batches.ensures.value) in
-    let below : last < p.blocks = omega (arith, some, batch.below) in
-    let next : c.batches.i + count ≡ last + 1 = omega (arith, some) in
-    let same = within-batch p c.batches.i count last batch (omega (arith, some)) (omega (arith, some)) in
+    let below : last < p.blocks = omega arith in
+    let next : c.batches.i + count ≡ last + 1 = omega arith in
+    let same = within-batch p c.batches.i count last batch (omega arith) (omega arith) in
     let taken = λ (tells : g.S.Source.tells c.args.source.now).
     c.in-Ok.ensures.read (inv.source_told tells) bytes (inv.read tells) (inv.opened tells here) in
     let carries = λ (tells : g.S.Source.tells c.args.source.now).
@@ -112,17 +111,16 @@ batches-preserved g c =
     let blocks = data_blocks p bytes in
     let inv = c.batches.invariant in
     let batch = c.rows_from-count.ensures.batch in
-    let some = batch.some in
     let many : p.blocks ≡ length blocks = sym (length-cut s p.blocks p.wanted bytes) in
     let here : c.batches.i < p.blocks = omega (arith, c.batches-test.true, c.blocks-in-batches.ensures.value) in
-    let next : c.batches.i + count ≡ last + 1 = omega (arith, some) in
-    let same = within-batch p c.batches.i count last batch (omega (arith, some)) (omega (arith, some)) in
+    let next : c.batches.i + count ≡ last + 1 = omega arith in
+    let same = within-batch p c.batches.i count last batch (omega arith) (omega arith) in
     let taken = λ (tells : g.S.Source.tells c.args.source.now).
     c.in-Ok.ensures.read (inv.source_told tells) bytes (inv.read tells) (inv.opened tells here) in
     let carries = λ (tells : g.S.Source.tells c.args.source.now).
     c.in-Ok-carry.ensures.carries blocks many (taken tells).2 (taken tells).1 in
     record {
-      within = omega (arith, some, batch.below);
+      within = omega arith;
       source_told = λ t. c.in-Ok.ensures.told (inv.source_told t);
       device_told = λ t. c.in-Ok-carry.ensures.told (inv.device_told t);
       source_failures = c.in-Ok.ensures.count ∙ inv.source_failures;
