@@ -1,6 +1,6 @@
 -- A digest that comes to the open block of its level, and a hash block that has closed and still stands there.
 use Rattle.std.proofs.Common.{◌≡◌, ℕ, zero, suc, ◌+◌, ◌-◌, ◌*◌, ◌/◌, ◌%◌, ◌^◌, ◌<◌, ◌≤◌, ◌⊎◌, Bool, true, false, List}
-use Rattle.std.proofs.Common.{◌++◌, take, drop, length, replicate, arith, sym, ◌∙◌, ap, subst, inl, inr, refl}
+use Rattle.std.proofs.Common.{◌++◌, take, length, replicate, arith, sym, ◌∙◌, ap, subst, inl, inr, refl}
 use Rattle.std.proofs.lemmas.Nat.{div-add-mod', mod_below}
 use Rattle.std.proofs.lemmas.List.{length-replicate}
 use Rattle.std.proofs.Math.Nat.{div-eq_of_eq-mul_left, mul-mod_left, one-le-pow, pow-suc, pow-zero}
@@ -8,7 +8,7 @@ use Rattle.verity_plan.specs.Plans.{level_count}
 use Rattle.verity_plan.specs.Settings.{TreeSettingsFields, hash, fan, slot_width}
 use Rattle.verity_plan.proofs.CountLemmas.{IsLevelCount-level_count}
 use Rattle.verity_plan.proofs.FanLemmas.{fan-some}
-use Rattle.verity_tree.specs.Levels.{hash_block_of, blocks_up}
+use Rattle.verity_tree.specs.Levels.{blocks_up}
 use Rattle.verity_tree.specs.Steps.OpenBlocks.{HasOpenBlocks, IsAsking, IsCarrying, IsReached, carry_state, digests_under}
 use Rattle.verity_tree.specs.Steps.OpenBlocks.{open_block}
 use Rattle.verity_tree.proofs.OpenBlockLemmas.{open-cleared}
@@ -116,9 +116,9 @@ IsCarrying-up s blocks i m levels n store zeros digest en room none is h =
       below = λ more.
           let q = (i + 1) / f ^ m in
           let empty : q % f ≡ 0 = next-first f i m (fan-some s) (h.reached more) in
-          HasOpenBlocks-written s blocks (m + 1) (i + 1) written
-          (all ∙ sym (hash_block_of-none s (q / f * f) digests)
-          ∙ ap (λ (k : ℕ). hash_block_of s (take k (drop (q / f * f) digests))) (sym empty))
+          let none = hash_block_of-none s (q / f * f) digests in
+          let cleared : zeros ≡ open_block s digests q = cc in
+          HasOpenBlocks-written s blocks (m + 1) (i + 1) written cleared
           (λ l high apart. h.below more l (omega arith) (omega arith));
       digest_is = is ∙ ap (hash s) (part-is_run size m n store en ∙ h.stands);
     }

@@ -169,17 +169,10 @@ pub slot-room : (s : TreeSettingsFields) (q f w len m n : ℕ) (store : List ℕ
     → n ≡ s.hash_block → len ≡ digest_len s → fan s * slot_width s ≤ s.hash_block
     → m * s.hash_block + s.hash_block ≤ length store → q % f * w + len ≤ length (part_at store m n)
 slot-room s q f w len m n store ef ew en el fits room =
-    let area : q % f * w ≡ q % fan s * slot_width s = cc in
+    let at : q % f * w ≡ q % fan s * slot_width s = cc in
     let low : q % fan s + 1 ≤ fan s = omega (arith, mod_below q (fan s) (fan-some s)) in
-    omega (
-      arith,
-      area,
-      mul_le (q % fan s + 1) (fan s) (slot_width s) low,
-      fits,
-      el,
-      digest-slot s,
-      length-part s.hash_block m n store en room,
-    )
+    let area = mul_le (q % fan s + 1) (fan s) (slot_width s) low in
+    omega (arith, at, area, fits, el, digest-slot s, length-part s.hash_block m n store en room)
 
 -- a digest put into its slot of a level's open block, once it has come there
 pub open_block_with-put : (s : TreeSettingsFields) (blocks : List (List ℕ)) (i m levels index f w n : ℕ)

@@ -30,7 +30,5 @@ pub returns-clause-fits : goal.returns-clause-fits
 returns-clause-fits c =
     let size = c.data_block.result in
     let rows = c.min-2.result in
-    let few : rows ≤ c.args.window / size = omega (arith, c.min-2.ensures, c.min-room.ensures) in
-    let same : rows * size ≡ rows * c.args.plan.now.settings.data_block =
-    ap (λ (n : ℕ). rows * n) c.data_block.ensures in
-    omega (arith, same, mul_le rows (c.args.window / size) size few, div-add-mod' c.args.window size)
+    let same = ap (λ (n : ℕ). rows * n) c.data_block.ensures in
+    omega (arith, same, mul_le rows (c.args.window / size) size (omega arith), div-add-mod' c.args.window size)

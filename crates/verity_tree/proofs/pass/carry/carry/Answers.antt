@@ -1,5 +1,5 @@
-use Rattle.std.proofs.Common.{ap, arith, refl, sym, ◌+◌, ◌++◌, ◌∷◌, []}
-use Rattle.std.proofs.Common.{◌<◌, ◌∙◌, ◌≡◌, ◌≤◌, append_assoc}
+use Rattle.std.proofs.Common.{List, length, ℕ, ap, arith, refl, sym, ◌+◌, ◌++◌, ◌∷◌, []}
+use Rattle.std.proofs.Common.{◌<◌, ◌∙◌, ◌≡◌, append_assoc}
 use Rattle.verity_plan.specs.Plans.{level_count}
 use Rattle.verity_plan.specs.PlanCounts.{level_count_of}
 use Rattle.verity_plan.specs.Settings.{fan}
@@ -75,21 +75,21 @@ loop-level-preserved g c =
     let m = c.loop-level.level in
     let levels = level_count_of p in
     let inv = c.loop-level.invariant in
-    let inside : m + 1 ≤ levels = omega (arith, c.loop-level-test.true, c.levels-level-end.ensures) in
+    let inside : m < levels = omega arith in
+    let added = λ (blocks : List (List ℕ)) (many : p.blocks ≡ length blocks).
+    c.if-not-add_digest.ensures.adds blocks levels many inside (omega (arith, c.requires.room, inv.long)) in
     record {
       size = c.close_block-current.ensures.size;
       long = c.close_block-current.auto.opened ∙ c.add_digest.auto.opened ∙ inv.long;
       told = λ t. c.in-Ok.ensures.told (inv.told t);
       failures = c.in-Ok.ensures.count ∙ inv.failures;
       carries = λ blocks many first stands.
-          c.close_block-current.ensures.closes blocks c.args.i levels (omega (arith, inside))
+          c.close_block-current.ensures.closes blocks c.args.i levels inside
           (omega (arith, c.requires.room, inv.long, c.add_digest.auto.opened))
-          (c.if-not-add_digest.ensures.adds blocks levels many (omega (arith, inside))
-          (omega (arith, c.requires.room, inv.long)) (inv.carries blocks many first stands));
+          (added blocks many (inv.carries blocks many first stands));
       kept = λ tells start before. c.in-Ok.ensures.keeps (inv.told tells) start (inv.kept tells start before);
       closed = λ tells blocks done start many first stands before.
-          let closed = c.if-not-add_digest.ensures.adds blocks levels many (omega (arith, inside))
-          (omega (arith, c.requires.room, inv.long)) (inv.carries blocks many first stands) in
+          let closed = added blocks many (inv.carries blocks many first stands) in
           let more : (done ++ first_closing (fan s) c.args.i m) ++ block_index m c.index_above-block.result ∷ []
           ≡ done ++ first_closing (fan s) c.args.i (m + 1) =
           let joined = append_assoc done (first_closing (fan s) c.args.i m) (block_index m c.index_above-block.result ∷ []) in

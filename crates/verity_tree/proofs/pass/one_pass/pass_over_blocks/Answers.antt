@@ -49,10 +49,9 @@ returns-in-Err-clause-run g c =
     let stop = c.in-Err.stop in
     let bytes = g.S.Source.remaining c.args.source.now in
     let inv = c.batches.invariant in
-    let below : c.batches.i < p.blocks = omega (arith, c.batches-test.true, c.blocks-in-batches.ensures.value) in
     let batch = c.rows_from-count.ensures.batch in
     let stops = λ (tells : g.S.Source.tells c.args.source.now).
-    c.in-Err.ensures.read (inv.source_told tells) bytes (inv.read tells) (inv.opened tells below) in
+    c.in-Err.ensures.read (inv.source_told tells) bytes (inv.read tells) (inv.opened tells (omega arith)) in
     record {
       size = tt;
       source_counted = rw (← inv.source_failures) c.in-Err.ensures.count;
@@ -77,12 +76,11 @@ returns-in-Err-carry-clause-run g c =
     let inv = c.batches.invariant in
     let batch = c.rows_from-count.ensures.batch in
     let many : p.blocks ≡ length blocks = sym (length-cut p.settings p.blocks p.wanted bytes) in
-    let here : c.batches.i < p.blocks = omega (arith, c.batches-test.true, c.blocks-in-batches.ensures.value) in
     let below : last < p.blocks = omega arith in
     let next : c.batches.i + count ≡ last + 1 = omega arith in
     let same = within-batch p c.batches.i count last batch (omega arith) (omega arith) in
     let taken = λ (tells : g.S.Source.tells c.args.source.now).
-    c.in-Ok.ensures.read (inv.source_told tells) bytes (inv.read tells) (inv.opened tells here) in
+    c.in-Ok.ensures.read (inv.source_told tells) bytes (inv.read tells) (inv.opened tells (omega arith)) in
     let carries = λ (tells : g.S.Source.tells c.args.source.now).
     c.in-Err-carry.ensures.carries blocks many (taken tells).2 (taken tells).1 in
     let read = λ (tells : g.S.Source.tells c.args.source.now). rw next at ((taken tells).0) in
@@ -112,11 +110,10 @@ batches-preserved g c =
     let inv = c.batches.invariant in
     let batch = c.rows_from-count.ensures.batch in
     let many : p.blocks ≡ length blocks = sym (length-cut s p.blocks p.wanted bytes) in
-    let here : c.batches.i < p.blocks = omega (arith, c.batches-test.true, c.blocks-in-batches.ensures.value) in
     let next : c.batches.i + count ≡ last + 1 = omega arith in
     let same = within-batch p c.batches.i count last batch (omega arith) (omega arith) in
     let taken = λ (tells : g.S.Source.tells c.args.source.now).
-    c.in-Ok.ensures.read (inv.source_told tells) bytes (inv.read tells) (inv.opened tells here) in
+    c.in-Ok.ensures.read (inv.source_told tells) bytes (inv.read tells) (inv.opened tells (omega arith)) in
     let carries = λ (tells : g.S.Source.tells c.args.source.now).
     c.in-Ok-carry.ensures.carries blocks many (taken tells).2 (taken tells).1 in
     record {
@@ -140,8 +137,7 @@ returns-clause-run g c =
     let p = c.args.plan.now in
     let bytes = g.S.Source.remaining c.args.source.now in
     let inv = c.batches.invariant in
-    let all : c.batches.i ≡ p.blocks =
-    omega (arith, c.batches-test.false, c.blocks-in-batches.ensures.value, inv.within) in
+    let all : c.batches.i ≡ p.blocks = omega (arith, inv.within) in
     record {
       size = inv.root_size;
       source_counted = inv.source_failures;
