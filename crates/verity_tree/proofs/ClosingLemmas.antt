@@ -1,21 +1,19 @@
 -- A digest on its way up: which hash blocks close with its data block.
-use Rattle.std.proofs.Common.{List, [], ap, arith, drop, get_or, inl, inr, length, refl, subst, suc}
-use Rattle.std.proofs.Common.{sym, take, true, zero, ℕ, ◌%◌, ◌*◌, ◌+◌, ◌-◌, ◌/◌, ◌<◌, ◌^◌, ◌∙◌, ◌≡◌, ◌≤◌}
+use Rattle.std.proofs.Common.{List, ap, arith, inl, inr, length, refl, subst, suc}
+use Rattle.std.proofs.Common.{sym, true, zero, ℕ, ◌%◌, ◌*◌, ◌+◌, ◌-◌, ◌/◌, ◌<◌, ◌^◌, ◌∙◌, ◌≡◌, ◌≤◌}
 use Rattle.std.proofs.lemmas.Bool.{cases_lt}
 use Rattle.std.proofs.lemmas.Nat.{div-add-mod', div-mul-add}
 use Rattle.std.proofs.Math.Nat.{one-le-pow, pow-suc}
-use Rattle.verity_plan.specs.Settings.{TreeSettingsFields, hash, fan}
-use Rattle.verity_tree.specs.Levels.{blocks_up}
-use Rattle.verity_plan.specs.Plans.{level_count, level_size, place}
+use Rattle.verity_plan.specs.Settings.{TreeSettingsFields, fan}
+use Rattle.verity_plan.specs.Plans.{level_count, level_size}
 use Rattle.verity_tree.specs.ClosingOrder.{closing_with, closes, first_closing}
-use Rattle.verity_tree.specs.Steps.OpenBlocks.{digests_under, open_block, IsReached, IsCarrying}
+use Rattle.verity_tree.specs.Steps.OpenBlocks.{IsReached, IsCarrying}
 use Rattle.verity_tree.specs.Steps.OpenBlocks.{carry_state}
 use Rattle.verity_plan.proofs.FanLemmas.{fan-some}
 use Rattle.verity_plan.proofs.IndexLemmas.{quotient-below}
-use Rattle.verity_tree.proofs.OpenBlockSteps.{level_digest-below, level_digest-root}
+use Rattle.verity_tree.proofs.OpenBlockSteps.{level_digest-root}
 use Rattle.verity_tree.proofs.OrderSplit.{closing-prefix, closes-reached, closes-last, closes-none}
 use Rattle.verity_tree.specs.Steps.OpenBlocks.{HasClosed}
-use Rattle.verity_tree.proofs.OpenBlockSteps.{IsNext, arrival}
 
 positive : (k : ℕ) → (k ≡ 0 → ⊥) → k ≡ (k - 1) + 1
 positive zero h = absurd (h refl)
@@ -52,23 +50,6 @@ pub reached-down : (f i m l : ℕ) → 0 < f → IsReached f i m → l ≤ m →
 reached-down f i m l some h le =
     let e : m ≡ l + (m - l) = omega arith in
     reached-down-by f i l (m - l) some (subst (λ (n : ℕ). IsReached f i n) e h)
-
--- the digest on its way up is the next of its level
-pub level_digest-is_next : (s : TreeSettingsFields) (blocks : List (List ℕ)) (i m levels count index a k : ℕ)
-    (store block digest : List ℕ) → 2 ≤ fan s
-    → i < count → m < levels → index ≡ i / fan s ^ m → a ≡ m * s.hash_block → k ≡ s.hash_block
-    → block ≡ take k (drop a store) → count ≡ length blocks → IsCarrying s blocks (carry_state i m levels) store digest
-    → IsNext s (blocks_up s blocks m) (arrival index block digest)
-level_digest-is_next s blocks i m levels count index a k store block digest two below inside place from wide was many h
-    =
-    let some : 0 < fan s = omega arith in
-    let less : i < length blocks = omega (arith, below, many) in
-    record {
-      here = omega (arith, level_digest-below s blocks i m some less, place);
-      stands = was ∙ ap (λ (n : ℕ). take n (drop a store)) wide ∙ ap (λ (n : ℕ). take s.hash_block (drop n store)) from
-          ∙ h.above m (omega arith) inside ∙ ap (open_block s (digests_under s blocks m)) (sym place);
-      digest_is = h.digest_is ∙ ap (λ (n : ℕ). hash s (get_or (blocks_up s blocks m) n [])) (sym place);
-    }
 
 -- a level that stays open ends the data block's list
 pub closing-kept : (s : TreeSettingsFields) (blocks : List (List ℕ)) (i m levels count : ℕ) (store digest : List ℕ)

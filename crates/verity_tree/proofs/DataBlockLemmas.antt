@@ -1,11 +1,10 @@
 -- One data block read from the source.
-use Rattle.std.proofs.Common.{List, [], ap, arith, drop, false, get_or, inl, inr, length, length-drop}
-use Rattle.std.proofs.Common.{map, min, refl, sym, take, true, ℕ, ◌*◌, ◌+◌, ◌-◌, ◌/◌, ◌<◌, ◌∙◌, ◌++◌, length-append}
+use Rattle.std.proofs.Common.{List, [], ap, arith, drop, false, inl, inr, length, length-drop}
+use Rattle.std.proofs.Common.{min, refl, sym, take, true, ℕ, ◌*◌, ◌+◌, ◌-◌, ◌/◌, ◌<◌, ◌∙◌, ◌++◌, length-append}
 use Rattle.std.proofs.Common.{◌≡◌, ◌≤◌}
 use Rattle.std.proofs.lemmas.Bool.{cases_lt}
 use Rattle.std.proofs.lemmas.List.{take_all, take-take, drop_at, drop-take, drop-drop, length-take}
 use Rattle.std.proofs.lemmas.List.FromFn.{get_or-map-range_with_len}
-use Rattle.std.specs.List.{range_with_len}
 use Rattle.verity_hash.specs.Hashing.{with_zeros}
 use Rattle.verity_io.specs.Reading.{HasRead}
 use Rattle.verity_tree.specs.Reading.{EndsWithin, FailsWithin, bytes_of}
@@ -20,27 +19,23 @@ use Rattle.verity_plan.proofs.FanLemmas.{some_data}
 use Rattle.verity_tree.proofs.OpenBlockSteps.{place-first}
 use Rattle.std.specs.Prelude.{nat_le}
 use Rattle.std.proofs.lemmas.Bool.Decides.{nat_tests}
-use Rattle.std.proofs.Math.Nat.{div-eq_of_lt-le, mul-le-mul_right}
-use Rattle.std.proofs.lemmas.Nat.{div-add-mod', mod_below}
-
-take-take_min : (n m : ℕ) (xs : List ℕ) → take n (take m xs) ≡ take (min n m) xs
-take-take_min n m xs =
-    elim (cases_lt n m) [
-      | inl less ↦ take-take n m xs (omega arith) ∙ ap (λ (k : ℕ). take k xs) (let e : n ≡ min n m = omega arith in e)
-      | inr most ↦ take_all n (take m xs) (omega (arith, length-take m xs))
-          ∙ ap (λ (k : ℕ). take k xs) (let e : m ≡ min n m = omega arith in e)
-    ]
+use Rattle.std.proofs.Math.Nat.{div-eq_of_lt-le}
+use Rattle.std.proofs.lemmas.Nat.{le-div}
 
 -- the next bytes of a file in a block are its next block
 block-next : (bytes : List ℕ) (b size i data_len : ℕ) → i * b < size → data_len ≡ min b (size - i * b)
     → with_zeros b (take data_len (drop (i * b) bytes)) ≡ block_at b (take size bytes) i
 block-next bytes b size i data_len here w =
-    let split : i * b + (size - i * b) ≡ size = omega arith in
-    ap (with_zeros b)
-    (ap (λ (k : ℕ). take k (drop (i * b) bytes)) w
-    ∙ sym (take-take_min b (size - i * b) (drop (i * b) bytes))
-    ∙ ap (take b) (sym (drop-take (i * b) (size - i * b) bytes))
-    ∙ ap (λ (k : ℕ). take b (drop (i * b) (take k bytes))) split)
+    let most = size - i * b in
+    let rest = drop (i * b) bytes in
+    let split : i * b + most ≡ size = omega arith in
+    let run = drop-take (i * b) most bytes in
+    ap (with_zeros b) (elim (cases_lt b most) [
+      | inl less ↦ let whole : data_len ≡ b = omega arith in let front = take-take b most rest (omega arith) in cc
+      | inr within ↦
+          let all : data_len ≡ most = omega arith in
+          let front = take_all b (take most rest) (omega (arith, length-take most rest)) in cc
+    ])
 
 -- the digest of data block i is what comes to level 0
 pub level_digest-data : (s : TreeSettingsFields) (n wanted i : ℕ) (bytes digest : List ℕ) → i < n
@@ -48,11 +43,15 @@ pub level_digest-data : (s : TreeSettingsFields) (n wanted i : ℕ) (bytes diges
     → digest ≡ level_digest s (cut s n wanted bytes) i 0
 unfolding cut blocks_up
 level_digest-data s n wanted i bytes digest below is =
-    is
-    ∙ ap (hash s)
-    (sym (get_or-map-range_with_len (block_at s.data_block (take wanted bytes)) 0 n i i [] below (omega arith)))
-    ∙ ap (λ (k : ℕ). hash s (get_or (map (block_at s.data_block (take wanted bytes)) (range_with_len 0 n)) k []))
-    (place-first i (fan s))
+    let block = get_or-map-range_with_len (block_at s.data_block (take wanted bytes)) 0 n i i [] below (omega arith) in
+    let place = place-first i (fan s) in
+    cc
+
+-- a data block begins within what is wanted
+begins-within : (p : PlanFields) → IsPlan p → (i : ℕ) → i < p.blocks → i * p.settings.data_block < p.wanted
+begins-within p planned i below =
+    mul-lt_div_ceil p.wanted p.settings.data_block i (some_data p.settings planned.valid)
+    (omega (arith, below, planned.blocks_are))
 
 -- the next data block is read
 pub data-next : (p : PlanFields) → IsPlan p → (i data_len : ℕ) (bytes rest after block : List ℕ) → i < p.blocks
@@ -63,17 +62,17 @@ data-next p planned i data_len bytes rest after block below w read_before more i
     let s = p.settings in
     let d = s.data_block in
     let size = p.wanted in
-    let here : i * d < size = mul-lt_div_ceil size d i (some_data s planned.valid) (omega (arith, below, planned.blocks_are)) in
+    let here : i * d < size = begins-within p planned i below in
     let wanted : data_len ≡ min d (size - i * d) = omega (arith, w) in
+    let before : bytes_of p i ≡ i * d = omega (arith, here) in
     let next : bytes_of p (i + 1) ≡ i * d + data_len = omega (arith, wanted, here) in
-    let from : rest ≡ drop (i * d) bytes =
-    read_before.rest ∙ ap (λ (k : ℕ). drop k bytes) (let e : bytes_of p i ≡ i * d = omega (arith, here) in e) in
-    let digest : hash s block ≡ digest_of_block s size bytes i =
-    ap (hash s)
-    (is ∙ ap (λ (xs : List ℕ). with_zeros d (take data_len xs)) from ∙ block-next bytes d size i data_len here wanted) in (
+    let from : rest ≡ drop (i * d) bytes = read_before.rest ∙ ap (λ (k : ℕ). drop k bytes) before in
+    let row = block-next bytes d size i data_len here wanted in
+    let further = drop-drop data_len (i * d) bytes in
+    let digest : hash s block ≡ digest_of_block s size bytes i = cc in (
       record {
         enough = omega (arith, next, more, ap length from, length-drop (i * d) bytes, read_before.enough, here);
-        rest = goes ∙ ap (drop data_len) from ∙ drop-drop data_len (i * d) bytes ∙ ap (λ (k : ℕ). drop k bytes) (sym next);
+        rest = cc;
       },
       level_digest-data s p.blocks size i bytes (hash s block) below digest,
     )
@@ -81,7 +80,7 @@ data-next p planned i data_len bytes rest after block below w read_before more i
 -- nothing was read of the source
 pub HasRead-none : (p : PlanFields) (bytes : List ℕ) → HasRead (bytes_of p 0) bytes bytes
 HasRead-none p bytes =
-    let none : min (0 * p.settings.data_block) p.wanted ≡ 0 = omega arith in
+    let none : bytes_of p 0 ≡ 0 = omega arith in
     record { enough = omega (arith, none); rest = ap (λ (k : ℕ). drop k bytes) (sym none) }
 
 -- all data blocks have all bytes that are wanted
@@ -90,15 +89,6 @@ bytes_of-all p planned =
     let size = p.settings.data_block in
     let most : div_ceil p.wanted size ≤ p.blocks = omega (arith, planned.blocks_are) in
     omega (arith, le-div_ceil p.wanted size p.blocks (some_data p.settings planned.valid) most)
-
--- runs that fit are within the quotient
-pub le-div : (i n a : ℕ) → 0 < a → i * a ≤ n → i ≤ n / a
-le-div i n a some h = elim (cases_lt (n / a) i) [
-  | inl less ↦
-      let next : n / a + 1 ≤ i = omega arith in
-      absurd (omega (arith, mul-le-mul_right a next, h, div-add-mod' n a, mod_below n a some))
-  | inr within ↦ within
-]
 
 -- a plan has a data block
 pub blocks-some : (p : PlanFields) → IsPlan p → 0 < p.blocks
@@ -114,15 +104,18 @@ pub whole_blocks-all : (p : PlanFields) (bytes : List ℕ) → p.wanted ≤ leng
 whole_blocks-all p bytes enough =
     let tested : nat_le p.wanted (length bytes) ≡ true = grind (arith, nat_tests, enough) in rw tested refl
 
+-- bytes that hold less hold the blocks that fit
+whole_blocks-less : (p : PlanFields) (bytes : List ℕ) → length bytes < p.wanted
+    → whole_blocks p bytes ≡ length bytes / p.settings.data_block
+whole_blocks-less p bytes less =
+    let tested : nat_le p.wanted (length bytes) ≡ false = grind (arith, nat_tests, less) in rw tested refl
+
 -- bytes that end within block i hold i blocks
 pub whole-short : (p : PlanFields) (i : ℕ) (bytes : List ℕ) → bytes_of p i ≤ length bytes
     → length bytes < bytes_of p (i + 1) → whole_blocks p bytes ≡ i
 whole-short p i bytes enough short =
-    let less : length bytes < p.wanted = omega (arith, short) in
-    let tested : nat_le p.wanted (length bytes) ≡ false = grind (arith, nat_tests, less) in
-    let from : i * p.settings.data_block ≤ length bytes = omega (arith, enough, less) in
-    let to : length bytes < (i + 1) * p.settings.data_block = omega (arith, short) in
-    rw tested (div-eq_of_lt-le p.settings.data_block from to)
+    whole_blocks-less p bytes (omega (arith, short))
+    ∙ div-eq_of_lt-le p.settings.data_block (omega (arith, enough, short)) (omega (arith, short))
 
 -- bytes of which i blocks were read hold at least i blocks
 pub whole_blocks-above : (p : PlanFields) → IsPlan p → (i : ℕ) (bytes : List ℕ) → i ≤ p.blocks
@@ -130,9 +123,8 @@ pub whole_blocks-above : (p : PlanFields) → IsPlan p → (i : ℕ) (bytes : Li
     → i ≤ whole_blocks p bytes
 whole_blocks-above p planned i bytes within enough = elim (cases_lt (length bytes) p.wanted) [
   | inl less ↦
-      let tested : nat_le p.wanted (length bytes) ≡ false = grind (arith, nat_tests, less) in
-      let from : i * p.settings.data_block ≤ length bytes = omega (arith, enough, less) in
-      rw tested (le-div i (length bytes) p.settings.data_block (some_data p.settings planned.valid) from)
+      let fits = le-div i (length bytes) p.settings.data_block (some_data p.settings planned.valid) (omega arith) in
+      omega (arith, whole_blocks-less p bytes less, fits)
   | inr all ↦ omega (arith, whole_blocks-all p bytes all, within)
 ]
 
@@ -141,12 +133,9 @@ pub short-within : (p : PlanFields) → IsPlan p → (i data_len : ℕ) (bytes r
     → data_len ≡ min (p.wanted - i * p.settings.data_block) p.settings.data_block → HasRead (bytes_of p i) bytes rest
     → length rest < data_len → after ≡ [] → EndsWithin p i bytes after
 short-within p planned i data_len bytes rest after below w read_before short none =
-    let s = p.settings in
-    let here : i * s.data_block < p.wanted =
-    mul-lt_div_ceil p.wanted s.data_block i (some_data s planned.valid) (omega (arith, below, planned.blocks_are)) in
-    let left : length rest ≡ length bytes - bytes_of p i =
-    ap length read_before.rest ∙ length-drop (bytes_of p i) bytes in
-    let within : length bytes < bytes_of p (i + 1) = omega (arith, left, read_before.enough, here, w, short) in
+    let left = ap length read_before.rest ∙ length-drop (bytes_of p i) bytes in
+    let within : length bytes < bytes_of p (i + 1) =
+    omega (arith, left, read_before.enough, begins-within p planned i below, w, short) in
     record {
       below = below;
       whole_is = sym (whole-short p i bytes read_before.enough within);
@@ -160,17 +149,13 @@ pub failed-within : (p : PlanFields) → IsPlan p → (i data_len : ℕ) (bytes 
     → data_len ≡ min (p.wanted - i * p.settings.data_block) p.settings.data_block → HasRead (bytes_of p i) bytes rest
     → length taken < data_len → rest ≡ taken ++ after → FailsWithin p i bytes after
 failed-within p planned i data_len bytes rest after taken below w read_before less is =
-    let s = p.settings in
-    let here : i * s.data_block < p.wanted =
-    mul-lt_div_ceil p.wanted s.data_block i (some_data s planned.valid) (omega (arith, below, planned.blocks_are)) in
-    let left : length rest ≡ length bytes - bytes_of p i =
-    ap length read_before.rest ∙ length-drop (bytes_of p i) bytes in
+    let left = ap length read_before.rest ∙ length-drop (bytes_of p i) bytes in
     let within : length taken ≤ length rest = omega (arith, ap length is, length-append taken after) in
     record {
       below = below;
       count = bytes_of p i + length taken;
       from = omega arith;
-      to = omega (arith, here, w, less);
+      to = omega (arith, begins-within p planned i below, w, less);
       read = record {
         enough = omega (arith, left, read_before.enough, within);
         rest = sym (ap (drop (length taken)) is ∙ drop_at taken after (length taken) refl)

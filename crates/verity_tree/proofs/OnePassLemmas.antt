@@ -1,15 +1,14 @@
 -- The loop over the data blocks.
-use Rattle.std.proofs.Common.{List, [], ap, append_assoc, arith, drop, length, refl, replicate, subst, sym, take, ℕ}
-use Rattle.std.proofs.Common.{◌%◌, ◌*◌, ◌++◌, ◌+◌, ◌-◌, ◌/◌, ◌<◌, ◌^◌, ◌∙◌, ◌∷◌, ◌≡◌, ◌≤◌}
+use Rattle.std.proofs.Common.{List, [], ap, append_assoc, arith, length, refl, replicate, ℕ}
+use Rattle.std.proofs.Common.{◌*◌, ◌++◌, ◌+◌, ◌-◌, ◌/◌, ◌<◌, ◌^◌, ◌∙◌, ◌∷◌, ◌≡◌, ◌≤◌}
 use Rattle.std.proofs.lemmas.List.{drop-replicate, take-replicate}
-use Rattle.std.proofs.lemmas.Nat.{div-mul-add, mod-mul-add}
-use Rattle.std.proofs.Math.Nat.{one-le-pow}
+use Rattle.std.proofs.Math.Nat.{zero-div, zero-mod}
 use Rattle.std.proofs.lemmas.List.Elements.{Contains-append_left, Contains-append_right}
-use Rattle.std.specs.Prelude.{Bool, true, false, Contains, Some, None, if◌then◌else◌}
+use Rattle.std.specs.Prelude.{Bool, true, false, Some, None, if◌then◌else◌}
 use Rattle.verity_plan.proofs.CountLemmas.{mul_le}
 use Rattle.verity_plan.specs.Settings.{TreeSettingsFields, fan}
-use Rattle.verity_tree.specs.Levels.{hash_block_of, data_blocks}
-use Rattle.verity_tree.specs.ClosingOrder.{closing_with, closed_after, BlockIndex, ComesNext, block_index, first_closing}
+use Rattle.verity_tree.specs.Levels.{data_blocks}
+use Rattle.verity_tree.specs.ClosingOrder.{closed_after, ComesNext, block_index, first_closing}
 use Rattle.verity_tree.proofs.OrderSplit.{closing-front, closed_after-more, closed_after-prefix}
 use Rattle.verity_tree.specs.Reading.{ReadsUpTo, bytes_of}
 use Rattle.verity_io.specs.Counting.{Counts, TheDevice, TheSource, is_call_of}
@@ -19,18 +18,12 @@ use Rattle.verity_tree.specs.Steps.DataBlocks.{side_of as block_side}
 use Rattle.verity_tree.specs.declared.pass.pass_fault.BlockFault.{BlockFault}
 use Rattle.verity_tree.specs.declared.pass.pass_fault.BlockFault.TheVariants.{Short, Failed}
 use Rattle.verity_plan.specs.Plans.{PlanFields}
-use Rattle.verity_tree.specs.Steps.OpenBlocks.{digests_under, open_block, HasOpenBlocks}
+use Rattle.verity_tree.specs.Steps.OpenBlocks.{digests_under, HasOpenBlocks}
 use Rattle.verity_tree.proofs.OpenBlockSteps.{hash_block_of-none}
 use Rattle.verity_tree.specs.Steps.OnClosed.{stop_side}
 use Rattle.verity_tree.specs.Steps.OnClosed.{Effects}
 use Rattle.verity_tree.specs.Steps.OnePass.{StopsFor}
 use Rattle.verity_tree.specs.declared.pass.pass_fault.Stop.{Stop}
-
-zero_div : (w : ℕ) → 0 < w → 0 / w ≡ 0
-zero_div w some = let e : 0 ≡ 0 * w + 0 = omega arith in ap (λ (x : ℕ). x / w) e ∙ div-mul-add 0 w 0 some
-
-zero_mod : (w : ℕ) → 0 < w → 0 % w ≡ 0
-zero_mod w some = let e : 0 ≡ 0 * w + 0 = omega arith in ap (λ (x : ℕ). x % w) e ∙ mod-mul-add 0 w 0 some
 
 -- a store of zeros has no slots
 pub HasOpenBlocks-zeros : (s : TreeSettingsFields) (blocks : List (List ℕ)) (levels len : ℕ) (store : List ℕ) → 0 < fan s
@@ -41,17 +34,12 @@ HasOpenBlocks-zeros s blocks levels len store some zeros room = λ l from to.
     let size = s.hash_block in
     let step : l + 1 ≤ levels = omega (arith, to) in
     let fits : size ≤ len - l * size = omega (arith, room, mul_le (l + 1) levels size step) in
-    let place : 0 / f ^ l ≡ 0 = zero_div (f ^ l) (one-le-pow l f some) in
-    ap (λ (xs : List ℕ). take size (drop (l * size) xs)) zeros
-    ∙ ap (take size) (drop-replicate (l * size) len 0)
-    ∙ take-replicate size (len - l * size) 0 fits
-    ∙ sym (hash_block_of-none s (0 / f * f) (digests_under s blocks l))
-    ∙ ap (λ (n : ℕ). hash_block_of s (take n (drop (0 / f * f) (digests_under s blocks l)))) (sym (zero_mod f some))
-    ∙ ap (open_block s (digests_under s blocks l)) (sym place)
-
--- an element in the middle of a list is in it
-middle : (xs ys : List BlockIndex) (x : BlockIndex) → Contains (xs ++ x ∷ [] ++ ys) x
-middle xs ys x = Contains-append_left (xs ++ x ∷ []) ys x (Contains-append_right xs (x ∷ []) x (0, omega arith, refl))
+    let run = drop-replicate {X = ℕ} (l * size) len 0 in
+    let front = take-replicate {X = ℕ} size (len - l * size) 0 fits in
+    let none = hash_block_of-none s (0 / f * f) (digests_under s blocks l) in
+    let place = zero-div (f ^ l) in
+    let start = zero-mod f in
+    cc
 
 -- the data blocks with which the block closes were read
 pub reads-up-to : (p : PlanFields) (i l j : ℕ) (before after : List ℕ) → i < p.blocks
@@ -60,13 +48,13 @@ pub reads-up-to : (p : PlanFields) (i l j : ℕ) (before after : List ℕ) → i
 reads-up-to p i l j before after below with_it read =
     let f = fan p.settings in
     let front = closing-front f p.blocks i l with_it.level_below with_it.all in
-    let closing = closing_with f p.blocks i in
+    let here = block_index l (i / f ^ (l + 1)) in
     record {
       i = i;
       below = below;
-      here = subst (λ (k : ℕ). Contains closing (block_index l k)) (sym with_it.block_is)
-          (subst (λ (ps : List BlockIndex). Contains ps (block_index l (i / f ^ (l + 1)))) (sym front.1)
-          (middle (first_closing f i l) front.0 (block_index l (i / f ^ (l + 1)))));
+      here = rw (with_it.block_is, front.1)
+          (Contains-append_left (first_closing f i l ++ here ∷ []) front.0 here
+          (Contains-append_right (first_closing f i l) (here ∷ []) here (0, omega arith, refl)));
       read = read;
     }
 
@@ -87,11 +75,7 @@ stops-for w p bytes i stop before after below with_it enough is =
       done = closed_after f p.blocks i ++ first_closing f i l;
       next = record {
         rest = front.0;
-        in_order = closed_after-more f p.blocks i
-            ∙ ap (λ (ps : List BlockIndex). closed_after f p.blocks i ++ ps) front.1
-            ∙ ap (λ (k : ℕ). closed_after f p.blocks i ++ (first_closing f i l ++ block_index l k ∷ [] ++ front.0))
-            (sym with_it.block_is)
-            ∙ simp append_assoc;
+        in_order = rw (closed_after-more f p.blocks i, front.1, with_it.block_is) (simp append_assoc);
       };
       stopped = is;
     }
@@ -106,9 +90,7 @@ stops-next w p bytes stop before after stops =
     let e : p.blocks ≡ stops.i + 1 + (p.blocks - (stops.i + 1)) = omega (arith, stops.below) in
     record {
       rest = stops.next.rest ++ rest.0;
-      in_order = ap (closed_after f p.blocks) e ∙ rest.1
-          ∙ ap (λ (ps : List BlockIndex). ps ++ rest.0) stops.next.in_order
-          ∙ simp append_assoc;
+      in_order = ap (closed_after f p.blocks) e ∙ rest.1 ∙ rw stops.next.in_order (simp append_assoc);
     }
 
 -- a failure at a hash block is none of the source

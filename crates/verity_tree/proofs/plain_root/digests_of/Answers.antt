@@ -10,7 +10,7 @@ use Rattle.verity_plan.specs.Settings.{TreeSettingsFields, IsValid, hash}
 use Rattle.verity_plan.proofs.FanLemmas.{some_data}
 use Rattle.verity_tree.specs.Levels.{block_at}
 use Rattle.verity_tree.specs.Steps.PlainRoots.{digest_of_block}
-use Rattle.verity_tree.proofs.LevelLemmas.{map-hash-cut, take-bytes, mapped_more}
+use Rattle.verity_tree.proofs.LevelLemmas.{map-hash-cut, mapped_more, take-run}
 use Rattle.verity_tree.proofs.plain_root.digests_of.Goals as goal
 
 -- each block begins within the bytes
@@ -23,7 +23,7 @@ pub loop-i-preserved : goal.loop-i-preserved
 loop-i-preserved c =
     let settings = c.args.settings.now in
     let bytes = c.args.bytes.now in
-    let run = take-bytes bytes c.loop-i.i c.data_block-size.result c.min-count.result settings.data_block
+    let run = take-run bytes c.loop-i.i c.data_block-size.result c.min-count.result settings.data_block
     c.data_block-size.ensures.value c.min-count.ensures in
     let block = c.deref.ensures.value ∙ c.in_ok-block.ensures ∙ ap (with_zeros c.data_block-size.result) run
     ∙ ap (λ (n : ℕ). with_zeros n (slice_chunk bytes settings.data_block c.loop-i.i)) c.data_block-size.ensures.value

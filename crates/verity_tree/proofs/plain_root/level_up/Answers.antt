@@ -6,7 +6,7 @@ use Rattle.verity_plan.proofs.CountLemmas.{mul-lt_div_ceil}
 use Rattle.verity_plan.specs.Settings.{hash, fan}
 use Rattle.verity_tree.specs.Levels.{hash_block_of}
 use Rattle.verity_tree.specs.Steps.PlainRoots.{digest_of_group}
-use Rattle.verity_tree.proofs.LevelLemmas.{map-hash-pack, take-run, digests_more}
+use Rattle.verity_tree.proofs.LevelLemmas.{map-hash-pack, mapped_more, take-run}
 use Rattle.verity_tree.proofs.plain_root.level_up.Goals as goal
 
 -- each run begins within the digests
@@ -22,7 +22,7 @@ loop-j-preserved c =
     (fan settings) c.fan-fan.ensures.value c.min-size.ensures in
     let digest = c.hash.ensures
     ∙ ap (hash settings) (c.deref.ensures.value ∙ c.in_ok-block.ensures ∙ ap (hash_block_of settings) run) in
-    digests_more settings c.args.digests.now c.loop-j.above.items _ c.loop-j.j c.hash.result c.in_ok-push.ensures.items
+    mapped_more (digest_of_group settings c.args.digests.now) c.loop-j.above.items _ c.loop-j.j c.hash.result c.in_ok-push.ensures.items
     c.loop-j.invariant digest
 
 pub returns : goal.returns

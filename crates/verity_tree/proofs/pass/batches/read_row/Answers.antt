@@ -1,16 +1,9 @@
-use Rattle.std.proofs.Common.{◌≡◌, ℕ, ◌-◌, ◌*◌, ◌<◌, ◌≤◌, [], replicate, min, List, length, take, drop, ◌++◌, length-append, length-drop, arith, sym, ap, ◌∙◌}
+use Rattle.std.proofs.Common.{◌≡◌, ℕ, ◌-◌, ◌*◌, ◌<◌, ◌≤◌, [], replicate, min, List, length, take, drop, ◌++◌, length-append, length-drop, arith, ap, ◌∙◌}
 use Rattle.std.proofs.lemmas.List.{append-nil, drop_all, drop_at, length-take-le, take_all, take_at}
 use borrow.Rule.Slice.PartMut.{put_mid}
 use Rattle.verity_hash.specs.Hashing.{with_zeros}
 use Rattle.verity_tree.proofs.DataBlockLemmas.{data-next, failed-within, short-within}
 use Rattle.verity_tree.proofs.pass.batches.read_row.Goals as goal
-
--- how many bytes of the data block there are
-data-len : (wanted i len d result size wide : ℕ) → wanted ≡ result → size ≡ d → wide ≡ d
-    → len ≡ min (result - i * size) wide → len ≡ min (wanted - i * d) d
-data-len wanted i len d result size wide all same row is =
-    is ∙ ap (λ (n : ℕ). min (n - i * size) wide) (sym all) ∙ ap (λ (n : ℕ). min (wanted - i * n) wide) same
-    ∙ ap (λ (n : ℕ). min (wanted - i * d) n) row
 
 -- the bytes that were read, and zeros up to the row's end
 row-filled : (n d : ℕ) (buf row zeros before : List ℕ) → n ≤ length row → length row ≡ d → length buf ≡ n
@@ -22,57 +15,44 @@ row-filled n d buf row zeros before fits wide long is filled =
     let k = length xs - n in
     let size : length xs ≡ d =
     omega (arith, length-append buf (drop n row), length-drop n row, long, wide, fits) in
-    let rest : length (drop n xs) ≡ k = length-drop n xs in
-    let left : zeros ≡ replicate (d - n) 0 =
-    filled
-    ∙ ap (λ (m : ℕ). replicate m 0) (length-take-le k (drop n xs) (omega (arith, rest)))
-    ∙ ap (λ (m : ℕ). replicate (m - n) 0) size in
-    ap (λ (ys : List ℕ). ys ++ (zeros ++ drop k (drop n xs))) (take_at buf (drop n row) n long)
-    ∙ ap (λ (ys : List ℕ). buf ++ (zeros ++ ys)) (drop_all k (drop n xs) (omega (arith, rest)))
-    ∙ ap (λ (ys : List ℕ). buf ++ ys) (append-nil zeros ∙ left)
-    ∙ ap (λ (m : ℕ). buf ++ replicate (d - m) 0) (sym long)
-    ∙ ap (with_zeros d) is
+    let rest = length-take-le k (drop n xs) (omega (arith, length-drop n xs)) in
+    let front = take_at buf (drop n row) n long in
+    let none = drop_all k (drop n xs) (omega (arith, length-drop n xs)) in
+    let end = append-nil zeros in
+    cc
 
 pub returns-else-count-data_len-clause-read : goal.returns-else-count-data_len-clause-read
 returns-else-count-data_len-clause-read g c = λ tells bytes read_before.
     let p = c.args.plan.now in
-    let w = data-len p.wanted c.args.i c.min-data_len.result p.settings.data_block c.wanted.result c.data_block.result
-    (length c.args.row.now) (sym c.wanted.ensures.value) c.data_block.ensures c.requires.room c.min-data_len.ensures in
-    let fits : c.min-data_len.result ≤ length c.args.row.now = omega (arith, c.min-data_len.ensures) in
-    let long : length c.read_block.new.buf ≡ c.min-data_len.result =
-    c.read_block.auto.buf ∙ length-take-le c.min-data_len.result c.args.row.now fits in
-    let all : take c.in-Ok.count c.read_block.new.buf ≡ c.read_block.new.buf =
-    take_all c.in-Ok.count c.read_block.new.buf (omega (arith, long, c.if-count-data_len.false)) in
+    let w : c.min-data_len.result ≡ min (p.wanted - c.args.i * p.settings.data_block) p.settings.data_block = cc in
+    let n = c.min-data_len.result in
+    let buf = c.read_block.new.buf in
     let before = g.S.Source.remaining c.args.source.now in
     let after = g.S.Source.remaining c.read_block.new.source in
-    let split : before ≡ c.read_block.new.buf ++ after =
-    (c.in-Ok.ensures.bytes tells).0 ∙ ap (λ (xs : List ℕ). xs ++ after) all in
-    data-next p c.wanted.ensures.planned c.args.i c.min-data_len.result bytes before after _ c.requires.below w read_before
-    (omega (arith, long, ap length split, length-append c.read_block.new.buf after))
-    (row-filled c.min-data_len.result p.settings.data_block c.read_block.new.buf c.args.row.now c.fill.new.self before fits
-    c.requires.room long
-    (sym (ap (take c.min-data_len.result) split ∙ take_at c.read_block.new.buf after c.min-data_len.result long))
-    (c.fill.ensures.after (λ y e. e)))
-    (sym (ap (drop c.min-data_len.result) split ∙ drop_at c.read_block.new.buf after c.min-data_len.result long))
+    let fits : n ≤ length c.args.row.now = omega (arith, c.min-data_len.ensures) in
+    let long : length buf ≡ n = c.read_block.auto.buf ∙ length-take-le n c.args.row.now fits in
+    let all = take_all c.in-Ok.count buf (omega (arith, long, c.if-count-data_len.false)) in
+    let read = (c.in-Ok.ensures.bytes tells).0 in
+    let front = take_at buf after n long in
+    let back = drop_at buf after n long in
+    let split : before ≡ buf ++ after = cc in
+    data-next p c.wanted.ensures.planned c.args.i n bytes before after _ c.requires.below w read_before
+    (omega (arith, long, ap length split, length-append buf after))
+    (row-filled n p.settings.data_block buf c.args.row.now c.fill.new.self before fits c.requires.room long (cc)
+    (c.fill.ensures.after (λ y e. e))) (cc)
 
 pub returns-then-count-data_len-clause-read : goal.returns-then-count-data_len-clause-read
 returns-then-count-data_len-clause-read g c = λ tells bytes read_before.
     let p = c.args.plan.now in
-    let w = data-len p.wanted c.args.i c.min-data_len.result p.settings.data_block c.wanted.result c.data_block.result
-    (length c.args.row.now) (sym c.wanted.ensures.value) c.data_block.ensures c.requires.room c.min-data_len.ensures in
+    let w : c.min-data_len.result ≡ min (p.wanted - c.args.i * p.settings.data_block) p.settings.data_block = cc in
     let count = c.in-Ok.count in
     let buf = c.read_block.new.buf in
     let after = g.S.Source.remaining c.read_block.new.source in
     let stop = c.in-Ok.ensures.bytes tells in
-    let less : count < length buf =
-    omega (
-      arith,
-      c.if-count-data_len.true,
-      c.read_block.auto.buf,
-      length-take-le c.min-data_len.result c.args.row.now (omega (arith, c.min-data_len.ensures)),
-    ) in
+    let long = length-take-le c.min-data_len.result c.args.row.now (omega (arith, c.min-data_len.ensures)) in
+    let less : count < length buf = omega (arith, c.if-count-data_len.true, c.read_block.auto.buf, long) in
     let none : after ≡ [] = stop.1 less in
-    let few : length (take count buf) ≡ count = length-take-le count buf (omega (arith, less)) in
+    let few = length-take-le count buf (omega (arith, less)) in
     short-within p c.wanted.ensures.planned c.args.i c.min-data_len.result bytes (g.S.Source.remaining c.args.source.now)
     after c.requires.below w read_before
     (omega (arith, ap length stop.0, length-append (take count buf) after, ap length none, few, c.if-count-data_len.true)) none
@@ -80,8 +60,7 @@ returns-then-count-data_len-clause-read g c = λ tells bytes read_before.
 pub returns-in-Err-clause-read : goal.returns-in-Err-clause-read
 returns-in-Err-clause-read g c = λ tells bytes read_before.
     let p = c.args.plan.now in
-    let w = data-len p.wanted c.args.i c.min-data_len.result p.settings.data_block c.wanted.result c.data_block.result
-    (length c.args.row.now) (sym c.wanted.ensures.value) c.data_block.ensures c.requires.room c.min-data_len.ensures in
+    let w : c.min-data_len.result ≡ min (p.wanted - c.args.i * p.settings.data_block) p.settings.data_block = cc in
     let stop = c.in-Err.ensures.bytes tells in
     failed-within p c.wanted.ensures.planned c.args.i c.min-data_len.result bytes (g.S.Source.remaining c.args.source.now)
     (g.S.Source.remaining c.read_block.new.source) stop.0 c.requires.below w read_before

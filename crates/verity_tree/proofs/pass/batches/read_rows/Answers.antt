@@ -1,17 +1,8 @@
-use Rattle.std.proofs.Common.{◌≡◌, ℕ, ◌+◌, ◌-◌, ◌*◌, ◌≤◌, length, length-drop, take, drop, arith, inl, inr, sym, ap, ◌∙◌, subst}
-use Rattle.std.specs.Fork.{slice_chunk}
+use Rattle.std.proofs.Common.{◌≡◌, ◌+◌, ◌*◌, ◌≤◌, length, arith, inl, inr, ap, ◌∙◌}
 use Rattle.std.proofs.lemmas.Bool.{cases_lt}
-use Rattle.std.proofs.lemmas.List.{length-take-le}
-use Rattle.std.proofs.lemmas.Slice.{between-put_mid}
-use borrow.Rule.Slice.PartMut.{put_mid}
-use Rattle.verity_io.specs.Reading.{HasRead}
 use Rattle.verity_plan.specs.Settings.{hash}
-use Rattle.verity_tree.specs.Levels.{data_blocks}
-use Rattle.verity_tree.specs.Reading.{bytes_of}
-use Rattle.verity_tree.specs.Steps.Batches.{HoldsDataBlocks}
-use Rattle.verity_tree.specs.Steps.OpenBlocks.{level_digest}
 use Rattle.verity_hash.proofs.RowLemmas.{rows-within}
-use Rattle.verity_tree.proofs.BatchLemmas.{row-kept}
+use Rattle.verity_tree.proofs.OpenBlockSteps.{IsWritten-part, length-part, with_part}
 use Rattle.verity_tree.proofs.pass.batches.read_rows.Goals as goal
 
 pub loop-row-preserved : goal.loop-row-preserved
@@ -21,36 +12,27 @@ loop-row-preserved g c =
     let d = s.data_block in
     let inv = c.loop-row.invariant in
     let n = c.loop-row.row in
-    let from = n * c.data_block-size.result in
-    let place : from ≡ n * d = ap (λ (k : ℕ). n * k) c.data_block-size.ensures in
-    let wide : from + c.data_block-size.result - from ≡ d = omega (arith, c.data_block-size.ensures) in
-    let within : from + c.data_block-size.result ≤ length c.loop-row.rows =
-    omega (arith, place, wide, rows-within n c.args.count d c.loop-row-test.true, c.requires.room, c.loop-row.auto.rows) in
-    let long : length c.read_row.new.row ≡ from + c.data_block-size.result - from =
-    c.read_row.auto.row ∙ length-take-le (from + c.data_block-size.result - from) (drop from c.loop-row.rows)
-    (omega (arith, length-drop from c.loop-row.rows, within)) in
-    let rows = put_mid from (from + c.data_block-size.result - from) c.loop-row.rows c.read_row.new.row in
-    let own : slice_chunk rows d n ≡ c.read_row.new.row =
-    (λ k. take (sym wide k) (drop (sym place k) rows))
-    ∙ between-put_mid from (from + c.data_block-size.result - from) c.loop-row.rows c.read_row.new.row
-    (from + c.data_block-size.result) (omega (arith, within)) long in
+    let size = c.data_block-size.result in
+    let within : n * d + d ≤ length c.loop-row.rows =
+    omega (arith, rows-within n c.args.count d c.loop-row-test.true, c.requires.room, c.loop-row.auto.rows) in
+    let long : length c.read_row.new.row ≡ d =
+    c.read_row.auto.row ∙ length-part d n size c.loop-row.rows c.data_block-size.ensures within in
+    let rows = with_part c.loop-row.rows n size c.read_row.new.row in
+    let written = IsWritten-part d n size c.loop-row.rows c.read_row.new.row c.data_block-size.ensures within long in
     record {
       told = λ t. c.in-Ok.ensures.told (inv.told t);
       failures = c.in-Ok.ensures.count ∙ inv.failures;
       rows = λ tells bytes read_before r low.
           elim (cases_lt r n) [
-            | inl before ↦ ap (hash s) (row-kept d r from (from + c.data_block-size.result - from) c.loop-row.rows
-                c.read_row.new.row (omega (arith, place, rows-within r n d before)) (omega (arith, within)))
-                ∙ inv.rows tells bytes read_before r before
+            | inl before ↦ ap (hash s) (written.others r (inl before)) ∙ inv.rows tells bytes read_before r before
             | inr here ↦
                 let e : n ≡ r = omega arith in
-                subst (λ (k : ℕ). hash s (slice_chunk rows d k) ≡ level_digest s (data_blocks p bytes) (c.args.i + k) 0) e
-                (ap (hash s) own ∙ (c.in-Ok.ensures.read (inv.told tells) bytes (inv.read tells bytes read_before)).1)
+                rw (← e) (ap (hash s) written.own ∙ (c.in-Ok.ensures.read (inv.told tells) bytes (inv.read tells bytes read_before)).1)
           ];
       read = λ tells bytes read_before.
           let next = (c.in-Ok.ensures.read (inv.told tells) bytes (inv.read tells bytes read_before)).0 in
           let e : c.args.i + n + 1 ≡ c.args.i + (n + 1) = omega arith in
-          subst (λ (k : ℕ). HasRead (bytes_of p k) bytes (g.S.Source.remaining c.read_row.new.source)) e next;
+          rw e at next;
     }
 
 pub returns-in-Err-clause-read : goal.returns-in-Err-clause-read
@@ -66,8 +48,6 @@ pub returns-clause-read : goal.returns-clause-read
 returns-clause-read g c = λ tells bytes read_before.
     let inv = c.loop-row.invariant in
     let all : c.loop-row.row ≡ c.args.count = omega (arith, c.loop-row-test.false, c.loop-row.auto.row-end) in (
-      subst (λ (n : ℕ). HasRead (bytes_of c.args.plan.now (c.args.i + n)) bytes (g.S.Source.remaining c.loop-row.source)) all
-          (inv.read tells bytes read_before),
-      subst (λ (n : ℕ). HoldsDataBlocks c.args.plan.now.settings (data_blocks c.args.plan.now bytes) c.args.i n c.loop-row.rows) all
-          (inv.rows tells bytes read_before),
+      rw all at (inv.read tells bytes read_before),
+      rw all at (inv.rows tells bytes read_before),
     )

@@ -1,11 +1,10 @@
 -- How many data blocks are read together.
 use Rattle.std.proofs.Common.{◌≡◌, ◌+◌, ◌-◌, ◌*◌, ◌/◌, ◌%◌, ◌<◌, ◌≤◌, ℕ, arith, ap}
-use Rattle.std.proofs.lemmas.Nat.{div-add-mod', mod_below}
+use Rattle.std.proofs.lemmas.Nat.{div-add-mod', le-div, mod_below}
 use Rattle.verity_plan.specs.Settings.{fan}
 use Rattle.verity_plan.proofs.CountLemmas.{mul_le}
-use Rattle.verity_plan.proofs.FanLemmas.{some_data}
+use Rattle.verity_plan.proofs.FanLemmas.{fan-some, some_data}
 use Rattle.verity_tree.proofs.BatchLemmas.{none_closes-batch}
-use Rattle.verity_tree.proofs.DataBlockLemmas.{le-div}
 use Rattle.verity_tree.proofs.pass.batches.rows_from.Goals as goal
 
 pub returns-clause-batch : goal.returns-clause-batch
@@ -14,39 +13,22 @@ returns-clause-batch c =
     let f = fan p.settings in
     let size = c.data_block.result in
     let rows = c.min-2.result in
-    let here : c.fan-fan.result ≡ f = c.fan-fan.ensures.value in
-    let part : c.fan-fan.result - c.args.i % c.fan-fan.result ≡ f - c.args.i % f =
-    ap (λ (n : ℕ). n - c.args.i % n) here in
-    let some : 0 < f = omega (arith, here, c.fan-fan.ensures.two) in
-    let low : c.args.i % f < f = mod_below c.args.i f some in
+    let part : c.fan-fan.result - c.args.i % c.fan-fan.result ≡ f - c.args.i % f = cc in
+    let low : c.args.i % f < f = mod_below c.args.i f (fan-some p.settings) in
     let wide : 0 < size = omega (arith, c.data_block.ensures, some_data p.settings c.blocks-2.ensures.planned.valid) in
-    let one : 1 ≤ c.args.window / size =
-    le-div 1 c.args.window size wide (omega (arith, c.data_block.ensures, c.requires.room)) in
-    let within : rows ≤ f - c.args.i % f = omega (arith, part, c.min-2.ensures, c.min.ensures) in
-    let room : c.args.i + rows ≤ p.blocks =
-    omega (arith, c.requires.below, c.blocks-2.ensures.value, c.min-2.ensures, c.min.ensures) in
+    let one : 1 ≤ c.args.window / size = le-div 1 c.args.window size wide (omega (arith, c.data_block.ensures, c.requires.room)) in
+    let room : c.args.i + rows ≤ p.blocks = omega arith in
     record {
-      some = omega (
-        arith,
-        part,
-        low,
-        c.requires.below,
-        c.blocks-2.ensures.value,
-        one,
-        c.min-2.ensures,
-        c.min.ensures,
-        c.min-room.ensures,
-      );
-      most = omega (arith, c.min-2.ensures, c.min-room.ensures);
+      some = omega arith;
+      most = omega arith;
       below = room;
-      none_closes = λ k from to. none_closes-batch f p.blocks c.args.i rows k some within room from to;
+      none_closes = λ k from to.
+          none_closes-batch f p.blocks c.args.i rows k (fan-some p.settings) (omega arith) room from to;
     }
 
 pub returns-clause-fits : goal.returns-clause-fits
 returns-clause-fits c =
     let size = c.data_block.result in
     let rows = c.min-2.result in
-    let few : rows ≤ c.args.window / size = omega (arith, c.min-2.ensures, c.min-room.ensures) in
-    let same : rows * size ≡ rows * c.args.plan.now.settings.data_block =
-    ap (λ (n : ℕ). rows * n) c.data_block.ensures in
-    omega (arith, same, mul_le rows (c.args.window / size) size few, div-add-mod' c.args.window size)
+    let same = ap (λ (n : ℕ). rows * n) c.data_block.ensures in
+    omega (arith, same, mul_le rows (c.args.window / size) size (omega arith), div-add-mod' c.args.window size)

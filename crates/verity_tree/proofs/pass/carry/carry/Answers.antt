@@ -1,15 +1,13 @@
-use Rattle.std.proofs.Common.{List, ap, arith, refl, subst, sym, true, ℕ, ◌*◌, ◌+◌, ◌++◌, ◌∷◌, [], ◌/◌, ◌^◌}
-use Rattle.std.proofs.Common.{◌<◌, ◌∙◌, ◌≡◌, ◌≤◌, append_assoc}
+use Rattle.std.proofs.Common.{List, length, ℕ, ap, arith, refl, sym, ◌+◌, ◌++◌, ◌∷◌, []}
+use Rattle.std.proofs.Common.{◌<◌, ◌∙◌, ◌≡◌, append_assoc}
 use Rattle.verity_plan.specs.Plans.{level_count}
 use Rattle.verity_plan.specs.PlanCounts.{level_count_of}
 use Rattle.verity_plan.specs.Settings.{fan}
 use Rattle.verity_plan.proofs.FanLemmas.{fan-some, fan-two}
-use Rattle.verity_tree.specs.ClosingOrder.{BlockIndex, block_index, closes, first_closing}
-use Rattle.verity_tree.specs.Steps.OpenBlocks.{IsCarrying, carry_state}
+use Rattle.verity_tree.specs.ClosingOrder.{block_index, first_closing}
 use Rattle.verity_tree.specs.TreeOnDevice.{tree_block}
 use Rattle.verity_tree.proofs.ClosingLemmas.{closes-closed, closing-below, closing-done, closing-kept}
-use Rattle.verity_tree.proofs.ClosedLevelLemmas.{part-is_chunk}
-use Rattle.verity_tree.proofs.OpenBlockSteps.{carry-all}
+use Rattle.verity_tree.proofs.OpenBlockSteps.{level_digest-root, part-is_run}
 use Rattle.verity_tree.proofs.OrderSplit.{first_closing-more}
 use Rattle.verity_tree.proofs.pass.carry.carry.Goals as goal
 
@@ -41,9 +39,7 @@ returns-then-not-add_digest-clause-carries g c = λ blocks many first stands.
       carried = record { stands = λ _. added.1; root_is = λ same. absurd (omega (arith, added.0, same)) };
       place = tt;
       leaves = λ tells done start before.
-          subst (λ (xs : List BlockIndex). g.C.OnClosed.leaves p blocks (done ++ xs) start
-          (g.D.Device.content c.loop-level.device))
-          (sym kept) (inv.closed tells blocks done start many first stands before);
+          rw kept (inv.closed tells blocks done start many first stands before);
       stops = λ tells done start before. tt;
     }
 
@@ -53,7 +49,6 @@ returns-in-Err-clause-carries g c = λ blocks many first stands.
     let s = p.settings in
     let m = c.loop-level.level in
     let inv = c.loop-level.invariant in
-    let size : c.hash_block-size.result ≡ s.hash_block = c.hash_block-size.ensures in
     let inside : m < level_count_of p = omega (arith, c.loop-level-test.true, c.levels-level-end.ensures) in
     let closed = c.if-not-add_digest.ensures.adds blocks (level_count_of p) many inside
     (omega (arith, c.requires.room, inv.long)) (inv.carries blocks many first stands) in
@@ -62,14 +57,13 @@ returns-in-Err-clause-carries g c = λ blocks many first stands.
       place = record {
         level_below = inside;
         block_is = c.index_above-block.ensures;
-        all = λ k low. subst (λ (n : ℕ). closes (fan s) n c.args.i k ≡ true) (sym many)
-            (closes-closed s blocks c.args.i m (level_count_of p) c.add_digest.new.opened
+        all = λ k low. rw many (closes-closed s blocks c.args.i m (level_count_of p) c.add_digest.new.opened
             (omega (arith, c.requires.below, many)) closed k low);
       };
       leaves = λ tells done start before. tt;
       stops = λ tells done start before.
           c.in-Err.ensures.stops (inv.told tells) blocks (done ++ first_closing (fan s) c.args.i m) start many
-          (part-is_chunk s.hash_block m _ _ c.add_digest.new.opened (ap (λ (n : ℕ). m * n) size) (omega (arith, size))
+          (part-is_run s.hash_block m _ c.add_digest.new.opened c.hash_block-size.ensures
           ∙ closed.stands ∙ ap (tree_block s blocks m) (sym c.index_above-block.ensures))
           (inv.closed tells blocks done start many first stands before);
     }
@@ -81,31 +75,28 @@ loop-level-preserved g c =
     let m = c.loop-level.level in
     let levels = level_count_of p in
     let inv = c.loop-level.invariant in
-    let size : c.hash_block-size.result ≡ s.hash_block = c.hash_block-size.ensures in
-    let inside : m + 1 ≤ levels = omega (arith, c.loop-level-test.true, c.levels-level-end.ensures) in
+    let inside : m < levels = omega arith in
+    let added = λ (blocks : List (List ℕ)) (many : p.blocks ≡ length blocks).
+    c.if-not-add_digest.ensures.adds blocks levels many inside (omega (arith, c.requires.room, inv.long)) in
     record {
       size = c.close_block-current.ensures.size;
       long = c.close_block-current.auto.opened ∙ c.add_digest.auto.opened ∙ inv.long;
       told = λ t. c.in-Ok.ensures.told (inv.told t);
       failures = c.in-Ok.ensures.count ∙ inv.failures;
       carries = λ blocks many first stands.
-          c.close_block-current.ensures.closes blocks c.args.i levels (omega (arith, inside))
+          c.close_block-current.ensures.closes blocks c.args.i levels inside
           (omega (arith, c.requires.room, inv.long, c.add_digest.auto.opened))
-          (c.if-not-add_digest.ensures.adds blocks levels many (omega (arith, inside))
-          (omega (arith, c.requires.room, inv.long)) (inv.carries blocks many first stands));
+          (added blocks many (inv.carries blocks many first stands));
       kept = λ tells start before. c.in-Ok.ensures.keeps (inv.told tells) start (inv.kept tells start before);
       closed = λ tells blocks done start many first stands before.
-          let closed = c.if-not-add_digest.ensures.adds blocks levels many (omega (arith, inside))
-          (omega (arith, c.requires.room, inv.long)) (inv.carries blocks many first stands) in
+          let closed = added blocks many (inv.carries blocks many first stands) in
           let more : (done ++ first_closing (fan s) c.args.i m) ++ block_index m c.index_above-block.result ∷ []
           ≡ done ++ first_closing (fan s) c.args.i (m + 1) =
-          ap (λ (j : ℕ). (done ++ first_closing (fan s) c.args.i m) ++ block_index m j ∷ []) c.index_above-block.ensures
-          ∙ append_assoc done (first_closing (fan s) c.args.i m) (block_index m (c.args.i / fan s ^ (m + 1)) ∷ [])
-          ∙ ap (λ (xs : List BlockIndex). done ++ xs) (sym (first_closing-more (fan s) c.args.i m)) in
-          subst (λ (xs : List BlockIndex). g.C.OnClosed.leaves p blocks xs start
-          (g.D.Device.content c.take.new.device)) more
-          (c.in-Ok.ensures.leaves (inv.told tells) blocks (done ++ first_closing (fan s) c.args.i m) start many
-          (part-is_chunk s.hash_block m _ _ c.add_digest.new.opened (ap (λ (n : ℕ). m * n) size) (omega (arith, size))
+          let joined = append_assoc done (first_closing (fan s) c.args.i m) (block_index m c.index_above-block.result ∷ []) in
+          let next = first_closing-more (fan s) c.args.i m in
+          cc in
+          rw (← more) (c.in-Ok.ensures.leaves (inv.told tells) blocks (done ++ first_closing (fan s) c.args.i m) start many
+          (part-is_run s.hash_block m _ c.add_digest.new.opened c.hash_block-size.ensures
           ∙ closed.stands ∙ ap (tree_block s blocks m) (sym c.index_above-block.ensures))
           (inv.closed tells blocks done start many first stands before));
     }
@@ -118,18 +109,15 @@ returns-clause-carries g c = λ blocks many first stands.
     let inv = c.loop-level.invariant in
     let all : c.loop-level.level ≡ levels =
     omega (arith, c.loop-level.auto.level-end, c.loop-level-test.false, c.levels-level-end.ensures) in
-    let carrying = subst (λ (m : ℕ). IsCarrying s blocks (carry_state c.args.i m levels) c.loop-level.opened c.loop-level.current)
-    all (inv.carries blocks many first stands) in
+    let carrying = rw all at (inv.carries blocks many first stands) in
     let whole = closing-done s blocks c.args.i levels p.blocks c.loop-level.opened c.loop-level.current
     (fan-two s c.requires.planned.valid) c.requires.below refl many carrying in
+    let done = level_digest-root s blocks c.args.i levels c.loop-level.opened c.loop-level.current
+    (fan-two s c.requires.planned.valid) (omega (arith, c.requires.below, many)) (ap (level_count (fan s)) many) carrying in
     record {
-      carried = carry-all s blocks c.args.i levels c.loop-level.opened c.loop-level.current
-          (fan-two s c.requires.planned.valid) (omega (arith, c.requires.below, many))
-          (ap (λ (n : ℕ). level_count (fan s) n) many) carrying;
+      carried = record { stands = λ more. absurd (omega (arith, more, done.0)); root_is = λ _. done.1 };
       place = tt;
       leaves = λ tells done start before.
-          subst (λ (xs : List BlockIndex). g.C.OnClosed.leaves p blocks (done ++ xs) start
-          (g.D.Device.content c.loop-level.device))
-          (ap (first_closing (fan s) c.args.i) all ∙ sym whole) (inv.closed tells blocks done start many first stands before);
+          rw (whole, ← all) (inv.closed tells blocks done start many first stands before);
       stops = λ tells done start before. tt;
     }

@@ -1,4 +1,4 @@
-use Rattle.std.proofs.Common.{◌≡◌, ℕ, List, length, take, arith, sym, ap, ◌∙◌, refl, true, false}
+use Rattle.std.proofs.Common.{◌≡◌, ℕ, List, length, take, arith, sym, ap, ◌∙◌, refl, false}
 use Rattle.std.proofs.lemmas.Bool.Decides.{nat_tests}
 use Rattle.std.proofs.lemmas.List.{take_all}
 use Rattle.std.proofs.lemmas.Slice.Eq.{bytes_eq-Decides}
@@ -19,8 +19,7 @@ returns c =
     let whole : take c.args.count on_device ≡ on_device = take_all c.args.count on_device (omega arith) in
     let long : nat_lt (length on_device) p.settings.hash_block ≡ false =
     let h = c.requires.stored in grind (arith, nat_tests, h) in (
-      λ same. let yes = (bytes_eq-Decides on_device c.args.bytes.now).1 (sym whole ∙ same) in let bad : true
-          ≡ false = sym yes ∙ sym c.eq.ensures ∙ c.if-eq.false in cc,
+      λ same. let yes = (bytes_eq-Decides on_device c.args.bytes.now).1 (sym whole ∙ same) in cc,
       c.part_between.ensures
           ∙ sym (ap (λ (xs : List ℕ). part_of p c.args.level c.args.index xs c.args.bytes.now) whole ∙ rw long refl),
     )

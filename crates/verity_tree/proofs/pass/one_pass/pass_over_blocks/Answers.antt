@@ -1,18 +1,13 @@
-use Rattle.std.proofs.Common.{List, arith, ap, length, refl, rules, subst, sym, ℕ, ◌+◌, ◌-◌, ◌<◌, ◌++◌, ◌∙◌, ◌≡◌, ◌≤◌}
+use Rattle.std.proofs.Common.{arith, ap, length, refl, rules, sym, ℕ, ◌+◌, ◌-◌, ◌<◌, ◌∙◌, ◌≡◌, ◌≤◌}
 use Rattle.std.proofs.lemmas.List.{length-replicate}
-use Rattle.verity_io.specs.Counting.{Counts, TheDevice, TheSource, is_call_of}
-use Rattle.verity_io.specs.Reading.{HasRead}
 use Rattle.verity_plan.specs.PlanCounts.{level_count_of}
 use Rattle.verity_plan.specs.Plans.{PlanFields}
 use Rattle.verity_plan.specs.Settings.{fan}
 use Rattle.verity_plan.proofs.FanLemmas.{fan-some}
-use Rattle.verity_tree.specs.ClosingOrder.{BlockIndex, closed_after, closing_with, first_closing}
+use Rattle.verity_tree.specs.ClosingOrder.{closed_after}
 use Rattle.verity_tree.specs.Levels.{data_blocks}
-use Rattle.verity_tree.specs.Reading.{bytes_of}
 use Rattle.verity_tree.specs.Steps.Batches.{IsBatch}
 use Rattle.verity_tree.specs.Steps.OnClosed.{effects}
-use Rattle.verity_tree.specs.Steps.PassFaults.{side_of, source_side}
-use Rattle.verity_tree.specs.declared.pass.pass_fault.PassFault.TheVariants.{AtBlock}
 use Rattle.verity_tree.proofs.DataBlockLemmas.{HasRead-none, blocks-some, bytes_of-all}
 use Rattle.verity_tree.proofs.LevelLemmas.{length-cut}
 use Rattle.verity_tree.proofs.OnePassLemmas.{HasOpenBlocks-zeros, not-of_device, not-of_source, reads-up-to, stops-for}
@@ -54,22 +49,18 @@ returns-in-Err-clause-run g c =
     let stop = c.in-Err.stop in
     let bytes = g.S.Source.remaining c.args.source.now in
     let inv = c.batches.invariant in
-    let below : c.batches.i < p.blocks = omega (arith, c.batches-test.true, c.blocks-in-batches.ensures.value) in
     let batch = c.rows_from-count.ensures.batch in
     let stops = λ (tells : g.S.Source.tells c.args.source.now).
-    c.in-Err.ensures.read (inv.source_told tells) bytes (inv.read tells) (inv.opened tells below) in
+    c.in-Err.ensures.read (inv.source_told tells) bytes (inv.read tells) (inv.opened tells (omega arith)) in
     record {
       size = tt;
-      source_counted = subst (λ (n : ℕ). Counts (is_call_of TheSource (source_side stop)) n
-          (g.S.Source.failures c.take_batch.new.source)) inv.source_failures c.in-Err.ensures.count;
+      source_counted = rw (← inv.source_failures) c.in-Err.ensures.count;
       device_counted = not-of_device stop.why _ _ inv.device_failures;
       read = λ tells. (stops tells).stopped;
       keeps = inv.kept;
       leaves = λ tells told first.
-          subst (λ (ps : List BlockIndex). g.C.OnClosed.leaves p (data_blocks p bytes) ps
-          (g.D.Device.content c.args.device.now) (g.D.Device.content c.batches.device))
-          (sym (within-batch p c.batches.i c.rows_from-count.result stop.block batch (stops tells).from (stops tells).to))
-          (inv.closed tells told first);
+          let same = within-batch p c.batches.i c.rows_from-count.result stop.block batch (stops tells).from (stops tells).to in
+          rw (← same) at (inv.closed tells told first);
     }
 
 pub returns-in-Err-carry-clause-run : goal.returns-in-Err-carry-clause-run
@@ -84,31 +75,25 @@ returns-in-Err-carry-clause-run g c =
     let blocks = data_blocks p bytes in
     let inv = c.batches.invariant in
     let batch = c.rows_from-count.ensures.batch in
-    let some = batch.some in
     let many : p.blocks ≡ length blocks = sym (length-cut p.settings p.blocks p.wanted bytes) in
-    let here : c.batches.i < p.blocks = omega (arith, c.batches-test.true, c.blocks-in-batches.ensures.value) in
-    let below : last < p.blocks = omega (arith, some, batch.below) in
-    let next : c.batches.i + count ≡ last + 1 = omega (arith, some) in
-    let same = within-batch p c.batches.i count last batch (omega (arith, some)) (omega (arith, some)) in
+    let below : last < p.blocks = omega arith in
+    let next : c.batches.i + count ≡ last + 1 = omega arith in
+    let same = within-batch p c.batches.i count last batch (omega arith) (omega arith) in
     let taken = λ (tells : g.S.Source.tells c.args.source.now).
-    c.in-Ok.ensures.read (inv.source_told tells) bytes (inv.read tells) (inv.opened tells here) in
+    c.in-Ok.ensures.read (inv.source_told tells) bytes (inv.read tells) (inv.opened tells (omega arith)) in
     let carries = λ (tells : g.S.Source.tells c.args.source.now).
     c.in-Err-carry.ensures.carries blocks many (taken tells).2 (taken tells).1 in
-    let read = λ (tells : g.S.Source.tells c.args.source.now).
-    subst (λ (n : ℕ). HasRead (bytes_of p n) bytes (g.S.Source.remaining c.take_batch.new.source)) next (taken tells).0 in
+    let read = λ (tells : g.S.Source.tells c.args.source.now). rw next at ((taken tells).0) in
     record {
       size = tt;
       source_counted = not-of_source g.C.OnClosed.is_failure stop _ _ (c.in-Ok.ensures.count ∙ inv.source_failures);
-      device_counted = subst (λ (n : ℕ). Counts (is_call_of TheDevice (side_of g.C.OnClosed.is_failure (AtBlock stop))) n
-          (g.D.Device.failures c.carry.new.device)) inv.device_failures c.in-Err-carry.ensures.count;
+      device_counted = rw (← inv.device_failures) c.in-Err-carry.ensures.count;
       read = λ tells. reads-up-to p last stop.level stop.block bytes _ below (carries tells).place (read tells);
       keeps = λ told first. c.in-Err-carry.ensures.keeps (inv.device_told told) _ (inv.kept told first);
       leaves = λ tells told first.
           stops-for (effects g.C.OnClosed.is_failure g.C.OnClosed.keeps g.C.OnClosed.leaves g.C.OnClosed.stops) p bytes last
           stop start _ below (carries tells).place (read tells).enough
-          (subst (λ (ps : List BlockIndex). g.C.OnClosed.stops p blocks (ps ++ first_closing f last stop.level) stop start
-          (g.D.Device.content c.carry.new.device)) (sym same)
-          ((carries tells).stops (inv.device_told told) (closed_after f p.blocks c.batches.i) start
+          (rw same ((carries tells).stops (inv.device_told told) (closed_after f p.blocks c.batches.i) start
           (inv.closed tells told first)));
     }
 
@@ -124,32 +109,26 @@ batches-preserved g c =
     let blocks = data_blocks p bytes in
     let inv = c.batches.invariant in
     let batch = c.rows_from-count.ensures.batch in
-    let some = batch.some in
     let many : p.blocks ≡ length blocks = sym (length-cut s p.blocks p.wanted bytes) in
-    let here : c.batches.i < p.blocks = omega (arith, c.batches-test.true, c.blocks-in-batches.ensures.value) in
-    let next : c.batches.i + count ≡ last + 1 = omega (arith, some) in
-    let same = within-batch p c.batches.i count last batch (omega (arith, some)) (omega (arith, some)) in
+    let next : c.batches.i + count ≡ last + 1 = omega arith in
+    let same = within-batch p c.batches.i count last batch (omega arith) (omega arith) in
     let taken = λ (tells : g.S.Source.tells c.args.source.now).
-    c.in-Ok.ensures.read (inv.source_told tells) bytes (inv.read tells) (inv.opened tells here) in
+    c.in-Ok.ensures.read (inv.source_told tells) bytes (inv.read tells) (inv.opened tells (omega arith)) in
     let carries = λ (tells : g.S.Source.tells c.args.source.now).
     c.in-Ok-carry.ensures.carries blocks many (taken tells).2 (taken tells).1 in
     record {
-      within = omega (arith, some, batch.below);
+      within = omega arith;
       source_told = λ t. c.in-Ok.ensures.told (inv.source_told t);
       device_told = λ t. c.in-Ok-carry.ensures.told (inv.device_told t);
       source_failures = c.in-Ok.ensures.count ∙ inv.source_failures;
       device_failures = c.in-Ok-carry.ensures.count ∙ inv.device_failures;
-      read = λ tells. subst (λ (n : ℕ). HasRead (bytes_of p n) bytes (g.S.Source.remaining c.take_batch.new.source)) next
-          (taken tells).0;
+      read = λ tells. rw next at ((taken tells).0);
       opened = λ tells more. (carries tells).carried.stands (omega (arith, more, many));
       answer = λ tells all. (carries tells).carried.root_is (all ∙ many);
       root_size = c.in-Ok-carry.ensures.size;
       kept = λ told first. c.in-Ok-carry.ensures.keeps (inv.device_told told) start (inv.kept told first);
       closed = λ tells told first.
-          subst (λ (ps : List BlockIndex). g.C.OnClosed.leaves p blocks ps start (g.D.Device.content c.carry.new.device))
-          (ap (λ (ps : List BlockIndex). ps ++ closing_with f p.blocks last) (sym same)
-          ∙ sym (closed_after-more f p.blocks last))
-          ((carries tells).leaves (inv.device_told told) (closed_after f p.blocks c.batches.i) start
+          rw (closed_after-more f p.blocks last, same) ((carries tells).leaves (inv.device_told told) (closed_after f p.blocks c.batches.i) start
           (inv.closed tells told first));
     }
 
@@ -158,20 +137,15 @@ returns-clause-run g c =
     let p = c.args.plan.now in
     let bytes = g.S.Source.remaining c.args.source.now in
     let inv = c.batches.invariant in
-    let all : c.batches.i ≡ p.blocks =
-    omega (arith, c.batches-test.false, c.blocks-in-batches.ensures.value, inv.within) in
+    let all : c.batches.i ≡ p.blocks = omega (arith, inv.within) in
     record {
       size = inv.root_size;
       source_counted = inv.source_failures;
       device_counted = inv.device_failures;
       read = λ tells. (
         inv.answer tells all,
-        subst (λ (n : ℕ). HasRead n bytes (g.S.Source.remaining c.batches.source)) (bytes_of-all p c.requires.planned)
-            (subst (λ (n : ℕ). HasRead (bytes_of p n) bytes (g.S.Source.remaining c.batches.source)) all
-            (inv.read tells)),
+        rw (all, bytes_of-all p c.requires.planned) at (inv.read tells),
       );
       keeps = inv.kept;
-      leaves = λ tells told first.
-          subst (λ (n : ℕ). g.C.OnClosed.leaves p (data_blocks p bytes) (closed_after (fan p.settings) p.blocks n)
-          (g.D.Device.content c.args.device.now) (g.D.Device.content c.batches.device)) all (inv.closed tells told first);
+      leaves = λ tells told first. rw all at (inv.closed tells told first);
     }
