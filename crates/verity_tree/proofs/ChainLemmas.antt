@@ -4,7 +4,7 @@ use Rattle.std.proofs.Common.{◌≡◌, ℕ, zero, suc, ◌+◌, ◌-◌, ◌*�
 use Rattle.std.proofs.Common.{take, drop, length, map, replicate, arith, sym, ◌∙◌, ap, refl, length-append, length-drop}
 use Rattle.std.proofs.Common.{append_assoc}
 use Rattle.std.proofs.lemmas.List.{drop_at, drop-map, get_or-drop, get_or-take, length-replicate, length-take}
-use Rattle.std.proofs.lemmas.List.{length-take-le, take-append-drop, take-map, take_at}
+use Rattle.std.proofs.lemmas.List.{length-take-le, map-append, take-append-drop, take-map, take_at}
 use Rattle.std.proofs.lemmas.List.FromFn.{get_or-map-range_with_len}
 use Rattle.std.proofs.lemmas.Grind.{flat_map-append}
 use Rattle.std.proofs.lemmas.Nat.{div-add-mod', mod_below}
@@ -13,9 +13,12 @@ use Rattle.std.proofs.Math.Seq.{drop-cons}
 use Rattle.std.specs.Fork.{slice_chunk}
 use Rattle.std.specs.List.{flat_map}
 use Rattle.verity_hash.specs.Hashing.{with_zeros}
-use Rattle.verity_plan.specs.Plans.{level_count}
-use Rattle.verity_tree.specs.Levels.{block_at, cut, hash_block_of, blocks_up, root}
-use Rattle.verity_tree.specs.Steps.OpenBlocks.{digests_under}
+use Rattle.verity_plan.specs.Plans.{IsPlan, PlanFields, level_count}
+use Rattle.verity_plan.specs.PlanCounts.{level_count_of}
+use Rattle.verity_plan.proofs.FanLemmas.{fan-some, fan-two}
+use Rattle.verity_plan.proofs.FitLemmas.{digest-slot, fan-fits}
+use Rattle.verity_tree.proofs.LevelLemmas.{length-cut}
+use Rattle.verity_tree.specs.Levels.{block_at, cut, data_blocks, hash_block_of, blocks_up, root}
 use Rattle.verity_tree.specs.Paths.{true_chain}
 use Rattle.verity_plan.specs.Settings.{TreeSettingsFields, digest_len, fan, hash, slot, slot_width}
 use Rattle.verity_tree.specs.Verdicts.{digest_in}
@@ -59,10 +62,17 @@ digest_in-slots s xs t fits below =
     ∙ ap (take (digest_len s))
     (drop_at (flat_map (slot s) front) (hash s x ++ (pad ++ (flat_map (slot s) rest ++ zeros))) (t * w) before)
     ∙ take_at (hash s x) (pad ++ (flat_map (slot s) rest ++ zeros)) (digest_len s) (length-hash s x)
-  where
-    map-append : (f : List ℕ → List ℕ) (xs ys : List (List ℕ)) → map f (xs ++ ys) ≡ map f xs ++ map f ys
-    map-append f [] ys = refl
-    map-append f (x ∷ xs) ys = ap (λ (zs : List (List ℕ)). f x ∷ zs) (map-append f xs ys)
+
+-- a hash block holds the digests of the blocks that it stands above
+block-above : (s : TreeSettingsFields) (blocks : List (List ℕ)) (l q : ℕ) → 0 < fan s → q < length (blocks_up s blocks l)
+    → get_or (blocks_up s blocks (l + 1)) (q / fan s) []
+    ≡ hash_block_of s (map (hash s) (slice_chunk (blocks_up s blocks l) (fan s) (q / fan s)))
+block-above s blocks l q some below =
+    let start = q / fan s * fan s in
+    let xs = blocks_up s blocks l in
+    block-up s blocks l (q / fan s) (quotient-below q (length xs) (fan s) some below)
+    ∙ ap (hash_block_of s)
+    (ap (take (fan s)) (drop-map (hash s) start xs) ∙ take-map (hash s) (fan s) (drop start xs))
 
 -- the digest of block q is in its slot of the block above
 pub digest-up : (s : TreeSettingsFields) (blocks : List (List ℕ)) (l q : ℕ) → digest_len s ≤ slot_width s → 0 < fan s
@@ -77,11 +87,7 @@ digest-up s blocks l q fits some below =
     let run = take f (drop (q / f * f) xs) in
     let within : q % f < length run =
     omega (arith, length-take f (drop (q / f * f) xs), length-drop (q / f * f) xs, split, low, below) in
-    let mapped : slice_chunk (digests_under s blocks l) f (q / f) ≡ map (hash s) run =
-    ap (take f) (drop-map (hash s) (q / f * f) xs) ∙ take-map (hash s) f (drop (q / f * f) xs) in
-    ap (λ (ys : List ℕ). digest_in s ys (q % f))
-    (block-up s blocks l (q / f) (quotient-below q (length xs) f some below))
-    ∙ ap (λ (ds : List (List ℕ)). digest_in s (hash_block_of s ds) (q % f)) mapped
+    ap (λ (ys : List ℕ). digest_in s ys (q % f)) (block-above s blocks l q some below)
     ∙ digest_in-slots s run (q % f) fits within
     ∙ ap (hash s) (get_or-take f (drop (q / f * f) xs) (q % f) [] low ∙ get_or-drop (q / f * f) xs (q % f) []
     ∙ ap (λ (n : ℕ). get_or xs n []) split)
@@ -125,13 +131,10 @@ length-true_chain s blocks i l fits some room below =
     let f = fan s in
     let q = i / f ^ l in
     let xs = blocks_up s blocks l in
-    let here : q < length xs = level_digest-below s blocks i l some below in
-    let run = take f (drop (q / f * f) xs) in
-    let mapped : slice_chunk (digests_under s blocks l) f (q / f) ≡ map (hash s) run =
-    ap (take f) (drop-map (hash s) (q / f * f) xs) ∙ take-map (hash s) f (drop (q / f * f) xs) in
+    let run = slice_chunk xs f (q / f) in
     let few : length run ≤ f = omega (arith, length-take f (drop (q / f * f) xs)) in
     ap (λ (n : ℕ). length (get_or (blocks_up s blocks (l + 1)) n [])) (quotient-next f i l)
-    ∙ ap length (block-up s blocks l (q / f) (quotient-below q (length xs) f some here) ∙ ap (hash_block_of s) mapped)
+    ∙ ap length (block-above s blocks l q some (level_digest-below s blocks i l some below))
     ∙ length-with_zeros s.hash_block (flat_map (slot s) (map (hash s) run))
     (omega (arith, length-slots s run fits, mul-le-mul_right (slot_width s) few, room))
 
@@ -144,3 +147,30 @@ length-data s n wanted bytes i below =
     ap length (get_or-map-range_with_len (block_at s.data_block all) 0 n i i [] below (omega arith))
     ∙ length-with_zeros s.data_block (slice_chunk all s.data_block i)
     (omega (arith, length-take s.data_block (drop (i * s.data_block) all)))
+
+-- ---- of a plan's data blocks
+
+-- the true chain holds at each level
+pub true_chain-next : (p : PlanFields) (bytes : List ℕ) (i l : ℕ) → IsPlan p → i < p.blocks
+    → hash p.settings (true_chain p.settings (data_blocks p bytes) i l)
+    ≡ digest_in p.settings (true_chain p.settings (data_blocks p bytes) i (suc l)) (i / fan p.settings ^ l % fan p.settings)
+true_chain-next p bytes i l planned below =
+    true_chain-up p.settings (data_blocks p bytes) i l (digest-slot p.settings) (fan-some p.settings)
+    (omega (arith, below, length-cut p.settings p.blocks p.wanted bytes))
+
+-- and at the top
+pub true_chain-top : (p : PlanFields) (bytes : List ℕ) (i : ℕ) → IsPlan p → i < p.blocks
+    → hash p.settings (true_chain p.settings (data_blocks p bytes) i (level_count_of p))
+    ≡ root p.settings (data_blocks p bytes)
+true_chain-top p bytes i planned below =
+    let s = p.settings in
+    let many = length-cut s p.blocks p.wanted bytes in
+    ap (λ (n : ℕ). hash s (true_chain s (data_blocks p bytes) i (level_count (fan s) n))) (sym many)
+    ∙ true_chain-root s (data_blocks p bytes) i (fan-two s planned.valid) (omega (arith, below, many))
+
+-- each of its hash blocks has a hash block's length
+pub length-true_block : (p : PlanFields) (bytes : List ℕ) (i l : ℕ) → IsPlan p → i < p.blocks
+    → length (true_chain p.settings (data_blocks p bytes) i (suc l)) ≡ p.settings.hash_block
+length-true_block p bytes i l planned below =
+    length-true_chain p.settings (data_blocks p bytes) i l (digest-slot p.settings) (fan-some p.settings)
+    (fan-fits p.settings planned.valid) (omega (arith, below, length-cut p.settings p.blocks p.wanted bytes))

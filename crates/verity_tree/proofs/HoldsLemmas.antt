@@ -1,8 +1,8 @@
 -- A device that holds the whole tree, and the verdict on it.
 use Rattle.std.proofs.Common.{◌≡◌, ℕ, ◌+◌, ◌/◌, ◌<◌, ◌≤◌, Bool, true, false, cond, List, [], ◌∷◌, length}
 use Rattle.std.proofs.Common.{arith, sym, ◌∙◌, ap, refl, inl, inr, Ok, Err, eqb}
-use Rattle.std.proofs.lemmas.Bool.{cases_lt}
-use Rattle.std.proofs.lemmas.Bool.Decides.{nat_tests, eqb_tells}
+use Rattle.std.proofs.lemmas.Bool.{and_from, and_parts, cases_Bool, cases_lt, eq-eqb, eqb-true, not-false}
+use Rattle.std.proofs.lemmas.Bool.Decides.{nat_tests}
 use Rattle.std.proofs.lemmas.List.Elements.{All-cons, All-nil}
 use Rattle.std.proofs.lemmas.List.Sums.{sum_by-cons}
 use Rattle.std.proofs.lemmas.Nat.{div-add-mod'}
@@ -32,54 +32,24 @@ times-more l j at hash_blocks =
 -- a block that is counted is the first, or counted among the rest
 pub times-cases : (l j : ℕ) (at : BlockIndex) (hash_blocks : List BlockIndex) → 0 < times l j (at ∷ hash_blocks)
     → ((at.level ≡ l) × (at.index ≡ j)) ⊎ (0 < times l j hash_blocks)
-times-cases l j at hash_blocks some =
-    let skip : (at.level == l) && (at.index == j) ≡ false → 0 < times l j hash_blocks = λ miss.
-    let fewer : times l j (at ∷ hash_blocks) ≡ 0 + times l j hash_blocks =
-    times-more l j at hash_blocks ∙ ap (λ (b : Bool). cond b 1 0 + times l j hash_blocks) miss in
-    omega (arith, some, fewer) in
-    elim (eqb_tells at.level l) [
-      | inl left ↦ elim (eqb_tells at.index j) [
-        | inl right ↦ inl (left.1, right.1)
-        | inr other ↦ inr (skip (ap (λ (b : Bool). b && (at.index == j)) left.0 ∙ other.0))
-      ]
-      | inr other ↦ inr (skip (ap (λ (b : Bool). b && (at.index == j)) other.0))
-    ]
+times-cases l j at hash_blocks some = grind (arith, nat_tests, some, times-more l j at hash_blocks)
 
 -- a block that is counted among blocks of which none passes a test doesn't pass it
 times-none : (test : BlockIndex → Bool) (l j : ℕ) (hash_blocks : List BlockIndex) → find test hash_blocks ≡ None
     → 0 < times l j hash_blocks
     → test (block_index l j) ≡ false
 times-none test l j [] none some = absurd (omega (arith, some))
-times-none test l j (at ∷ hash_blocks) none some = go (test at) refl (times-none test l j hash_blocks)
-  where
-    go : (b : Bool) → test at ≡ b
-        → (find test hash_blocks ≡ None → 0 < times l j hash_blocks → test (block_index l j) ≡ false)
-        → test (block_index l j) ≡ false
-    go true does rest =
-        let found : find test (at ∷ hash_blocks) ≡ Some at =
-        ap (λ (b : Bool). cond b (Some at) (find test hash_blocks)) does in
-        absurd (none-some at (sym none ∙ found))
-    go false fails rest =
-        let passed : find test (at ∷ hash_blocks) ≡ find test hash_blocks =
-        ap (λ (b : Bool). cond b (Some at) (find test hash_blocks)) fails in
-        elim (times-cases l j at hash_blocks some) [
-          | inl here ↦
-              ap (λ (k : ℕ). test (block_index k j)) (sym here.0)
-              ∙ ap (λ (k : ℕ). test (block_index at.level k)) (sym here.1)
-              ∙ fails
-          | inr later ↦ rest (sym passed ∙ none) later
-        ]
+times-none test l j (at ∷ hash_blocks) none some = elim (cases_Bool (test at)) [
+  | inl does ↦ let found = rw does at none in cc
+  | inr fails ↦ elim (times-cases l j at hash_blocks some) [
+    | inl here ↦ let level = here.0 in let index = here.1 in rw (← level, ← index) fails
+    | inr later ↦ times-none test l j hash_blocks (rw fails at none) later
+  ]
+]
 
 -- a block is counted among blocks of which it is the first
 pub times-first : (at : BlockIndex) (hash_blocks : List BlockIndex) → 0 < times at.level at.index (at ∷ hash_blocks)
-times-first at hash_blocks =
-    let a : eqb at.level at.level ≡ true = grind (arith, nat_tests) in
-    let b : eqb at.index at.index ≡ true = grind (arith, nat_tests) in
-    let count : times at.level at.index (at ∷ hash_blocks) ≡ 1 + times at.level at.index hash_blocks =
-    times-more at.level at.index at hash_blocks
-    ∙ ap (λ (b : Bool). cond (b && (at.index == at.index)) 1 0 + times at.level at.index hash_blocks) a
-    ∙ ap (λ (b : Bool). cond b 1 0 + times at.level at.index hash_blocks) b in
-    omega (arith, count)
+times-first at hash_blocks = grind (arith, nat_tests, times-more at.level at.index at hash_blocks)
 
 -- blocks that all stand there, each that is counted
 stands-counted : (p : PlanFields) (blocks : List (List ℕ)) (device : List ℕ) (hash_blocks : List BlockIndex)
@@ -140,18 +110,6 @@ all-right p device bytes digest None right =
       (bytes_eq-Decides (root p.settings (data_blocks p bytes)) digest).0 tests.1,
     )
 
-not-false : (b : Bool) → not b ≡ false → b ≡ true
-not-false true e = refl
-not-false false e = cc
-
--- a block that doesn't differ stands there
-same-stands : (p : PlanFields) (blocks : List (List ℕ)) (device : List ℕ) (at : BlockIndex)
-    → differs p blocks device at ≡ false
-    → HoldsBlockAt p blocks device at
-same-stands p blocks device at same =
-    (bytes_eq-Decides (stored_block p device at.level at.index) (tree_block p.settings blocks at.level at.index)).0
-    (not-false _ same)
-
 -- a device with this verdict holds the tree, if the data is long enough
 pub right-holds_enough : (p : PlanFields) (device bytes digest : List ℕ) → p.wanted ≤ length bytes
     → verdict p device bytes digest ≡ Ok tt
@@ -167,10 +125,9 @@ right-holds_enough p device bytes digest enough right =
     (sym (whole_blocks-all p bytes enough)) ∙ tests.0 in
     record {
       enough = enough;
-      stands = λ l j here.
-          same-stands p blocks device (block_index l j)
+      stands = λ l j here. (bytes_eq-Decides _ _).0 (not-false _
           (times-none (differs p blocks device) l j (closed_after f p.blocks p.blocks) none
-          (let one = (ClosesOnce-all f p.blocks (fan-some p.settings)).once l j here in omega (arith, one)));
+          (let one = (ClosesOnce-all f p.blocks (fan-some p.settings)).once l j here in omega (arith, one))));
       root_is = tests.2;
     }
 

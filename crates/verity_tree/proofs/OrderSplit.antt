@@ -1,7 +1,7 @@
 -- The closing order, cut between data blocks and between levels.
 use Rattle.std.proofs.Common.{◌≡◌, ℕ, zero, suc, ◌+◌, ◌*◌, ◌/◌, ◌%◌, ◌^◌, ◌<◌, ◌≤◌, Bool, true, false, cond, eqb}
 use Rattle.std.proofs.Common.{List, [], ◌∷◌, ◌++◌, map, length, arith, sym, ◌∙◌, ap, refl, inl, inr, append_assoc}
-use Rattle.std.proofs.lemmas.Bool.Decides.{nat_tests, eqb_tells}
+use Rattle.std.proofs.lemmas.Bool.{eq-eqb, ne_eqb, or_from, or_left, or_right}
 use Rattle.std.proofs.lemmas.Nat.{div-add-mod', mod-mul-add}
 use Rattle.std.proofs.lemmas.List.FromFn.{map-range_with_len_more}
 use Rattle.std.proofs.lemmas.List.{append-nil, map-append}
@@ -24,16 +24,14 @@ pub filter-prefix : (c : ℕ → Bool) (a n m : ℕ) → m ≤ n → ((l : ℕ) 
 filter-prefix c a zero zero le pass fail = refl
 filter-prefix c a zero (suc m) le pass fail = absurd (omega arith)
 filter-prefix c a (suc n) zero le pass fail =
-    ap (λ (b : Bool). cond b (a ∷ filter c (range_with_len (a + 1) n)) (filter c (range_with_len (a + 1) n)))
-    (fail a (omega arith) (omega arith))
-    ∙ filter-prefix c (a + 1) n zero (omega arith) (λ l from to. absurd (omega (arith, from, to)))
-    (λ l from to. fail l (omega (arith, from)) (omega (arith, to)))
-filter-prefix c a (suc n) (suc m) le pass fail =
-    ap (λ (b : Bool). cond b (a ∷ filter c (range_with_len (a + 1) n)) (filter c (range_with_len (a + 1) n)))
-    (pass a (omega arith) (omega arith))
-    ∙ ap (λ (xs : List ℕ). a ∷ xs)
-    (filter-prefix c (a + 1) n m (omega arith) (λ l from to. pass l (omega (arith, from)) (omega (arith, to)))
+    let fails = fail a (omega arith) (omega arith) in
+    rw fails (filter-prefix c (a + 1) n zero (omega arith) (λ l from to. absurd (omega (arith, from, to)))
     (λ l from to. fail l (omega (arith, from)) (omega (arith, to))))
+filter-prefix c a (suc n) (suc m) le pass fail =
+    let passes = pass a (omega arith) (omega arith) in
+    rw passes (ap (λ (xs : List ℕ). a ∷ xs)
+    (filter-prefix c (a + 1) n m (omega arith) (λ l from to. pass l (omega (arith, from)) (omega (arith, to)))
+    (λ l from to. fail l (omega (arith, from)) (omega (arith, to)))))
 
 -- what closes with a data block is the levels below the first that doesn't close
 pub closing-prefix : (f n i m : ℕ) → m ≤ level_count f n → ((l : ℕ) → l < m → closes f n i l ≡ true)
@@ -43,29 +41,16 @@ closing-prefix f n i m le pass fail =
     (filter-prefix (closes f n i) 0 (level_count f n) m le (λ l from to. pass l (omega (arith, to)))
     (λ l from to. fail l (omega (arith, from)) (omega (arith, to))))
 
-or_right : (a b : Bool) → b ≡ true → (a || b) ≡ true
-or_right true b e = refl
-or_right false b e = e
-
-or_none : (a b : Bool) → a ≡ false → b ≡ false → (a || b) ≡ false
-or_none a b e h = ap (λ (x : Bool). x || b) e ∙ h
-
-eqb_same : (a b : ℕ) → a ≡ b → eqb a b ≡ true
-eqb_same a b e = grind (arith, nat_tests, e)
-
-eqb_apart : (a b : ℕ) → (a ≡ b → ⊥) → eqb a b ≡ false
-eqb_apart a b h = elim (eqb_tells a b) [ inl same ↦ absurd (h same.1) | inr other ↦ other.0 ]
-
 pub closes-reached : (f n i l : ℕ) → 0 < f → IsReached f i (l + 1) → closes f n i l ≡ true
 closes-reached f n i l some h =
     let wide : 0 < f ^ (l + 1) = one-le-pow (l + 1) f some in
     let e : i + 1 ≡ (i / f ^ (l + 1) + 1) * f ^ (l + 1) + 0 = omega (arith, h.whole) in
     let whole : (i + 1) % f ^ (l + 1) ≡ 0 =
     ap (λ (x : ℕ). x % f ^ (l + 1)) e ∙ mod-mul-add (i / f ^ (l + 1) + 1) (f ^ (l + 1)) 0 wide in
-    ap (λ (b : Bool). b || (i + 1 == n)) (eqb_same ((i + 1) % f ^ (l + 1)) 0 whole)
+    or_left ((i + 1) % f ^ (l + 1) == 0) (i + 1 == n) (eq-eqb _ _ whole)
 
 pub closes-last : (f n i l : ℕ) → i + 1 ≡ n → closes f n i l ≡ true
-closes-last f n i l last = or_right ((i + 1) % f ^ (l + 1) == 0) (i + 1 == n) (eqb_same (i + 1) n last)
+closes-last f n i l last = or_right ((i + 1) % f ^ (l + 1) == 0) (i + 1 == n) (eq-eqb (i + 1) n last)
 
 -- from a level that stays open none closes
 pub closes-none : (f n i m l : ℕ) → 0 < f → IsReached f i m → i / f ^ m % f + 1 < f → i + 1 < n → m ≤ l
@@ -73,10 +58,10 @@ pub closes-none : (f n i m l : ℕ) → 0 < f → IsReached f i m → i / f ^ m 
 closes-none f n i m l some h room more above =
     let w = f ^ (l + 1) in
     let stays : (i + 1) / w ≡ i / w = quotient-stays f i m (l + 1) some h room (omega arith) in
-    let apart : (i + 1) % w ≡ 0 → ⊥ = λ whole.
-    omega (arith, div-add-mod' (i + 1) w, div-add-mod' i w, whole, ap (λ (x : ℕ). x * w) stays) in
-    or_none ((i + 1) % w == 0) (i + 1 == n) (eqb_apart ((i + 1) % w) 0 apart)
-    (eqb_apart (i + 1) n (λ same. omega (arith, more, same)))
+    or_from ((i + 1) % w == 0) (i + 1 == n)
+    (ne_eqb _ _ (λ whole.
+    omega (arith, div-add-mod' (i + 1) w, div-add-mod' i w, whole, ap (λ (x : ℕ). x * w) stays)))
+    (ne_eqb _ _ (λ same. omega (arith, more, same)))
 
 -- one block more
 pub first_closing-more : (f i m : ℕ)
@@ -129,12 +114,9 @@ filter-front c a zero n pass le = (filter c (range_with_len a n), refl)
 filter-front c a (suc m) zero pass le = absurd (omega arith)
 filter-front c a (suc m) (suc n) pass le =
     let after = filter-front c (a + 1) m n (λ l from to. pass l (omega (arith, from)) (omega (arith, to)))
-    (omega arith) in (
-      after.0,
-      ap (λ (b : Bool). cond b (a ∷ filter c (range_with_len (a + 1) n)) (filter c (range_with_len (a + 1) n)))
-          (pass a (omega arith) (omega arith))
-          ∙ ap (λ (xs : List ℕ). a ∷ xs) after.1,
-    )
+    (omega arith) in
+    let passes = pass a (omega arith) (omega arith) in
+    (after.0, rw passes (ap (λ (xs : List ℕ). a ∷ xs) after.1))
 
 -- if the levels up to this one close, its block comes after those of the levels below
 pub closing-front : (f n i m : ℕ) → m < level_count f n → ((l : ℕ) → l ≤ m → closes f n i l ≡ true)

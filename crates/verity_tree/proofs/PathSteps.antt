@@ -1,7 +1,9 @@
 -- The check of a path, level by level.
 use Rattle.std.proofs.Common.{◌≡◌, ℕ, suc, ◌+◌, ◌-◌, ◌*◌, ◌/◌, ◌%◌, ◌^◌, ◌<◌, ◌≤◌, true, false, List, length, take}
 use Rattle.std.proofs.Common.{drop, arith, sym, ◌∙◌, ap, refl, length-drop}
-use Rattle.std.proofs.lemmas.Bool.Decides.{nat_tests}
+use Rattle.std.proofs.Common.{◌≢◌, ◌⊎◌, zero, inl, inr}
+use Rattle.std.proofs.lemmas.Bool.{cases_Bool}
+use Rattle.std.proofs.lemmas.Bool.Decides.{nat_tests, not_from_Decides}
 use Rattle.std.proofs.lemmas.Nat.{mod_below}
 use Rattle.std.proofs.Math.Nat.{mul-le-mul_right, pow-zero}
 use Rattle.std.proofs.lemmas.List.{length-take-le}
@@ -74,8 +76,28 @@ div-pow-zero f i = let one : i ≡ i / 1 = omega arith in one ∙ ap (λ (n : �
 
 -- two lists of bytes that the test tells apart are two
 pub bytes_eq-false : (xs ys : List ℕ) → bytes_eq xs ys ≡ false → ¬ (xs ≡ ys)
-bytes_eq-false xs ys apart same = let equal = (bytes_eq-Decides xs ys).1 same in let bad : true ≡ false = sym equal
-    ∙ apart in cc
+bytes_eq-false xs ys = not_from_Decides _ (bytes_eq-Decides xs ys)
+
+-- two lists of bytes are one, or they are two
+pub same_or_two : (xs ys : List ℕ) → (xs ≡ ys) ⊎ (xs ≢ ys)
+same_or_two xs ys = elim (cases_Bool (bytes_eq xs ys)) [
+  | inl same ↦ inl ((bytes_eq-Decides xs ys).0 same)
+  | inr apart ↦ inr (bytes_eq-false xs ys apart)
+]
+
+-- two chains of blocks with one hash at a level, in which blocks that are one stand above blocks with one hash: they have
+-- one block at the bottom, or different blocks with one hash at that level or below
+pub chains-meet : (h : List ℕ → List ℕ) (a b : ℕ → List ℕ) (top l : ℕ) → l ≤ top
+    → ((m : ℕ) → m < top → a (suc m) ≡ b (suc m) → h (a m) ≡ h (b m)) → h (a l) ≡ h (b l)
+    → (a 0 ≡ b 0) ⊎ ((m : ℕ) × (m ≤ top) × (a m ≢ b m) × (h (a m) ≡ h (b m)))
+chains-meet h a b top zero within down one = elim (same_or_two (a 0) (b 0)) [
+  | inl same ↦ inl same
+  | inr differ ↦ inr (0, within, differ, one)
+]
+chains-meet h a b top (suc l) within down one = elim (same_or_two (a (suc l)) (b (suc l))) [
+  | inl same ↦ chains-meet h a b top l (omega (arith, within)) down (down l (omega (arith, within)) same)
+  | inr differ ↦ inr (suc l, within, differ, one)
+]
 
 -- the lengths that the code reads are the plan's
 pub HasLengths-read : (p : PlanFields) (block path : List ℕ) (wide levels size : ℕ) → wide ≡ p.settings.data_block

@@ -23,22 +23,23 @@ IsLevelCount-same fan n x y h k =
     omega arith
 
 -- one level more than above one level up
-pub IsLevelCount-suc : (fan n levels : ℕ) → 2 ≤ fan → 1 < n → IsLevelCount fan (div_ceil n fan) levels
-    → IsLevelCount fan n (suc levels)
-IsLevelCount-suc fan n levels two more h = record {
-  enough = omega (arith, pow-suc fan levels, le-div_ceil n fan (fan ^ levels) (omega arith) h.enough);
-  least = IsLevelCount-suc-least fan n levels two more h;
-} where
-  IsLevelCount-suc-least : (fan n levels : ℕ) → 2 ≤ fan → 1 < n → IsLevelCount fan (div_ceil n fan) levels → (m : ℕ)
-      → m < suc levels → fan ^ m < n
-  IsLevelCount-suc-least fan n levels two more h zero below = omega (arith, pow-zero fan)
-  IsLevelCount-suc-least fan n levels two more h (suc m) below =
-      omega (arith, pow-suc fan m, mul-lt_div_ceil n fan (fan ^ m) (omega arith) (h.least m (omega arith)))
-
 pub level_count-suc : (fan n : ℕ) → 2 ≤ fan → 1 < n → level_count fan n ≡ suc (level_count fan (div_ceil n fan))
 level_count-suc fan n two more =
-    IsLevelCount-same fan n _ _ (IsLevelCount-level_count fan n two)
-    (IsLevelCount-suc fan n _ two more (IsLevelCount-level_count fan (div_ceil n fan) two))
+    IsLevelCount-same fan n _ _ (IsLevelCount-level_count fan n two) (record {
+      enough = omega (arith, pow-suc fan levels, le-div_ceil n fan (fan ^ levels) (omega arith) up.enough);
+      least = least;
+    })
+  where
+    levels : ℕ
+    levels = level_count fan (div_ceil n fan)
+
+    up : IsLevelCount fan (div_ceil n fan) levels
+    up = IsLevelCount-level_count fan (div_ceil n fan) two
+
+    least : (m : ℕ) → m < suc levels → fan ^ m < n
+    least zero below = omega (arith, pow-zero fan)
+    least (suc m) below =
+        omega (arith, pow-suc fan m, mul-lt_div_ceil n fan (fan ^ m) (omega arith) (up.least m (omega arith)))
 
 pub level_count-one : (fan : ℕ) → 2 ≤ fan → level_count fan 1 ≡ 0
 level_count-one fan two =
@@ -53,14 +54,18 @@ digests_up-up s digests zero = refl
 digests_up-up s digests (suc l) =
     ap (λ (ds : List (List ℕ)). map (hash s) (pack s ds)) (digests_up-up s digests l)
 
+-- how many digests are one level up
+pub length-above : (s : TreeSettingsFields) (digests above : List (List ℕ)) → above ≡ map (hash s) (pack s digests)
+    → length above ≡ div_ceil (length digests) (fan s)
+length-above s digests above e = ap length e ∙ length-map (pack s digests) (hash s) ∙ length-pack s digests
+
 -- one level up leaves the same root
 pub root_of_digests-up : (s : TreeSettingsFields) (digests : List (List ℕ)) → 2 ≤ fan s → 1 < length digests
     → root_of_digests s (map (hash s) (pack s digests)) ≡ root_of_digests s digests
 unfolding root_of_digests
 root_of_digests-up s digests two more =
-    let above : length (map (hash s) (pack s digests)) ≡ div_ceil (length digests) (fan s) =
-    length-map (pack s digests) (hash s) ∙ length-pack s digests in
-    ap (λ (n : ℕ). get_or (digests_up s (map (hash s) (pack s digests)) (level_count (fan s) n)) 0 []) above
+    ap (λ (n : ℕ). get_or (digests_up s (map (hash s) (pack s digests)) (level_count (fan s) n)) 0 [])
+    (length-above s digests _ refl)
     ∙ ap (λ (ds : List (List ℕ)). get_or ds 0 [])
     (sym (digests_up-up s digests (level_count (fan s) (div_ceil (length digests) (fan s)))))
     ∙ ap (λ (l : ℕ). get_or (digests_up s digests l) 0 []) (sym (level_count-suc (fan s) (length digests) two more))
@@ -98,8 +103,3 @@ root-digests s blocks two some =
     ∙ ap (λ (ds : List (List ℕ)). get_or ds 0 []) (map-hash-blocks_up s blocks l)
     ∙ ap (λ (n : ℕ). get_or (digests_up s (map (hash s) blocks) (level_count (fan s) n)) 0 [])
     (sym (length-map blocks (hash s)))
-
--- how many digests are one level up
-pub length-above : (s : TreeSettingsFields) (digests above : List (List ℕ)) → above ≡ map (hash s) (pack s digests)
-    → length above ≡ div_ceil (length digests) (fan s)
-length-above s digests above e = ap length e ∙ length-map (pack s digests) (hash s) ∙ length-pack s digests
