@@ -5,6 +5,7 @@ use Rattle.std.proofs.Common.{length-append, length-drop}
 use Rattle.std.proofs.Common.{below_more}
 use Rattle.std.proofs.lemmas.List.{append_cancel_left, append_cancel_right, drop_at, ext_get_or, get_or-drop}
 use Rattle.std.proofs.lemmas.List.{get_or-take, get_or_append_left, length-take, length-take-le, take_at}
+use Rattle.std.proofs.lemmas.Grind.{common_steps}
 use Rattle.std.proofs.lemmas.List.FromFn.{get_or-map-range_with_len}
 use Rattle.std.proofs.lemmas.Nat.{div-add-mod', div_below, mod_below}
 use Rattle.std.specs.Fork.{slice_chunk}
@@ -103,13 +104,8 @@ byte-cut s n wanted bytes k some room enough below =
     let low : k % d < d = mod_below k d some in
     let few : i < n = div_below k d n some (omega (arith, below, room)) in
     let long : length all ≡ wanted = length-take-le wanted bytes enough in
-    let inside : k % d < length (slice_chunk all d i) =
-    omega (arith, length-take d (drop (i * d) all), length-drop (i * d) all, split, low, below, long) in
-    ap (λ (block : List ℕ). get_or block (k % d) 0)
-    (get_or-map-range_with_len (block_at d all) 0 n i i [] few (omega arith))
-    ∙ get_or_append_left (slice_chunk all d i) (replicate (d - length (slice_chunk all d i)) 0) 0 (k % d) inside
-    ∙ get_or-take d (drop (i * d) all) (k % d) 0 low ∙ get_or-drop (i * d) all (k % d) 0
-    ∙ ap (λ (n : ℕ). get_or all n 0) split
+    let block = get_or-map-range_with_len (block_at d all) 0 n i i [] few (omega arith) in
+    ap (λ (xs : List ℕ). get_or xs (k % d) 0) block ∙ grind (arith, common_steps, split, low, below, long)
 
 -- the covered bytes are those of the data blocks
 pub bytes-cut : (s : TreeSettingsFields) (n wanted : ℕ) (x y : List ℕ) → 0 < s.data_block → wanted ≤ n * s.data_block

@@ -9,7 +9,7 @@ use Rattle.std.proofs.lemmas.List.FromFn.{get_or-map-range_with_len}
 use Rattle.std.proofs.lemmas.Grind.{flat_map-append}
 use Rattle.std.proofs.lemmas.Nat.{div-add-mod', mod_below}
 use Rattle.std.proofs.Math.Nat.{div-eq_of_lt, mul-le-mul_right}
-use Rattle.std.proofs.Math.Seq.{drop-cons}
+use Rattle.std.proofs.Math.Seq.{drop-append-add}
 use Rattle.std.specs.Fork.{slice_chunk}
 use Rattle.std.specs.List.{flat_map}
 use Rattle.verity_hash.specs.Hashing.{with_zeros}
@@ -37,31 +37,29 @@ true_chain-blocks_up s blocks i zero = ap (λ (n : ℕ). get_or blocks n []) (di
 true_chain-blocks_up s blocks i (suc l) =
     let e : l + 1 ≡ suc l = omega arith in ap (λ (k : ℕ). get_or (blocks_up s blocks k) (i / fan s ^ k) []) e
 
+-- bytes filled to a size have it
+pub length-with_zeros : (n : ℕ) (bytes : List ℕ) → length bytes ≤ n → length (with_zeros n bytes) ≡ n
+length-with_zeros n bytes most =
+    omega (arith, length-append bytes (replicate (n - length bytes) 0), length-replicate {A = ℕ} (n - length bytes) 0)
+
+-- a digest is found in its slot, whatever comes after the slots
+slot-at : (s : TreeSettingsFields) (xs : List (List ℕ)) (after : List ℕ) (t : ℕ) → digest_len s ≤ slot_width s → t < length xs
+    → take (digest_len s) (drop (t * slot_width s) (flat_map (slot s) (map (hash s) xs) ++ after)) ≡ hash s (get_or xs t [])
+slot-at s [] after t fits below = absurd (omega arith)
+slot-at s (x ∷ xs) after zero fits below =
+    let rest = flat_map (slot s) (map (hash s) xs) in
+    let start : 0 * slot_width s ≡ 0 = omega arith in
+    rw (start, append_assoc, append_assoc) (take_at (hash s x) _ (digest_len s) (length-hash s x))
+slot-at s (x ∷ xs) after (suc t) fits below =
+    let next : suc t * slot_width s ≡ length (slot s (hash s x)) + t * slot_width s =
+    omega (arith, length-with_zeros (slot_width s) (hash s x) (omega (arith, length-hash s x, fits))) in
+    rw (next, append_assoc, drop-append-add (slot s (hash s x))) (slot-at s xs after t fits (omega arith))
+
 -- a digest is found in its slot
 pub digest_in-slots : (s : TreeSettingsFields) (xs : List (List ℕ)) (t : ℕ) → digest_len s ≤ slot_width s → t < length xs
     → digest_in s (hash_block_of s (map (hash s) xs)) t ≡ hash s (get_or xs t [])
 digest_in-slots s xs t fits below =
-    let w = slot_width s in
-    let x = get_or xs t [] in
-    let front = map (hash s) (take t xs) in
-    let rest = map (hash s) (drop (suc t) xs) in
-    let slots = flat_map (slot s) (map (hash s) xs) in
-    let zeros : List ℕ = replicate (s.hash_block - length slots) 0 in
-    let split : map (hash s) xs ≡ front ++ hash s x ∷ rest =
-    ap (map (hash s)) (sym (take-append-drop t xs))
-    ∙ ap (λ (ys : List (List ℕ)). map (hash s) (take t xs ++ ys)) (drop-cons xs t [] below)
-    ∙ map-append (hash s) (take t xs) (x ∷ drop (suc t) xs) in
-    let parts : slots ≡ flat_map (slot s) front ++ (slot s (hash s x) ++ flat_map (slot s) rest) =
-    ap (flat_map (slot s)) split ∙ flat_map-append (slot s) front (hash s x ∷ rest) in
-    let before : length (flat_map (slot s) front) ≡ t * w =
-    length-slots s (take t xs) fits ∙ ap (λ (n : ℕ). n * w) (length-take-le t xs (omega (arith, below))) in
-    let pad : List ℕ = replicate (w - length (hash s x)) 0 in
-    let whole : slots ++ zeros ≡ flat_map (slot s) front ++ (hash s x ++ (pad ++ (flat_map (slot s) rest ++ zeros))) =
-    ap (λ (ys : List ℕ). ys ++ zeros) parts ∙ simp append_assoc in
-    ap (λ (ys : List ℕ). take (digest_len s) (drop (t * w) ys)) whole
-    ∙ ap (take (digest_len s))
-    (drop_at (flat_map (slot s) front) (hash s x ++ (pad ++ (flat_map (slot s) rest ++ zeros))) (t * w) before)
-    ∙ take_at (hash s x) (pad ++ (flat_map (slot s) rest ++ zeros)) (digest_len s) (length-hash s x)
+    slot-at s xs (replicate (s.hash_block - length (flat_map (slot s) (map (hash s) xs))) 0) t fits below
 
 -- a hash block holds the digests of the blocks that it stands above
 block-above : (s : TreeSettingsFields) (blocks : List (List ℕ)) (l q : ℕ) → 0 < fan s → q < length (blocks_up s blocks l)
@@ -117,11 +115,6 @@ true_chain-root s blocks i two below =
     ∙ ap (λ (n : ℕ). hash s (get_or (blocks_up s blocks levels) n [])) (div-eq_of_lt less)
     ∙ ap (λ (l : ℕ). hash s (get_or (blocks_up s blocks l) 0 []))
     (sym (height-level_count s blocks (omega (arith, two))))
-
--- bytes filled to a size have it
-pub length-with_zeros : (n : ℕ) (bytes : List ℕ) → length bytes ≤ n → length (with_zeros n bytes) ≡ n
-length-with_zeros n bytes most =
-    omega (arith, length-append bytes (replicate (n - length bytes) 0), length-replicate {A = ℕ} (n - length bytes) 0)
 
 -- a block of the tree on the way up has a hash block's length
 pub length-true_chain : (s : TreeSettingsFields) (blocks : List (List ℕ)) (i l : ℕ) → digest_len s ≤ slot_width s → 0 < fan s

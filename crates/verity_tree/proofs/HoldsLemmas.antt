@@ -63,20 +63,15 @@ stands-counted p blocks device (at ∷ hash_blocks) each =
 
 -- data of which no block is short holds all that is wanted
 whole-enough : (p : PlanFields) → IsPlan p → (bytes : List ℕ) → p.blocks ≤ whole_blocks p bytes → p.wanted ≤ length bytes
-whole-enough p planned bytes all = elim (cases_lt (length bytes) p.wanted) [
-  | inl less ↦
-      let tested : nat_le p.wanted (length bytes) ≡ false = grind (arith, nat_tests, less) in
-      let count : whole_blocks p bytes ≡ length bytes / p.settings.data_block = rw tested refl in
-      let wide = some_data p.settings planned.valid in
-      omega (
-        arith,
-        less,
-        div-add-mod' (length bytes) p.settings.data_block,
-        le-div_ceil p.wanted p.settings.data_block (length bytes / p.settings.data_block) wide
-            (omega (arith, all, count, planned.blocks_are)),
-      )
-  | inr enough ↦ enough
-]
+whole-enough p planned bytes all =
+    let wide = some_data p.settings planned.valid in
+    grind (
+      arith,
+      nat_tests,
+      div-add-mod' (length bytes) p.settings.data_block,
+      le-div_ceil p.wanted p.settings.data_block (length bytes / p.settings.data_block) wide,
+      planned.blocks_are,
+    )
 
 -- a device that holds the tree has this verdict
 pub holds-right : (p : PlanFields) (device bytes digest : List ℕ) → HoldsTree p device bytes digest
@@ -88,27 +83,13 @@ holds-right p device bytes digest holds =
     (λ l j some. holds.stands l j (once.only l j some)))
     refl holds.root_is
 
--- what the last two tests of a verdict say if all is right
-tests-right : (short same : Bool) (x y : CompareFault)
-    → ◌≡◌ {A = Result Unit CompareFault} (if short then Err x else (if same then Ok tt else Err y)) (Ok tt)
-    → (short ≡ false) × (same ≡ true)
-tests-right true same x y right = cc
-tests-right false true x y right = (refl, refl)
-tests-right false false x y right = cc
-
 -- a verdict that all is right: nothing differs, no block is missing, and the root hash is the tree's
 all-right : (p : PlanFields) (device bytes digest : List ℕ) (met : Option BlockIndex)
     → verdict_by p device bytes met digest ≡ Ok tt
     → (met ≡ None) × (p.blocks ≤ whole_blocks p bytes) × (root p.settings (data_blocks p bytes) ≡ digest)
 all-right p device bytes digest (Some at) right = cc
 all-right p device bytes digest None right =
-    let tests = tests-right (nat_lt (whole_blocks p bytes) p.blocks) (bytes_eq (root p.settings (data_blocks p bytes)) digest)
-    _ _ right in
-    let long : nat_lt (whole_blocks p bytes) p.blocks ≡ false = tests.0 in (
-      refl,
-      grind (arith, nat_tests, long),
-      (bytes_eq-Decides (root p.settings (data_blocks p bytes)) digest).0 tests.1,
-    )
+    (refl, grind (arith, nat_tests, right), (bytes_eq-Decides _ _).0 (grind (arith, nat_tests, right)))
 
 -- a device with this verdict holds the tree, if the data is long enough
 pub right-holds_enough : (p : PlanFields) (device bytes digest : List ℕ) → p.wanted ≤ length bytes

@@ -2,7 +2,7 @@
 use Rattle.std.proofs.Common.{◌≡◌, ◌≢◌, ℕ, ◌+◌, ◌-◌, ◌≤◌, Bool, true, false, List, [], ◌∷◌, ◌++◌, length}
 use Rattle.std.proofs.Common.{arith, sym, ◌∙◌, ap, refl, subst, Ok, Err, append_assoc}
 use Rattle.std.proofs.Common.{cond}
-use Rattle.std.proofs.lemmas.Bool.{false_from_ne_true, le-ltb, lt-ltb, not_from_false}
+use Rattle.std.proofs.lemmas.Bool.{false_from_ne_true, le-ltb, lt-ltb, not_from_false, not_from_true}
 use Rattle.std.proofs.lemmas.List.Folds.{find-append}
 use Rattle.std.proofs.lemmas.List.Elements.{All-head, All-tail}
 use Rattle.std.proofs.lemmas.Slice.Eq.{bytes_eq-Decides}
@@ -28,22 +28,14 @@ use Rattle.verity_tree.proofs.OnePassLemmas.{stops-next}
 use Rattle.verity_tree.proofs.OrderSplit.{closed_after-prefix}
 use Rattle.verity_tree.proofs.DataBlockLemmas.{whole_blocks-above, whole_blocks-all}
 
--- a block that stands there does not differ
-stands-same : (p : PlanFields) (blocks : List (List ℕ)) (device : List ℕ) (at : BlockIndex)
-    → HoldsBlockAt p blocks device at
-    → differs p blocks device at ≡ false
-stands-same p blocks device at h =
-    let same =
-    (bytes_eq-Decides (stored_block p device at.level at.index) (tree_block p.settings blocks at.level at.index)).1 h in
-    ap not same
-
 -- no first one that differs among blocks that stand there
 find-none : (p : PlanFields) (blocks : List (List ℕ)) (device : List ℕ) (hash_blocks : List BlockIndex)
     → NoneDiffers p blocks device hash_blocks
     → find (differs p blocks device) hash_blocks ≡ None
 find-none p blocks device [] h = refl
 find-none p blocks device (at ∷ hash_blocks) h =
-    let stands = stands-same p blocks device at (All-head (HoldsBlockAt p blocks device) at hash_blocks h) in
+    let here = All-head (HoldsBlockAt p blocks device) at hash_blocks h in
+    let stands : differs p blocks device at ≡ false = not_from_true _ ((bytes_eq-Decides _ _).1 here) in
     rw stands (find-none p blocks device hash_blocks (All-tail (HoldsBlockAt p blocks device) at hash_blocks h))
 
 -- the first one that differs comes after blocks that stand there

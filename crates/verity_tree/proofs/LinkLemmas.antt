@@ -35,68 +35,38 @@ pub record IsTop (p : PlanFields) (i : ℕ) (block root : List ℕ) : Type 0 whe
   pub of_block : length block ≡ block_size_up p.settings (level_count_of p)
   pub holds : hash p.settings block ≡ root
 
--- the answer by its tests
-abbrev answer_by : Bool → Bool → Bool → Bool → Result Unit LinkFault
-answer_by past high long same =
-    cond past (Err Index) (cond high (Err Level) (cond (not long) (Err Length) (cond same (Ok tt) (Err Differs))))
-
--- what the tests of an accepted block say
-tests-ok : (past high long same : Bool) → answer_by past high long same ≡ Ok tt
-    → (past ≡ false) × (high ≡ false) × (long ≡ true) × (same ≡ true)
-tests-ok true _ _ _ e = cc
-tests-ok false true _ _ e = cc
-tests-ok false false false _ e = cc
-tests-ok false false true false e = cc
-tests-ok false false true true e = (refl, refl, refl, refl)
-
 -- an accepted block passed each test
 pub IsLinked-ok : (p : PlanFields) (i l : ℕ) (block above : List ℕ) → checked_link p i l block above ≡ Ok tt
     → IsLinked p i l block above
-IsLinked-ok p i l block above ok =
-    let tests = tests-ok (nat_le p.blocks i) (nat_le (level_count_of p) l) _ _ ok in
-    let lengths = and_parts (length block == block_size_up p.settings l) _ tests.2 in
-    record {
-      index = leb-false p.blocks i tests.0;
-      level = leb-false (level_count_of p) l tests.1;
-      of_block = eqb-true (length block) (block_size_up p.settings l) lengths.0;
-      of_above = eqb-true (length above) p.settings.hash_block lengths.1;
-      holds = (bytes_eq-Decides _ _).0 tests.3;
-    }
+IsLinked-ok p i l block above ok = record {
+  index = grind (arith, nat_tests, ok);
+  level = grind (arith, nat_tests, ok);
+  of_block = grind (arith, nat_tests, ok);
+  of_above = grind (arith, nat_tests, ok);
+  holds = (bytes_eq-Decides _ _).0 (grind (arith, nat_tests, ok));
+}
 
 -- and passes each
 pub ok-IsLinked : (p : PlanFields) (i l : ℕ) (block above : List ℕ) → IsLinked p i l block above
     → checked_link p i l block above ≡ Ok tt
-ok-IsLinked p i l block above h =
-    let in_data : nat_le p.blocks i ≡ false = grind (arith, nat_tests, h.index) in
-    let in_tree : nat_le (level_count_of p) l ≡ false = grind (arith, nat_tests, h.level) in
-    let block_is : (length block == block_size_up p.settings l) ≡ true = grind (arith, nat_tests, h.of_block) in
-    let above_is : (length above == p.settings.hash_block) ≡ true = grind (arith, nat_tests, h.of_above) in
-    let same_is = (bytes_eq-Decides _ _).1 h.holds in
-    rw (in_data, in_tree, block_is, above_is, same_is) refl
+ok-IsLinked p i l block above h = let same = (bytes_eq-Decides _ _).1 h.holds in grind (arith, nat_tests)
 
 -- the same of the top block
 pub IsTop-ok : (p : PlanFields) (i : ℕ) (block digest : List ℕ) → checked_top p i block digest ≡ Ok tt
     → IsTop p i block digest
-IsTop-ok p i block digest ok =
-    let tests = tests-ok (nat_le p.blocks i) false _ _ ok in
-    record {
-      index = leb-false p.blocks i tests.0;
-      of_block = eqb-true (length block) (block_size_up p.settings (level_count_of p)) tests.2;
-      holds = (bytes_eq-Decides _ _).0 tests.3;
-    }
+IsTop-ok p i block digest ok = record {
+  index = grind (arith, nat_tests, ok);
+  of_block = grind (arith, nat_tests, ok);
+  holds = (bytes_eq-Decides _ _).0 (grind (arith, nat_tests, ok));
+}
 
 pub ok-IsTop : (p : PlanFields) (i : ℕ) (block digest : List ℕ) → IsTop p i block digest
     → checked_top p i block digest ≡ Ok tt
-ok-IsTop p i block digest h =
-    let in_data : nat_le p.blocks i ≡ false = grind (arith, nat_tests, h.index) in
-    let long_is : (length block == block_size_up p.settings (level_count_of p)) ≡ true =
-    grind (arith, nat_tests, h.of_block) in
-    let same_is = (bytes_eq-Decides _ _).1 h.holds in
-    rw (in_data, long_is, same_is) refl
+ok-IsTop p i block digest h = let same = (bytes_eq-Decides _ _).1 h.holds in grind (arith, nat_tests)
 
 -- a hash block is as long as those that stand above the data
 pub size-up : (s : TreeSettingsFields) (l : ℕ) → block_size_up s (suc l) ≡ s.hash_block
-size-up s l = let tested : (suc l == 0) ≡ false = grind (arith, nat_tests) in rw tested refl
+size-up s l = grind (arith, nat_tests)
 
 -- each block above the first has a hash block's length
 abbrev pub AreHashBlocks : PlanFields → (ℕ → List ℕ) → Type 0

@@ -24,14 +24,19 @@ pub filter-prefix : (c : ℕ → Bool) (a n m : ℕ) → m ≤ n → ((l : ℕ) 
 filter-prefix c a zero zero le pass fail = refl
 filter-prefix c a zero (suc m) le pass fail = absurd (omega arith)
 filter-prefix c a (suc n) zero le pass fail =
-    let fails = fail a (omega arith) (omega arith) in
-    rw fails (filter-prefix c (a + 1) n zero (omega arith) (λ l from to. absurd (omega (arith, from, to)))
-    (λ l from to. fail l (omega (arith, from)) (omega (arith, to))))
+    grind (
+      arith,
+      fail a,
+      filter-prefix c (a + 1) n zero (omega arith) (λ l from to. absurd (omega (arith, from, to)))
+          (λ l from to. fail l (omega (arith, from)) (omega (arith, to))),
+    )
 filter-prefix c a (suc n) (suc m) le pass fail =
-    let passes = pass a (omega arith) (omega arith) in
-    rw passes (ap (λ (xs : List ℕ). a ∷ xs)
-    (filter-prefix c (a + 1) n m (omega arith) (λ l from to. pass l (omega (arith, from)) (omega (arith, to)))
-    (λ l from to. fail l (omega (arith, from)) (omega (arith, to)))))
+    grind (
+      arith,
+      pass a,
+      filter-prefix c (a + 1) n m (omega arith) (λ l from to. pass l (omega (arith, from)) (omega (arith, to)))
+          (λ l from to. fail l (omega (arith, from)) (omega (arith, to))),
+    )
 
 -- what closes with a data block is the levels below the first that doesn't close
 pub closing-prefix : (f n i m : ℕ) → m ≤ level_count f n → ((l : ℕ) → l < m → closes f n i l ≡ true)

@@ -26,49 +26,48 @@ chain-more s block path l = let e : l + 1 ≡ suc l = omega arith in ap (chain s
 -- a range of the path is the block of a level
 pub range-block : (path : List ℕ) (l size all : ℕ) → size ≡ all
     → take (l * size + size - l * size) (drop (l * size) path) ≡ slice_chunk path all l
-range-block path l size all e =
-    let same : l * size + size - l * size ≡ size = omega arith in
-    ap (λ (n : ℕ). take n (drop (l * size) path)) same ∙ ap (λ (n : ℕ). slice_chunk path n l) e
+range-block path l size all e = grind arith
 
 -- below the top a digest in its slot
 pub digest_above-below : (p : PlanFields) (i : ℕ) (path root : List ℕ) (l : ℕ) → l < level_count_of p
     → digest_above p i path root l ≡ digest_in p.settings (slice_chunk path p.settings.hash_block l)
     (i / fan p.settings ^ l % fan p.settings)
-digest_above-below p i path root l below =
-    let tested : nat_lt l (level_count_of p) ≡ true = grind (arith, nat_tests, below) in rw tested refl
+digest_above-below p i path root l below = grind (arith, nat_tests, below)
 
 -- at the top the root
 pub digest_above-top : (p : PlanFields) (i : ℕ) (path root : List ℕ) (l : ℕ) → level_count_of p ≤ l
     → digest_above p i path root l ≡ root
-digest_above-top p i path root l top =
-    let tested : nat_lt l (level_count_of p) ≡ false = grind (arith, nat_tests, top) in rw tested refl
+digest_above-top p i path root l top = grind (arith, nat_tests, top)
 
 -- the digest that the code reads is the digest above
-pub read-is : (p : PlanFields) (i : ℕ) (path root above : List ℕ) (l slot index f : ℕ) → l < level_count_of p
-    → above ≡ slice_chunk path p.settings.hash_block l
-    → f ≡ fan p.settings → index ≡ i / fan p.settings ^ l → slot ≡ index % f
-    → digest_in p.settings above slot ≡ digest_above p i path root l
-read-is p i path root above l slot index f below above_is f_is index_is slot_is =
-    ap (λ (xs : List ℕ). digest_in p.settings xs slot) above_is
+pub read-is : (p : PlanFields) (i : ℕ) (path root : List ℕ) (l index levels size f : ℕ) → l < levels
+    → levels ≡ level_count_of p → size ≡ p.settings.hash_block → f ≡ fan p.settings → index ≡ i / fan p.settings ^ l
+    → digest_in p.settings (take (l * size + size - l * size) (drop (l * size) path)) (index % f)
+    ≡ digest_above p i path root l
+read-is p i path root l index levels size f low levels_is size_is f_is index_is =
+    ap (λ (xs : List ℕ). digest_in p.settings xs (index % f)) (range-block path l size p.settings.hash_block size_is)
     ∙ ap (digest_in p.settings (slice_chunk path p.settings.hash_block l))
-    (slot_is ∙ ap (λ (n : ℕ). n % f) index_is ∙ ap (λ (n : ℕ). i / fan p.settings ^ l % n) f_is)
-    ∙ sym (digest_above-below p i path root l below)
+    (ap (λ (n : ℕ). n % f) index_is ∙ ap (λ (n : ℕ). i / fan p.settings ^ l % n) f_is)
+    ∙ sym (digest_above-below p i path root l (omega (arith, low, levels_is)))
 
--- a level's block of a whole path has a digest's room in each slot
-pub slot-in-block : (p : PlanFields) (path above : List ℕ) (l index f : ℕ)
-    → fan p.settings * slot_width p.settings ≤ p.settings.hash_block
-    → l < level_count_of p → level_count_of p * p.settings.hash_block ≤ length path
-    → above ≡ slice_chunk path p.settings.hash_block l
-    → f ≡ fan p.settings → 2 ≤ f
-    → index % f * slot_width p.settings + digest_len p.settings ≤ length above
-slot-in-block p path above l index f fits below whole above_is f_is two =
-    let size = p.settings.hash_block in
-    let next : l + 1 ≤ level_count_of p = omega arith in
-    let left : size ≤ length (drop (l * size) path) =
-    omega (arith, length-drop (l * size) path, whole, mul-le-mul_right size next) in
-    let len : length above ≡ size = ap length above_is ∙ length-take-le size (drop (l * size) path) left in
+-- a level's block of a whole path, as the code reads it, has a digest's room in each slot
+pub slot-in-block : (p : PlanFields) (block path : List ℕ) (l index levels size f : ℕ) → HasLengths p block path
+    → fan p.settings * slot_width p.settings ≤ p.settings.hash_block → l < levels → levels ≡ level_count_of p
+    → size ≡ p.settings.hash_block → f ≡ fan p.settings → 2 ≤ f
+    → index % f * slot_width p.settings + digest_len p.settings
+    ≤ length (take (l * size + size - l * size) (drop (l * size) path))
+slot-in-block p block path l index levels size f lengths fits below levels_is size_is f_is two =
+    let wide = p.settings.hash_block in
+    let next : l + 1 ≤ level_count_of p = omega (arith, below, levels_is) in
+    let left : wide ≤ length (drop (l * wide) path) =
+    omega (arith, length-drop (l * wide) path, lengths.of_path, mul-le-mul_right wide next) in
     let low : index % f < fan p.settings = omega (arith, mod_below index f (omega arith), f_is) in
-    omega (arith, digest-room p.settings (index % f) low fits, len)
+    omega (
+      arith,
+      digest-room p.settings (index % f) low fits,
+      ap length (range-block path l size wide size_is),
+      length-take-le wide (drop (l * wide) path) left,
+    )
 
 -- a number divided by a zeroth power
 pub div-pow-zero : (f i : ℕ) → i ≡ i / f ^ 0

@@ -15,12 +15,7 @@ use Rattle.verity_tree.proofs.TreeLemmas.{length-pack, length-blocks_up, height-
 
 -- two numbers of levels are one
 pub IsLevelCount-same : (fan n x y : ℕ) → IsLevelCount fan n x → IsLevelCount fan n y → x ≡ y
-IsLevelCount-same fan n x y h k =
-    let a : x ≤ y =
-    elim (cases_lt y x) [ inl below ↦ absurd (omega (arith, h.least y below, k.enough)) | inr le ↦ le ] in
-    let b : y ≤ x =
-    elim (cases_lt x y) [ inl below ↦ absurd (omega (arith, k.least x below, h.enough)) | inr le ↦ le ] in
-    omega arith
+IsLevelCount-same fan n x y h k = grind (arith, h.least y, k.least x)
 
 -- one level more than above one level up
 pub level_count-suc : (fan n : ℕ) → 2 ≤ fan → 1 < n → level_count fan n ≡ suc (level_count fan (div_ceil n fan))

@@ -22,59 +22,40 @@ overflow_mul-levels c =
 
 pub has_digest-requires : goal.has_digest-requires
 has_digest-requires c =
-    let p = c.args.plan.now in
-    let below : c.loop-level.level < level_count_of p =
-    omega (arith, c.loop-level-test.true, c.levels-levels.ensures) in
-    let long : level_count_of p * p.settings.hash_block ≤ length c.args.path.now = omega (
-      arith,
-      c.if-path-levels.false,
-      ap (λ (n : ℕ). n * c.hash_block-size.result) c.levels-levels.ensures,
-      ap (λ (n : ℕ). level_count_of p * n) c.hash_block-size.ensures,
-    ) in
-    slot-in-block p c.args.path.now _ c.loop-level.level _ c.fan-fan.result c.fan-fan.ensures.fits below long
-    (range-block c.args.path.now c.loop-level.level c.hash_block-size.result p.settings.hash_block
-    c.hash_block-size.ensures) c.fan-fan.ensures.value c.fan-fan.ensures.two
+    let lengths = HasLengths-read c.args.plan.now _ _ _ _ _ c.data_block.ensures c.levels-levels.ensures
+    c.hash_block-size.ensures c.if-block-data_block.false c.if-path-levels.false in
+    slot-in-block c.args.plan.now _ _ _ c.loop-level.index _ _ _ lengths c.fan-fan.ensures.fits c.loop-level-test.true
+    c.levels-levels.ensures c.hash_block-size.ensures c.fan-fan.ensures.value c.fan-fan.ensures.two
 
 pub loop-level-preserved : goal.loop-level-preserved
 loop-level-preserved c =
     let p = c.args.plan.now in
-    let i = c.args.i in
     let path = c.args.path.now in
     let l = c.loop-level.level in
-    let below : l < level_count_of p = omega (arith, c.loop-level-test.true, c.levels-levels.ensures) in
     let above = range-block path l c.hash_block-size.result p.settings.hash_block c.hash_block-size.ensures in
-    let read = read-is p i path c.args.root.now _ l (c.loop-level.index % c.fan-fan.result) c.loop-level.index
-    c.fan-fan.result below above
-    c.fan-fan.ensures.value c.loop-level.invariant.quotient refl in
+    let read = read-is p c.args.i path c.args.root.now _ _ _ _ _ c.loop-level-test.true c.levels-levels.ensures
+    c.hash_block-size.ensures c.fan-fan.ensures.value c.loop-level.invariant.quotient in
     let equal = (bytes_eq-Decides c.loop-level.digest _).0 (sym c.has_digest.ensures ∙ c.if-not-has_digest.false) in
-    let here : HoldsAt p i c.args.block.now path c.args.root.now l =
-    sym c.loop-level.invariant.digest_is ∙ equal ∙ read in
     record {
       quotient = ap (λ (n : ℕ). n / c.fan-fan.result) c.loop-level.invariant.quotient
-          ∙ ap (λ (n : ℕ). i / fan p.settings ^ l / n) c.fan-fan.ensures.value
-          ∙ sym (quotient-next (fan p.settings) i l);
+          ∙ ap (λ (n : ℕ). c.args.i / fan p.settings ^ l / n) c.fan-fan.ensures.value
+          ∙ sym (quotient-next (fan p.settings) c.args.i l);
       digest_is = hash-by _ _ _ _ c.settings-in-loop-level.ensures c.hash-digest-in-loop-level.ensures
           ∙ ap (hash p.settings) (above ∙ sym (chain-more p.settings c.args.block.now path l));
-      below = below_more (HoldsAt p i c.args.block.now path c.args.root.now) l c.loop-level.invariant.below here;
+      below = below_more (HoldsAt p c.args.i c.args.block.now path c.args.root.now) l c.loop-level.invariant.below
+          (sym c.loop-level.invariant.digest_is ∙ equal ∙ read);
     }
 
 pub returns-then-not-has_digest : goal.returns-then-not-has_digest
 returns-then-not-has_digest c =
     let p = c.args.plan.now in
-    let i = c.args.i in
-    let path = c.args.path.now in
-    let l = c.loop-level.level in
-    let below : l < level_count_of p = omega (arith, c.loop-level-test.true, c.levels-levels.ensures) in
-    let above = range-block path l c.hash_block-size.result p.settings.hash_block c.hash_block-size.ensures in
-    let read = read-is p i path c.args.root.now _ l (c.loop-level.index % c.fan-fan.result) c.loop-level.index
-    c.fan-fan.result below above
-    c.fan-fan.ensures.value c.loop-level.invariant.quotient refl in
+    let read = read-is p c.args.i c.args.path.now c.args.root.now _ _ _ _ _ c.loop-level-test.true
+    c.levels-levels.ensures c.hash_block-size.ensures c.fan-fan.ensures.value c.loop-level.invariant.quotient in
     record {
       index = omega (arith, c.if-i-blocks.false, c.blocks-2.ensures.value);
-      lengths = HasLengths-read p c.args.block.now c.args.path.now _ _ _ c.data_block.ensures c.levels-levels.ensures
-          c.hash_block-size.ensures
+      lengths = HasLengths-read p _ _ _ _ _ c.data_block.ensures c.levels-levels.ensures c.hash_block-size.ensures
           c.if-block-data_block.false c.if-path-levels.false;
-      within = omega (arith, below);
+      within = omega (arith, c.loop-level-test.true, c.levels-levels.ensures);
       below = c.loop-level.invariant.below;
       fails = λ holds. bytes_eq-false c.loop-level.digest _ (sym c.has_digest.ensures ∙ c.if-not-has_digest.true)
           (c.loop-level.invariant.digest_is ∙ holds ∙ sym read);
@@ -96,8 +77,7 @@ returns-then-eq c =
     let all = below_more (HoldsAt p i block path root) c.loop-level.level c.loop-level.invariant.below here in
     record {
       index = omega (arith, c.if-i-blocks.false, c.blocks-2.ensures.value);
-      lengths = HasLengths-read p c.args.block.now c.args.path.now _ _ _ c.data_block.ensures c.levels-levels.ensures
-          c.hash_block-size.ensures
+      lengths = HasLengths-read p _ _ _ _ _ c.data_block.ensures c.levels-levels.ensures c.hash_block-size.ensures
           c.if-block-data_block.false c.if-path-levels.false;
       holds = λ l within. all l (omega (arith, within, top));
     }
@@ -113,8 +93,7 @@ returns-else-eq c =
     let past : level_count_of p ≤ c.levels-levels.result = omega (arith, c.levels-levels.ensures) in
     record {
       index = omega (arith, c.if-i-blocks.false, c.blocks-2.ensures.value);
-      lengths = HasLengths-read p c.args.block.now c.args.path.now _ _ _ c.data_block.ensures c.levels-levels.ensures
-          c.hash_block-size.ensures
+      lengths = HasLengths-read p _ _ _ _ _ c.data_block.ensures c.levels-levels.ensures c.hash_block-size.ensures
           c.if-block-data_block.false c.if-path-levels.false;
       within = omega (arith, c.levels-levels.ensures);
       below = λ m less. c.loop-level.invariant.below m (omega (arith, less, top));

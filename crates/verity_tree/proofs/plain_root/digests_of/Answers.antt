@@ -13,12 +13,6 @@ use Rattle.verity_tree.specs.Steps.PlainRoots.{digest_of_block}
 use Rattle.verity_tree.proofs.LevelLemmas.{map-hash-cut, take-bytes, mapped_more}
 use Rattle.verity_tree.proofs.plain_root.digests_of.Goals as goal
 
--- each block begins within the bytes
-begins-within : (s : TreeSettingsFields) → IsValid s → (bytes : List ℕ) (size i count : ℕ) → size ≡ s.data_block
-    → count ≡ div_ceil (length bytes) size → i < count → i * size < length bytes
-begins-within s valid bytes size i count size_is count_is below =
-    mul-lt_div_ceil (length bytes) size i (omega (arith, size_is, some_data s valid)) (omega (arith, count_is, below))
-
 pub loop-i-preserved : goal.loop-i-preserved
 loop-i-preserved c =
     let settings = c.args.settings.now in
@@ -45,29 +39,13 @@ returns c =
     ∙ sym (map-hash-cut settings count (length bytes) bytes)
 
 pub overflow_mul-from : goal.overflow_mul-from
-overflow_mul-from c = omega (
-  arith,
-  begins-within c.args.settings.now c.data_block-size.ensures.valid c.args.bytes.now c.data_block-size.result
-      c.loop-i.i c.div_ceil-i-end.result c.data_block-size.ensures.value c.div_ceil-i-end.ensures c.loop-i-test.true,
-)
+overflow_mul-from c = let some = some_data c.args.settings.now c.data_block-size.ensures.valid in grind (arith, mul-lt_div_ceil)
 
 pub overflow_sub-bytes : goal.overflow_sub-bytes
-overflow_sub-bytes c = omega (
-  arith,
-  begins-within c.args.settings.now c.data_block-size.ensures.valid c.args.bytes.now c.data_block-size.result
-      c.loop-i.i c.div_ceil-i-end.result c.data_block-size.ensures.value c.div_ceil-i-end.ensures c.loop-i-test.true,
-)
+overflow_sub-bytes c = let some = some_data c.args.settings.now c.data_block-size.ensures.valid in grind (arith, mul-lt_div_ceil)
 
 pub overflow_add-from : goal.overflow_add-from
-overflow_add-from c = omega (
-  arith,
-  begins-within c.args.settings.now c.data_block-size.ensures.valid c.args.bytes.now c.data_block-size.result
-      c.loop-i.i c.div_ceil-i-end.result c.data_block-size.ensures.value c.div_ceil-i-end.ensures c.loop-i-test.true,
-)
+overflow_add-from c = let some = some_data c.args.settings.now c.data_block-size.ensures.valid in grind (arith, mul-lt_div_ceil)
 
 pub slice_bounds-filled_block-end : goal.slice_bounds-filled_block-end
-slice_bounds-filled_block-end c = omega (
-  arith,
-  begins-within c.args.settings.now c.data_block-size.ensures.valid c.args.bytes.now c.data_block-size.result
-      c.loop-i.i c.div_ceil-i-end.result c.data_block-size.ensures.value c.div_ceil-i-end.ensures c.loop-i-test.true,
-)
+slice_bounds-filled_block-end c = let some = some_data c.args.settings.now c.data_block-size.ensures.valid in grind (arith, mul-lt_div_ceil)

@@ -9,12 +9,6 @@ use Rattle.verity_tree.specs.Steps.PlainRoots.{digest_of_group}
 use Rattle.verity_tree.proofs.LevelLemmas.{map-hash-pack, take-run, digests_more}
 use Rattle.verity_tree.proofs.plain_root.level_up.Goals as goal
 
--- each run begins within the digests
-begins-within : (digests : List (List ℕ)) (size j count : ℕ) → 2 ≤ size → count ≡ div_ceil (length digests) size
-    → j < count → j * size < length digests
-begins-within digests size j count two count_is below =
-    mul-lt_div_ceil (length digests) size j (omega (arith, two)) (omega (arith, count_is, below))
-
 pub loop-j-preserved : goal.loop-j-preserved
 loop-j-preserved c =
     let settings = c.args.settings.now in
@@ -37,29 +31,13 @@ returns c =
     ∙ sym (map-hash-pack settings c.args.digests.now)
 
 pub overflow_mul-from : goal.overflow_mul-from
-overflow_mul-from c = omega (
-  arith,
-  begins-within c.args.digests.now c.fan-fan.result c.loop-j.j c.div_ceil-j-end.result c.fan-fan.ensures.two
-      c.div_ceil-j-end.ensures c.loop-j-test.true,
-)
+overflow_mul-from c = grind (arith, mul-lt_div_ceil)
 
 pub overflow_sub-digests : goal.overflow_sub-digests
-overflow_sub-digests c = omega (
-  arith,
-  begins-within c.args.digests.now c.fan-fan.result c.loop-j.j c.div_ceil-j-end.result c.fan-fan.ensures.two
-      c.div_ceil-j-end.ensures c.loop-j-test.true,
-)
+overflow_sub-digests c = grind (arith, mul-lt_div_ceil)
 
 pub overflow_add-from : goal.overflow_add-from
-overflow_add-from c = omega (
-  arith,
-  begins-within c.args.digests.now c.fan-fan.result c.loop-j.j c.div_ceil-j-end.result c.fan-fan.ensures.two
-      c.div_ceil-j-end.ensures c.loop-j-test.true,
-)
+overflow_add-from c = grind (arith, mul-lt_div_ceil)
 
 pub slice_bounds-hash_block_of-end : goal.slice_bounds-hash_block_of-end
-slice_bounds-hash_block_of-end c = omega (
-  arith,
-  begins-within c.args.digests.now c.fan-fan.result c.loop-j.j c.div_ceil-j-end.result c.fan-fan.ensures.two
-      c.div_ceil-j-end.ensures c.loop-j-test.true,
-)
+slice_bounds-hash_block_of-end c = grind (arith, mul-lt_div_ceil)
