@@ -67,26 +67,23 @@ block-bound s xs ys i two same below one =
       })
     ]
 
--- the first k data blocks
-blocks-bound-below : (s : TreeSettingsFields) (xs ys : List (List ℕ)) → 2 ≤ fan s → length xs ≡ length ys
-    → root s xs ≡ root s ys → (k : ℕ) → k ≤ length xs
-    → ((i : ℕ) → i < k → get_or xs i [] ≡ get_or ys i []) ⊎ TreesCollide s xs ys
-blocks-bound-below s xs ys two same one zero most = inl (λ i low. absurd (omega (arith, low)))
-blocks-bound-below s xs ys two same one (suc k) most =
-    elim (blocks-bound-below s xs ys two same one k (omega (arith, most))) [
-      | inl before ↦ elim (block-bound s xs ys k two same (omega (arith, most)) one) [
-        | inl here ↦ inl (λ i low.
-            below_more (λ m. get_or xs m [] ≡ get_or ys m []) k before here i (omega (arith, low)))
-        | inr collide ↦ inr collide
-      ]
-      | inr collide ↦ inr collide
-    ]
+-- each number below some one has a property, or something else is so
+all-or : (P : ℕ → Type 0) (other : Type 0) (n : ℕ) → ((i : ℕ) → i < n → P i ⊎ other) → ((i : ℕ) → i < n → P i) ⊎ other
+all-or P other zero each = inl (λ i low. absurd (omega (arith, low)))
+all-or P other (suc n) each = elim (all-or P other n (λ i low. each i (omega (arith, low)))) [
+  | inl before ↦ elim (each n (omega arith)) [
+    | inl here ↦ inl (λ i low. below_more P n before here i (omega (arith, low)))
+    | inr so ↦ inr so
+  ]
+  | inr so ↦ inr so
+]
 
 -- all data blocks
 pub blocks-bound : (s : TreeSettingsFields) (xs ys : List (List ℕ)) → 2 ≤ fan s → length xs ≡ length ys
     → root s xs ≡ root s ys → (xs ≡ ys) ⊎ TreesCollide s xs ys
 blocks-bound s xs ys two same one =
-    elim (blocks-bound-below s xs ys two same one (length xs) (omega arith)) [
+    elim (all-or (λ i. get_or xs i [] ≡ get_or ys i []) (TreesCollide s xs ys) (length xs)
+    (λ i below. block-bound s xs ys i two same below one)) [
       | inl each ↦ inl (ext_get_or [] xs ys same each)
       | inr collide ↦ inr collide
     ]

@@ -1,7 +1,7 @@
 -- The closing order, cut between data blocks and between levels.
 use Rattle.std.proofs.Common.{◌≡◌, ℕ, zero, suc, ◌+◌, ◌*◌, ◌/◌, ◌%◌, ◌^◌, ◌<◌, ◌≤◌, Bool, true, false, cond, eqb}
 use Rattle.std.proofs.Common.{List, [], ◌∷◌, ◌++◌, map, length, arith, sym, ◌∙◌, ap, refl, inl, inr, append_assoc}
-use Rattle.std.proofs.lemmas.Bool.{eq-eqb, ne_eqb, or_from, or_left, or_right}
+use Rattle.std.proofs.lemmas.Bool.Decides.{nat_tests}
 use Rattle.std.proofs.lemmas.Nat.{div-add-mod', mod-mul-add}
 use Rattle.std.proofs.lemmas.List.FromFn.{map-range_with_len_more}
 use Rattle.std.proofs.lemmas.List.{append-nil, map-append}
@@ -48,14 +48,12 @@ closing-prefix f n i m le pass fail =
 
 pub closes-reached : (f n i l : ℕ) → 0 < f → IsReached f i (l + 1) → closes f n i l ≡ true
 closes-reached f n i l some h =
-    let wide : 0 < f ^ (l + 1) = one-le-pow (l + 1) f some in
-    let e : i + 1 ≡ (i / f ^ (l + 1) + 1) * f ^ (l + 1) + 0 = omega (arith, h.whole) in
-    let whole : (i + 1) % f ^ (l + 1) ≡ 0 =
-    ap (λ (x : ℕ). x % f ^ (l + 1)) e ∙ mod-mul-add (i / f ^ (l + 1) + 1) (f ^ (l + 1)) 0 wide in
-    or_left ((i + 1) % f ^ (l + 1) == 0) (i + 1 == n) (eq-eqb _ _ whole)
+    let w = f ^ (l + 1) in
+    let whole = mod-mul-add (i / w + 1) w 0 (one-le-pow (l + 1) f some) in
+    grind (arith, nat_tests, whole, h.whole)
 
 pub closes-last : (f n i l : ℕ) → i + 1 ≡ n → closes f n i l ≡ true
-closes-last f n i l last = or_right ((i + 1) % f ^ (l + 1) == 0) (i + 1 == n) (eq-eqb (i + 1) n last)
+closes-last f n i l last = grind (arith, nat_tests)
 
 -- from a level that stays open none closes
 pub closes-none : (f n i m l : ℕ) → 0 < f → IsReached f i m → i / f ^ m % f + 1 < f → i + 1 < n → m ≤ l
@@ -63,10 +61,7 @@ pub closes-none : (f n i m l : ℕ) → 0 < f → IsReached f i m → i / f ^ m 
 closes-none f n i m l some h room more above =
     let w = f ^ (l + 1) in
     let stays : (i + 1) / w ≡ i / w = quotient-stays f i m (l + 1) some h room (omega arith) in
-    or_from ((i + 1) % w == 0) (i + 1 == n)
-    (ne_eqb _ _ (λ whole.
-    omega (arith, div-add-mod' (i + 1) w, div-add-mod' i w, whole, ap (λ (x : ℕ). x * w) stays)))
-    (ne_eqb _ _ (λ same. omega (arith, more, same)))
+    grind (arith, nat_tests, div-add-mod' (i + 1) w, div-add-mod' i w, stays)
 
 -- one block more
 pub first_closing-more : (f i m : ℕ)

@@ -4,6 +4,7 @@ use Rattle.std.specs.Prelude.{find, not, None, Option, Some}
 use Rattle.std.specs.Str.{bytes_eq}
 use Rattle.std.specs.List.{range_with_len}
 use Rattle.verity_plan.specs.Plans.{PlanFields}
+use Rattle.verity_plan.proofs.FanLemmas.{fan-some}
 use Rattle.verity_plan.specs.PlanCounts.{size_under}
 use Rattle.verity_plan.specs.Settings.{fan}
 use Rattle.verity_tree.specs.Verdicts.{digest_in, first_slot, part_at}
@@ -13,25 +14,14 @@ use Rattle.verity_tree.proofs.part.part_between.Goals as goal
 pub overflow_mul-first : goal.overflow_mul-first
 overflow_mul-first c =
     let p = c.args.plan.now in
-    let some : 0 < fan p.settings = omega (arith, c.fan-fan.ensures.two, c.fan-fan.ensures.value) in
-    omega (
-      arith,
-      first-child p some c.args.level c.args.index c.requires.here,
-      c.size_under-below.ensures,
-      c.size_under-below.type_inv,
-      ap (λ (n : ℕ). c.args.index * n) c.fan-fan.ensures.value,
-    )
+    let child = first-child p (fan-some p.settings) c.args.level c.args.index c.requires.here in
+    grind (arith, c.size_under-below.type_inv)
 
 pub overflow_sub-below : goal.overflow_sub-below
 overflow_sub-below c =
     let p = c.args.plan.now in
-    let some : 0 < fan p.settings = omega (arith, c.fan-fan.ensures.two, c.fan-fan.ensures.value) in
-    omega (
-      arith,
-      first-child p some c.args.level c.args.index c.requires.here,
-      c.size_under-below.ensures,
-      ap (λ (n : ℕ). c.args.index * n) c.fan-fan.ensures.value,
-    )
+    let child = first-child p (fan-some p.settings) c.args.level c.args.index c.requires.here in
+    grind arith
 
 -- what the code finds among the used slots
 found-is : (p : PlanFields) (l j below used g : ℕ) (stored computed : List ℕ) (found : Option ℕ) → g ≡ fan p.settings

@@ -11,14 +11,7 @@ use Rattle.verity_plan.proofs.IndexLemmas.{quotient-next}
 use Rattle.verity_tree.proofs.path.check_block.Goals as goal
 
 pub overflow_mul-levels : goal.overflow_mul-levels
-overflow_mul-levels c =
-    let p = c.args.plan.now in
-    omega (
-      arith,
-      store_few p c.blocks-2.ensures.planned,
-      ap (λ (n : ℕ). n * c.hash_block-size.result) c.levels-levels.ensures,
-      ap (λ (n : ℕ). level_count_of p * n) c.hash_block-size.ensures,
-    )
+overflow_mul-levels c = grind (arith, store_few c.args.plan.now c.blocks-2.ensures.planned)
 
 pub has_digest-requires : goal.has_digest-requires
 has_digest-requires c =

@@ -12,36 +12,32 @@ pub levels-preserved : goal.levels-preserved
 levels-preserved c =
     let settings = c.args.settings.now in
     let two : 2 ≤ fan settings = omega (arith, c.fan-fan.ensures.two, c.fan-fan.ensures.value) in
-    let more : 1 < length c.levels.level.items =
+    let digests = c.levels.level.items in
+    let more : 1 < length digests =
     omega (arith, c.levels-test.true, c.len.ensures, c.deref.ensures.len, ap length c.deref.ensures.value) in
-    let above = c.in_ok-level.ensures
-    ∙ ap (λ (ds : List (List ℕ)). map (hash settings) (pack settings ds)) c.deref.ensures.value in
+    let above = rw c.deref.ensures.value at c.in_ok-level.ensures in
     record {
       some = omega (
         arith,
         c.in_ok-level.level.ok,
-        length-above settings c.levels.level.items c.in_ok-level.level.items above,
-        div_ceil-pos (length c.levels.level.items) (fan settings) (omega arith) (omega arith),
+        length-above settings digests c.in_ok-level.level.items above,
+        div_ceil-pos (length digests) (fan settings) (omega arith) (omega arith),
       );
-      same = ap (root_of_digests settings) above ∙ root_of_digests-up settings c.levels.level.items two more
-          ∙ c.levels.invariant.same;
+      same = ap (root_of_digests settings) above ∙ root_of_digests-up settings digests two more ∙ c.levels.invariant.same;
     }
 
 pub levels-smaller : goal.levels-smaller
 levels-smaller c =
     let settings = c.args.settings.now in
     let two : 2 ≤ fan settings = omega (arith, c.fan-fan.ensures.two, c.fan-fan.ensures.value) in
-    let before : length c.levels.level.items ≡ vec_len c.levels.level =
-    sym (ap length c.deref.ensures.value) ∙ c.deref.ensures.len in
-    let more : 1 < length c.levels.level.items = omega (arith, c.levels-test.true, c.len.ensures, before) in
-    let above = c.in_ok-level.ensures
-    ∙ ap (λ (ds : List (List ℕ)). map (hash settings) (pack settings ds)) c.deref.ensures.value in
+    let digests = c.levels.level.items in
+    let before : length digests ≡ vec_len c.levels.level = sym (ap length c.deref.ensures.value) ∙ c.deref.ensures.len in
     omega (
       arith,
       c.in_ok-level.level.ok,
       before,
-      length-above settings c.levels.level.items c.in_ok-level.level.items above,
-      div_ceil-lt (length c.levels.level.items) (fan settings) two more,
+      length-above settings digests _ (rw c.deref.ensures.value at c.in_ok-level.ensures),
+      div_ceil-lt (length digests) (fan settings) two (omega (arith, c.levels-test.true, c.len.ensures, before)),
     )
 
 pub returns : goal.returns
