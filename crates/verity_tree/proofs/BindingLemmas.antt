@@ -45,13 +45,12 @@ block-bound : (s : TreeSettingsFields) (xs ys : List (List ℕ)) (i : ℕ) → 2
 unfolding hash
 block-bound s xs ys i two same below one =
     let levels = level_count (fan s) (length xs) in
-    let some : 0 < fan s = omega (arith, two) in
     let beside : i < length ys = omega (arith, below, same) in
     elim (chains-meet (hash s) (true_chain s xs i) (true_chain s ys i) levels levels (omega arith)
     (λ l _ above.
-    true_chain-up s xs i l (digest-slot s) some below
+    true_chain-up s xs i l below
     ∙ ap (λ (block : List ℕ). digest_in s block (i / fan s ^ l % fan s)) above
-    ∙ sym (true_chain-up s ys i l (digest-slot s) some beside))
+    ∙ sym (true_chain-up s ys i l beside))
     (true_chain-root s xs i two below ∙ one ∙ sym (true_chain-root s ys i two beside)
     ∙ ap (λ (n : ℕ). hash s (true_chain s ys i (level_count (fan s) n))) (sym same))) [
       | inl here ↦ inl here

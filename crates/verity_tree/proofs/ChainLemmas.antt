@@ -6,7 +6,7 @@ use Rattle.std.proofs.Common.{append_assoc}
 use Rattle.std.proofs.lemmas.List.{drop_at, drop-map, get_or-drop, get_or-take, length-replicate, length-take}
 use Rattle.std.proofs.lemmas.List.{length-take-le, map-append, take-append-drop, take-map, take_at}
 use Rattle.std.proofs.lemmas.List.FromFn.{get_or-map-range_with_len}
-use Rattle.std.proofs.lemmas.Grind.{flat_map-append}
+use Rattle.std.proofs.lemmas.Grind.{common_steps}
 use Rattle.std.proofs.lemmas.Nat.{div-add-mod', mod_below}
 use Rattle.std.proofs.Math.Nat.{div-eq_of_lt, mul-le-mul_right}
 use Rattle.std.proofs.Math.Seq.{drop-append-add}
@@ -43,65 +43,50 @@ length-with_zeros n bytes most =
     omega (arith, length-append bytes (replicate (n - length bytes) 0), length-replicate {A = ℕ} (n - length bytes) 0)
 
 -- a digest is found in its slot, whatever comes after the slots
-slot-at : (s : TreeSettingsFields) (xs : List (List ℕ)) (after : List ℕ) (t : ℕ) → digest_len s ≤ slot_width s → t < length xs
+slot-at : (s : TreeSettingsFields) (xs : List (List ℕ)) (after : List ℕ) (t : ℕ) → t < length xs
     → take (digest_len s) (drop (t * slot_width s) (flat_map (slot s) (map (hash s) xs) ++ after)) ≡ hash s (get_or xs t [])
-slot-at s [] after t fits below = absurd (omega arith)
-slot-at s (x ∷ xs) after zero fits below =
-    let rest = flat_map (slot s) (map (hash s) xs) in
+slot-at s [] after t below = absurd (omega arith)
+slot-at s (x ∷ xs) after zero below =
     let start : 0 * slot_width s ≡ 0 = omega arith in
-    rw (start, append_assoc, append_assoc) (take_at (hash s x) _ (digest_len s) (length-hash s x))
-slot-at s (x ∷ xs) after (suc t) fits below =
-    let next : suc t * slot_width s ≡ length (slot s (hash s x)) + t * slot_width s =
-    omega (arith, length-with_zeros (slot_width s) (hash s x) (omega (arith, length-hash s x, fits))) in
-    rw (next, append_assoc, drop-append-add (slot s (hash s x))) (slot-at s xs after t fits (omega arith))
+    rw start (simp append_assoc (take_at (hash s x) _ (digest_len s) (length-hash s x)))
+slot-at s (x ∷ xs) after (suc t) below =
+    let wide = length-with_zeros (slot_width s) (hash s x) (omega (arith, length-hash s x, digest-slot s)) in
+    let next : suc t * slot_width s ≡ length (slot s (hash s x)) + t * slot_width s = omega (arith, wide) in
+    let rest = flat_map (slot s) (map (hash s) xs) in
+    rw (next, append_assoc (slot s (hash s x)) rest after, drop-append-add (slot s (hash s x)))
+    (slot-at s xs after t (omega arith))
 
--- a digest is found in its slot
-pub digest_in-slots : (s : TreeSettingsFields) (xs : List (List ℕ)) (t : ℕ) → digest_len s ≤ slot_width s → t < length xs
-    → digest_in s (hash_block_of s (map (hash s) xs)) t ≡ hash s (get_or xs t [])
-digest_in-slots s xs t fits below =
-    slot-at s xs (replicate (s.hash_block - length (flat_map (slot s) (map (hash s) xs))) 0) t fits below
-
--- a hash block holds the digests of the blocks that it stands above
-block-above : (s : TreeSettingsFields) (blocks : List (List ℕ)) (l q : ℕ) → 0 < fan s → q < length (blocks_up s blocks l)
-    → get_or (blocks_up s blocks (l + 1)) (q / fan s) []
-    ≡ hash_block_of s (map (hash s) (slice_chunk (blocks_up s blocks l) (fan s) (q / fan s)))
-block-above s blocks l q some below =
-    let start = q / fan s * fan s in
+-- a hash block of the true chain holds the digests of the blocks that it stands above
+true_chain-holds : (s : TreeSettingsFields) (blocks : List (List ℕ)) (i l : ℕ) → i < length blocks
+    → true_chain s blocks i (suc l)
+    ≡ hash_block_of s (map (hash s) (slice_chunk (blocks_up s blocks l) (fan s) (i / fan s ^ l / fan s)))
+true_chain-holds s blocks i l below =
+    let q = i / fan s ^ l in
     let xs = blocks_up s blocks l in
-    block-up s blocks l (q / fan s) (quotient-below q (length xs) (fan s) some below)
+    let start = q / fan s * fan s in
+    ap (λ (n : ℕ). get_or (blocks_up s blocks (l + 1)) n []) (quotient-next (fan s) i l)
+    ∙ block-up s blocks l (q / fan s)
+    (quotient-below q (length xs) (fan s) (fan-some s) (level_digest-below s blocks i l (fan-some s) below))
     ∙ ap (hash_block_of s)
     (ap (take (fan s)) (drop-map (hash s) start xs) ∙ take-map (hash s) (fan s) (drop start xs))
 
--- the digest of block q is in its slot of the block above
-pub digest-up : (s : TreeSettingsFields) (blocks : List (List ℕ)) (l q : ℕ) → digest_len s ≤ slot_width s → 0 < fan s
-    → q < length (blocks_up s blocks l)
-    → digest_in s (get_or (blocks_up s blocks (l + 1)) (q / fan s) []) (q % fan s) ≡ hash s
-    (get_or (blocks_up s blocks l) q [])
-digest-up s blocks l q fits some below =
-    let f = fan s in
-    let xs = blocks_up s blocks l in
-    let split : q / f * f + q % f ≡ q = div-add-mod' q f in
-    let low : q % f < f = mod_below q f some in
-    let run = take f (drop (q / f * f) xs) in
-    let within : q % f < length run =
-    omega (arith, length-take f (drop (q / f * f) xs), length-drop (q / f * f) xs, split, low, below) in
-    ap (λ (ys : List ℕ). digest_in s ys (q % f)) (block-above s blocks l q some below)
-    ∙ digest_in-slots s run (q % f) fits within
-    ∙ ap (hash s) (get_or-take f (drop (q / f * f) xs) (q % f) [] low ∙ get_or-drop (q / f * f) xs (q % f) []
-    ∙ ap (λ (n : ℕ). get_or xs n []) split)
-
 -- the true chain holds at each level
-pub true_chain-up : (s : TreeSettingsFields) (blocks : List (List ℕ)) (i l : ℕ) → digest_len s ≤ slot_width s → 0 < fan s
-    → i < length blocks
+pub true_chain-up : (s : TreeSettingsFields) (blocks : List (List ℕ)) (i l : ℕ) → i < length blocks
     → hash s (true_chain s blocks i l) ≡ digest_in s (true_chain s blocks i (suc l)) (i / fan s ^ l % fan s)
-true_chain-up s blocks i l fits some below =
-    let q = i / fan s ^ l in
-    let here : q < length (blocks_up s blocks l) =
-    level_digest-below s blocks i l some below in
-    ap (hash s) (true_chain-blocks_up s blocks i l)
-    ∙ sym (digest-up s blocks l q fits some here)
-    ∙ ap (λ (n : ℕ). digest_in s (get_or (blocks_up s blocks (l + 1)) n []) (q % fan s))
-    (sym (quotient-next (fan s) i l))
+true_chain-up s blocks i l below =
+    let f = fan s in
+    let q = i / f ^ l in
+    let xs = blocks_up s blocks l in
+    let here = level_digest-below s blocks i l (fan-some s) below in
+    let split : q / f * f + q % f ≡ q = div-add-mod' q f in
+    let low : q % f < f = mod_below q f (fan-some s) in
+    let run = slice_chunk xs f (q / f) in
+    let within : q % f < length run =
+    omega (arith, length-take f (drop (q / f * f) xs), length-drop (q / f * f) xs, split, low, here) in
+    let element : get_or run (q % f) [] ≡ get_or xs q [] = grind (arith, common_steps, split, low) in
+    ap (hash s) (true_chain-blocks_up s blocks i l ∙ sym element)
+    ∙ sym (ap (λ (ys : List ℕ). digest_in s ys (q % f)) (true_chain-holds s blocks i l below)
+    ∙ slot-at s run _ (q % f) within)
 
 -- and at the top
 pub true_chain-root : (s : TreeSettingsFields) (blocks : List (List ℕ)) (i : ℕ) → 2 ≤ fan s → i < length blocks
@@ -126,8 +111,7 @@ length-true_chain s blocks i l fits some room below =
     let xs = blocks_up s blocks l in
     let run = slice_chunk xs f (q / f) in
     let few : length run ≤ f = omega (arith, length-take f (drop (q / f * f) xs)) in
-    ap (λ (n : ℕ). length (get_or (blocks_up s blocks (l + 1)) n [])) (quotient-next f i l)
-    ∙ ap length (block-above s blocks l q some (level_digest-below s blocks i l some below))
+    ap length (true_chain-holds s blocks i l below)
     ∙ length-with_zeros s.hash_block (flat_map (slot s) (map (hash s) run))
     (omega (arith, length-slots s run fits, mul-le-mul_right (slot_width s) few, room))
 
@@ -148,7 +132,7 @@ pub true_chain-next : (p : PlanFields) (bytes : List ℕ) (i l : ℕ) → IsPlan
     → hash p.settings (true_chain p.settings (data_blocks p bytes) i l)
     ≡ digest_in p.settings (true_chain p.settings (data_blocks p bytes) i (suc l)) (i / fan p.settings ^ l % fan p.settings)
 true_chain-next p bytes i l planned below =
-    true_chain-up p.settings (data_blocks p bytes) i l (digest-slot p.settings) (fan-some p.settings)
+    true_chain-up p.settings (data_blocks p bytes) i l
     (omega (arith, below, length-cut p.settings p.blocks p.wanted bytes))
 
 -- and at the top

@@ -56,10 +56,9 @@ verdict-none : (p : PlanFields) (device bytes digest : List ℕ) (m : ℕ) → w
     → verdict p device bytes digest ≡ verdict_by p device bytes None digest
 verdict-none p device bytes digest m whole none =
     let blocks = data_blocks p bytes in
+    let found = find-none p blocks device (closed_after (fan p.settings) p.blocks m) none in
     ap (λ (n : ℕ). verdict_by p device bytes
-    (find (differs p blocks device) (closed_after (fan p.settings) p.blocks n)) digest) whole
-    ∙ ap (λ (met : Option BlockIndex). verdict_by p device bytes met digest)
-    (find-none p blocks device (closed_after (fan p.settings) p.blocks m) none)
+    (find (differs p blocks device) (closed_after (fan p.settings) p.blocks n)) digest) whole ∙ rw found refl
 
 -- if the data is whole, the root is compared
 judges-whole : (p : PlanFields) (device bytes digest : List ℕ) (same : Bool) → p.wanted ≤ length bytes
@@ -113,11 +112,9 @@ judges-differs p planned device bytes digest after stop part stops why =
     let split : closed_after f p.blocks m ≡ stops.done ++ (at ∷ (stops.next.rest ++ rest.0)) =
     ap (closed_after f p.blocks) e ∙ rest.1 ∙ ap (λ (ps : List BlockIndex). ps ++ rest.0) stops.next.in_order
     ∙ simp append_assoc in
-    ap (λ (ps : List BlockIndex). verdict_by p device bytes (find (differs p blocks device) ps) digest) split
-    ∙ ap (λ (met : Option BlockIndex). verdict_by p device bytes met digest)
-    (find-first p blocks device stops.done (stops.next.rest ++ rest.0) at stops.stopped.1
-    (not_from_false _ (bytes-differ _ _ differs_by.0)))
-    ∙ ap (λ (q : Part). Err (F.Differs stop.level stop.block q)) (sym differs_by.1)
+    let met = find-first p blocks device stops.done (stops.next.rest ++ rest.0) at stops.stopped.1
+    (not_from_false _ (bytes-differ _ _ differs_by.0)) in
+    rw (split, met) (ap (λ (q : Part). Err (F.Differs stop.level stop.block q)) (sym differs_by.1))
 
 -- a failure at a block comes only if nothing before it differs
 pub comes-to : (p : PlanFields) (device bytes after : List ℕ) (stop : Stop CompareStop)

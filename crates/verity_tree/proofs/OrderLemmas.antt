@@ -2,7 +2,7 @@
 use Rattle.std.proofs.Common.{◌≡◌, ℕ, zero, suc, ◌+◌, ◌*◌, ◌/◌, ◌%◌, ◌^◌, ◌<◌, ◌≤◌, min, Bool, true, false, cond}
 use Rattle.std.proofs.Common.{eqb, leb, List, ◌∷◌, map, arith, sym, ◌∙◌, ap, refl, inl, inr, zero-add}
 use Rattle.std.proofs.Common.{ltb}
-use Rattle.std.proofs.lemmas.Bool.{and_parts, cases_Bool, cases_lt, leb-true, ltb-true}
+use Rattle.std.proofs.lemmas.Bool.{and_parts, cases_Bool, cases_lt, cases_order, leb-true, ltb-true}
 use Rattle.std.proofs.lemmas.Bool.Decides.{nat_tests, eqb_tells, leb_tells, same_from_decides, Decides-eqb, Decides-and}
 use Rattle.std.proofs.lemmas.Bool.Decides.{Decides-or, Decides-like}
 use Rattle.std.proofs.lemmas.List.Sums.{sum_by-cons, sum_by-append}
@@ -13,9 +13,9 @@ use Rattle.std.specs.List.{filter, range_with_len}
 use Rattle.std.specs.Prelude.{◌==◌, ◌&&◌, ◌⊎◌}
 use Rattle.verity_plan.specs.Plans.{level_count, level_size, IsTreeBlock}
 use Rattle.verity_tree.specs.ClosingOrder.{BlockIndex, block_index, closes, closing_with, closed_after, times, ClosesOnce}
-use Rattle.verity_plan.proofs.CountLemmas.{div_ceil-le, mul-lt_div_ceil}
+use Rattle.verity_plan.proofs.CountLemmas.{mul-lt_div_ceil, mul_le}
 use Rattle.verity_plan.proofs.IndexLemmas.{quotient-below}
-use Rattle.verity_tree.proofs.QuotientLemmas.{div_ceil-last}
+use Rattle.verity_tree.proofs.QuotientLemmas.{slots-more}
 
 -- the levels that pass a test, each with a block
 abbrev indices : (ℕ → ℕ) → (ℕ → Bool) → List ℕ → List BlockIndex
@@ -45,45 +45,31 @@ abbrev pub closing_time : ℕ → ℕ → ℕ → ℕ → ℕ
 closing_time fan n l j = min ((j + 1) * fan ^ (l + 1)) n
 
 -- the block that closes is the one whose time it is
-closing_then : (fan n l j i : ℕ) → 0 < fan → i < n
-    → (((i + 1) % fan ^ (l + 1) ≡ 0) ⊎ (i + 1 ≡ n)) × (i / fan ^ (l + 1) ≡ j) → closing_time fan n l j ≡ i + 1
-closing_then fan n l j i pos below h =
-    let width = fan ^ (l + 1) in
-    let wide : 0 < width = one-le-pow (l + 1) fan pos in
-    elim h.0 [
-      | inl whole ↦
-          let next : (i + 1) / width ≡ j + 1 = omega (arith, h.1, whole, div_ceil-last i width wide) in
-          omega (arith, ap (λ (q : ℕ). q * width) next, div-add-mod' (i + 1) width, whole, below)
-      | inr last ↦ omega (arith, ap (λ (q : ℕ). q * width) h.1, div-add-mod' i width, mod_below i width wide, last)
-    ]
-
-then_closing : (fan n l j i : ℕ) → 0 < fan → i < n → j < level_size fan n l → closing_time fan n l j ≡ i + 1
-    → (((i + 1) % fan ^ (l + 1) ≡ 0) ⊎ (i + 1 ≡ n)) × (i / fan ^ (l + 1) ≡ j)
-then_closing fan n l j i pos below inside h =
-    let width = fan ^ (l + 1) in
-    let wide : 0 < width = one-le-pow (l + 1) fan pos in
-    elim (cases_lt ((j + 1) * width) n) [
-      | inl before ↦
-          let e : (j + 1) * width + 0 ≡ i + 1 = omega (arith, h, before) in
-          let whole : (i + 1) % width ≡ 0 = ap (λ (x : ℕ). x % width) (sym e) ∙ mod-mul-add (j + 1) width 0 wide in
-          let next : (i + 1) / width ≡ j + 1 = ap (λ (x : ℕ). x / width) (sym e) ∙ div-mul-add (j + 1) width 0 wide in
-          (inl whole, omega (arith, whole, next, div_ceil-last i width wide))
-      | inr past ↦
-          let last : i + 1 ≡ n = omega (arith, h, past) in
-          let same : div_ceil (i + 1) width ≡ div_ceil n width = ap (λ (x : ℕ). div_ceil x width) last in (
-            inr last,
-            omega (arith, same, inside, div_ceil-last i width wide, div_ceil-le n width (j + 1) wide past),
-          )
-    ]
-
 closes-time : (fan n l j i : ℕ) → 0 < fan → i < n → j < level_size fan n l
     → (closes fan n i l && (i / fan ^ (l + 1) == j)) ≡ (closing_time fan n l j == i + 1)
 closes-time fan n l j i pos below inside =
-    same_from_decides _ _
-    (Decides-like _ (closing_then fan n l j i pos below) (then_closing fan n l j i pos below inside)
-    (Decides-and _ _ (Decides-or _ _ (Decides-eqb ((i + 1) % fan ^ (l + 1)) 0) (Decides-eqb (i + 1) n))
-    (Decides-eqb (i / fan ^ (l + 1)) j)))
-    (Decides-eqb (closing_time fan n l j) (i + 1))
+    let w = fan ^ (l + 1) in
+    let wide : 0 < w = one-le-pow (l + 1) fan pos in
+    let split = div-add-mod' i w in
+    elim (cases_order j (i / w)) [
+      | inl same ↦
+          let area : j * w ≡ i / w * w = ap (λ (q : ℕ). q * w) same in
+          elim (cases_lt (i % w + 1) w) [
+            | inl room ↦ let rest = (slots-more w i room).0 in grind (arith, nat_tests)
+            | inr full ↦
+                let next : i + 1 ≡ (i / w + 1) * w + 0 = omega (arith, split, full, mod_below i w wide) in
+                let rest : (i + 1) % w ≡ 0 = ap (λ (x : ℕ). x % w) next ∙ mod-mul-add (i / w + 1) w 0 wide in
+                grind (arith, nat_tests)
+          ]
+      | inr apart ↦ elim apart [
+        | inl less ↦ let far = mul_le (j + 1) (i / w) w (omega (arith, less)) in grind (arith, nat_tests)
+        | inr more ↦
+            let far = mul_le (i / w + 1) j w (omega (arith, more)) in
+            let near = mul-lt_div_ceil n w j wide inside in
+            let low = mod_below i w wide in
+            grind (arith, nat_tests)
+      ]
+    ]
 
 -- after so many data blocks the tree's block of this place has closed
 abbrev has_closed : ℕ → ℕ → ℕ → ℕ → ℕ → Bool
