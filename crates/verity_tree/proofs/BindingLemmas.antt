@@ -1,14 +1,13 @@
 -- Trees with one root hash stand above the same data, or show a collision.
-use Rattle.std.proofs.Common.{◌≡◌, ◌≢◌, ℕ, zero, suc, ◌+◌, ◌-◌, ◌*◌, ◌/◌, ◌%◌, ◌^◌, ◌<◌, ◌≤◌, ◌⊎◌, Bool, true, false}
-use Rattle.std.proofs.Common.{List, [], get_or, take, drop, length, replicate, arith, sym, ◌∙◌, ap, refl, inl, inr}
-use Rattle.std.proofs.Common.{length-append, length-drop}
+use Rattle.std.proofs.Common.{◌≡◌, ◌≢◌, ℕ, zero, suc, ◌+◌, ◌*◌, ◌/◌, ◌%◌, ◌^◌, ◌<◌, ◌≤◌, ◌⊎◌}
+use Rattle.std.proofs.Common.{List, [], get_or, take, drop, length, arith, sym, ◌∙◌, ap, refl, inl, inr}
+use Rattle.std.proofs.Common.{length-append}
 use Rattle.std.proofs.Common.{below_more}
-use Rattle.std.proofs.lemmas.List.{append_cancel_left, append_cancel_right, drop_at, ext_get_or, get_or-drop}
-use Rattle.std.proofs.lemmas.List.{get_or-take, get_or_append_left, length-take, length-take-le, take_at}
+use Rattle.std.proofs.lemmas.List.{append_cancel_left, append_cancel_right, drop_at, ext_get_or}
+use Rattle.std.proofs.lemmas.List.{length-take-le, take_at}
 use Rattle.std.proofs.lemmas.Grind.{common_steps}
 use Rattle.std.proofs.lemmas.List.FromFn.{get_or-map-range_with_len}
 use Rattle.std.proofs.lemmas.Nat.{div-add-mod', div_below, mod_below}
-use Rattle.std.specs.Fork.{slice_chunk}
 use Rattle.std.specs.Int.{div_ceil, next_multiple_of}
 use Rattle.verity_hash.specs.Hashing.{input_block_of, salted_input, with_zeros}
 use Rattle.verity_hash.specs.declared.algorithm.Algorithm.{Algorithm}
@@ -20,7 +19,6 @@ use Rattle.verity_plan.specs.Settings.{TreeSettingsFields, fan, hash}
 use Rattle.verity_plan.proofs.CountLemmas.{le-div_ceil}
 use Rattle.verity_tree.proofs.DataBlockLemmas.{blocks-some}
 use Rattle.verity_plan.proofs.FanLemmas.{fan-two, some_data}
-use Rattle.verity_plan.proofs.FitLemmas.{digest-slot}
 use Rattle.verity_tree.specs.Collisions.{Collide, TreesCollide, hashed_last, with_salt}
 use Rattle.verity_tree.specs.Levels.{block_at, cut, data_blocks, root}
 use Rattle.verity_tree.specs.Links.{block_size_up}

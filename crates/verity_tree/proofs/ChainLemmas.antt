@@ -1,10 +1,10 @@
 -- The true chain of a data block: each block's hash is the digest in its slot of the block above, and the last one's
 -- the root.
 use Rattle.std.proofs.Common.{◌≡◌, ℕ, zero, suc, ◌+◌, ◌-◌, ◌*◌, ◌/◌, ◌%◌, ◌^◌, ◌<◌, ◌≤◌, List, [], ◌∷◌, ◌++◌, get_or}
-use Rattle.std.proofs.Common.{take, drop, length, map, replicate, arith, sym, ◌∙◌, ap, refl, length-append, length-drop}
+use Rattle.std.proofs.Common.{take, drop, length, map, replicate, arith, sym, ◌∙◌, ap, length-append, length-drop}
 use Rattle.std.proofs.Common.{append_assoc}
-use Rattle.std.proofs.lemmas.List.{drop_at, drop-map, get_or-drop, get_or-take, length-replicate, length-take}
-use Rattle.std.proofs.lemmas.List.{length-take-le, map-append, take-append-drop, take-map, take_at}
+use Rattle.std.proofs.lemmas.List.{drop-map, length-replicate, length-take}
+use Rattle.std.proofs.lemmas.List.{take-map, take_at}
 use Rattle.std.proofs.lemmas.List.FromFn.{get_or-map-range_with_len}
 use Rattle.std.proofs.lemmas.Grind.{common_steps}
 use Rattle.std.proofs.lemmas.Nat.{div-add-mod', mod_below}

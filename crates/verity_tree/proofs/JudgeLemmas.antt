@@ -6,11 +6,10 @@ use Rattle.std.proofs.lemmas.Bool.{false_from_ne_true, le-ltb, lt-ltb, not_from_
 use Rattle.std.proofs.lemmas.List.Folds.{find-append}
 use Rattle.std.proofs.lemmas.List.Elements.{All-head, All-tail}
 use Rattle.std.proofs.lemmas.Slice.Eq.{bytes_eq-Decides}
-use Rattle.std.specs.Prelude.{find, not, nat_lt, Some, None, Option}
+use Rattle.std.specs.Prelude.{find, nat_lt, Some, None}
 use Rattle.std.specs.Str.{bytes_eq}
 use Rattle.verity_tree.specs.Reading.{EndsWithin}
 use Rattle.verity_tree.specs.ClosingOrder.{BlockIndex, block_index, closed_after}
-use Rattle.verity_tree.specs.TreeOnDevice.{tree_block, stored_block}
 use Rattle.verity_tree.specs.Comparing.{ComesTo}
 use Rattle.verity_tree.specs.Steps.OnClosed.{IsStopFor, KeepsSame, HoldsAll, StopsComparing, effects, is_unread}
 use Rattle.verity_tree.specs.Steps.OnePass.{StopsFor}

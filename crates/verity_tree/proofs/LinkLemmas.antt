@@ -1,22 +1,17 @@
 -- Blocks that are accepted one by one are an accepted path, and what an accepted block is.
-use Rattle.std.proofs.Common.{◌≡◌, ℕ, zero, suc, ◌+◌, ◌/◌, ◌%◌, ◌^◌, ◌<◌, ◌≤◌, ◌⊎◌, Bool, true, false, List, length}
-use Rattle.std.proofs.Common.{arith, sym, subst, ◌∙◌, ap, refl, inl, inr, cond}
-use Rattle.std.proofs.lemmas.Bool.{and_parts, cases_lt, eqb-true, leb-false}
+use Rattle.std.proofs.Common.{◌≡◌, ℕ, zero, suc, ◌+◌, ◌/◌, ◌%◌, ◌^◌, ◌<◌, ◌≤◌, ◌⊎◌, List, length}
+use Rattle.std.proofs.Common.{arith, sym, subst, ◌∙◌, ap, refl, inl, inr}
+use Rattle.std.proofs.lemmas.Bool.{cases_lt}
 use Rattle.std.proofs.lemmas.Bool.Decides.{nat_tests}
 use Rattle.std.proofs.lemmas.Slice.Eq.{bytes_eq-Decides}
-use Rattle.std.specs.Prelude.{◌&&◌, ◌==◌, Result, Ok, Err, nat_le, not}
-use Rattle.std.specs.Str.{bytes_eq}
-use Rattle.verity_plan.specs.Plans.{PlanFields, IsPlan, level_count}
+use Rattle.std.specs.Prelude.{Ok}
+use Rattle.verity_plan.specs.Plans.{PlanFields, IsPlan}
 use Rattle.verity_plan.specs.PlanCounts.{level_count_of}
 use Rattle.verity_plan.specs.Settings.{TreeSettingsFields, fan, hash}
-use Rattle.verity_plan.proofs.FanLemmas.{fan-two}
-use Rattle.verity_plan.proofs.FitLemmas.{digest-slot, fan-pos}
 use Rattle.verity_tree.specs.Levels.{data_blocks, root}
 use Rattle.verity_tree.specs.Links.{AreLinked, IsCollision, block_size_up, checked_link, checked_top, joined}
 use Rattle.verity_tree.specs.Paths.{IsAccepted, chain, digest_above, true_chain}
 use Rattle.verity_tree.specs.Verdicts.{digest_in}
-use Rattle.verity_tree.specs.declared.link.LinkFault.{LinkFault}
-use Rattle.verity_tree.specs.declared.link.LinkFault.TheVariants.{Index, Level, Length, Differs}
 use Rattle.verity_tree.proofs.ChainLemmas.{true_chain-next, true_chain-top}
 use Rattle.verity_tree.proofs.PathSteps.{digest_above-below, digest_above-top, same_or_two}
 use Rattle.verity_tree.proofs.PieceLemmas.{length-pieces, piece}

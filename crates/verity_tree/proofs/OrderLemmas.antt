@@ -1,16 +1,14 @@
 -- The closing order has each block once.
-use Rattle.std.proofs.Common.{◌≡◌, ℕ, zero, suc, ◌+◌, ◌*◌, ◌/◌, ◌%◌, ◌^◌, ◌<◌, ◌≤◌, min, Bool, true, false, cond}
-use Rattle.std.proofs.Common.{eqb, leb, List, ◌∷◌, map, arith, sym, ◌∙◌, ap, refl, inl, inr, zero-add}
+use Rattle.std.proofs.Common.{◌≡◌, ℕ, zero, suc, ◌+◌, ◌*◌, ◌/◌, ◌%◌, ◌^◌, ◌<◌, ◌≤◌, min, Bool, true, cond}
+use Rattle.std.proofs.Common.{leb, List, ◌∷◌, map, arith, sym, ◌∙◌, ap, inl, inr, zero-add}
 use Rattle.std.proofs.Common.{ltb}
 use Rattle.std.proofs.lemmas.Bool.{and_parts, cases_Bool, cases_lt, cases_order, leb-true, ltb-true}
-use Rattle.std.proofs.lemmas.Bool.Decides.{nat_tests, eqb_tells, leb_tells, same_from_decides, Decides-eqb, Decides-and}
-use Rattle.std.proofs.lemmas.Bool.Decides.{Decides-or, Decides-like}
+use Rattle.std.proofs.lemmas.Bool.Decides.{nat_tests}
 use Rattle.std.proofs.lemmas.List.Sums.{sum_by-cons, sum_by-append}
-use Rattle.std.proofs.lemmas.Nat.{div-add-mod', mod_below, mod-mul-add, div-mul-add}
+use Rattle.std.proofs.lemmas.Nat.{div-add-mod', mod_below, mod-mul-add}
 use Rattle.std.proofs.Math.Nat.{one-le-pow, mul-le-mul_right}
-use Rattle.std.specs.Int.{div_ceil}
 use Rattle.std.specs.List.{filter, range_with_len}
-use Rattle.std.specs.Prelude.{◌==◌, ◌&&◌, ◌⊎◌}
+use Rattle.std.specs.Prelude.{◌==◌, ◌&&◌}
 use Rattle.verity_plan.specs.Plans.{level_count, level_size, IsTreeBlock}
 use Rattle.verity_tree.specs.ClosingOrder.{BlockIndex, block_index, closes, closing_with, closed_after, times, ClosesOnce}
 use Rattle.verity_plan.proofs.CountLemmas.{mul-lt_div_ceil, mul_le}

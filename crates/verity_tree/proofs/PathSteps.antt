@@ -1,6 +1,6 @@
 -- The check of a path, level by level.
-use Rattle.std.proofs.Common.{◌≡◌, ℕ, suc, ◌+◌, ◌-◌, ◌*◌, ◌/◌, ◌%◌, ◌^◌, ◌<◌, ◌≤◌, true, false, List, length, take}
-use Rattle.std.proofs.Common.{drop, arith, sym, ◌∙◌, ap, refl, length-drop}
+use Rattle.std.proofs.Common.{◌≡◌, ℕ, suc, ◌+◌, ◌-◌, ◌*◌, ◌/◌, ◌%◌, ◌^◌, ◌<◌, ◌≤◌, false, List, length, take}
+use Rattle.std.proofs.Common.{drop, arith, sym, ◌∙◌, ap, length-drop}
 use Rattle.std.proofs.Common.{◌≢◌, ◌⊎◌, zero, inl, inr}
 use Rattle.std.proofs.lemmas.Bool.{cases_Bool}
 use Rattle.std.proofs.lemmas.Bool.Decides.{nat_tests, not_from_Decides}
@@ -9,7 +9,6 @@ use Rattle.std.proofs.Math.Nat.{mul-le-mul_right, pow-zero}
 use Rattle.std.proofs.lemmas.List.{length-take-le}
 use Rattle.std.proofs.lemmas.Slice.Eq.{bytes_eq-Decides}
 use Rattle.std.specs.Fork.{slice_chunk}
-use Rattle.std.specs.Prelude.{nat_lt}
 use Rattle.std.specs.Str.{bytes_eq}
 use Rattle.verity_tree.specs.Paths.{HasLengths, chain, digest_above}
 use Rattle.verity_plan.specs.Plans.{PlanFields}

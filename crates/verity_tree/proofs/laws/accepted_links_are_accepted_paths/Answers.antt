@@ -1,6 +1,4 @@
-use Rattle.std.proofs.Common.{◌≡◌, ℕ, suc, ◌+◌, ◌<◌, List, length, arith, ap, ◌∙◌}
-use Rattle.verity_plan.specs.Plans.{PlanFields}
-use Rattle.verity_plan.specs.PlanCounts.{level_count_of}
+use Rattle.std.proofs.Common.{◌≡◌, suc, ◌+◌, arith}
 use Rattle.verity_tree.proofs.LinkLemmas.{AreHashBlocks, accepted-linked, linked-accepted}
 use Rattle.verity_tree.proofs.laws.accepted_links_are_accepted_paths.Goals as goal
 

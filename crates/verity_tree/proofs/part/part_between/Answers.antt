@@ -1,5 +1,4 @@
-use Rattle.std.proofs.Common.{◌≡◌, List, ℕ, ◌+◌, ◌-◌, ◌*◌, ◌<◌, min, arith, sym, ap, ◌∙◌, below_more, refl}
-use Rattle.verity_tree.specs.declared.part.Part.TheVariants.{Child}
+use Rattle.std.proofs.Common.{◌≡◌, List, ℕ, ◌-◌, ◌*◌, ◌<◌, min, arith, sym, ap, ◌∙◌, below_more, refl}
 use Rattle.std.specs.Prelude.{find, not, None, Option, Some}
 use Rattle.std.specs.Str.{bytes_eq}
 use Rattle.std.specs.List.{range_with_len}

@@ -1,7 +1,5 @@
 -- The digests in a slot, as the code cuts them.
 use Rattle.std.proofs.Common.{◌≡◌, ℕ, ◌+◌, ◌-◌, ◌*◌, List, take, drop, arith, ◌∙◌, ap, refl}
-use Rattle.std.specs.Prelude.{not}
-use Rattle.std.specs.Str.{bytes_eq}
 use Rattle.verity_plan.specs.Settings.{TreeSettingsFields, digest_len, slot_width}
 use Rattle.verity_tree.specs.Verdicts.{digest_in}
 use Rattle.verity_tree.proofs.part.slot_differs.Goals as goal

@@ -1,5 +1,5 @@
 -- Each digest adds its slot, and zeros fill the block.
-use Rattle.std.proofs.Common.{◌≡◌, ◌-◌, ◌≤◌, arith, length, vec_len}
+use Rattle.std.proofs.Common.{arith}
 use Rattle.verity_tree.proofs.SlotLemmas.{slots-filled, slots-more}
 use Rattle.verity_tree.proofs.plain_root.hash_block_of.Goals as goal
 

@@ -1,5 +1,5 @@
 -- Each run gives its digest, and the runs end where the digests do.
-use Rattle.std.proofs.Common.{◌≡◌, ℕ, map, arith, sym, ◌∙◌, ap, length, ◌*◌, ◌<◌, ◌≤◌, List}
+use Rattle.std.proofs.Common.{◌≡◌, ℕ, map, arith, sym, ◌∙◌, ap, length}
 use Rattle.std.specs.List.{range_with_len}
 use Rattle.std.specs.Int.{div_ceil}
 use Rattle.verity_plan.proofs.CountLemmas.{mul-lt_div_ceil}

@@ -1,8 +1,7 @@
 -- Each level up is shorter and has the same root; a single digest is the root.
-use Rattle.std.proofs.Common.{◌≡◌, ◌<◌, ◌≤◌, ℕ, List, length, map, vec_len, arith, sym, ◌∙◌, ap}
+use Rattle.std.proofs.Common.{◌≡◌, ◌<◌, ◌≤◌, length, vec_len, arith, sym, ◌∙◌, ap}
 use Rattle.std.proofs.lemmas.List.{get_or_read}
-use Rattle.verity_plan.specs.Settings.{hash, fan}
-use Rattle.verity_tree.specs.Levels.{pack}
+use Rattle.verity_plan.specs.Settings.{fan}
 use Rattle.verity_tree.specs.Steps.PlainRoots.{root_of_digests}
 use Rattle.verity_plan.proofs.CountLemmas.{div_ceil-pos, div_ceil-lt}
 use Rattle.verity_tree.proofs.RootLemmas.{length-above, root_of_digests-up, root_of_digests-one}
