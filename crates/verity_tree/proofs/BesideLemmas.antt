@@ -2,7 +2,7 @@
 -- tree's range two devices that hold it are the same.
 use Rattle.std.proofs.Common.{◌≡◌, ℕ, ◌+◌, ◌-◌, ◌*◌, ◌/◌, ◌<◌, ◌≤◌, ◌⊎◌, List, [], ◌∷◌, length, take, drop, get_or}
 use Rattle.std.proofs.Common.{arith, sym, subst, ◌∙◌, ap, refl, inl, inr}
-use Rattle.std.proofs.lemmas.List.{get_or-drop, get_or-take}
+use Rattle.std.proofs.lemmas.Grind.{common_steps}
 use Rattle.std.proofs.lemmas.Nat.{div-add-mod', div_below, le-div, mod_below}
 use Rattle.std.proofs.Math.Nat.{mul-le-mul_right}
 use Rattle.verity_io.specs.Writing.{put}
@@ -137,9 +137,8 @@ tree-bytes p bytes a b digest k planned of_a of_b from to =
     let n = k - start in
     let below : n < size = omega (arith, all.3, all.4) in
     let back : start + n ≡ k = omega (arith, all.3) in
-    let byte : (device : List ℕ) → get_or (take size (drop start device)) n 0 ≡ get_or device k 0 = λ device.
-    get_or-take size (drop start device) n 0 below ∙ get_or-drop start device n 0
-    ∙ ap (λ (i : ℕ). get_or device i 0) back in
+    let byte : (device : List ℕ) → get_or (take size (drop start device)) n 0 ≡ get_or device k 0 =
+    λ device. grind (arith, common_steps, below, back) in
     let same : take size (drop start a) ≡ take size (drop start b) = of_a.stands l j here ∙ sym (of_b.stands l j here) in
     let short : k < length a = omega (arith, fits, all.4) in
     (short, sym (byte a) ∙ ap (λ (xs : List ℕ). get_or xs n 0) same ∙ byte b)

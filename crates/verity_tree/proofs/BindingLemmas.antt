@@ -158,22 +158,17 @@ length-last p bytes planned =
     (length-data p.settings p.blocks p.wanted bytes 0 (blocks-some p planned))
     (λ m _. length-true_block p bytes 0 m planned (blocks-some p planned))
 
-same-levels : (p : PlanFields) (salt : List ℕ) → level_count_of (with_salt p salt) ≡ level_count_of p
-unfolding fan
-same-levels p salt = refl
-
 -- plans that differ in the salt alone
 pub salt-bound : (p : PlanFields) (salt x y : List ℕ) → IsPlan p → IsPlan (with_salt p salt)
     → p.settings.rule ≢ PaddedBefore
     → root p.settings (data_blocks p x) ≡ root (with_salt p salt).settings (data_blocks (with_salt p salt) y)
     → (p.settings.salt ≡ salt) ⊎ Collide p.settings.algorithm (hashed_last p x) (hashed_last (with_salt p salt) y)
-unfolding hash
+unfolding hash fan
 salt-bound p salt x y planned other dm one =
     let q = with_salt p salt in
     elim (same_or_two (hashed_last p x) (hashed_last q y)) [
       | inl equal ↦ inl (salted_input-salt p.settings.algorithm p.settings.rule p.settings.salt salt _ _ dm
-          (length-last p x planned ∙ ap (block_size_up p.settings) (sym (same-levels p salt))
-          ∙ sym (length-last q y other)) equal)
+          (length-last p x planned ∙ sym (length-last q y other)) equal)
       | inr differ ↦ inr (record {
         differ = differ;
         one_hash = true_chain-top p x 0 planned (blocks-some p planned) ∙ one

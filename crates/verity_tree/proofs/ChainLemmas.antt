@@ -1,7 +1,7 @@
 -- The true chain of a data block: each block's hash is the digest in its slot of the block above, and the last one's
 -- the root.
 use Rattle.std.proofs.Common.{◌≡◌, ℕ, zero, suc, ◌+◌, ◌-◌, ◌*◌, ◌/◌, ◌%◌, ◌^◌, ◌<◌, ◌≤◌, List, [], ◌∷◌, ◌++◌, get_or}
-use Rattle.std.proofs.Common.{take, drop, length, map, replicate, arith, sym, ◌∙◌, ap, length-append, length-drop}
+use Rattle.std.proofs.Common.{take, drop, length, map, replicate, arith, sym, refl, ◌∙◌, ap, length-append, length-drop}
 use Rattle.std.proofs.Common.{append_assoc}
 use Rattle.std.proofs.lemmas.List.{drop-map, length-replicate, length-take}
 use Rattle.std.proofs.lemmas.List.{take-map, take_at}
@@ -96,10 +96,11 @@ true_chain-root s blocks i two below =
     let levels = level_count (fan s) (length blocks) in
     let enough = (IsLevelCount-level_count (fan s) (length blocks) two).enough in
     let less : i < fan s ^ levels = omega (arith, enough, below) in
-    ap (hash s) (true_chain-blocks_up s blocks i levels)
-    ∙ ap (λ (n : ℕ). hash s (get_or (blocks_up s blocks levels) n [])) (div-eq_of_lt less)
-    ∙ ap (λ (l : ℕ). hash s (get_or (blocks_up s blocks l) 0 []))
-    (sym (height-level_count s blocks (omega (arith, two))))
+    rw (
+      true_chain-blocks_up s blocks i levels,
+      div-eq_of_lt less,
+      height-level_count s blocks (omega (arith, two)),
+    ) refl
 
 -- a block of the tree on the way up has a hash block's length
 pub length-true_chain : (s : TreeSettingsFields) (blocks : List (List ℕ)) (i l : ℕ) → digest_len s ≤ slot_width s → 0 < fan s

@@ -27,9 +27,8 @@ reached-down f i m l some h le =
     let e : m ≡ m - l + l = omega arith in
     let power : f ^ m ≡ f ^ (m - l) * w = ap (λ (n : ℕ). f ^ n) e ∙ pow-add f (m - l) l in
     let whole : i + 1 ≡ k * w + 0 = omega (arith, h.whole, ap (λ (n : ℕ). (i / f ^ m + 1) * n) power) in
-    let quotient : (i + 1) / w ≡ k = ap (λ (n : ℕ). n / w) whole ∙ div-mul-add k w 0 wide in
-    let rest : (i + 1) % w ≡ 0 = ap (λ (n : ℕ). n % w) whole ∙ mod-mul-add k w 0 wide in
-    let next : i / w + 1 ≡ k = omega (arith, quotient, rest, div_ceil-last i w wide) in
+    let next : i / w + 1 ≡ k =
+    grind (arith, whole, div-mul-add k w 0 wide, mod-mul-add k w 0 wide, div_ceil-last i w wide) in
     record { whole = omega (arith, whole, ap (λ (n : ℕ). n * w) next) }
 
 -- the digest on its way up is the next of its level

@@ -73,7 +73,8 @@ chain-joined : (p : PlanFields) (blocks : ℕ → List ℕ) (l : ℕ) → l ≤ 
 chain-joined p blocks zero within each = refl
 chain-joined p blocks (suc l) within each =
     let here : 0 + l ≡ l = omega arith in
-    piece (λ m. blocks (suc m)) p.settings.hash_block 0 (level_count_of p) l (omega (arith, within)) (λ m _ low. each m (omega (arith, low)))
+    piece (λ m. blocks (suc m)) p.settings.hash_block 0 (level_count_of p) l (omega (arith, within))
+    (λ m _ low. each m (omega (arith, low)))
     ∙ ap (λ (m : ℕ). blocks (suc m)) here
 
 -- what the hash of a joined block has to be: the digest in the next one
@@ -103,7 +104,8 @@ joined-accepted p i blocks digest each index first links top = record {
   index = index;
   lengths = record {
     of_block = first;
-    of_path = length-pieces (λ m. blocks (suc m)) p.settings.hash_block 0 (level_count_of p) (λ m _ low. each m (omega (arith, low)));
+    of_path = length-pieces (λ m. blocks (suc m)) p.settings.hash_block 0 (level_count_of p)
+        (λ m _ low. each m (omega (arith, low)));
   };
   holds = λ l within.
       ap (hash p.settings) (chain-joined p blocks l within each)
@@ -121,15 +123,14 @@ pub linked-accepted : (p : PlanFields) (i : ℕ) (blocks : ℕ → List ℕ) (di
     → AreLinked p i blocks digest → IsAccepted p i (blocks 0) (joined blocks (level_count_of p)) digest
 linked-accepted p i blocks digest each h =
     let top = IsTop-ok p i (blocks (level_count_of p)) digest h.top in
-    joined-accepted p i blocks digest each top.index (first (level_count_of p) refl)
+    let first : length (blocks 0) ≡ p.settings.data_block = elim (cases_lt 0 (level_count_of p)) [
+      | inl some ↦ (IsLinked-ok p i 0 (blocks 0) (blocks (suc 0)) (h.links 0 some)).of_block
+      | inr none ↦
+          let zero : level_count_of p ≡ 0 = omega arith in
+          subst (λ (n : ℕ). length (blocks n) ≡ block_size_up p.settings n) zero top.of_block
+    ] in
+    joined-accepted p i blocks digest each top.index first
     (λ l low. (IsLinked-ok p i l (blocks l) (blocks (suc l)) (h.links l low)).holds) top.holds
-  where
-    first : (levels : ℕ) → levels ≡ level_count_of p → length (blocks 0) ≡ p.settings.data_block
-    first zero none =
-        subst (λ (n : ℕ). length (blocks n) ≡ block_size_up p.settings n) (sym none)
-        (IsTop-ok p i (blocks (level_count_of p)) digest h.top).of_block
-    first (suc l) some =
-        (IsLinked-ok p i 0 (blocks 0) (blocks (suc 0)) (h.links 0 (omega (arith, some)))).of_block
 
 pub accepted-linked : (p : PlanFields) (i : ℕ) (blocks : ℕ → List ℕ) (digest : List ℕ) → AreHashBlocks p blocks
     → IsAccepted p i (blocks 0) (joined blocks (level_count_of p)) digest → AreLinked p i blocks digest

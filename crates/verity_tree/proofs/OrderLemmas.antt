@@ -101,19 +101,15 @@ times-closed_after fan n l j (suc i) pos most =
 pub closed_time : (fan n l j i : ℕ) → 0 < fan → i ≤ n → 0 < times l j (closed_after fan n i)
     → IsTreeBlock fan n l j × (min ((j + 1) * fan ^ (l + 1)) n ≤ i)
 closed_time fan n l j i pos most some =
-    let closed : has_closed fan n l j i ≡ true = grind (arith, nat_tests, some, times-closed_after fan n l j i pos most) in
-    let parts = and_parts (ltb l (level_count fan n) && ltb j (level_size fan n l)) _ closed in
-    let block = and_parts (ltb l (level_count fan n)) _ parts.0 in (
-      record { level_below = ltb-true l _ block.0; block_below = ltb-true j _ block.1 },
-      leb-true (closing_time fan n l j) i parts.1,
+    let closed = times-closed_after fan n l j i pos most in (
+      record { level_below = grind (arith, nat_tests); block_below = grind (arith, nat_tests) },
+      grind (arith, nat_tests),
     )
 
 -- each block closes once
 pub ClosesOnce-all : (fan n : ℕ) → 0 < fan → ClosesOnce fan n
 ClosesOnce-all fan n pos = record {
   once = λ l j block.
-      let le : closing_time fan n l j ≤ n = omega arith in
-      let closed : has_closed fan n l j n ≡ true = grind (arith, nat_tests, le, block.level_below, block.block_below) in
-      times-closed_after fan n l j n pos (omega arith) ∙ ap bit closed;
+      grind (arith, nat_tests, times-closed_after fan n l j n pos (omega arith), block.level_below, block.block_below);
   only = λ l j some. (closed_time fan n l j n pos (omega arith) some).0;
 }

@@ -18,33 +18,34 @@ use Rattle.verity_tree.specs.Levels.{blocks_up}
 use Rattle.verity_io.specs.Writing.{put}
 use Rattle.verity_tree.proofs.QuotientLemmas.{quotient-stays}
 
--- a test that the first numbers pass and the others don't
-pub filter-prefix : (c : ℕ → Bool) (a n m : ℕ) → m ≤ n → ((l : ℕ) → a ≤ l → l < a + m → c l ≡ true)
-    → ((l : ℕ) → a + m ≤ l → l < a + n → c l ≡ false) → filter c (range_with_len a n) ≡ range_with_len a m
-filter-prefix c a zero zero le pass fail = refl
-filter-prefix c a zero (suc m) le pass fail = absurd (omega arith)
-filter-prefix c a (suc n) zero le pass fail =
-    grind (
-      arith,
-      fail a,
-      filter-prefix c (a + 1) n zero (omega arith) (λ l from to. absurd (omega (arith, from, to)))
-          (λ l from to. fail l (omega (arith, from)) (omega (arith, to))),
+-- a test that the first numbers pass leaves them, and nothing after them if the others don't pass
+filter-front : (c : ℕ → Bool) (a m n : ℕ) → ((l : ℕ) → a ≤ l → l < a + m → c l ≡ true) → m ≤ n
+    → (rest : List ℕ) × (filter c (range_with_len a n) ≡ range_with_len a m ++ rest)
+    × (((l : ℕ) → a + m ≤ l → l < a + n → c l ≡ false) → rest ≡ [])
+filter-front c a zero zero pass le = ([], refl, λ fail. refl)
+filter-front c a zero (suc n) pass le =
+    let after = filter-front c (a + 1) zero n (λ l from to. absurd (omega (arith, from, to))) (omega arith) in (
+      filter c (range_with_len a (suc n)),
+      refl,
+      λ fail. grind (arith, fail a, after.1, after.2 (λ l from to. fail l (omega (arith, from)) (omega (arith, to)))),
     )
-filter-prefix c a (suc n) (suc m) le pass fail =
-    grind (
-      arith,
-      pass a,
-      filter-prefix c (a + 1) n m (omega arith) (λ l from to. pass l (omega (arith, from)) (omega (arith, to)))
-          (λ l from to. fail l (omega (arith, from)) (omega (arith, to))),
+filter-front c a (suc m) zero pass le = absurd (omega arith)
+filter-front c a (suc m) (suc n) pass le =
+    let after = filter-front c (a + 1) m n (λ l from to. pass l (omega (arith, from)) (omega (arith, to)))
+    (omega arith) in
+    let passes = pass a (omega arith) (omega arith) in (
+      after.0,
+      rw passes (ap (λ (xs : List ℕ). a ∷ xs) after.1),
+      λ fail. after.2 (λ l from to. fail l (omega (arith, from)) (omega (arith, to))),
     )
 
 -- what closes with a data block is the levels below the first that doesn't close
 pub closing-prefix : (f n i m : ℕ) → m ≤ level_count f n → ((l : ℕ) → l < m → closes f n i l ≡ true)
     → ((l : ℕ) → m ≤ l → l < level_count f n → closes f n i l ≡ false) → closing_with f n i ≡ first_closing f i m
 closing-prefix f n i m le pass fail =
-    ap (map (λ level. block_index level (i / f ^ (level + 1))))
-    (filter-prefix (closes f n i) 0 (level_count f n) m le (λ l from to. pass l (omega (arith, to)))
-    (λ l from to. fail l (omega (arith, from)) (omega (arith, to))))
+    let front = filter-front (closes f n i) 0 m (level_count f n) (λ l from to. pass l (omega (arith, to))) le in
+    let none = front.2 (λ l from to. fail l (omega (arith, from)) (omega (arith, to))) in
+    ap (map (λ level. block_index level (i / f ^ (level + 1)))) (front.1 ∙ rw none (append-nil _))
 
 pub closes-reached : (f n i l : ℕ) → 0 < f → IsReached f i (l + 1) → closes f n i l ≡ true
 closes-reached f n i l some h =
@@ -106,17 +107,6 @@ closed_after-prefix f n i (suc k) =
           ∙ ap (λ (ps : List BlockIndex). ps ++ closing_with f n (i + k)) before.1
           ∙ append_assoc (closed_after f n i) before.0 (closing_with f n (i + k)),
     )
-
--- the first numbers pass a test
-filter-front : (c : ℕ → Bool) (a m n : ℕ) → ((l : ℕ) → a ≤ l → l < a + m → c l ≡ true) → m ≤ n
-    → (rest : List ℕ) × (filter c (range_with_len a n) ≡ range_with_len a m ++ rest)
-filter-front c a zero n pass le = (filter c (range_with_len a n), refl)
-filter-front c a (suc m) zero pass le = absurd (omega arith)
-filter-front c a (suc m) (suc n) pass le =
-    let after = filter-front c (a + 1) m n (λ l from to. pass l (omega (arith, from)) (omega (arith, to)))
-    (omega arith) in
-    let passes = pass a (omega arith) (omega arith) in
-    (after.0, rw passes (ap (λ (xs : List ℕ). a ∷ xs) after.1))
 
 -- if the levels up to this one close, its block comes after those of the levels below
 pub closing-front : (f n i m : ℕ) → m < level_count f n → ((l : ℕ) → l ≤ m → closes f n i l ≡ true)

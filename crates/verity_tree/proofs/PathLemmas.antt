@@ -1,7 +1,7 @@
 -- What an accepted path says of the data, that the true path is accepted, and that one answer is right.
 use Rattle.std.proofs.Common.{◌≡◌, ℕ, ◌/◌, ◌%◌, ◌^◌, ◌<◌, ◌≤◌, ◌⊎◌, List, [], get_or}
 use Rattle.std.proofs.Common.{arith, sym, ◌∙◌, ap, refl, inl, inr}
-use Rattle.std.proofs.lemmas.Bool.{cases_lt}
+use Rattle.std.proofs.lemmas.Bool.{cases_order}
 use Rattle.std.specs.Prelude.{Result, Ok, Err}
 use Rattle.verity_plan.specs.Plans.{PlanFields, IsPlan}
 use Rattle.verity_plan.specs.PlanCounts.{level_count_of}
@@ -65,10 +65,10 @@ one-answer p i block path root (Err (DiffersAt l)) (Ok _) h g = absurd (h.fails 
 one-answer p i block path root (Err (DiffersAt l)) (Err Index) h g = absurd (omega (arith, h.index, g))
 one-answer p i block path root (Err (DiffersAt l)) (Err Length) h g = absurd (g.1 h.lengths)
 one-answer p i block path root (Err (DiffersAt l)) (Err (DiffersAt m)) h g =
-    elim (cases_lt l m) [
-      | inl less ↦ absurd (h.fails (g.below l less))
-      | inr most ↦ elim (cases_lt m l) [
-        | inl less ↦ absurd (g.fails (h.below m less))
-        | inr least ↦ let same : l ≡ m = omega (arith, most, least) in ap (λ (k : ℕ). Err (DiffersAt k)) same
+    elim (cases_order l m) [
+      | inl same ↦ ap (λ (k : ℕ). Err (DiffersAt k)) same
+      | inr apart ↦ elim apart [
+        | inl less ↦ absurd (h.fails (g.below l less))
+        | inr less ↦ absurd (g.fails (h.below m less))
       ]
     ]

@@ -44,10 +44,8 @@ pub read-is : (p : PlanFields) (i : ℕ) (path root : List ℕ) (l index levels 
     → digest_in p.settings (take (l * size + size - l * size) (drop (l * size) path)) (index % f)
     ≡ digest_above p i path root l
 read-is p i path root l index levels size f low levels_is size_is f_is index_is =
-    ap (λ (xs : List ℕ). digest_in p.settings xs (index % f)) (range-block path l size p.settings.hash_block size_is)
-    ∙ ap (digest_in p.settings (slice_chunk path p.settings.hash_block l))
-    (ap (λ (n : ℕ). n % f) index_is ∙ ap (λ (n : ℕ). i / fan p.settings ^ l % n) f_is)
-    ∙ sym (digest_above-below p i path root l (omega (arith, low, levels_is)))
+    let above = digest_above-below p i path root l (omega (arith, low, levels_is)) in
+    rw (range-block path l size p.settings.hash_block size_is, index_is, f_is) (sym above)
 
 -- a level's block of a whole path, as the code reads it, has a digest's room in each slot
 pub slot-in-block : (p : PlanFields) (block path : List ℕ) (l index levels size f : ℕ) → HasLengths p block path

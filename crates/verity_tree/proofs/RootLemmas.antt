@@ -58,18 +58,18 @@ pub root_of_digests-up : (s : TreeSettingsFields) (digests : List (List ℕ)) �
     → root_of_digests s (map (hash s) (pack s digests)) ≡ root_of_digests s digests
 unfolding root_of_digests
 root_of_digests-up s digests two more =
-    ap (λ (n : ℕ). get_or (digests_up s (map (hash s) (pack s digests)) (level_count (fan s) n)) 0 [])
-    (length-above s digests _ refl)
-    ∙ ap (λ (ds : List (List ℕ)). get_or ds 0 [])
-    (sym (digests_up-up s digests (level_count (fan s) (div_ceil (length digests) (fan s)))))
-    ∙ ap (λ (l : ℕ). get_or (digests_up s digests l) 0 []) (sym (level_count-suc (fan s) (length digests) two more))
+    rw (
+      length-above s digests _ refl,
+      level_count-suc (fan s) (length digests) two more,
+      digests_up-up s digests (level_count (fan s) (div_ceil (length digests) (fan s))),
+    ) refl
 
 -- a single digest is the root
 pub root_of_digests-one : (s : TreeSettingsFields) (digests : List (List ℕ)) → 2 ≤ fan s → length digests ≡ 1
     → root_of_digests s digests ≡ get_or digests 0 []
 unfolding root_of_digests digests_up
 root_of_digests-one s digests two one =
-    ap (λ (l : ℕ). get_or (digests_up s digests l) 0 []) (ap (level_count (fan s)) one ∙ level_count-one (fan s) two)
+    rw (one, level_count-one (fan s) two) refl
 
 -- the digests of the blocks of a level
 pub map-hash-blocks_up : (s : TreeSettingsFields) (blocks : List (List ℕ)) (l : ℕ)
