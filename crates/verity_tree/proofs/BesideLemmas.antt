@@ -1,6 +1,6 @@
 -- What stands beside a tree on a device: other bytes stay, and the device gets no longer than the tree needs. And in the
 -- tree's range two devices that hold it are the same.
-use Rattle.std.proofs.Common.{◌≡◌, ℕ, ◌+◌, ◌-◌, ◌*◌, ◌/◌, ◌<◌, ◌≤◌, ◌⊎◌, List, [], ◌∷◌, length, take, drop, get_or}
+use Rattle.std.proofs.Common.{◌≡◌, ℕ, ◌+◌, ◌-◌, ◌*◌, ◌/◌, ◌%◌, ◌<◌, ◌≤◌, ◌⊎◌, List, [], ◌∷◌, length, take, drop, get_or}
 use Rattle.std.proofs.Common.{arith, sym, subst, ◌∙◌, ap, refl, inl, inr}
 use Rattle.std.proofs.lemmas.Grind.{common_steps}
 use Rattle.std.proofs.lemmas.Nat.{div-add-mod', div_below, le-div, mod_below}
@@ -101,22 +101,6 @@ tree-no_longer p bytes device i planned most each =
 
 -- ---- two devices that hold one tree
 
--- the block that a byte is in
-in-block : (p : PlanFields) (k : ℕ) → IsPlan p → p.base * p.settings.hash_block ≤ k
-    → k < end_place_of p * p.settings.hash_block
-    → (l : ℕ) × (j : ℕ) × HasBlock p l j × (start_byte_of p l j ≤ k) × (k < start_byte_of p l j + p.settings.hash_block)
-in-block p k planned from to =
-    let size = p.settings.hash_block in
-    let q = k / size in
-    let low : q * size ≤ k = omega (arith, div-add-mod' k size) in
-    let high : k < q * size + size =
-    omega (arith, div-add-mod' k size, mod_below k size (some_hash p planned)) in
-    let first : p.base ≤ q = le-div p.base k size (some_hash p planned) from in
-    let last : q < end_place_of p = div_below k size (end_place_of p) (some_hash p planned) to in
-    let all = (PlacesAreOnce-all (fan p.settings) p.blocks p.base).each q first last in
-    let start : start_byte_of p all.0 all.1 ≡ q * size = ap (λ (n : ℕ). n * size) all.3 in
-    (all.0, all.1, all.2, omega (arith, start, low), omega (arith, start, high))
-
 -- a byte of the tree's range is the same in both
 pub tree-bytes : (p : PlanFields) (bytes a b digest : List ℕ) (k : ℕ) → IsPlan p
     → HoldsTree p a bytes digest → HoldsTree p b bytes digest
@@ -125,7 +109,10 @@ pub tree-bytes : (p : PlanFields) (bytes a b digest : List ℕ) (k : ℕ) → Is
 tree-bytes p bytes a b digest k planned of_a of_b from to =
     let s = p.settings in
     let size = s.hash_block in
-    let all = in-block p k planned from to in
+    let some = some_hash p planned in
+    let q = k / size in
+    let all = (PlacesAreOnce-all (fan s) p.blocks p.base).each q (le-div p.base k size some from)
+    (div_below k size (end_place_of p) some to) in
     let l = all.0 in
     let j = all.1 in
     let here = all.2 in
@@ -133,12 +120,12 @@ tree-bytes p bytes a b digest k planned of_a of_b from to =
     let blocks = data_blocks p bytes in
     let long = length-block p bytes l j planned here in
     let fits : start + size ≤ length a =
-    range-within a (tree_block s blocks l j) start size (some_hash p planned) long (of_a.stands l j here) in
-    let n = k - start in
-    let below : n < size = omega (arith, all.3, all.4) in
-    let back : start + n ≡ k = omega (arith, all.3) in
+    range-within a (tree_block s blocks l j) start size some long (of_a.stands l j here) in
+    let n = k % size in
+    let below : n < size = mod_below k size some in
+    let back : start + n ≡ k = omega (arith, ap (λ (m : ℕ). m * size) all.3, div-add-mod' k size) in
     let byte : (device : List ℕ) → get_or (take size (drop start device)) n 0 ≡ get_or device k 0 =
     λ device. grind (arith, common_steps, below, back) in
     let same : take size (drop start a) ≡ take size (drop start b) = of_a.stands l j here ∙ sym (of_b.stands l j here) in
-    let short : k < length a = omega (arith, fits, all.4) in
+    let short : k < length a = omega (arith, fits, back, below) in
     (short, sym (byte a) ∙ ap (λ (xs : List ℕ). get_or xs n 0) same ∙ byte b)

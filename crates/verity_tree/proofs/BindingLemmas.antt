@@ -101,28 +101,21 @@ byte-cut s n wanted bytes k some room enough below =
     let block = get_or-map-range_with_len (block_at d all) 0 n i i [] few (omega arith) in
     ap (λ (xs : List ℕ). get_or xs (k % d) 0) block ∙ grind (arith, common_steps, split, low, below, long)
 
--- the covered bytes are those of the data blocks
-pub bytes-cut : (s : TreeSettingsFields) (n wanted : ℕ) (x y : List ℕ) → 0 < s.data_block → wanted ≤ n * s.data_block
-    → wanted ≤ length x → wanted ≤ length y → cut s n wanted x ≡ cut s n wanted y → take wanted x ≡ take wanted y
-bytes-cut s n wanted x y some room of_x of_y same =
-    let long_x : length (take wanted x) ≡ wanted = length-take-le wanted x of_x in
-    let long_y : length (take wanted y) ≡ wanted = length-take-le wanted y of_y in
-    ext_get_or 0 (take wanted x) (take wanted y) (long_x ∙ sym long_y)
-    (λ k low.
-    let below : k < wanted = omega (arith, low, long_x) in
-    sym (byte-cut s n wanted x k some room of_x below)
-    ∙ ap (λ (blocks : List (List ℕ)). get_or (get_or blocks (k / s.data_block) []) (k % s.data_block) 0) same
-    ∙ byte-cut s n wanted y k some room of_y below)
-
 -- all covered bytes
 pub bytes-bound : (s : TreeSettingsFields) (n wanted : ℕ) (x y : List ℕ) → 2 ≤ fan s → 0 < s.data_block
     → wanted ≤ n * s.data_block → wanted ≤ length x → wanted ≤ length y
     → root s (cut s n wanted x) ≡ root s (cut s n wanted y)
     → (take wanted x ≡ take wanted y) ⊎ TreesCollide s (cut s n wanted x) (cut s n wanted y)
 bytes-bound s n wanted x y two some room of_x of_y one =
+    let long_x : length (take wanted x) ≡ wanted = length-take-le wanted x of_x in
+    let long_y : length (take wanted y) ≡ wanted = length-take-le wanted y of_y in
     elim (blocks-bound s (cut s n wanted x) (cut s n wanted y) two
     (length-cut s n wanted x ∙ sym (length-cut s n wanted y)) one) [
-      | inl same ↦ inl (bytes-cut s n wanted x y some room of_x of_y same)
+      | inl same ↦ inl (ext_get_or 0 (take wanted x) (take wanted y) (long_x ∙ sym long_y) (λ k low.
+          let below : k < wanted = omega (arith, low, long_x) in
+          sym (byte-cut s n wanted x k some room of_x below)
+          ∙ ap (λ (blocks : List (List ℕ)). get_or (get_or blocks (k / s.data_block) []) (k % s.data_block) 0) same
+          ∙ byte-cut s n wanted y k some room of_y below))
       | inr collide ↦ inr collide
     ]
 

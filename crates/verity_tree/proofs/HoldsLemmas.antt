@@ -58,18 +58,6 @@ stands-counted p blocks device (at ∷ hash_blocks) each =
     (stands-counted p blocks device hash_blocks
     (λ l j some. each l j (omega (arith, some, times-more l j at hash_blocks))))
 
--- data of which no block is short holds all that is wanted
-whole-enough : (p : PlanFields) → IsPlan p → (bytes : List ℕ) → p.blocks ≤ whole_blocks p bytes → p.wanted ≤ length bytes
-whole-enough p planned bytes all =
-    let wide = some_data p.settings planned.valid in
-    grind (
-      arith,
-      nat_tests,
-      div-add-mod' (length bytes) p.settings.data_block,
-      le-div_ceil p.wanted p.settings.data_block (length bytes / p.settings.data_block) wide,
-      planned.blocks_are,
-    )
-
 -- a device that holds the tree has this verdict
 pub holds-right : (p : PlanFields) (device bytes digest : List ℕ) → HoldsTree p device bytes digest
     → verdict p device bytes digest ≡ Ok tt
@@ -115,5 +103,8 @@ pub right-holds : (p : PlanFields) (device bytes digest : List ℕ) → IsPlan p
 right-holds p device bytes digest planned right =
     let met =
     find (differs p (data_blocks p bytes) device) (closed_after (fan p.settings) p.blocks (whole_blocks p bytes)) in
+    let tests = all-right p device bytes digest met right in
+    let d = p.settings.data_block in
+    let enough = le-div_ceil p.wanted d (length bytes / d) (some_data p.settings planned.valid) in
     right-holds_enough p device bytes digest
-    (whole-enough p planned bytes (all-right p device bytes digest met right).1) right
+    (grind (arith, nat_tests, tests.1, enough, div-add-mod' (length bytes) d, planned.blocks_are)) right
