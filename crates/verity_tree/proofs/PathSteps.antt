@@ -47,25 +47,6 @@ read-is p i path root l index levels size f low levels_is size_is f_is index_is 
     let above = digest_above-below p i path root l (omega (arith, low, levels_is)) in
     rw (range-block path l size p.settings.hash_block size_is, index_is, f_is) (sym above)
 
--- a level's block of a whole path, as the code reads it, has a digest's room in each slot
-pub slot-in-block : (p : PlanFields) (block path : List ℕ) (l index levels size f : ℕ) → HasLengths p block path
-    → fan p.settings * slot_width p.settings ≤ p.settings.hash_block → l < levels → levels ≡ level_count_of p
-    → size ≡ p.settings.hash_block → f ≡ fan p.settings → 2 ≤ f
-    → index % f * slot_width p.settings + digest_len p.settings
-    ≤ length (take (l * size + size - l * size) (drop (l * size) path))
-slot-in-block p block path l index levels size f lengths fits below levels_is size_is f_is two =
-    let wide = p.settings.hash_block in
-    let next : l + 1 ≤ level_count_of p = omega (arith, below, levels_is) in
-    let left : wide ≤ length (drop (l * wide) path) =
-    omega (arith, length-drop (l * wide) path, lengths.of_path, mul-le-mul_right wide next) in
-    let low : index % f < fan p.settings = omega (arith, mod_below index f (omega arith), f_is) in
-    omega (
-      arith,
-      digest-room p.settings (index % f) low fits,
-      ap length (range-block path l size wide size_is),
-      length-take-le wide (drop (l * wide) path) left,
-    )
-
 -- a number divided by a zeroth power
 pub div-pow-zero : (f i : ℕ) → i ≡ i / f ^ 0
 div-pow-zero f i = let one : i ≡ i / 1 = omega arith in one ∙ ap (λ (n : ℕ). i / n) (sym (pow-zero f))
@@ -94,12 +75,3 @@ chains-meet h a b top (suc l) within down one = elim (same_or_two (a (suc l)) (b
   | inl same ↦ chains-meet h a b top l (omega (arith, within)) down (down l (omega (arith, within)) same)
   | inr differ ↦ inr (suc l, within, differ, one)
 ]
-
--- the lengths that the code reads are the plan's
-pub HasLengths-read : (p : PlanFields) (block path : List ℕ) (wide levels size : ℕ) → wide ≡ p.settings.data_block
-    → levels ≡ level_count_of p → size ≡ p.settings.hash_block
-    → length block ≡ wide → length path ≡ levels * size → HasLengths p block path
-HasLengths-read p block path wide levels size wide_is levels_is size_is of_block of_path = record {
-  of_block = of_block ∙ wide_is;
-  of_path = of_path ∙ ap (λ (n : ℕ). n * size) levels_is ∙ ap (λ (n : ℕ). level_count_of p * n) size_is;
-}

@@ -1,11 +1,15 @@
-use Rattle.std.proofs.Common.{◌≡◌, ℕ, ◌/◌, ◌^◌, ◌≤◌, below_more, arith, ap, sym, ◌∙◌}
+use Rattle.std.proofs.Common.{◌≡◌, ℕ, ◌+◌, ◌*◌, ◌/◌, ◌%◌, ◌^◌, ◌<◌, ◌≤◌, below_more, length, drop, length-drop, arith, ap}
+use Rattle.std.proofs.Common.{sym, ◌∙◌}
 use Rattle.verity_tree.proofs.OpenBlockLemmas.{hash-by}
+use Rattle.std.proofs.lemmas.List.{length-take-le}
+use Rattle.std.proofs.lemmas.Nat.{mod_below}
+use Rattle.verity_plan.proofs.CountLemmas.{mul_le}
+use Rattle.verity_tree.proofs.VerdictLemmas.{digest-room}
 use Rattle.std.proofs.lemmas.Slice.Eq.{bytes_eq-Decides}
 use Rattle.verity_tree.specs.Paths.{HoldsAt, chain}
 use Rattle.verity_plan.specs.PlanCounts.{level_count_of}
 use Rattle.verity_plan.specs.Settings.{fan, hash}
-use Rattle.verity_tree.proofs.PathSteps.{HasLengths-read, bytes_eq-false, chain-more, digest_above-top, range-block}
-use Rattle.verity_tree.proofs.PathSteps.{read-is, slot-in-block}
+use Rattle.verity_tree.proofs.PathSteps.{bytes_eq-false, chain-more, digest_above-top, range-block, read-is}
 use Rattle.verity_plan.proofs.PlanLemmas.{store_few}
 use Rattle.verity_plan.proofs.IndexLemmas.{quotient-next}
 use Rattle.verity_tree.proofs.path.check_block.Goals as goal
@@ -15,10 +19,22 @@ overflow_mul-levels c = grind (arith, store_few c.args.plan.now c.blocks-2.ensur
 
 pub has_digest-requires : goal.has_digest-requires
 has_digest-requires c =
-    let lengths = HasLengths-read c.args.plan.now _ _ _ _ _ c.data_block.ensures c.levels-levels.ensures
-    c.hash_block-size.ensures c.if-block-data_block.false c.if-path-levels.false in
-    slot-in-block c.args.plan.now _ _ _ c.loop-level.index _ _ _ lengths c.fan-fan.ensures.fits c.loop-level-test.true
-    c.levels-levels.ensures c.hash_block-size.ensures c.fan-fan.ensures.value c.fan-fan.ensures.two
+    let s = c.args.plan.now.settings in
+    let path = c.args.path.now in
+    let l = c.loop-level.level in
+    let next : l + 1 ≤ level_count_of c.args.plan.now =
+    omega (arith, c.loop-level-test.true, c.levels-levels.ensures) in
+    let whole : length path ≡ level_count_of c.args.plan.now * s.hash_block = grind arith in
+    let left : s.hash_block ≤ length (drop (l * s.hash_block) path) =
+    omega (arith, length-drop (l * s.hash_block) path, whole, mul_le (l + 1) _ s.hash_block next) in
+    let low : c.loop-level.index % c.fan-fan.result < fan s =
+    omega (arith, mod_below c.loop-level.index c.fan-fan.result (omega arith), c.fan-fan.ensures.value) in
+    omega (
+      arith,
+      digest-room s (c.loop-level.index % c.fan-fan.result) low c.fan-fan.ensures.fits,
+      ap length (range-block path l c.hash_block-size.result s.hash_block c.hash_block-size.ensures),
+      length-take-le s.hash_block (drop (l * s.hash_block) path) left,
+    )
 
 pub loop-level-preserved : goal.loop-level-preserved
 loop-level-preserved c =
@@ -46,8 +62,7 @@ returns-then-not-has_digest c =
     c.levels-levels.ensures c.hash_block-size.ensures c.fan-fan.ensures.value c.loop-level.invariant.quotient in
     record {
       index = omega (arith, c.if-i-blocks.false, c.blocks-2.ensures.value);
-      lengths = HasLengths-read p _ _ _ _ _ c.data_block.ensures c.levels-levels.ensures c.hash_block-size.ensures
-          c.if-block-data_block.false c.if-path-levels.false;
+      lengths = record { of_block = grind arith; of_path = grind arith };
       within = omega (arith, c.loop-level-test.true, c.levels-levels.ensures);
       below = c.loop-level.invariant.below;
       fails = λ holds. bytes_eq-false c.loop-level.digest _ (sym c.has_digest.ensures ∙ c.if-not-has_digest.true)
@@ -70,8 +85,7 @@ returns-then-eq c =
     let all = below_more (HoldsAt p i block path root) c.loop-level.level c.loop-level.invariant.below here in
     record {
       index = omega (arith, c.if-i-blocks.false, c.blocks-2.ensures.value);
-      lengths = HasLengths-read p _ _ _ _ _ c.data_block.ensures c.levels-levels.ensures c.hash_block-size.ensures
-          c.if-block-data_block.false c.if-path-levels.false;
+      lengths = record { of_block = grind arith; of_path = grind arith };
       holds = λ l within. all l (omega (arith, within, top));
     }
 
@@ -86,8 +100,7 @@ returns-else-eq c =
     let past : level_count_of p ≤ c.levels-levels.result = omega (arith, c.levels-levels.ensures) in
     record {
       index = omega (arith, c.if-i-blocks.false, c.blocks-2.ensures.value);
-      lengths = HasLengths-read p _ _ _ _ _ c.data_block.ensures c.levels-levels.ensures c.hash_block-size.ensures
-          c.if-block-data_block.false c.if-path-levels.false;
+      lengths = record { of_block = grind arith; of_path = grind arith };
       within = omega (arith, c.levels-levels.ensures);
       below = λ m less. c.loop-level.invariant.below m (omega (arith, less, top));
       fails = λ holds. bytes_eq-false c.as_bytes.result.now c.as_bytes-2.result.now (sym c.eq.ensures ∙ c.if-eq.false)
