@@ -43,8 +43,7 @@ level_digest-is_next s blocks i m levels count index a k store block digest two 
     let less : i < length blocks = omega (arith, below, many) in
     record {
       here = omega (arith, level_digest-below s blocks i m some less, place);
-      stands = was ∙ ap (λ (n : ℕ). take n (drop a store)) wide ∙ ap (λ (n : ℕ). take s.hash_block (drop n store)) from
-          ∙ h.above m (omega arith) inside ∙ ap (open_block s (digests_under s blocks m)) (sym place);
+      stands = grind (arith, h.above m (omega arith) inside);
       digest_is = h.digest_is ∙ ap (λ (n : ℕ). hash s (get_or (blocks_up s blocks m) n [])) (sym place);
     }
 

@@ -46,9 +46,7 @@ loop-level-preserved c =
     c.hash_block-size.ensures c.fan-fan.ensures.value c.loop-level.invariant.quotient in
     let equal = (bytes_eq-Decides c.loop-level.digest _).0 (sym c.has_digest.ensures ∙ c.if-not-has_digest.false) in
     record {
-      quotient = ap (λ (n : ℕ). n / c.fan-fan.result) c.loop-level.invariant.quotient
-          ∙ ap (λ (n : ℕ). c.args.i / fan p.settings ^ l / n) c.fan-fan.ensures.value
-          ∙ sym (quotient-next (fan p.settings) c.args.i l);
+      quotient = grind (arith, quotient-next (fan p.settings) c.args.i l);
       digest_is = hash-by _ _ _ _ c.settings-in-loop-level.ensures c.hash-digest-in-loop-level.ensures
           ∙ ap (hash p.settings) (above ∙ sym (chain-more p.settings c.args.block.now path l));
       below = below_more (HoldsAt p c.args.i c.args.block.now path c.args.root.now) l c.loop-level.invariant.below

@@ -31,9 +31,7 @@ returns c =
     let settings = c.args.settings.now in
     let bytes = c.args.bytes.now in
     let count = div_ceil (length bytes) settings.data_block in
-    let same : c.div_ceil-i-end.result ≡ count =
-    c.div_ceil-i-end.ensures ∙ ap (λ (n : ℕ). div_ceil (length bytes) n) c.data_block-size.ensures.value in
-    let last : c.loop-i.i ≡ count = omega (arith, same, c.loop-i.auto.i-end, c.loop-i-test.false) in
+    let last : c.loop-i.i ≡ count = grind arith in
     c.loop-i.invariant
     ∙ ap (λ (n : ℕ). map (digest_of_block settings (length bytes) bytes) (range_with_len 0 n)) last
     ∙ sym (map-hash-cut settings count (length bytes) bytes)

@@ -23,9 +23,7 @@ pub returns : goal.returns
 returns c =
     let settings = c.args.settings.now in
     let count = div_ceil (length c.args.digests.now) (fan settings) in
-    let same : c.div_ceil-j-end.result ≡ count =
-    c.div_ceil-j-end.ensures ∙ ap (λ (n : ℕ). div_ceil (length c.args.digests.now) n) c.fan-fan.ensures.value in
-    let last : c.loop-j.j ≡ count = omega (arith, same, c.loop-j.auto.j-end, c.loop-j-test.false) in
+    let last : c.loop-j.j ≡ count = grind arith in
     c.loop-j.invariant
     ∙ ap (λ (n : ℕ). map (digest_of_group settings c.args.digests.now) (range_with_len 0 n)) last
     ∙ sym (map-hash-pack settings c.args.digests.now)
