@@ -19,12 +19,8 @@ loop-i-preserved c =
     let bytes = c.args.bytes.now in
     let run = take-bytes bytes c.loop-i.i c.data_block-size.result c.min-count.result settings.data_block
     c.data_block-size.ensures.value c.min-count.ensures in
-    let block = c.deref.ensures.value ∙ c.in_ok-block.ensures ∙ ap (with_zeros c.data_block-size.result) run
-    ∙ ap (λ (n : ℕ). with_zeros n (slice_chunk bytes settings.data_block c.loop-i.i)) c.data_block-size.ensures.value
-    ∙ ap (λ (xs : List ℕ). block_at settings.data_block xs c.loop-i.i)
-    (sym (take_all (length bytes) bytes (omega arith))) in
     mapped_more (digest_of_block settings (length bytes) bytes) c.loop-i.digests.items _ c.loop-i.i c.hash.result
-    c.in_ok-push.ensures.items c.loop-i.invariant (c.hash.ensures ∙ ap (hash settings) block)
+    c.in_ok-push.ensures.items c.loop-i.invariant (grind (arith, run, take_all (length bytes) bytes (omega arith)))
 
 pub returns : goal.returns
 returns c =

@@ -14,10 +14,8 @@ loop-j-preserved c =
     let settings = c.args.settings.now in
     let run = take-run c.args.digests.now c.loop-j.j c.fan-fan.result c.min-size.result
     (fan settings) c.fan-fan.ensures.value c.min-size.ensures in
-    let digest = c.hash.ensures
-    ∙ ap (hash settings) (c.deref.ensures.value ∙ c.in_ok-block.ensures ∙ ap (hash_block_of settings) run) in
     digests_more settings c.args.digests.now c.loop-j.above.items _ c.loop-j.j c.hash.result c.in_ok-push.ensures.items
-    c.loop-j.invariant digest
+    c.loop-j.invariant (grind (arith, run))
 
 pub returns : goal.returns
 returns c =

@@ -12,16 +12,10 @@ levels-preserved c =
     let settings = c.args.settings.now in
     let two : 2 ≤ fan settings = omega (arith, c.fan-fan.ensures.two, c.fan-fan.ensures.value) in
     let digests = c.levels.level.items in
-    let more : 1 < length digests =
-    omega (arith, c.levels-test.true, c.len.ensures, c.deref.ensures.len, ap length c.deref.ensures.value) in
+    let more : 1 < length digests = grind arith in
     let above = rw c.deref.ensures.value at c.in_ok-level.ensures in
     record {
-      some = omega (
-        arith,
-        c.in_ok-level.level.ok,
-        length-above settings digests c.in_ok-level.level.items above,
-        div_ceil-pos (length digests) (fan settings) (omega arith) (omega arith),
-      );
+      some = grind (arith, length-above settings digests c.in_ok-level.level.items above, div_ceil-pos);
       same = ap (root_of_digests settings) above ∙ root_of_digests-up settings digests two more ∙ c.levels.invariant.same;
     }
 
@@ -30,21 +24,14 @@ levels-smaller c =
     let settings = c.args.settings.now in
     let two : 2 ≤ fan settings = omega (arith, c.fan-fan.ensures.two, c.fan-fan.ensures.value) in
     let digests = c.levels.level.items in
-    let before : length digests ≡ vec_len c.levels.level = sym (ap length c.deref.ensures.value) ∙ c.deref.ensures.len in
-    omega (
-      arith,
-      c.in_ok-level.level.ok,
-      before,
-      length-above settings digests _ (rw c.deref.ensures.value at c.in_ok-level.ensures),
-      div_ceil-lt (length digests) (fan settings) two (omega (arith, c.levels-test.true, c.len.ensures, before)),
-    )
+    let above = rw c.deref.ensures.value at c.in_ok-level.ensures in
+    grind (arith, length-above settings digests c.in_ok-level.level.items above, div_ceil-lt)
 
 pub returns : goal.returns
 returns c =
     let settings = c.args.settings.now in
     let two : 2 ≤ fan settings = omega (arith, c.fan-fan.ensures.two, c.fan-fan.ensures.value) in
-    let one : length c.levels.level.items ≡ 1 =
-    omega (arith, c.levels.level.ok, c.levels.invariant.some, c.levels-test.false, c.len.ensures) in
+    let one : length c.levels.level.items ≡ 1 = grind arith in
     get_or_read c.levels.level.items 0 c.index.result.now (omega (arith, one)) c.index.ensures _
     ∙ sym (root_of_digests-one settings c.levels.level.items two one)
     ∙ c.levels.invariant.same
