@@ -46,11 +46,8 @@ block-bound s xs ys i two same below one =
     let beside : i < length ys = omega (arith, below, same) in
     elim (chains-meet (hash s) (true_chain s xs i) (true_chain s ys i) levels levels (omega arith)
     (λ l _ above.
-    true_chain-up s xs i l below
-    ∙ ap (λ (block : List ℕ). digest_in s block (i / fan s ^ l % fan s)) above
-    ∙ sym (true_chain-up s ys i l beside))
-    (true_chain-root s xs i two below ∙ one ∙ sym (true_chain-root s ys i two beside)
-    ∙ ap (λ (n : ℕ). hash s (true_chain s ys i (level_count (fan s) n))) (sym same))) [
+    grind (arith, above, true_chain-up s xs i l below, true_chain-up s ys i l beside))
+    (grind (arith, one, same, true_chain-root s xs i two below, true_chain-root s ys i two beside))) [
       | inl here ↦ inl here
       | inr met ↦ inr (record {
         index = i;
@@ -113,9 +110,7 @@ bytes-bound s n wanted x y two some room of_x of_y one =
     (length-cut s n wanted x ∙ sym (length-cut s n wanted y)) one) [
       | inl same ↦ inl (ext_get_or 0 (take wanted x) (take wanted y) (long_x ∙ sym long_y) (λ k low.
           let below : k < wanted = omega (arith, low, long_x) in
-          sym (byte-cut s n wanted x k some room of_x below)
-          ∙ ap (λ (blocks : List (List ℕ)). get_or (get_or blocks (k / s.data_block) []) (k % s.data_block) 0) same
-          ∙ byte-cut s n wanted y k some room of_y below))
+          grind (arith, same, byte-cut s n wanted x k some room of_x below, byte-cut s n wanted y k some room of_y below)))
       | inr collide ↦ inr collide
     ]
 

@@ -3,6 +3,7 @@ use Rattle.std.proofs.Common.{◌≡◌, ◌≢◌, ℕ, ◌+◌, ◌-◌, ◌�
 use Rattle.std.proofs.Common.{arith, sym, ◌∙◌, ap, refl, subst, Ok, Err, append_assoc}
 use Rattle.std.proofs.Common.{cond}
 use Rattle.std.proofs.lemmas.Bool.{false_from_ne_true, le-ltb, lt-ltb, not_from_false, not_from_true}
+use Rattle.std.proofs.lemmas.Bool.Decides.{nat_tests}
 use Rattle.std.proofs.lemmas.List.Folds.{find-append}
 use Rattle.std.proofs.lemmas.List.Elements.{All-head, All-tail}
 use Rattle.std.proofs.lemmas.Slice.Eq.{bytes_eq-Decides}
@@ -66,8 +67,7 @@ judges-whole : (p : PlanFields) (device bytes digest : List ℕ) (same : Bool) �
     → verdict p device bytes digest ≡ cond same (Ok tt) (Err (RootDiffers (root p.settings (data_blocks p bytes))))
 judges-whole p device bytes digest same enough none compared =
     let whole = whole_blocks-all p bytes enough in
-    let all : nat_lt (whole_blocks p bytes) p.blocks ≡ false = le-ltb _ _ (omega (arith, whole)) in
-    verdict-none p device bytes digest p.blocks whole none ∙ rw (all, compared) refl
+    grind (arith, nat_tests, compared, whole, verdict-none p device bytes digest p.blocks whole none)
 
 -- if the root is the computed one, all is right
 pub judges-right : (p : PlanFields) (device bytes computed digest : List ℕ) → p.wanted ≤ length bytes
@@ -90,9 +90,7 @@ pub judges-short : (p : PlanFields) (device bytes after digest : List ℕ) (i : 
     → NoneDiffers p (data_blocks p bytes) device (closed_after (fan p.settings) p.blocks i)
     → verdict p device bytes digest ≡ Err (SourceShort i)
 judges-short p device bytes after digest i ends none =
-    let less : nat_lt (whole_blocks p bytes) p.blocks ≡ true = lt-ltb _ _ (omega (arith, ends.below, ends.whole_is)) in
-    verdict-none p device bytes digest i (sym ends.whole_is) none ∙ rw less refl
-    ∙ ap (λ (m : ℕ). Err (SourceShort m)) (sym ends.whole_is)
+    grind (arith, nat_tests, verdict-none p device bytes digest i (sym ends.whole_is) none, ends.below, ends.whole_is)
 
 -- the first block that differs is named
 pub judges-differs : (p : PlanFields) → IsPlan p → (device bytes digest after : List ℕ) (stop : Stop CompareStop) (part : Part)

@@ -91,11 +91,9 @@ times-closed_after fan n l j (suc i) pos most =
     let here = times-run l j 0 (level_count fan n) (λ level. i / fan ^ (level + 1)) (closes fan n i) in
     let all = sum_by-append (λ (at : BlockIndex). cond ((at.level == l) && (at.index == j)) 1 0) (closed_after fan n i)
     (closing_with fan n i) in
-    elim (cases_lt j (level_size fan n l)) [
-      | inl inside ↦ let time = closes-time fan n l j i pos below inside in grind (arith, nat_tests)
-      | inr past ↦
-          let place = quotient-below i n (fan ^ (l + 1)) (one-le-pow (l + 1) fan pos) below in grind (arith, nat_tests)
-    ]
+    let time = closes-time fan n l j i pos below in
+    let place = quotient-below i n (fan ^ (l + 1)) (one-le-pow (l + 1) fan pos) below in
+    grind (arith, nat_tests, time)
 
 -- what has closed is a block of the tree whose time has come
 pub closed_time : (fan n l j i : ℕ) → 0 < fan → i ≤ n → 0 < times l j (closed_after fan n i)

@@ -103,9 +103,7 @@ closed_after-prefix f n i (suc k) =
     let e : i + suc k ≡ suc (i + k) = omega arith in
     let before = closed_after-prefix f n i k in (
       before.0 ++ closing_with f n (i + k),
-      ap (closed_after f n) e
-          ∙ ap (λ (ps : List BlockIndex). ps ++ closing_with f n (i + k)) before.1
-          ∙ append_assoc (closed_after f n i) before.0 (closing_with f n (i + k)),
+      rw e (ap (λ (ps : List BlockIndex). ps ++ closing_with f n (i + k)) before.1 ∙ append_assoc _ before.0 _),
     )
 
 -- if the levels up to this one close, its block comes after those of the levels below

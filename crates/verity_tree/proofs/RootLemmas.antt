@@ -87,13 +87,11 @@ root-digests s blocks two some =
     let l = level_count (fan s) (length blocks) in
     let low : 0 < fan s = omega arith in
     let left : 0 < length (blocks_up s blocks l) =
-    omega (
+    grind (arith, div_ceil-pos, one-le-pow l (fan s) low, length-blocks_up s blocks l low) in
+    grind (
       arith,
-      div_ceil-pos (length blocks) (fan s ^ l) (one-le-pow l (fan s) low) some,
-      length-blocks_up s blocks l low,
-    ) in
-    ap (λ (k : ℕ). hash s (get_or (blocks_up s blocks k) 0 [])) (height-level_count s blocks low)
-    ∙ sym (get_or-map (hash s) (blocks_up s blocks l) 0 [] [] left)
-    ∙ ap (λ (ds : List (List ℕ)). get_or ds 0 []) (map-hash-blocks_up s blocks l)
-    ∙ ap (λ (n : ℕ). get_or (digests_up s (map (hash s) blocks) (level_count (fan s) n)) 0 [])
-    (sym (length-map blocks (hash s)))
+      height-level_count s blocks low,
+      get_or-map (hash s) (blocks_up s blocks l) 0 [] [] left,
+      map-hash-blocks_up s blocks l,
+      length-map blocks (hash s),
+    )
