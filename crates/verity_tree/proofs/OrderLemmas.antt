@@ -49,25 +49,15 @@ closes-time fan n l j i pos below inside =
     let w = fan ^ (l + 1) in
     let wide : 0 < w = one-le-pow (l + 1) fan pos in
     let split = div-add-mod' i w in
-    elim (cases_order j (i / w)) [
-      | inl same ↦
-          let area : j * w ≡ i / w * w = ap (λ (q : ℕ). q * w) same in
-          elim (cases_lt (i % w + 1) w) [
-            | inl room ↦ let rest = (slots-more w i room).0 in grind (arith, nat_tests)
-            | inr full ↦
-                let next : i + 1 ≡ (i / w + 1) * w + 0 = omega (arith, split, full, mod_below i w wide) in
-                let rest : (i + 1) % w ≡ 0 = ap (λ (x : ℕ). x % w) next ∙ mod-mul-add (i / w + 1) w 0 wide in
-                grind (arith, nat_tests)
-          ]
-      | inr apart ↦ elim apart [
-        | inl less ↦ let far = mul_le (j + 1) (i / w) w (omega (arith, less)) in grind (arith, nat_tests)
-        | inr more ↦
-            let far = mul_le (i / w + 1) j w (omega (arith, more)) in
-            let near = mul-lt_div_ceil n w j wide inside in
-            let low = mod_below i w wide in
-            grind (arith, nat_tests)
-      ]
-    ]
+    let low = mod_below i w wide in
+    let room : i % w + 1 < w → (i + 1) % w ≡ i % w + 1 = λ less. (slots-more w i less).0 in
+    let full : i % w + 1 ≡ w → (i + 1) % w ≡ 0 = λ last.
+    let next : i + 1 ≡ (i / w + 1) * w + 0 = omega (arith, split, last) in
+    ap (λ (x : ℕ). x % w) next ∙ mod-mul-add (i / w + 1) w 0 wide in
+    let before : j < i / w → (j + 1) * w ≤ i / w * w = λ less. mul_le (j + 1) (i / w) w (omega (arith, less)) in
+    let past : i / w < j → (i / w + 1) * w ≤ j * w = λ more. mul_le (i / w + 1) j w (omega (arith, more)) in
+    let here : j ≡ i / w → j * w ≡ i / w * w = λ same. ap (λ (q : ℕ). q * w) same in
+    grind (arith, nat_tests, mul-lt_div_ceil n w j wide inside)
 
 -- after so many data blocks the tree's block of this place has closed
 abbrev has_closed : ℕ → ℕ → ℕ → ℕ → ℕ → Bool

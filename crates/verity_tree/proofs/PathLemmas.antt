@@ -26,11 +26,19 @@ accepted-true p bytes i block path planned h =
     let all : top ≤ top = omega arith in
     elim (chains-meet (hash s) (chain s block path) (true_chain s blocks i) top top all
     (λ m low above.
-    h.holds m (omega (arith, low)) ∙ digest_above-below p i path (root s blocks) m low
-    ∙ ap (λ (xs : List ℕ). digest_in s xs (i / fan s ^ m % fan s)) above
-    ∙ sym (true_chain-next p bytes i m planned h.index))
-    (h.holds top all ∙ digest_above-top p i path (root s blocks) top all
-    ∙ sym (true_chain-top p bytes i planned h.index))) [
+    grind (
+      arith,
+      above,
+      h.holds m (omega (arith, low)),
+      digest_above-below p i path (root s blocks) m low,
+      true_chain-next p bytes i m planned h.index,
+    ))
+    (grind (
+      arith,
+      h.holds top all,
+      digest_above-top p i path (root s blocks) top all,
+      true_chain-top p bytes i planned h.index,
+    ))) [
       | inl same ↦ inl same
       | inr met ↦ inr (record { level = met.0; within = met.1; differ = met.2; one_hash = met.3 })
     ]
