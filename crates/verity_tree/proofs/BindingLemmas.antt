@@ -1,5 +1,5 @@
 -- Trees with one root hash stand above the same data, or show a collision.
-use Rattle.std.proofs.Common.{◌≡◌, ◌≢◌, ℕ, zero, suc, ◌+◌, ◌*◌, ◌/◌, ◌%◌, ◌^◌, ◌<◌, ◌≤◌, ◌⊎◌}
+use Rattle.std.proofs.Common.{◌≡◌, ◌≢◌, ℕ, zero, suc, ◌+◌, ◌*◌, ◌/◌, ◌%◌, ◌<◌, ◌≤◌, ◌⊎◌}
 use Rattle.std.proofs.Common.{List, [], get_or, take, drop, length, arith, sym, ◌∙◌, ap, refl, inl, inr}
 use Rattle.std.proofs.Common.{length-append}
 use Rattle.std.proofs.Common.{below_more}
@@ -23,7 +23,6 @@ use Rattle.verity_tree.specs.Collisions.{Collide, TreesCollide, hashed_last, wit
 use Rattle.verity_tree.specs.Levels.{block_at, cut, data_blocks, root}
 use Rattle.verity_tree.specs.Links.{block_size_up}
 use Rattle.verity_tree.specs.Paths.{true_chain}
-use Rattle.verity_tree.specs.Verdicts.{digest_in}
 use Rattle.verity_tree.proofs.ChainLemmas.{length-data, length-true_block, true_chain-root, true_chain-top, true_chain-up}
 use Rattle.verity_tree.proofs.LevelLemmas.{length-cut}
 use Rattle.verity_tree.proofs.LinkLemmas.{length-up}

@@ -9,7 +9,7 @@ use Rattle.verity_plan.specs.Settings.{TreeSettingsFields, hash, fan}
 use Rattle.verity_tree.specs.Levels.{blocks_up}
 use Rattle.verity_plan.specs.Plans.{level_count, level_size, place}
 use Rattle.verity_tree.specs.ClosingOrder.{closing_with, closes, first_closing}
-use Rattle.verity_tree.specs.Steps.OpenBlocks.{digests_under, open_block, IsReached, IsCarrying}
+use Rattle.verity_tree.specs.Steps.OpenBlocks.{IsReached, IsCarrying}
 use Rattle.verity_tree.specs.Steps.OpenBlocks.{carry_state}
 use Rattle.verity_plan.proofs.FanLemmas.{fan-some}
 use Rattle.verity_plan.proofs.IndexLemmas.{quotient-below}

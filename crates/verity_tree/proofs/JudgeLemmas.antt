@@ -2,12 +2,12 @@
 use Rattle.std.proofs.Common.{◌≡◌, ◌≢◌, ℕ, ◌+◌, ◌-◌, ◌≤◌, Bool, true, false, List, [], ◌∷◌, ◌++◌, length}
 use Rattle.std.proofs.Common.{arith, sym, ◌∙◌, ap, refl, subst, Ok, Err, append_assoc}
 use Rattle.std.proofs.Common.{cond}
-use Rattle.std.proofs.lemmas.Bool.{false_from_ne_true, le-ltb, lt-ltb, not_from_false, not_from_true}
+use Rattle.std.proofs.lemmas.Bool.{false_from_ne_true, not_from_false, not_from_true}
 use Rattle.std.proofs.lemmas.Bool.Decides.{nat_tests}
 use Rattle.std.proofs.lemmas.List.Folds.{find-append}
 use Rattle.std.proofs.lemmas.List.Elements.{All-head, All-tail}
 use Rattle.std.proofs.lemmas.Slice.Eq.{bytes_eq-Decides}
-use Rattle.std.specs.Prelude.{find, nat_lt, Some, None}
+use Rattle.std.specs.Prelude.{find, Some, None}
 use Rattle.std.specs.Str.{bytes_eq}
 use Rattle.verity_tree.specs.Reading.{EndsWithin}
 use Rattle.verity_tree.specs.ClosingOrder.{BlockIndex, block_index, closed_after}

@@ -1,6 +1,6 @@
 -- What an accepted path says of the data, that the true path is accepted, and that one answer is right.
-use Rattle.std.proofs.Common.{◌≡◌, ℕ, ◌/◌, ◌%◌, ◌^◌, ◌<◌, ◌≤◌, ◌⊎◌, List, [], get_or}
-use Rattle.std.proofs.Common.{arith, sym, ◌∙◌, ap, refl, inl, inr}
+use Rattle.std.proofs.Common.{◌≡◌, ℕ, ◌<◌, ◌≤◌, ◌⊎◌, List, [], get_or}
+use Rattle.std.proofs.Common.{arith, ap, refl, inl, inr}
 use Rattle.std.proofs.lemmas.Bool.{cases_order}
 use Rattle.std.specs.Prelude.{Result, Ok, Err}
 use Rattle.verity_plan.specs.Plans.{PlanFields, IsPlan}
@@ -9,8 +9,7 @@ use Rattle.verity_tree.specs.Levels.{data_blocks, root}
 use Rattle.verity_tree.specs.Paths.{ChecksBlock, HasCollision, IsAccepted, chain, true_chain, true_path}
 use Rattle.verity_tree.specs.declared.path.PathFault.{PathFault}
 use Rattle.verity_tree.specs.declared.path.PathFault.TheVariants.{Index, Length, DiffersAt}
-use Rattle.verity_plan.specs.Settings.{fan, hash}
-use Rattle.verity_tree.specs.Verdicts.{digest_in}
+use Rattle.verity_plan.specs.Settings.{hash}
 use Rattle.verity_tree.proofs.ChainLemmas.{length-data, length-true_block, true_chain-next, true_chain-top}
 use Rattle.verity_tree.proofs.LinkLemmas.{joined-accepted}
 use Rattle.verity_tree.proofs.PathSteps.{chains-meet, digest_above-below, digest_above-top}

@@ -1,21 +1,18 @@
 -- The check of a path, level by level.
-use Rattle.std.proofs.Common.{◌≡◌, ℕ, suc, ◌+◌, ◌-◌, ◌*◌, ◌/◌, ◌%◌, ◌^◌, ◌<◌, ◌≤◌, false, List, length, take}
-use Rattle.std.proofs.Common.{drop, arith, sym, ◌∙◌, ap, length-drop}
+use Rattle.std.proofs.Common.{◌≡◌, ℕ, suc, ◌+◌, ◌-◌, ◌*◌, ◌/◌, ◌%◌, ◌^◌, ◌<◌, ◌≤◌, false, List, take}
+use Rattle.std.proofs.Common.{drop, arith, sym, ◌∙◌, ap}
 use Rattle.std.proofs.Common.{◌≢◌, ◌⊎◌, zero, inl, inr}
 use Rattle.std.proofs.lemmas.Bool.{cases_Bool}
 use Rattle.std.proofs.lemmas.Bool.Decides.{nat_tests, not_from_Decides}
-use Rattle.std.proofs.lemmas.Nat.{mod_below}
-use Rattle.std.proofs.Math.Nat.{mul-le-mul_right, pow-zero}
-use Rattle.std.proofs.lemmas.List.{length-take-le}
+use Rattle.std.proofs.Math.Nat.{pow-zero}
 use Rattle.std.proofs.lemmas.Slice.Eq.{bytes_eq-Decides}
 use Rattle.std.specs.Fork.{slice_chunk}
 use Rattle.std.specs.Str.{bytes_eq}
-use Rattle.verity_tree.specs.Paths.{HasLengths, chain, digest_above}
+use Rattle.verity_tree.specs.Paths.{chain, digest_above}
 use Rattle.verity_plan.specs.Plans.{PlanFields}
 use Rattle.verity_plan.specs.PlanCounts.{level_count_of}
-use Rattle.verity_plan.specs.Settings.{TreeSettingsFields, digest_len, fan, slot_width}
+use Rattle.verity_plan.specs.Settings.{TreeSettingsFields, fan}
 use Rattle.verity_tree.specs.Verdicts.{digest_in}
-use Rattle.verity_tree.proofs.VerdictLemmas.{digest-room}
 
 -- one block further up the chain
 pub chain-more : (s : TreeSettingsFields) (block path : List ℕ) (l : ℕ)

@@ -1,4 +1,4 @@
-use Rattle.std.proofs.Common.{◌≡◌, ℕ, ◌+◌, ◌*◌, ◌/◌, ◌%◌, ◌^◌, ◌<◌, ◌≤◌, below_more, length, drop, length-drop, arith, ap}
+use Rattle.std.proofs.Common.{◌≡◌, ℕ, ◌+◌, ◌*◌, ◌%◌, ◌<◌, ◌≤◌, below_more, length, drop, length-drop, arith, ap}
 use Rattle.std.proofs.Common.{sym, ◌∙◌}
 use Rattle.verity_tree.proofs.OpenBlockLemmas.{hash-by}
 use Rattle.std.proofs.lemmas.List.{length-take-le}

@@ -1,14 +1,10 @@
 -- Each block gives its digest, and the blocks end where the bytes do.
-use Rattle.std.proofs.Common.{◌≡◌, ℕ, List, map, arith, sym, ◌∙◌, ap, length}
+use Rattle.std.proofs.Common.{◌≡◌, ℕ, map, arith, sym, ◌∙◌, ap, length}
 use Rattle.std.proofs.lemmas.List.{take_all}
 use Rattle.std.specs.List.{range_with_len}
 use Rattle.std.specs.Int.{div_ceil}
-use Rattle.std.specs.Fork.{slice_chunk}
-use Rattle.verity_hash.specs.Hashing.{with_zeros}
 use Rattle.verity_plan.proofs.CountLemmas.{mul-lt_div_ceil}
-use Rattle.verity_plan.specs.Settings.{hash}
 use Rattle.verity_plan.proofs.FanLemmas.{some_data}
-use Rattle.verity_tree.specs.Levels.{block_at}
 use Rattle.verity_tree.specs.Steps.PlainRoots.{digest_of_block}
 use Rattle.verity_tree.proofs.LevelLemmas.{map-hash-cut, take-bytes, mapped_more}
 use Rattle.verity_tree.proofs.plain_root.digests_of.Goals as goal

@@ -3,8 +3,7 @@ use Rattle.std.proofs.Common.{◌≡◌, ℕ, map, arith, sym, ◌∙◌, ap, le
 use Rattle.std.specs.List.{range_with_len}
 use Rattle.std.specs.Int.{div_ceil}
 use Rattle.verity_plan.proofs.CountLemmas.{mul-lt_div_ceil}
-use Rattle.verity_plan.specs.Settings.{hash, fan}
-use Rattle.verity_tree.specs.Levels.{hash_block_of}
+use Rattle.verity_plan.specs.Settings.{fan}
 use Rattle.verity_tree.specs.Steps.PlainRoots.{digest_of_group}
 use Rattle.verity_tree.proofs.LevelLemmas.{map-hash-pack, take-run, digests_more}
 use Rattle.verity_tree.proofs.plain_root.level_up.Goals as goal

@@ -1,5 +1,5 @@
 -- Each level up is shorter and has the same root; a single digest is the root.
-use Rattle.std.proofs.Common.{◌≡◌, ◌<◌, ◌≤◌, length, vec_len, arith, sym, ◌∙◌, ap}
+use Rattle.std.proofs.Common.{◌≡◌, ◌<◌, ◌≤◌, length, arith, sym, ◌∙◌, ap}
 use Rattle.std.proofs.lemmas.List.{get_or_read}
 use Rattle.verity_plan.specs.Settings.{fan}
 use Rattle.verity_tree.specs.Steps.PlainRoots.{root_of_digests}
