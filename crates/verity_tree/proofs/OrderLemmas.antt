@@ -25,11 +25,10 @@ bit b = cond b 1 0
 
 times-indices : (l j a : ℕ) (f : ℕ → ℕ) (c : ℕ → Bool) (levels : List ℕ)
     → times l j (indices f c (a ∷ levels)) ≡ bit (c a && ((a == l) && (f a == j))) + times l j (indices f c levels)
-times-indices l j a f c levels = elim (cases_Bool (c a)) [
-  | inl pass ↦ rw pass (sum_by-cons (λ (at : BlockIndex). bit ((at.level == l) && (at.index == j)))
-      (block_index a (f a)) (indices f c levels))
-  | inr fail ↦ rw fail (sym (zero-add _))
-]
+times-indices l j a f c levels =
+    let more = sum_by-cons (λ (at : BlockIndex). bit ((at.level == l) && (at.index == j))) (block_index a (f a))
+    (indices f c levels) in
+    grind (arith, nat_tests, more)
 
 -- of a run of levels, each with a block, the block of a level of the run is counted if that level passes
 times-run : (l j a k : ℕ) (f : ℕ → ℕ) (c : ℕ → Bool)

@@ -1,6 +1,7 @@
 -- The root, and what is left of it one level up.
-use Rattle.std.proofs.Common.{◌≡◌, ℕ, zero, suc, ◌^◌, ◌<◌, ◌≤◌, List, [], length, map, get_or, arith, ◌∙◌, ap}
+use Rattle.std.proofs.Common.{◌≡◌, ℕ, zero, suc, ◌-◌, inl, inr, ◌^◌, ◌<◌, ◌≤◌, List, [], length, map, get_or, arith, ◌∙◌, ap}
 use Rattle.std.proofs.Common.{refl}
+use Rattle.std.proofs.lemmas.Bool.{cases_lt}
 use Rattle.std.proofs.lemmas.List.{length-map, get_or-map}
 use Rattle.std.proofs.Math.Nat.{pow-zero, pow-suc, one-le-pow}
 use Rattle.std.specs.Int.{div_ceil}
@@ -19,21 +20,18 @@ IsLevelCount-same fan n x y h k = grind (arith, h.least y, k.least x)
 -- one level more than above one level up
 pub level_count-suc : (fan n : ℕ) → 2 ≤ fan → 1 < n → level_count fan n ≡ suc (level_count fan (div_ceil n fan))
 level_count-suc fan n two more =
+    let levels = level_count fan (div_ceil n fan) in
+    let up = IsLevelCount-level_count fan (div_ceil n fan) two in
     IsLevelCount-same fan n _ _ (IsLevelCount-level_count fan n two) (record {
       enough = omega (arith, pow-suc fan levels, le-div_ceil n fan (fan ^ levels) (omega arith) up.enough);
-      least = least;
+      least = λ m below. elim (cases_lt 0 m) [
+        | inl some ↦
+            let next : m ≡ suc (m - 1) = omega arith in
+            let low = mul-lt_div_ceil n fan (fan ^ (m - 1)) (omega arith) (up.least (m - 1) (omega arith)) in
+            grind (arith, next, pow-suc fan (m - 1), low)
+        | inr none ↦ let least : m ≡ 0 = omega arith in grind (arith, least, pow-zero fan)
+      ];
     })
-  where
-    levels : ℕ
-    levels = level_count fan (div_ceil n fan)
-
-    up : IsLevelCount fan (div_ceil n fan) levels
-    up = IsLevelCount-level_count fan (div_ceil n fan) two
-
-    least : (m : ℕ) → m < suc levels → fan ^ m < n
-    least zero below = omega (arith, pow-zero fan)
-    least (suc m) below =
-        omega (arith, pow-suc fan m, mul-lt_div_ceil n fan (fan ^ m) (omega arith) (up.least m (omega arith)))
 
 pub level_count-one : (fan : ℕ) → 2 ≤ fan → level_count fan 1 ≡ 0
 level_count-one fan two =

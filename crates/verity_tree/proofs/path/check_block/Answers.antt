@@ -78,8 +78,7 @@ returns-then-eq c =
     omega (arith, c.loop-level.auto.level-end, c.loop-level-test.false, c.levels-levels.ensures) in
     let equal = (bytes_eq-Decides c.as_bytes.result.now c.as_bytes-2.result.now).0 (sym c.eq.ensures ∙ c.if-eq.true) in
     let here : HoldsAt p i block path root c.loop-level.level =
-    sym c.loop-level.invariant.digest_is ∙ sym c.as_bytes.ensures.bytes ∙ equal ∙ c.as_bytes-2.ensures.bytes
-    ∙ sym (digest_above-top p i path root c.loop-level.level (omega (arith, top))) in
+    grind (arith, equal, digest_above-top p i path root c.loop-level.level (omega (arith, top))) in
     let all = below_more (HoldsAt p i block path root) c.loop-level.level c.loop-level.invariant.below here in
     record {
       index = omega (arith, c.if-i-blocks.false, c.blocks-2.ensures.value);
@@ -95,14 +94,12 @@ returns-else-eq c =
     let root = c.args.root.now in
     let top : c.loop-level.level ≡ c.levels-levels.result =
     omega (arith, c.loop-level.auto.level-end, c.loop-level-test.false) in
-    let past : level_count_of p ≤ c.levels-levels.result = omega (arith, c.levels-levels.ensures) in
+    let above = digest_above-top p i path root c.levels-levels.result (omega (arith, c.levels-levels.ensures)) in
     record {
       index = omega (arith, c.if-i-blocks.false, c.blocks-2.ensures.value);
       lengths = record { of_block = grind arith; of_path = grind arith };
       within = omega (arith, c.levels-levels.ensures);
       below = λ m less. c.loop-level.invariant.below m (omega (arith, less, top));
       fails = λ holds. bytes_eq-false c.as_bytes.result.now c.as_bytes-2.result.now (sym c.eq.ensures ∙ c.if-eq.false)
-          (c.as_bytes.ensures.bytes ∙ c.loop-level.invariant.digest_is
-          ∙ ap (λ (l : ℕ). hash p.settings (chain p.settings c.args.block.now path l)) top
-          ∙ holds ∙ digest_above-top p i path root c.levels-levels.result past ∙ sym c.as_bytes-2.ensures.bytes);
+          (grind (arith, top, holds, above));
     }

@@ -28,13 +28,13 @@ pub root_of_digests-requires : goal.root_of_digests-requires
 root_of_digests-requires c =
     let p = c.args.plan.now in
     let planned = c.wanted-wanted.ensures.planned in
-    let bytes = c.args.bytes.now in
+    let digests = digests-are p planned _ _ _ c.settings-settings.ensures c.requires c.in_ok-digests.ensures in
     omega (
       arith,
       c.in_ok-digests.digests.ok,
-      ap length (digests-are p planned _ bytes _ c.settings-settings.ensures c.requires c.in_ok-digests.ensures),
-      length-map (data_blocks p bytes) (hash p.settings),
-      blocks-are-some p planned bytes,
+      ap length digests,
+      length-map (data_blocks p c.args.bytes.now) (hash p.settings),
+      blocks-are-some p planned c.args.bytes.now,
     )
 
 pub returns : goal.returns
