@@ -1,8 +1,7 @@
 -- The closing order has each block once.
 use Rattle.std.proofs.Common.{◌≡◌, ℕ, zero, suc, ◌+◌, ◌*◌, ◌/◌, ◌%◌, ◌^◌, ◌<◌, ◌≤◌, min, Bool, cond}
-use Rattle.std.proofs.Common.{leb, List, ◌∷◌, map, arith, sym, ◌∙◌, ap, inl, inr, zero-add}
+use Rattle.std.proofs.Common.{leb, List, ◌∷◌, map, arith, ◌∙◌, ap}
 use Rattle.std.proofs.Common.{ltb}
-use Rattle.std.proofs.lemmas.Bool.{cases_Bool}
 use Rattle.std.proofs.lemmas.Bool.Decides.{nat_tests}
 use Rattle.std.proofs.lemmas.List.Sums.{sum_by-cons, sum_by-append}
 use Rattle.std.proofs.lemmas.Nat.{div-add-mod', mod_below, mod-mul-add}

@@ -1,4 +1,4 @@
-use Rattle.std.proofs.Common.{◌≡◌, ℕ, ◌+◌, ◌*◌, ◌%◌, ◌<◌, ◌≤◌, below_more, length, drop, length-drop, arith, ap}
+use Rattle.std.proofs.Common.{◌≡◌, ◌+◌, ◌*◌, ◌%◌, ◌<◌, ◌≤◌, below_more, length, drop, length-drop, arith, ap}
 use Rattle.std.proofs.Common.{sym, ◌∙◌}
 use Rattle.verity_tree.proofs.OpenBlockLemmas.{hash-by}
 use Rattle.std.proofs.lemmas.List.{length-take-le}
@@ -6,7 +6,7 @@ use Rattle.std.proofs.lemmas.Nat.{mod_below}
 use Rattle.verity_plan.proofs.CountLemmas.{mul_le}
 use Rattle.verity_tree.proofs.VerdictLemmas.{digest-room}
 use Rattle.std.proofs.lemmas.Slice.Eq.{bytes_eq-Decides}
-use Rattle.verity_tree.specs.Paths.{HoldsAt, chain}
+use Rattle.verity_tree.specs.Paths.{HoldsAt}
 use Rattle.verity_plan.specs.PlanCounts.{level_count_of}
 use Rattle.verity_plan.specs.Settings.{fan, hash}
 use Rattle.verity_tree.proofs.PathSteps.{bytes_eq-false, chain-more, digest_above-top, range-block, read-is}
