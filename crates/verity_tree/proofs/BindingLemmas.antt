@@ -1,16 +1,14 @@
 -- Trees with one root hash stand above the same data, or show a collision.
-use Rattle.std.proofs.Common.{◌≡◌, ◌≢◌, ℕ, zero, suc, ◌+◌, ◌-◌, ◌*◌, ◌/◌, ◌%◌, ◌^◌, ◌<◌, ◌≤◌, ◌⊎◌, Bool, true, false}
-use Rattle.std.proofs.Common.{List, [], get_or, take, drop, length, replicate, arith, sym, ◌∙◌, ap, refl, inl, inr}
-use Rattle.std.proofs.Common.{length-append, length-drop}
-use Rattle.std.proofs.lemmas.Bool.{cases_lt}
-use Rattle.std.proofs.lemmas.List.{append_cancel_left, append_cancel_right, drop_at, ext_get_or, get_or-drop}
-use Rattle.std.proofs.lemmas.List.{get_or-take, get_or_append_left, length-take, length-take-le, take_at}
+use Rattle.std.proofs.Common.{◌≡◌, ◌≢◌, ℕ, zero, suc, ◌+◌, ◌*◌, ◌/◌, ◌%◌, ◌<◌, ◌≤◌, ◌⊎◌}
+use Rattle.std.proofs.Common.{List, [], get_or, take, drop, length, arith, sym, ◌∙◌, ap, refl, inl, inr}
+use Rattle.std.proofs.Common.{length-append}
+use Rattle.std.proofs.Common.{below_more}
+use Rattle.std.proofs.lemmas.List.{append_cancel_left, append_cancel_right, drop_at, ext_get_or}
+use Rattle.std.proofs.lemmas.List.{length-take-le, take_at}
+use Rattle.std.proofs.lemmas.Grind.{common_steps}
 use Rattle.std.proofs.lemmas.List.FromFn.{get_or-map-range_with_len}
-use Rattle.std.proofs.lemmas.Nat.{div-add-mod', mod_below}
-use Rattle.std.proofs.lemmas.Slice.Eq.{bytes_eq-Decides}
-use Rattle.std.specs.Fork.{slice_chunk}
+use Rattle.std.proofs.lemmas.Nat.{div-add-mod', div_below, mod_below}
 use Rattle.std.specs.Int.{div_ceil, next_multiple_of}
-use Rattle.std.specs.Str.{bytes_eq}
 use Rattle.verity_hash.specs.Hashing.{input_block_of, salted_input, with_zeros}
 use Rattle.verity_hash.specs.declared.algorithm.Algorithm.{Algorithm}
 use Rattle.verity_hash.specs.declared.salting.SaltRule.{SaltRule}
@@ -18,19 +16,17 @@ use Rattle.verity_hash.specs.declared.salting.SaltRule.TheVariants.{Before, Afte
 use Rattle.verity_plan.specs.Plans.{IsPlan, PlanFields, level_count}
 use Rattle.verity_plan.specs.PlanCounts.{level_count_of}
 use Rattle.verity_plan.specs.Settings.{TreeSettingsFields, fan, hash}
-use Rattle.verity_plan.proofs.CountLemmas.{le-div_ceil, mul_le}
+use Rattle.verity_plan.proofs.CountLemmas.{le-div_ceil}
 use Rattle.verity_tree.proofs.DataBlockLemmas.{blocks-some}
 use Rattle.verity_plan.proofs.FanLemmas.{fan-two, some_data}
-use Rattle.verity_plan.proofs.FitLemmas.{digest-slot, fan-fits, fan-pos}
-use Rattle.verity_tree.specs.Collisions.{Collide, TreesCollide, hashed_above, hashed_last, with_salt}
+use Rattle.verity_tree.specs.Collisions.{Collide, TreesCollide, hashed_last, with_salt}
 use Rattle.verity_tree.specs.Levels.{block_at, cut, data_blocks, root}
 use Rattle.verity_tree.specs.Links.{block_size_up}
 use Rattle.verity_tree.specs.Paths.{true_chain}
-use Rattle.verity_tree.specs.Verdicts.{digest_in}
-use Rattle.verity_tree.proofs.ChainLemmas.{length-data, length-true_chain, true_chain-root, true_chain-up}
+use Rattle.verity_tree.proofs.ChainLemmas.{length-data, length-true_block, true_chain-root, true_chain-top, true_chain-up}
 use Rattle.verity_tree.proofs.LevelLemmas.{length-cut}
-use Rattle.verity_tree.proofs.LinkLemmas.{size-up}
-use Rattle.verity_tree.proofs.PathSteps.{bytes_eq-false}
+use Rattle.verity_tree.proofs.LinkLemmas.{length-up}
+use Rattle.verity_tree.proofs.PathSteps.{chains-meet, same_or_two}
 
 -- what is hashed for a block says the block
 salted_input-block : (algorithm : Algorithm) (rule : SaltRule) (salt x y : List ℕ)
@@ -40,72 +36,47 @@ salted_input-block algorithm After salt x y e = append_cancel_right x y salt e
 salted_input-block algorithm PaddedBefore salt x y e =
     append_cancel_left (with_zeros (next_multiple_of (length salt) (input_block_of algorithm)) salt) x y e
 
--- two true chains with one hash at a level, by whether the same is hashed there: they have one data block, or a
--- collision at that level or below
-chains-collide-by : (s : TreeSettingsFields) (xs ys : List (List ℕ)) (i : ℕ) → 2 ≤ fan s → length xs ≡ length ys
-    → i < length xs → (l : ℕ) → l ≤ level_count (fan s) (length xs)
-    → hash s (true_chain s xs i l) ≡ hash s (true_chain s ys i l)
-    → (b : Bool) → bytes_eq (hashed_above s xs i l) (hashed_above s ys i l) ≡ b
-    → (get_or xs i [] ≡ get_or ys i []) ⊎ TreesCollide s xs ys
-unfolding hash
-chains-collide-by s xs ys i two same below l most one false apart =
-    inr (record {
-      index = i;
-      levels = l;
-      index_below = below;
-      levels_most = most;
-      collide = record { differ = bytes_eq-false _ _ apart; one_hash = one };
-    })
-chains-collide-by s xs ys i two same below zero most one true equal =
-    inl (salted_input-block s.algorithm s.rule s.salt (get_or xs i []) (get_or ys i [])
-    ((bytes_eq-Decides (hashed_above s xs i 0) (hashed_above s ys i 0)).0 equal))
-chains-collide-by s xs ys i two same below (suc l) most one true equal =
-    let above : true_chain s xs i (suc l) ≡ true_chain s ys i (suc l) =
-    salted_input-block s.algorithm s.rule s.salt (true_chain s xs i (suc l)) (true_chain s ys i (suc l))
-    ((bytes_eq-Decides (hashed_above s xs i (suc l)) (hashed_above s ys i (suc l))).0 equal) in
-    let some : 0 < fan s = omega (arith, two) in
-    let lower : hash s (true_chain s xs i l) ≡ hash s (true_chain s ys i l) =
-    true_chain-up s xs i l (digest-slot s) some below
-    ∙ ap (λ (block : List ℕ). digest_in s block (i / fan s ^ l % fan s)) above
-    ∙ sym (true_chain-up s ys i l (digest-slot s) some (omega (arith, below, same))) in
-    chains-collide-by s xs ys i two same below l (omega (arith, most)) lower
-    (bytes_eq (hashed_above s xs i l) (hashed_above s ys i l)) refl
-
 -- one data block
 block-bound : (s : TreeSettingsFields) (xs ys : List (List ℕ)) (i : ℕ) → 2 ≤ fan s → length xs ≡ length ys → i < length xs
     → root s xs ≡ root s ys → (get_or xs i [] ≡ get_or ys i []) ⊎ TreesCollide s xs ys
+unfolding hash
 block-bound s xs ys i two same below one =
     let levels = level_count (fan s) (length xs) in
     let beside : i < length ys = omega (arith, below, same) in
-    chains-collide-by s xs ys i two same below levels (omega arith)
-    (true_chain-root s xs i two below ∙ one ∙ sym (true_chain-root s ys i two beside)
-    ∙ ap (λ (n : ℕ). hash s (true_chain s ys i (level_count (fan s) n))) (sym same))
-    (bytes_eq (hashed_above s xs i levels) (hashed_above s ys i levels)) refl
-
--- the first k data blocks
-blocks-bound-below : (s : TreeSettingsFields) (xs ys : List (List ℕ)) → 2 ≤ fan s → length xs ≡ length ys
-    → root s xs ≡ root s ys → (k : ℕ) → k ≤ length xs
-    → ((i : ℕ) → i < k → get_or xs i [] ≡ get_or ys i []) ⊎ TreesCollide s xs ys
-blocks-bound-below s xs ys two same one zero most = inl (λ i low. absurd (omega (arith, low)))
-blocks-bound-below s xs ys two same one (suc k) most =
-    elim (blocks-bound-below s xs ys two same one k (omega (arith, most))) [
-      | inl before ↦ elim (block-bound s xs ys k two same (omega (arith, most)) one) [
-        | inl here ↦ inl (λ i low. elim (cases_lt i k) [
-          | inl less ↦ before i less
-          | inr past ↦
-              let last : i ≡ k = omega (arith, low, past) in
-              ap (λ (n : ℕ). get_or xs n []) last ∙ here ∙ ap (λ (n : ℕ). get_or ys n []) (sym last)
-        ])
-        | inr collide ↦ inr collide
-      ]
-      | inr collide ↦ inr collide
+    elim (chains-meet (hash s) (true_chain s xs i) (true_chain s ys i) levels levels (omega arith)
+    (λ l _ above.
+    grind (arith, above, true_chain-up s xs i l below, true_chain-up s ys i l beside))
+    (grind (arith, one, same, true_chain-root s xs i two below, true_chain-root s ys i two beside))) [
+      | inl here ↦ inl here
+      | inr met ↦ inr (record {
+        index = i;
+        levels = met.0;
+        index_below = below;
+        levels_most = met.1;
+        collide = record {
+          differ = λ e. met.2 (salted_input-block s.algorithm s.rule s.salt _ _ e);
+          one_hash = met.3;
+        };
+      })
     ]
+
+-- each number below some one has a property, or something else is so
+all-or : (P : ℕ → Type 0) (other : Type 0) (n : ℕ) → ((i : ℕ) → i < n → P i ⊎ other) → ((i : ℕ) → i < n → P i) ⊎ other
+all-or P other zero each = inl (λ i low. absurd (omega (arith, low)))
+all-or P other (suc n) each = elim (all-or P other n (λ i low. each i (omega (arith, low)))) [
+  | inl before ↦ elim (each n (omega arith)) [
+    | inl here ↦ inl (λ i low. below_more P n before here i (omega (arith, low)))
+    | inr so ↦ inr so
+  ]
+  | inr so ↦ inr so
+]
 
 -- all data blocks
 pub blocks-bound : (s : TreeSettingsFields) (xs ys : List (List ℕ)) → 2 ≤ fan s → length xs ≡ length ys
     → root s xs ≡ root s ys → (xs ≡ ys) ⊎ TreesCollide s xs ys
 blocks-bound s xs ys two same one =
-    elim (blocks-bound-below s xs ys two same one (length xs) (omega arith)) [
+    elim (all-or (λ i. get_or xs i [] ≡ get_or ys i []) (TreesCollide s xs ys) (length xs)
+    (λ i below. block-bound s xs ys i two same below one)) [
       | inl each ↦ inl (ext_get_or [] xs ys same each)
       | inr collide ↦ inr collide
     ]
@@ -121,33 +92,10 @@ byte-cut s n wanted bytes k some room enough below =
     let i = k / d in
     let split : i * d + k % d ≡ k = div-add-mod' k d in
     let low : k % d < d = mod_below k d some in
-    let few : i < n = elim (cases_lt i n) [
-      | inl less ↦ less
-      | inr past ↦
-          let far : n * d ≤ i * d = mul_le n i d past in
-          absurd (omega (arith, far, split, below, room))
-    ] in
+    let few : i < n = div_below k d n some (omega (arith, below, room)) in
     let long : length all ≡ wanted = length-take-le wanted bytes enough in
-    let inside : k % d < length (slice_chunk all d i) =
-    omega (arith, length-take d (drop (i * d) all), length-drop (i * d) all, split, low, below, long) in
-    ap (λ (block : List ℕ). get_or block (k % d) 0)
-    (get_or-map-range_with_len (block_at d all) 0 n i i [] few (omega arith))
-    ∙ get_or_append_left (slice_chunk all d i) (replicate (d - length (slice_chunk all d i)) 0) 0 (k % d) inside
-    ∙ get_or-take d (drop (i * d) all) (k % d) 0 low ∙ get_or-drop (i * d) all (k % d) 0
-    ∙ ap (λ (n : ℕ). get_or all n 0) split
-
--- the covered bytes are those of the data blocks
-pub bytes-cut : (s : TreeSettingsFields) (n wanted : ℕ) (x y : List ℕ) → 0 < s.data_block → wanted ≤ n * s.data_block
-    → wanted ≤ length x → wanted ≤ length y → cut s n wanted x ≡ cut s n wanted y → take wanted x ≡ take wanted y
-bytes-cut s n wanted x y some room of_x of_y same =
-    let long_x : length (take wanted x) ≡ wanted = length-take-le wanted x of_x in
-    let long_y : length (take wanted y) ≡ wanted = length-take-le wanted y of_y in
-    ext_get_or 0 (take wanted x) (take wanted y) (long_x ∙ sym long_y)
-    (λ k low.
-    let below : k < wanted = omega (arith, low, long_x) in
-    sym (byte-cut s n wanted x k some room of_x below)
-    ∙ ap (λ (blocks : List (List ℕ)). get_or (get_or blocks (k / s.data_block) []) (k % s.data_block) 0) same
-    ∙ byte-cut s n wanted y k some room of_y below)
+    let block = get_or-map-range_with_len (block_at d all) 0 n i i [] few (omega arith) in
+    ap (λ (xs : List ℕ). get_or xs (k % d) 0) block ∙ grind (arith, common_steps, split, low, below, long)
 
 -- all covered bytes
 pub bytes-bound : (s : TreeSettingsFields) (n wanted : ℕ) (x y : List ℕ) → 2 ≤ fan s → 0 < s.data_block
@@ -155,9 +103,13 @@ pub bytes-bound : (s : TreeSettingsFields) (n wanted : ℕ) (x y : List ℕ) →
     → root s (cut s n wanted x) ≡ root s (cut s n wanted y)
     → (take wanted x ≡ take wanted y) ⊎ TreesCollide s (cut s n wanted x) (cut s n wanted y)
 bytes-bound s n wanted x y two some room of_x of_y one =
+    let long_x : length (take wanted x) ≡ wanted = length-take-le wanted x of_x in
+    let long_y : length (take wanted y) ≡ wanted = length-take-le wanted y of_y in
     elim (blocks-bound s (cut s n wanted x) (cut s n wanted y) two
     (length-cut s n wanted x ∙ sym (length-cut s n wanted y)) one) [
-      | inl same ↦ inl (bytes-cut s n wanted x y some room of_x of_y same)
+      | inl same ↦ inl (ext_get_or 0 (take wanted x) (take wanted y) (long_x ∙ sym long_y) (λ k low.
+          let below : k < wanted = omega (arith, low, long_x) in
+          grind (arith, same, byte-cut s n wanted x k some room of_x below, byte-cut s n wanted y k some room of_y below)))
       | inr collide ↦ inr collide
     ]
 
@@ -185,56 +137,28 @@ salted_input-salt algorithm After salt other x y dm long e =
     sym (drop_at x salt (length x) refl) ∙ ap (drop (length x)) e ∙ drop_at y other (length x) (sym long)
 salted_input-salt algorithm PaddedBefore salt other x y dm long e = absurd (dm refl)
 
--- the length of a block above the first data block
-length-above : (p : PlanFields) (bytes : List ℕ) (l : ℕ) → IsPlan p
-    → length (true_chain p.settings (data_blocks p bytes) 0 l) ≡ block_size_up p.settings l
-length-above p bytes zero planned =
-    length-data p.settings p.blocks p.wanted bytes 0 (blocks-some p planned)
-length-above p bytes (suc l) planned =
-    let s = p.settings in
-    let many : length (data_blocks p bytes) ≡ p.blocks = length-cut s p.blocks p.wanted bytes in
-    length-true_chain s (data_blocks p bytes) 0 l (digest-slot s) (fan-pos s planned.valid)
-    (fan-fits s planned.valid) (omega (arith, many, blocks-some p planned))
-    ∙ sym (size-up s l)
-
--- the hash of what stands at the top
-hash-last : (p : PlanFields) (bytes : List ℕ) → IsPlan p
-    → hash p.settings (true_chain p.settings (data_blocks p bytes) 0 (level_count_of p))
-    ≡ root p.settings (data_blocks p bytes)
-hash-last p bytes planned =
-    let s = p.settings in
-    let blocks = data_blocks p bytes in
-    let many : length blocks ≡ p.blocks = length-cut s p.blocks p.wanted bytes in
-    ap (λ (n : ℕ). hash s (true_chain s blocks 0 (level_count (fan s) n))) (sym many)
-    ∙ true_chain-root s blocks 0 (fan-two s planned.valid) (omega (arith, many, blocks-some p planned))
-
-same-levels : (p : PlanFields) (salt : List ℕ) → level_count_of (with_salt p salt) ≡ level_count_of p
-unfolding fan
-same-levels p salt = refl
+-- the length of the top block
+length-last : (p : PlanFields) (bytes : List ℕ) → IsPlan p
+    → length (true_chain p.settings (data_blocks p bytes) 0 (level_count_of p)) ≡ block_size_up p.settings (level_count_of p)
+length-last p bytes planned =
+    length-up p (true_chain p.settings (data_blocks p bytes) 0) (level_count_of p) (omega arith)
+    (length-data p.settings p.blocks p.wanted bytes 0 (blocks-some p planned))
+    (λ m _. length-true_block p bytes 0 m planned (blocks-some p planned))
 
 -- plans that differ in the salt alone
 pub salt-bound : (p : PlanFields) (salt x y : List ℕ) → IsPlan p → IsPlan (with_salt p salt)
     → p.settings.rule ≢ PaddedBefore
     → root p.settings (data_blocks p x) ≡ root (with_salt p salt).settings (data_blocks (with_salt p salt) y)
     → (p.settings.salt ≡ salt) ⊎ Collide p.settings.algorithm (hashed_last p x) (hashed_last (with_salt p salt) y)
-unfolding hash
+unfolding hash fan
 salt-bound p salt x y planned other dm one =
-    by_test (bytes_eq (hashed_last p x) (hashed_last (with_salt p salt) y)) refl
-  where
-    by_test : (b : Bool) → bytes_eq (hashed_last p x) (hashed_last (with_salt p salt) y) ≡ b
-        → (p.settings.salt ≡ salt) ⊎ Collide p.settings.algorithm (hashed_last p x) (hashed_last (with_salt p salt) y)
-    by_test false apart = inr (record {
-      differ = bytes_eq-false _ _ apart;
-      one_hash = hash-last p x planned ∙ one ∙ sym (hash-last (with_salt p salt) y other);
-    })
-    by_test true equal =
-        let q = with_salt p salt in
-        let long : length (true_chain p.settings (data_blocks p x) 0 (level_count_of p))
-        ≡ length (true_chain q.settings (data_blocks q y) 0 (level_count_of q)) =
-        length-above p x (level_count_of p) planned
-        ∙ ap (block_size_up p.settings) (sym (same-levels p salt))
-        ∙ sym (length-above q y (level_count_of q) other) in
-        inl (salted_input-salt p.settings.algorithm p.settings.rule p.settings.salt salt
-        (true_chain p.settings (data_blocks p x) 0 (level_count_of p))
-        (true_chain q.settings (data_blocks q y) 0 (level_count_of q)) dm long
-        ((bytes_eq-Decides (hashed_last p x) (hashed_last q y)).0 equal))
+    let q = with_salt p salt in
+    elim (same_or_two (hashed_last p x) (hashed_last q y)) [
+      | inl equal ↦ inl (salted_input-salt p.settings.algorithm p.settings.rule p.settings.salt salt _ _ dm
+          (length-last p x planned ∙ sym (length-last q y other)) equal)
+      | inr differ ↦ inr (record {
+        differ = differ;
+        one_hash = true_chain-top p x 0 planned (blocks-some p planned) ∙ one
+            ∙ sym (true_chain-top q y 0 other (blocks-some q other));
+      })
+    ]

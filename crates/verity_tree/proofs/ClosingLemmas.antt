@@ -1,11 +1,12 @@
 -- A digest on its way up: which hash blocks close with its data block.
-use Rattle.std.proofs.Common.{List, ap, arith, inl, inr, length, refl, subst, suc}
-use Rattle.std.proofs.Common.{sym, true, zero, ℕ, ◌%◌, ◌*◌, ◌+◌, ◌-◌, ◌/◌, ◌<◌, ◌^◌, ◌∙◌, ◌≡◌, ◌≤◌}
+use Rattle.std.proofs.Common.{List, ap, arith, inl, inr, length}
+use Rattle.std.proofs.Common.{sym, true, ℕ, ◌%◌, ◌*◌, ◌+◌, ◌-◌, ◌/◌, ◌<◌, ◌^◌, ◌∙◌, ◌≡◌, ◌≤◌}
 use Rattle.std.proofs.lemmas.Bool.{cases_lt}
-use Rattle.std.proofs.lemmas.Nat.{div-add-mod', div-mul-add}
-use Rattle.std.proofs.Math.Nat.{one-le-pow, pow-suc}
+use Rattle.std.proofs.lemmas.Nat.{div-mul-add, mod-mul-add, pow-add}
+use Rattle.std.proofs.Math.Nat.{one-le-pow}
+use Rattle.verity_tree.proofs.QuotientLemmas.{div_ceil-last}
 use Rattle.verity_plan.specs.Settings.{TreeSettingsFields, fan}
-use Rattle.verity_plan.specs.Plans.{level_count, level_size}
+use Rattle.verity_plan.specs.Plans.{level_count, level_size, place}
 use Rattle.verity_tree.specs.ClosingOrder.{closing_with, closes, first_closing}
 use Rattle.verity_tree.specs.Steps.OpenBlocks.{IsReached, IsCarrying}
 use Rattle.verity_tree.specs.Steps.OpenBlocks.{carry_state}
@@ -15,41 +16,18 @@ use Rattle.verity_tree.proofs.OpenBlockSteps.{level_digest-root}
 use Rattle.verity_tree.proofs.OrderSplit.{closing-prefix, closes-reached, closes-last, closes-none}
 use Rattle.verity_tree.specs.Steps.OpenBlocks.{HasClosed}
 
-positive : (k : ℕ) → (k ≡ 0 → ⊥) → k ≡ (k - 1) + 1
-positive zero h = absurd (h refl)
-positive (suc k) h = omega arith
-
 -- what is reached was reached at the levels below
-reached-before : (f i m : ℕ) → 0 < f → IsReached f i (m + 1) → IsReached f i m
-reached-before f i m some h = record {
-  whole =
-      let w = f ^ m in
-      let k = (i / f ^ (m + 1) + 1) * f in
-      let e : m + 1 ≡ suc m = omega arith in
-      let power : f ^ (m + 1) ≡ w * f = ap (λ (n : ℕ). f ^ n) e ∙ pow-suc f m in
-      let wide : 0 < w = one-le-pow m f some in
-      let whole : i + 1 ≡ k * w = omega (arith, h.whole, ap (λ (n : ℕ). (i / f ^ (m + 1) + 1) * n) power) in
-      let split = div-add-mod' i w in
-      let one : k ≡ (k - 1) + 1 = positive k (λ none. omega (arith, whole, ap (λ (n : ℕ). n * w) none)) in
-      let area : k * w ≡ (k - 1) * w + w =
-      ap (λ (n : ℕ). n * w) one ∙ (let t : (k - 1 + 1) * w ≡ (k - 1) * w + w = omega arith in t) in
-      let here : i ≡ (k - 1) * w + (w - 1) = omega (arith, whole, area, wide) in
-      let less : w - 1 < w = omega (arith, wide) in
-      let q : i / w ≡ k - 1 = ap (λ (n : ℕ). n / w) here ∙ div-mul-add (k - 1) w (w - 1) less in
-      let next : i / w + 1 ≡ k = omega (arith, q, one) in
-      whole ∙ ap (λ (n : ℕ). n * w) (sym next);
-}
-
-reached-down-by : (f i l k : ℕ) → 0 < f → IsReached f i (l + k) → IsReached f i l
-reached-down-by f i l zero some h = let e : l + 0 ≡ l = omega arith in subst (λ (n : ℕ). IsReached f i n) e h
-reached-down-by f i l (suc k) some h =
-    let e : l + suc k ≡ l + k + 1 = omega arith in
-    reached-down-by f i l k some (reached-before f i (l + k) some (subst (λ (n : ℕ). IsReached f i n) e h))
-
 pub reached-down : (f i m l : ℕ) → 0 < f → IsReached f i m → l ≤ m → IsReached f i l
 reached-down f i m l some h le =
-    let e : m ≡ l + (m - l) = omega arith in
-    reached-down-by f i l (m - l) some (subst (λ (n : ℕ). IsReached f i n) e h)
+    let w = f ^ l in
+    let k = (i / f ^ m + 1) * f ^ (m - l) in
+    let wide : 0 < w = one-le-pow l f some in
+    let e : m ≡ m - l + l = omega arith in
+    let power : f ^ m ≡ f ^ (m - l) * w = ap (λ (n : ℕ). f ^ n) e ∙ pow-add f (m - l) l in
+    let whole : i + 1 ≡ k * w + 0 = omega (arith, h.whole, ap (λ (n : ℕ). (i / f ^ m + 1) * n) power) in
+    let next : i / w + 1 ≡ k =
+    grind (arith, whole, div-mul-add k w 0 wide, mod-mul-add k w 0 wide, div_ceil-last i w wide) in
+    record { whole = omega (arith, whole, ap (λ (n : ℕ). n * w) next) }
 
 -- a level that stays open ends the data block's list
 pub closing-kept : (s : TreeSettingsFields) (blocks : List (List ℕ)) (i m levels count : ℕ) (store digest : List ℕ)

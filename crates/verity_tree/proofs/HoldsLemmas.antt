@@ -1,24 +1,21 @@
 -- A device that holds the whole tree, and the verdict on it.
-use Rattle.std.proofs.Common.{◌≡◌, ℕ, ◌+◌, ◌/◌, ◌<◌, ◌≤◌, Bool, true, false, cond, List, [], ◌∷◌, length}
-use Rattle.std.proofs.Common.{arith, sym, ◌∙◌, ap, refl, inl, inr, Ok, Err, eqb}
-use Rattle.std.proofs.lemmas.Bool.{cases_lt}
-use Rattle.std.proofs.lemmas.Bool.Decides.{nat_tests, eqb_tells}
+use Rattle.std.proofs.Common.{◌≡◌, ℕ, ◌+◌, ◌/◌, ◌<◌, ◌≤◌, Bool, false, cond, List, [], ◌∷◌, length}
+use Rattle.std.proofs.Common.{arith, sym, ◌∙◌, ap, refl, inl, inr, Ok}
+use Rattle.std.proofs.lemmas.Bool.{cases_Bool, not-false}
+use Rattle.std.proofs.lemmas.Bool.Decides.{nat_tests}
 use Rattle.std.proofs.lemmas.List.Elements.{All-cons, All-nil}
 use Rattle.std.proofs.lemmas.List.Sums.{sum_by-cons}
 use Rattle.std.proofs.lemmas.Nat.{div-add-mod'}
-use Rattle.std.proofs.lemmas.Option.{none-some}
 use Rattle.std.proofs.lemmas.Slice.Eq.{bytes_eq-Decides}
-use Rattle.std.specs.Prelude.{if◌then◌else◌, find, not, nat_lt, nat_le, Some, None, Option, Result, ◌==◌, ◌&&◌, ◌⊎◌}
-use Rattle.std.specs.Str.{bytes_eq}
+use Rattle.std.specs.Prelude.{find, Some, None, Option, ◌==◌, ◌&&◌, ◌⊎◌}
 use Rattle.verity_plan.specs.Plans.{PlanFields, IsPlan}
 use Rattle.verity_plan.specs.Settings.{fan}
 use Rattle.verity_plan.proofs.CountLemmas.{le-div_ceil}
 use Rattle.verity_plan.proofs.FanLemmas.{fan-some, some_data}
 use Rattle.verity_tree.specs.ClosingOrder.{BlockIndex, block_index, closed_after, times}
-use Rattle.verity_tree.specs.TreeOnDevice.{tree_block, HoldsTree, stored_block}
+use Rattle.verity_tree.specs.TreeOnDevice.{HoldsTree}
 use Rattle.verity_tree.specs.Levels.{root, data_blocks, whole_blocks}
 use Rattle.verity_tree.specs.Verdicts.{NoneDiffers, HoldsBlockAt, differs, verdict_by, verdict}
-use Rattle.verity_tree.specs.declared.comparing.CompareFault.{CompareFault}
 use Rattle.verity_tree.proofs.DataBlockLemmas.{whole_blocks-all}
 use Rattle.verity_tree.proofs.JudgeLemmas.{judges-right}
 use Rattle.verity_tree.proofs.OrderLemmas.{ClosesOnce-all}
@@ -32,54 +29,24 @@ times-more l j at hash_blocks =
 -- a block that is counted is the first, or counted among the rest
 pub times-cases : (l j : ℕ) (at : BlockIndex) (hash_blocks : List BlockIndex) → 0 < times l j (at ∷ hash_blocks)
     → ((at.level ≡ l) × (at.index ≡ j)) ⊎ (0 < times l j hash_blocks)
-times-cases l j at hash_blocks some =
-    let skip : (at.level == l) && (at.index == j) ≡ false → 0 < times l j hash_blocks = λ miss.
-    let fewer : times l j (at ∷ hash_blocks) ≡ 0 + times l j hash_blocks =
-    times-more l j at hash_blocks ∙ ap (λ (b : Bool). cond b 1 0 + times l j hash_blocks) miss in
-    omega (arith, some, fewer) in
-    elim (eqb_tells at.level l) [
-      | inl left ↦ elim (eqb_tells at.index j) [
-        | inl right ↦ inl (left.1, right.1)
-        | inr other ↦ inr (skip (ap (λ (b : Bool). b && (at.index == j)) left.0 ∙ other.0))
-      ]
-      | inr other ↦ inr (skip (ap (λ (b : Bool). b && (at.index == j)) other.0))
-    ]
+times-cases l j at hash_blocks some = grind (arith, nat_tests, some, times-more l j at hash_blocks)
 
 -- a block that is counted among blocks of which none passes a test doesn't pass it
 times-none : (test : BlockIndex → Bool) (l j : ℕ) (hash_blocks : List BlockIndex) → find test hash_blocks ≡ None
     → 0 < times l j hash_blocks
     → test (block_index l j) ≡ false
 times-none test l j [] none some = absurd (omega (arith, some))
-times-none test l j (at ∷ hash_blocks) none some = go (test at) refl (times-none test l j hash_blocks)
-  where
-    go : (b : Bool) → test at ≡ b
-        → (find test hash_blocks ≡ None → 0 < times l j hash_blocks → test (block_index l j) ≡ false)
-        → test (block_index l j) ≡ false
-    go true does rest =
-        let found : find test (at ∷ hash_blocks) ≡ Some at =
-        ap (λ (b : Bool). cond b (Some at) (find test hash_blocks)) does in
-        absurd (none-some at (sym none ∙ found))
-    go false fails rest =
-        let passed : find test (at ∷ hash_blocks) ≡ find test hash_blocks =
-        ap (λ (b : Bool). cond b (Some at) (find test hash_blocks)) fails in
-        elim (times-cases l j at hash_blocks some) [
-          | inl here ↦
-              ap (λ (k : ℕ). test (block_index k j)) (sym here.0)
-              ∙ ap (λ (k : ℕ). test (block_index at.level k)) (sym here.1)
-              ∙ fails
-          | inr later ↦ rest (sym passed ∙ none) later
-        ]
+times-none test l j (at ∷ hash_blocks) none some = elim (cases_Bool (test at)) [
+  | inl does ↦ let found = rw does at none in cc
+  | inr fails ↦ elim (times-cases l j at hash_blocks some) [
+    | inl here ↦ let level = here.0 in let index = here.1 in rw (← level, ← index) fails
+    | inr later ↦ times-none test l j hash_blocks (rw fails at none) later
+  ]
+]
 
 -- a block is counted among blocks of which it is the first
 pub times-first : (at : BlockIndex) (hash_blocks : List BlockIndex) → 0 < times at.level at.index (at ∷ hash_blocks)
-times-first at hash_blocks =
-    let a : eqb at.level at.level ≡ true = grind (arith, nat_tests) in
-    let b : eqb at.index at.index ≡ true = grind (arith, nat_tests) in
-    let count : times at.level at.index (at ∷ hash_blocks) ≡ 1 + times at.level at.index hash_blocks =
-    times-more at.level at.index at hash_blocks
-    ∙ ap (λ (b : Bool). cond (b && (at.index == at.index)) 1 0 + times at.level at.index hash_blocks) a
-    ∙ ap (λ (b : Bool). cond b 1 0 + times at.level at.index hash_blocks) b in
-    omega (arith, count)
+times-first at hash_blocks = grind (arith, nat_tests, times-more at.level at.index at hash_blocks)
 
 -- blocks that all stand there, each that is counted
 stands-counted : (p : PlanFields) (blocks : List (List ℕ)) (device : List ℕ) (hash_blocks : List BlockIndex)
@@ -91,23 +58,6 @@ stands-counted p blocks device (at ∷ hash_blocks) each =
     (stands-counted p blocks device hash_blocks
     (λ l j some. each l j (omega (arith, some, times-more l j at hash_blocks))))
 
--- data of which no block is short holds all that is wanted
-whole-enough : (p : PlanFields) → IsPlan p → (bytes : List ℕ) → p.blocks ≤ whole_blocks p bytes → p.wanted ≤ length bytes
-whole-enough p planned bytes all = elim (cases_lt (length bytes) p.wanted) [
-  | inl less ↦
-      let tested : nat_le p.wanted (length bytes) ≡ false = grind (arith, nat_tests, less) in
-      let count : whole_blocks p bytes ≡ length bytes / p.settings.data_block = rw tested refl in
-      let wide = some_data p.settings planned.valid in
-      omega (
-        arith,
-        less,
-        div-add-mod' (length bytes) p.settings.data_block,
-        le-div_ceil p.wanted p.settings.data_block (length bytes / p.settings.data_block) wide
-            (omega (arith, all, count, planned.blocks_are)),
-      )
-  | inr enough ↦ enough
-]
-
 -- a device that holds the tree has this verdict
 pub holds-right : (p : PlanFields) (device bytes digest : List ℕ) → HoldsTree p device bytes digest
     → verdict p device bytes digest ≡ Ok tt
@@ -118,39 +68,13 @@ holds-right p device bytes digest holds =
     (λ l j some. holds.stands l j (once.only l j some)))
     refl holds.root_is
 
--- what the last two tests of a verdict say if all is right
-tests-right : (short same : Bool) (x y : CompareFault)
-    → ◌≡◌ {A = Result Unit CompareFault} (if short then Err x else (if same then Ok tt else Err y)) (Ok tt)
-    → (short ≡ false) × (same ≡ true)
-tests-right true same x y right = cc
-tests-right false true x y right = (refl, refl)
-tests-right false false x y right = cc
-
 -- a verdict that all is right: nothing differs, no block is missing, and the root hash is the tree's
 all-right : (p : PlanFields) (device bytes digest : List ℕ) (met : Option BlockIndex)
     → verdict_by p device bytes met digest ≡ Ok tt
     → (met ≡ None) × (p.blocks ≤ whole_blocks p bytes) × (root p.settings (data_blocks p bytes) ≡ digest)
 all-right p device bytes digest (Some at) right = cc
 all-right p device bytes digest None right =
-    let tests = tests-right (nat_lt (whole_blocks p bytes) p.blocks) (bytes_eq (root p.settings (data_blocks p bytes)) digest)
-    _ _ right in
-    let long : nat_lt (whole_blocks p bytes) p.blocks ≡ false = tests.0 in (
-      refl,
-      grind (arith, nat_tests, long),
-      (bytes_eq-Decides (root p.settings (data_blocks p bytes)) digest).0 tests.1,
-    )
-
-not-false : (b : Bool) → not b ≡ false → b ≡ true
-not-false true e = refl
-not-false false e = cc
-
--- a block that doesn't differ stands there
-same-stands : (p : PlanFields) (blocks : List (List ℕ)) (device : List ℕ) (at : BlockIndex)
-    → differs p blocks device at ≡ false
-    → HoldsBlockAt p blocks device at
-same-stands p blocks device at same =
-    (bytes_eq-Decides (stored_block p device at.level at.index) (tree_block p.settings blocks at.level at.index)).0
-    (not-false _ same)
+    (refl, grind (arith, nat_tests, right), (bytes_eq-Decides _ _).0 (grind (arith, nat_tests, right)))
 
 -- a device with this verdict holds the tree, if the data is long enough
 pub right-holds_enough : (p : PlanFields) (device bytes digest : List ℕ) → p.wanted ≤ length bytes
@@ -167,10 +91,9 @@ right-holds_enough p device bytes digest enough right =
     (sym (whole_blocks-all p bytes enough)) ∙ tests.0 in
     record {
       enough = enough;
-      stands = λ l j here.
-          same-stands p blocks device (block_index l j)
+      stands = λ l j here. (bytes_eq-Decides _ _).0 (not-false _
           (times-none (differs p blocks device) l j (closed_after f p.blocks p.blocks) none
-          (let one = (ClosesOnce-all f p.blocks (fan-some p.settings)).once l j here in omega (arith, one)));
+          (let one = (ClosesOnce-all f p.blocks (fan-some p.settings)).once l j here in omega (arith, one))));
       root_is = tests.2;
     }
 
@@ -180,5 +103,8 @@ pub right-holds : (p : PlanFields) (device bytes digest : List ℕ) → IsPlan p
 right-holds p device bytes digest planned right =
     let met =
     find (differs p (data_blocks p bytes) device) (closed_after (fan p.settings) p.blocks (whole_blocks p bytes)) in
+    let tests = all-right p device bytes digest met right in
+    let d = p.settings.data_block in
+    let enough = le-div_ceil p.wanted d (length bytes / d) (some_data p.settings planned.valid) in
     right-holds_enough p device bytes digest
-    (whole-enough p planned bytes (all-right p device bytes digest met right).1) right
+    (grind (arith, nat_tests, tests.1, enough, div-add-mod' (length bytes) d, planned.blocks_are)) right

@@ -1,15 +1,16 @@
 -- The verdict from what a comparison came to.
 use Rattle.std.proofs.Common.{◌≡◌, ◌≢◌, ℕ, ◌+◌, ◌-◌, ◌≤◌, Bool, true, false, List, [], ◌∷◌, ◌++◌, length}
 use Rattle.std.proofs.Common.{arith, sym, ◌∙◌, ap, refl, subst, Ok, Err, append_assoc}
+use Rattle.std.proofs.Common.{cond}
+use Rattle.std.proofs.lemmas.Bool.{false_from_ne_true, not_from_false, not_from_true}
 use Rattle.std.proofs.lemmas.Bool.Decides.{nat_tests}
+use Rattle.std.proofs.lemmas.List.Folds.{find-append}
 use Rattle.std.proofs.lemmas.List.Elements.{All-head, All-tail}
 use Rattle.std.proofs.lemmas.Slice.Eq.{bytes_eq-Decides}
-use Rattle.std.specs.Prelude.{find, not, nat_lt, Some, None, Option}
-use Rattle.std.proofs.lemmas.Bool.{not-true}
+use Rattle.std.specs.Prelude.{find, Some, None}
 use Rattle.std.specs.Str.{bytes_eq}
 use Rattle.verity_tree.specs.Reading.{EndsWithin}
 use Rattle.verity_tree.specs.ClosingOrder.{BlockIndex, block_index, closed_after}
-use Rattle.verity_tree.specs.TreeOnDevice.{tree_block, stored_block}
 use Rattle.verity_tree.specs.Comparing.{ComesTo}
 use Rattle.verity_tree.specs.Steps.OnClosed.{IsStopFor, KeepsSame, HoldsAll, StopsComparing, effects, is_unread}
 use Rattle.verity_tree.specs.Steps.OnePass.{StopsFor}
@@ -27,62 +28,53 @@ use Rattle.verity_tree.proofs.OnePassLemmas.{stops-next}
 use Rattle.verity_tree.proofs.OrderSplit.{closed_after-prefix}
 use Rattle.verity_tree.proofs.DataBlockLemmas.{whole_blocks-above, whole_blocks-all}
 
--- a block that stands there does not differ
-stands-same : (p : PlanFields) (blocks : List (List ℕ)) (device : List ℕ) (at : BlockIndex)
-    → HoldsBlockAt p blocks device at
-    → differs p blocks device at ≡ false
-stands-same p blocks device at h =
-    let same =
-    (bytes_eq-Decides (stored_block p device at.level at.index) (tree_block p.settings blocks at.level at.index)).1 h in
-    ap not same
-
 -- no first one that differs among blocks that stand there
 find-none : (p : PlanFields) (blocks : List (List ℕ)) (device : List ℕ) (hash_blocks : List BlockIndex)
     → NoneDiffers p blocks device hash_blocks
     → find (differs p blocks device) hash_blocks ≡ None
 find-none p blocks device [] h = refl
 find-none p blocks device (at ∷ hash_blocks) h =
-    let stands = stands-same p blocks device at (All-head (HoldsBlockAt p blocks device) at hash_blocks h) in
+    let here = All-head (HoldsBlockAt p blocks device) at hash_blocks h in
+    let stands : differs p blocks device at ≡ false = not_from_true _ ((bytes_eq-Decides _ _).1 here) in
     rw stands (find-none p blocks device hash_blocks (All-tail (HoldsBlockAt p blocks device) at hash_blocks h))
 
 -- the first one that differs comes after blocks that stand there
 find-first : (p : PlanFields) (blocks : List (List ℕ)) (device : List ℕ) (front rest : List BlockIndex) (at : BlockIndex)
     → NoneDiffers p blocks device front
     → differs p blocks device at ≡ true → find (differs p blocks device) (front ++ (at ∷ rest)) ≡ Some at
-find-first p blocks device [] rest at h here = rw here refl
-find-first p blocks device (first ∷ front) rest at h here =
-    let stands = stands-same p blocks device first (All-head (HoldsBlockAt p blocks device) first front h) in
-    rw stands (find-first p blocks device front rest at (All-tail (HoldsBlockAt p blocks device) first front h) here)
+find-first p blocks device front rest at h here =
+    let none = find-none p blocks device front h in
+    find-append (differs p blocks device) front (at ∷ rest) ∙ rw (none, here) refl
 
 -- bytes that are another's are not equal
-bytes-differ : (xs ys : List ℕ) → xs ≢ ys → not (bytes_eq xs ys) ≡ true
-bytes-differ xs ys other = go (bytes_eq xs ys) (bytes_eq-Decides xs ys).0
-  where
-    go : (b : Bool) → (b ≡ true → xs ≡ ys) → not b ≡ true
-    go true same = absurd (other (same refl))
-    go false same = refl
+bytes-differ : (xs ys : List ℕ) → xs ≢ ys → bytes_eq xs ys ≡ false
+bytes-differ xs ys other = false_from_ne_true _ (λ same. other ((bytes_eq-Decides xs ys).0 same))
 
--- all stands there, and the data is whole
-verdict_by-whole : (p : PlanFields) (device bytes digest : List ℕ) → p.wanted ≤ length bytes
-    → NoneDiffers p (data_blocks p bytes) device (closed_after (fan p.settings) p.blocks p.blocks)
+-- the verdict if no block differs
+verdict-none : (p : PlanFields) (device bytes digest : List ℕ) (m : ℕ) → whole_blocks p bytes ≡ m
+    → NoneDiffers p (data_blocks p bytes) device (closed_after (fan p.settings) p.blocks m)
     → verdict p device bytes digest ≡ verdict_by p device bytes None digest
-verdict_by-whole p device bytes digest enough none =
+verdict-none p device bytes digest m whole none =
     let blocks = data_blocks p bytes in
-    ap (λ (m : ℕ). verdict_by p device bytes
-    (find (differs p blocks device) (closed_after (fan p.settings) p.blocks m)) digest)
-    (whole_blocks-all p bytes enough)
-    ∙ ap (λ (met : Option BlockIndex). verdict_by p device bytes met digest)
-    (find-none p blocks device (closed_after (fan p.settings) p.blocks p.blocks) none)
+    let found = find-none p blocks device (closed_after (fan p.settings) p.blocks m) none in
+    ap (λ (n : ℕ). verdict_by p device bytes
+    (find (differs p blocks device) (closed_after (fan p.settings) p.blocks n)) digest) whole ∙ rw found refl
+
+-- if the data is whole, the root is compared
+judges-whole : (p : PlanFields) (device bytes digest : List ℕ) (same : Bool) → p.wanted ≤ length bytes
+    → NoneDiffers p (data_blocks p bytes) device (closed_after (fan p.settings) p.blocks p.blocks)
+    → bytes_eq (root p.settings (data_blocks p bytes)) digest ≡ same
+    → verdict p device bytes digest ≡ cond same (Ok tt) (Err (RootDiffers (root p.settings (data_blocks p bytes))))
+judges-whole p device bytes digest same enough none compared =
+    let whole = whole_blocks-all p bytes enough in
+    grind (arith, nat_tests, compared, whole, verdict-none p device bytes digest p.blocks whole none)
 
 -- if the root is the computed one, all is right
 pub judges-right : (p : PlanFields) (device bytes computed digest : List ℕ) → p.wanted ≤ length bytes
     → NoneDiffers p (data_blocks p bytes) device (closed_after (fan p.settings) p.blocks p.blocks)
     → computed ≡ root p.settings (data_blocks p bytes) → computed ≡ digest → verdict p device bytes digest ≡ Ok tt
 judges-right p device bytes computed digest enough none is same =
-    let all : nat_lt (whole_blocks p bytes) p.blocks ≡ false =
-    let e = whole_blocks-all p bytes enough in grind (arith, nat_tests, e) in
-    let equal = (bytes_eq-Decides (root p.settings (data_blocks p bytes)) digest).1 (sym is ∙ same) in
-    verdict_by-whole p device bytes digest enough none ∙ rw (all, equal) refl
+    judges-whole p device bytes digest true enough none ((bytes_eq-Decides _ _).1 (sym is ∙ same))
 
 -- if it is another, the computed one is named
 pub judges-root : (p : PlanFields) (device bytes computed digest : List ℕ) → p.wanted ≤ length bytes
@@ -90,12 +82,7 @@ pub judges-root : (p : PlanFields) (device bytes computed digest : List ℕ) →
     → computed ≡ root p.settings (data_blocks p bytes) → computed ≢ digest
     → verdict p device bytes digest ≡ Err (RootDiffers computed)
 judges-root p device bytes computed digest enough none is other =
-    let all : nat_lt (whole_blocks p bytes) p.blocks ≡ false =
-    let e = whole_blocks-all p bytes enough in grind (arith, nat_tests, e) in
-    let unequal : bytes_eq (root p.settings (data_blocks p bytes)) digest ≡ false =
-    not-true (bytes_eq (root p.settings (data_blocks p bytes)) digest)
-    (bytes-differ (root p.settings (data_blocks p bytes)) digest (λ e. other (is ∙ e))) in
-    verdict_by-whole p device bytes digest enough none ∙ rw (all, unequal) refl
+    judges-whole p device bytes digest false enough none (bytes-differ _ _ (λ e. other (is ∙ e)))
     ∙ ap (λ (xs : List ℕ). Err (RootDiffers xs)) (sym is)
 
 -- if the data ends early, the block that it ends in is named
@@ -103,17 +90,7 @@ pub judges-short : (p : PlanFields) (device bytes after digest : List ℕ) (i : 
     → NoneDiffers p (data_blocks p bytes) device (closed_after (fan p.settings) p.blocks i)
     → verdict p device bytes digest ≡ Err (SourceShort i)
 judges-short p device bytes after digest i ends none =
-    let blocks = data_blocks p bytes in
-    let short : verdict_by p device bytes None digest ≡ Err (SourceShort (whole_blocks p bytes)) =
-    let less : nat_lt (whole_blocks p bytes) p.blocks ≡ true =
-    let below = ends.below in let e = ends.whole_is in grind (arith, nat_tests, below, e) in rw less refl in
-    ap (λ (m : ℕ). verdict_by p device bytes
-    (find (differs p blocks device) (closed_after (fan p.settings) p.blocks m)) digest)
-    (sym ends.whole_is)
-    ∙ ap (λ (met : Option BlockIndex). verdict_by p device bytes met digest)
-    (find-none p blocks device (closed_after (fan p.settings) p.blocks i) none)
-    ∙ short
-    ∙ ap (λ (m : ℕ). Err (SourceShort m)) (sym ends.whole_is)
+    grind (arith, nat_tests, verdict-none p device bytes digest i (sym ends.whole_is) none, ends.below, ends.whole_is)
 
 -- the first block that differs is named
 pub judges-differs : (p : PlanFields) → IsPlan p → (device bytes digest after : List ℕ) (stop : Stop CompareStop) (part : Part)
@@ -132,11 +109,9 @@ judges-differs p planned device bytes digest after stop part stops why =
     let split : closed_after f p.blocks m ≡ stops.done ++ (at ∷ (stops.next.rest ++ rest.0)) =
     ap (closed_after f p.blocks) e ∙ rest.1 ∙ ap (λ (ps : List BlockIndex). ps ++ rest.0) stops.next.in_order
     ∙ simp append_assoc in
-    ap (λ (ps : List BlockIndex). verdict_by p device bytes (find (differs p blocks device) ps) digest) split
-    ∙ ap (λ (met : Option BlockIndex). verdict_by p device bytes met digest)
-    (find-first p blocks device stops.done (stops.next.rest ++ rest.0) at stops.stopped.1
-    (bytes-differ _ _ differs_by.0))
-    ∙ ap (λ (q : Part). Err (F.Differs stop.level stop.block q)) (sym differs_by.1)
+    let met = find-first p blocks device stops.done (stops.next.rest ++ rest.0) at stops.stopped.1
+    (not_from_false _ (bytes-differ _ _ differs_by.0)) in
+    rw (split, met) (ap (λ (q : Part). Err (F.Differs stop.level stop.block q)) (sym differs_by.1))
 
 -- a failure at a block comes only if nothing before it differs
 pub comes-to : (p : PlanFields) (device bytes after : List ℕ) (stop : Stop CompareStop)

@@ -1,13 +1,13 @@
 -- The closing order, cut between data blocks and between levels.
-use Rattle.std.proofs.Common.{◌≡◌, ℕ, zero, suc, ◌+◌, ◌*◌, ◌/◌, ◌%◌, ◌^◌, ◌<◌, ◌≤◌, Bool, true, false, cond, eqb}
-use Rattle.std.proofs.Common.{List, [], ◌∷◌, ◌++◌, map, length, arith, sym, ◌∙◌, ap, refl, inl, inr, append_assoc}
-use Rattle.std.proofs.lemmas.Bool.Decides.{nat_tests, eqb_tells}
+use Rattle.std.proofs.Common.{◌≡◌, ℕ, zero, suc, ◌+◌, ◌/◌, ◌%◌, ◌^◌, ◌<◌, ◌≤◌, Bool, true, false}
+use Rattle.std.proofs.Common.{List, [], ◌∷◌, ◌++◌, map, length, arith, sym, ◌∙◌, ap, refl, append_assoc}
+use Rattle.std.proofs.lemmas.Bool.Decides.{nat_tests}
 use Rattle.std.proofs.lemmas.Nat.{div-add-mod', mod-mul-add}
 use Rattle.std.proofs.lemmas.List.FromFn.{map-range_with_len_more}
 use Rattle.std.proofs.lemmas.List.{append-nil, map-append}
 use Rattle.std.proofs.Math.Nat.{one-le-pow}
 use Rattle.std.specs.List.{filter, range_with_len}
-use Rattle.std.specs.Prelude.{◌==◌, ◌||◌, slice_index_or}
+use Rattle.std.specs.Prelude.{slice_index_or}
 use Rattle.verity_plan.specs.Plans.{level_count, start_byte}
 use Rattle.verity_tree.specs.ClosingOrder.{BlockIndex, block_index, closes, closing_with, closed_after, first_closing}
 use Rattle.verity_tree.specs.TreeOnDevice.{tree_block}
@@ -18,54 +18,43 @@ use Rattle.verity_tree.specs.Levels.{blocks_up}
 use Rattle.verity_io.specs.Writing.{put}
 use Rattle.verity_tree.proofs.QuotientLemmas.{quotient-stays}
 
--- a test that the first numbers pass and the others don't
-pub filter-prefix : (c : ℕ → Bool) (a n m : ℕ) → m ≤ n → ((l : ℕ) → a ≤ l → l < a + m → c l ≡ true)
-    → ((l : ℕ) → a + m ≤ l → l < a + n → c l ≡ false) → filter c (range_with_len a n) ≡ range_with_len a m
-filter-prefix c a zero zero le pass fail = refl
-filter-prefix c a zero (suc m) le pass fail = absurd (omega arith)
-filter-prefix c a (suc n) zero le pass fail =
-    ap (λ (b : Bool). cond b (a ∷ filter c (range_with_len (a + 1) n)) (filter c (range_with_len (a + 1) n)))
-    (fail a (omega arith) (omega arith))
-    ∙ filter-prefix c (a + 1) n zero (omega arith) (λ l from to. absurd (omega (arith, from, to)))
-    (λ l from to. fail l (omega (arith, from)) (omega (arith, to)))
-filter-prefix c a (suc n) (suc m) le pass fail =
-    ap (λ (b : Bool). cond b (a ∷ filter c (range_with_len (a + 1) n)) (filter c (range_with_len (a + 1) n)))
-    (pass a (omega arith) (omega arith))
-    ∙ ap (λ (xs : List ℕ). a ∷ xs)
-    (filter-prefix c (a + 1) n m (omega arith) (λ l from to. pass l (omega (arith, from)) (omega (arith, to)))
-    (λ l from to. fail l (omega (arith, from)) (omega (arith, to))))
+-- a test that the first numbers pass leaves them, and nothing after them if the others don't pass
+filter-front : (c : ℕ → Bool) (a m n : ℕ) → ((l : ℕ) → a ≤ l → l < a + m → c l ≡ true) → m ≤ n
+    → (rest : List ℕ) × (filter c (range_with_len a n) ≡ range_with_len a m ++ rest)
+    × (((l : ℕ) → a + m ≤ l → l < a + n → c l ≡ false) → rest ≡ [])
+filter-front c a zero zero pass le = ([], refl, λ fail. refl)
+filter-front c a zero (suc n) pass le =
+    let after = filter-front c (a + 1) zero n (λ l from to. absurd (omega (arith, from, to))) (omega arith) in (
+      filter c (range_with_len a (suc n)),
+      refl,
+      λ fail. grind (arith, fail a, after.1, after.2 (λ l from to. fail l (omega (arith, from)) (omega (arith, to)))),
+    )
+filter-front c a (suc m) zero pass le = absurd (omega arith)
+filter-front c a (suc m) (suc n) pass le =
+    let after = filter-front c (a + 1) m n (λ l from to. pass l (omega (arith, from)) (omega (arith, to)))
+    (omega arith) in
+    let passes = pass a (omega arith) (omega arith) in (
+      after.0,
+      rw passes (ap (λ (xs : List ℕ). a ∷ xs) after.1),
+      λ fail. after.2 (λ l from to. fail l (omega (arith, from)) (omega (arith, to))),
+    )
 
 -- what closes with a data block is the levels below the first that doesn't close
 pub closing-prefix : (f n i m : ℕ) → m ≤ level_count f n → ((l : ℕ) → l < m → closes f n i l ≡ true)
     → ((l : ℕ) → m ≤ l → l < level_count f n → closes f n i l ≡ false) → closing_with f n i ≡ first_closing f i m
 closing-prefix f n i m le pass fail =
-    ap (map (λ level. block_index level (i / f ^ (level + 1))))
-    (filter-prefix (closes f n i) 0 (level_count f n) m le (λ l from to. pass l (omega (arith, to)))
-    (λ l from to. fail l (omega (arith, from)) (omega (arith, to))))
-
-or_right : (a b : Bool) → b ≡ true → (a || b) ≡ true
-or_right true b e = refl
-or_right false b e = e
-
-or_none : (a b : Bool) → a ≡ false → b ≡ false → (a || b) ≡ false
-or_none a b e h = ap (λ (x : Bool). x || b) e ∙ h
-
-eqb_same : (a b : ℕ) → a ≡ b → eqb a b ≡ true
-eqb_same a b e = grind (arith, nat_tests, e)
-
-eqb_apart : (a b : ℕ) → (a ≡ b → ⊥) → eqb a b ≡ false
-eqb_apart a b h = elim (eqb_tells a b) [ inl same ↦ absurd (h same.1) | inr other ↦ other.0 ]
+    let front = filter-front (closes f n i) 0 m (level_count f n) (λ l from to. pass l (omega (arith, to))) le in
+    let none = front.2 (λ l from to. fail l (omega (arith, from)) (omega (arith, to))) in
+    ap (map (λ level. block_index level (i / f ^ (level + 1)))) (front.1 ∙ rw none (append-nil _))
 
 pub closes-reached : (f n i l : ℕ) → 0 < f → IsReached f i (l + 1) → closes f n i l ≡ true
 closes-reached f n i l some h =
-    let wide : 0 < f ^ (l + 1) = one-le-pow (l + 1) f some in
-    let e : i + 1 ≡ (i / f ^ (l + 1) + 1) * f ^ (l + 1) + 0 = omega (arith, h.whole) in
-    let whole : (i + 1) % f ^ (l + 1) ≡ 0 =
-    ap (λ (x : ℕ). x % f ^ (l + 1)) e ∙ mod-mul-add (i / f ^ (l + 1) + 1) (f ^ (l + 1)) 0 wide in
-    ap (λ (b : Bool). b || (i + 1 == n)) (eqb_same ((i + 1) % f ^ (l + 1)) 0 whole)
+    let w = f ^ (l + 1) in
+    let whole = mod-mul-add (i / w + 1) w 0 (one-le-pow (l + 1) f some) in
+    grind (arith, nat_tests, whole, h.whole)
 
 pub closes-last : (f n i l : ℕ) → i + 1 ≡ n → closes f n i l ≡ true
-closes-last f n i l last = or_right ((i + 1) % f ^ (l + 1) == 0) (i + 1 == n) (eqb_same (i + 1) n last)
+closes-last f n i l last = grind (arith, nat_tests)
 
 -- from a level that stays open none closes
 pub closes-none : (f n i m l : ℕ) → 0 < f → IsReached f i m → i / f ^ m % f + 1 < f → i + 1 < n → m ≤ l
@@ -73,10 +62,7 @@ pub closes-none : (f n i m l : ℕ) → 0 < f → IsReached f i m → i / f ^ m 
 closes-none f n i m l some h room more above =
     let w = f ^ (l + 1) in
     let stays : (i + 1) / w ≡ i / w = quotient-stays f i m (l + 1) some h room (omega arith) in
-    let apart : (i + 1) % w ≡ 0 → ⊥ = λ whole.
-    omega (arith, div-add-mod' (i + 1) w, div-add-mod' i w, whole, ap (λ (x : ℕ). x * w) stays) in
-    or_none ((i + 1) % w == 0) (i + 1 == n) (eqb_apart ((i + 1) % w) 0 apart)
-    (eqb_apart (i + 1) n (λ same. omega (arith, more, same)))
+    grind (arith, nat_tests, div-add-mod' (i + 1) w, div-add-mod' i w, stays)
 
 -- one block more
 pub first_closing-more : (f i m : ℕ)
@@ -117,23 +103,7 @@ closed_after-prefix f n i (suc k) =
     let e : i + suc k ≡ suc (i + k) = omega arith in
     let before = closed_after-prefix f n i k in (
       before.0 ++ closing_with f n (i + k),
-      ap (closed_after f n) e
-          ∙ ap (λ (ps : List BlockIndex). ps ++ closing_with f n (i + k)) before.1
-          ∙ append_assoc (closed_after f n i) before.0 (closing_with f n (i + k)),
-    )
-
--- the first numbers pass a test
-filter-front : (c : ℕ → Bool) (a m n : ℕ) → ((l : ℕ) → a ≤ l → l < a + m → c l ≡ true) → m ≤ n
-    → (rest : List ℕ) × (filter c (range_with_len a n) ≡ range_with_len a m ++ rest)
-filter-front c a zero n pass le = (filter c (range_with_len a n), refl)
-filter-front c a (suc m) zero pass le = absurd (omega arith)
-filter-front c a (suc m) (suc n) pass le =
-    let after = filter-front c (a + 1) m n (λ l from to. pass l (omega (arith, from)) (omega (arith, to)))
-    (omega arith) in (
-      after.0,
-      ap (λ (b : Bool). cond b (a ∷ filter c (range_with_len (a + 1) n)) (filter c (range_with_len (a + 1) n)))
-          (pass a (omega arith) (omega arith))
-          ∙ ap (λ (xs : List ℕ). a ∷ xs) after.1,
+      rw e (ap (λ (ps : List BlockIndex). ps ++ closing_with f n (i + k)) before.1 ∙ append_assoc _ before.0 _),
     )
 
 -- if the levels up to this one close, its block comes after those of the levels below

@@ -1,20 +1,18 @@
 -- The check of a path, level by level.
-use Rattle.std.proofs.Common.{◌≡◌, ℕ, suc, ◌+◌, ◌-◌, ◌*◌, ◌/◌, ◌%◌, ◌^◌, ◌<◌, ◌≤◌, true, false, List, length, take}
-use Rattle.std.proofs.Common.{drop, arith, sym, ◌∙◌, ap, refl, length-drop}
-use Rattle.std.proofs.lemmas.Bool.Decides.{nat_tests}
-use Rattle.std.proofs.lemmas.Nat.{mod_below}
-use Rattle.std.proofs.Math.Nat.{mul-le-mul_right, pow-zero}
-use Rattle.std.proofs.lemmas.List.{length-take-le}
+use Rattle.std.proofs.Common.{◌≡◌, ℕ, suc, ◌+◌, ◌-◌, ◌*◌, ◌/◌, ◌%◌, ◌^◌, ◌<◌, ◌≤◌, false, List, take}
+use Rattle.std.proofs.Common.{drop, arith, sym, ◌∙◌, ap}
+use Rattle.std.proofs.Common.{◌≢◌, ◌⊎◌, zero, inl, inr}
+use Rattle.std.proofs.lemmas.Bool.{cases_Bool}
+use Rattle.std.proofs.lemmas.Bool.Decides.{nat_tests, not_from_Decides}
+use Rattle.std.proofs.Math.Nat.{pow-zero}
 use Rattle.std.proofs.lemmas.Slice.Eq.{bytes_eq-Decides}
 use Rattle.std.specs.Fork.{slice_chunk}
-use Rattle.std.specs.Prelude.{nat_lt}
 use Rattle.std.specs.Str.{bytes_eq}
-use Rattle.verity_tree.specs.Paths.{HasLengths, chain, digest_above}
+use Rattle.verity_tree.specs.Paths.{chain, digest_above}
 use Rattle.verity_plan.specs.Plans.{PlanFields}
 use Rattle.verity_plan.specs.PlanCounts.{level_count_of}
-use Rattle.verity_plan.specs.Settings.{TreeSettingsFields, digest_len, fan, slot_width}
+use Rattle.verity_plan.specs.Settings.{TreeSettingsFields, fan}
 use Rattle.verity_tree.specs.Verdicts.{digest_in}
-use Rattle.verity_tree.proofs.VerdictLemmas.{digest-room}
 
 -- one block further up the chain
 pub chain-more : (s : TreeSettingsFields) (block path : List ℕ) (l : ℕ)
@@ -24,49 +22,27 @@ chain-more s block path l = let e : l + 1 ≡ suc l = omega arith in ap (chain s
 -- a range of the path is the block of a level
 pub range-block : (path : List ℕ) (l size all : ℕ) → size ≡ all
     → take (l * size + size - l * size) (drop (l * size) path) ≡ slice_chunk path all l
-range-block path l size all e =
-    let same : l * size + size - l * size ≡ size = omega arith in
-    ap (λ (n : ℕ). take n (drop (l * size) path)) same ∙ ap (λ (n : ℕ). slice_chunk path n l) e
+range-block path l size all e = grind arith
 
 -- below the top a digest in its slot
 pub digest_above-below : (p : PlanFields) (i : ℕ) (path root : List ℕ) (l : ℕ) → l < level_count_of p
     → digest_above p i path root l ≡ digest_in p.settings (slice_chunk path p.settings.hash_block l)
     (i / fan p.settings ^ l % fan p.settings)
-digest_above-below p i path root l below =
-    let tested : nat_lt l (level_count_of p) ≡ true = grind (arith, nat_tests, below) in rw tested refl
+digest_above-below p i path root l below = grind (arith, nat_tests, below)
 
 -- at the top the root
 pub digest_above-top : (p : PlanFields) (i : ℕ) (path root : List ℕ) (l : ℕ) → level_count_of p ≤ l
     → digest_above p i path root l ≡ root
-digest_above-top p i path root l top =
-    let tested : nat_lt l (level_count_of p) ≡ false = grind (arith, nat_tests, top) in rw tested refl
+digest_above-top p i path root l top = grind (arith, nat_tests, top)
 
 -- the digest that the code reads is the digest above
-pub read-is : (p : PlanFields) (i : ℕ) (path root above : List ℕ) (l slot index f : ℕ) → l < level_count_of p
-    → above ≡ slice_chunk path p.settings.hash_block l
-    → f ≡ fan p.settings → index ≡ i / fan p.settings ^ l → slot ≡ index % f
-    → digest_in p.settings above slot ≡ digest_above p i path root l
-read-is p i path root above l slot index f below above_is f_is index_is slot_is =
-    ap (λ (xs : List ℕ). digest_in p.settings xs slot) above_is
-    ∙ ap (digest_in p.settings (slice_chunk path p.settings.hash_block l))
-    (slot_is ∙ ap (λ (n : ℕ). n % f) index_is ∙ ap (λ (n : ℕ). i / fan p.settings ^ l % n) f_is)
-    ∙ sym (digest_above-below p i path root l below)
-
--- a level's block of a whole path has a digest's room in each slot
-pub slot-in-block : (p : PlanFields) (path above : List ℕ) (l index f : ℕ)
-    → fan p.settings * slot_width p.settings ≤ p.settings.hash_block
-    → l < level_count_of p → level_count_of p * p.settings.hash_block ≤ length path
-    → above ≡ slice_chunk path p.settings.hash_block l
-    → f ≡ fan p.settings → 2 ≤ f
-    → index % f * slot_width p.settings + digest_len p.settings ≤ length above
-slot-in-block p path above l index f fits below whole above_is f_is two =
-    let size = p.settings.hash_block in
-    let next : l + 1 ≤ level_count_of p = omega arith in
-    let left : size ≤ length (drop (l * size) path) =
-    omega (arith, length-drop (l * size) path, whole, mul-le-mul_right size next) in
-    let len : length above ≡ size = ap length above_is ∙ length-take-le size (drop (l * size) path) left in
-    let low : index % f < fan p.settings = omega (arith, mod_below index f (omega arith), f_is) in
-    omega (arith, digest-room p.settings (index % f) low fits, len)
+pub read-is : (p : PlanFields) (i : ℕ) (path root : List ℕ) (l index levels size f : ℕ) → l < levels
+    → levels ≡ level_count_of p → size ≡ p.settings.hash_block → f ≡ fan p.settings → index ≡ i / fan p.settings ^ l
+    → digest_in p.settings (take (l * size + size - l * size) (drop (l * size) path)) (index % f)
+    ≡ digest_above p i path root l
+read-is p i path root l index levels size f low levels_is size_is f_is index_is =
+    let above = digest_above-below p i path root l (omega (arith, low, levels_is)) in
+    rw (range-block path l size p.settings.hash_block size_is, index_is, f_is) (sym above)
 
 -- a number divided by a zeroth power
 pub div-pow-zero : (f i : ℕ) → i ≡ i / f ^ 0
@@ -74,14 +50,25 @@ div-pow-zero f i = let one : i ≡ i / 1 = omega arith in one ∙ ap (λ (n : �
 
 -- two lists of bytes that the test tells apart are two
 pub bytes_eq-false : (xs ys : List ℕ) → bytes_eq xs ys ≡ false → ¬ (xs ≡ ys)
-bytes_eq-false xs ys apart same = let equal = (bytes_eq-Decides xs ys).1 same in let bad : true ≡ false = sym equal
-    ∙ apart in cc
+bytes_eq-false xs ys = not_from_Decides _ (bytes_eq-Decides xs ys)
 
--- the lengths that the code reads are the plan's
-pub HasLengths-read : (p : PlanFields) (block path : List ℕ) (wide levels size : ℕ) → wide ≡ p.settings.data_block
-    → levels ≡ level_count_of p → size ≡ p.settings.hash_block
-    → length block ≡ wide → length path ≡ levels * size → HasLengths p block path
-HasLengths-read p block path wide levels size wide_is levels_is size_is of_block of_path = record {
-  of_block = of_block ∙ wide_is;
-  of_path = of_path ∙ ap (λ (n : ℕ). n * size) levels_is ∙ ap (λ (n : ℕ). level_count_of p * n) size_is;
-}
+-- two lists of bytes are one, or they are two
+pub same_or_two : (xs ys : List ℕ) → (xs ≡ ys) ⊎ (xs ≢ ys)
+same_or_two xs ys = elim (cases_Bool (bytes_eq xs ys)) [
+  | inl same ↦ inl ((bytes_eq-Decides xs ys).0 same)
+  | inr apart ↦ inr (bytes_eq-false xs ys apart)
+]
+
+-- two chains of blocks with one hash at a level, in which blocks that are one stand above blocks with one hash: they have
+-- one block at the bottom, or different blocks with one hash at that level or below
+pub chains-meet : (h : List ℕ → List ℕ) (a b : ℕ → List ℕ) (top l : ℕ) → l ≤ top
+    → ((m : ℕ) → m < top → a (suc m) ≡ b (suc m) → h (a m) ≡ h (b m)) → h (a l) ≡ h (b l)
+    → (a 0 ≡ b 0) ⊎ ((m : ℕ) × (m ≤ top) × (a m ≢ b m) × (h (a m) ≡ h (b m)))
+chains-meet h a b top zero within down one = elim (same_or_two (a 0) (b 0)) [
+  | inl same ↦ inl same
+  | inr differ ↦ inr (0, within, differ, one)
+]
+chains-meet h a b top (suc l) within down one = elim (same_or_two (a (suc l)) (b (suc l))) [
+  | inl same ↦ chains-meet h a b top l (omega (arith, within)) down (down l (omega (arith, within)) same)
+  | inr differ ↦ inr (suc l, within, differ, one)
+]

@@ -1,5 +1,5 @@
 -- Pieces of one size, joined.
-use Rattle.std.proofs.Common.{◌≡◌, ℕ, zero, suc, ◌+◌, ◌*◌, ◌<◌, ◌≤◌, List, ◌++◌, take, drop, length, arith, ◌∙◌, ap}
+use Rattle.std.proofs.Common.{◌≡◌, ℕ, zero, suc, ◌+◌, ◌*◌, ◌<◌, ◌≤◌, List, length, arith, ◌∙◌, ap}
 use Rattle.std.proofs.Common.{length-append}
 use Rattle.std.proofs.lemmas.List.{take_at}
 use Rattle.std.proofs.Math.Seq.{drop-append-add}
@@ -20,16 +20,11 @@ pub piece : (f : ℕ → List ℕ) (size from n l : ℕ) → l < n → ((m : ℕ
     → slice_chunk (flat_map f (range_with_len from n)) size l ≡ f (from + l)
 piece f size from zero l below each = absurd (omega arith)
 piece f size from (suc n) zero below each =
-    let rest = flat_map f (range_with_len (from + 1) n) in
     let start : 0 * size ≡ 0 = omega arith in
     let same : from ≡ from + 0 = omega arith in
-    ap (λ (k : ℕ). take size (drop k (f from ++ rest))) start
-    ∙ take_at (f from) rest size (each from (omega arith) (omega arith)) ∙ ap f same
+    rw start (take_at (f from) _ size (each from (omega arith) (omega arith)) ∙ ap f same)
 piece f size from (suc n) (suc l) below each =
-    let rest = flat_map f (range_with_len (from + 1) n) in
     let past : suc l * size ≡ length (f from) + l * size = omega (arith, each from (omega arith) (omega arith)) in
     let same : from + 1 + l ≡ from + suc l = omega arith in
-    ap (λ (k : ℕ). take size (drop k (f from ++ rest))) past
-    ∙ ap (take size) (drop-append-add (f from) rest (l * size))
-    ∙ piece f size (from + 1) n l (omega arith) (λ m a b. each m (omega (arith, a)) (omega (arith, b)))
-    ∙ ap f same
+    rw (past, drop-append-add (f from)) (piece f size (from + 1) n l (omega arith)
+    (λ m a b. each m (omega (arith, a)) (omega (arith, b))) ∙ ap f same)

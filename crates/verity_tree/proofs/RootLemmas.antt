@@ -1,6 +1,6 @@
 -- The root, and what is left of it one level up.
-use Rattle.std.proofs.Common.{◌≡◌, ℕ, zero, suc, ◌^◌, ◌<◌, ◌≤◌, List, [], length, map, get_or, arith, sym, ◌∙◌, ap}
-use Rattle.std.proofs.Common.{refl, inl, inr}
+use Rattle.std.proofs.Common.{◌≡◌, ℕ, zero, suc, ◌-◌, inl, inr, ◌^◌, ◌<◌, ◌≤◌, List, [], length, map, get_or, arith, ◌∙◌, ap}
+use Rattle.std.proofs.Common.{refl}
 use Rattle.std.proofs.lemmas.Bool.{cases_lt}
 use Rattle.std.proofs.lemmas.List.{length-map, get_or-map}
 use Rattle.std.proofs.Math.Nat.{pow-zero, pow-suc, one-le-pow}
@@ -15,30 +15,23 @@ use Rattle.verity_tree.proofs.TreeLemmas.{length-pack, length-blocks_up, height-
 
 -- two numbers of levels are one
 pub IsLevelCount-same : (fan n x y : ℕ) → IsLevelCount fan n x → IsLevelCount fan n y → x ≡ y
-IsLevelCount-same fan n x y h k =
-    let a : x ≤ y =
-    elim (cases_lt y x) [ inl below ↦ absurd (omega (arith, h.least y below, k.enough)) | inr le ↦ le ] in
-    let b : y ≤ x =
-    elim (cases_lt x y) [ inl below ↦ absurd (omega (arith, k.least x below, h.enough)) | inr le ↦ le ] in
-    omega arith
+IsLevelCount-same fan n x y h k = grind (arith, h.least y, k.least x)
 
 -- one level more than above one level up
-pub IsLevelCount-suc : (fan n levels : ℕ) → 2 ≤ fan → 1 < n → IsLevelCount fan (div_ceil n fan) levels
-    → IsLevelCount fan n (suc levels)
-IsLevelCount-suc fan n levels two more h = record {
-  enough = omega (arith, pow-suc fan levels, le-div_ceil n fan (fan ^ levels) (omega arith) h.enough);
-  least = IsLevelCount-suc-least fan n levels two more h;
-} where
-  IsLevelCount-suc-least : (fan n levels : ℕ) → 2 ≤ fan → 1 < n → IsLevelCount fan (div_ceil n fan) levels → (m : ℕ)
-      → m < suc levels → fan ^ m < n
-  IsLevelCount-suc-least fan n levels two more h zero below = omega (arith, pow-zero fan)
-  IsLevelCount-suc-least fan n levels two more h (suc m) below =
-      omega (arith, pow-suc fan m, mul-lt_div_ceil n fan (fan ^ m) (omega arith) (h.least m (omega arith)))
-
 pub level_count-suc : (fan n : ℕ) → 2 ≤ fan → 1 < n → level_count fan n ≡ suc (level_count fan (div_ceil n fan))
 level_count-suc fan n two more =
-    IsLevelCount-same fan n _ _ (IsLevelCount-level_count fan n two)
-    (IsLevelCount-suc fan n _ two more (IsLevelCount-level_count fan (div_ceil n fan) two))
+    let levels = level_count fan (div_ceil n fan) in
+    let up = IsLevelCount-level_count fan (div_ceil n fan) two in
+    IsLevelCount-same fan n _ _ (IsLevelCount-level_count fan n two) (record {
+      enough = omega (arith, pow-suc fan levels, le-div_ceil n fan (fan ^ levels) (omega arith) up.enough);
+      least = λ m below. elim (cases_lt 0 m) [
+        | inl some ↦
+            let next : m ≡ suc (m - 1) = omega arith in
+            let low = mul-lt_div_ceil n fan (fan ^ (m - 1)) (omega arith) (up.least (m - 1) (omega arith)) in
+            grind (arith, next, pow-suc fan (m - 1), low)
+        | inr none ↦ let least : m ≡ 0 = omega arith in grind (arith, least, pow-zero fan)
+      ];
+    })
 
 pub level_count-one : (fan : ℕ) → 2 ≤ fan → level_count fan 1 ≡ 0
 level_count-one fan two =
@@ -53,24 +46,28 @@ digests_up-up s digests zero = refl
 digests_up-up s digests (suc l) =
     ap (λ (ds : List (List ℕ)). map (hash s) (pack s ds)) (digests_up-up s digests l)
 
+-- how many digests are one level up
+pub length-above : (s : TreeSettingsFields) (digests above : List (List ℕ)) → above ≡ map (hash s) (pack s digests)
+    → length above ≡ div_ceil (length digests) (fan s)
+length-above s digests above e = ap length e ∙ length-map (pack s digests) (hash s) ∙ length-pack s digests
+
 -- one level up leaves the same root
 pub root_of_digests-up : (s : TreeSettingsFields) (digests : List (List ℕ)) → 2 ≤ fan s → 1 < length digests
     → root_of_digests s (map (hash s) (pack s digests)) ≡ root_of_digests s digests
 unfolding root_of_digests
 root_of_digests-up s digests two more =
-    let above : length (map (hash s) (pack s digests)) ≡ div_ceil (length digests) (fan s) =
-    length-map (pack s digests) (hash s) ∙ length-pack s digests in
-    ap (λ (n : ℕ). get_or (digests_up s (map (hash s) (pack s digests)) (level_count (fan s) n)) 0 []) above
-    ∙ ap (λ (ds : List (List ℕ)). get_or ds 0 [])
-    (sym (digests_up-up s digests (level_count (fan s) (div_ceil (length digests) (fan s)))))
-    ∙ ap (λ (l : ℕ). get_or (digests_up s digests l) 0 []) (sym (level_count-suc (fan s) (length digests) two more))
+    rw (
+      length-above s digests _ refl,
+      level_count-suc (fan s) (length digests) two more,
+      digests_up-up s digests (level_count (fan s) (div_ceil (length digests) (fan s))),
+    ) refl
 
 -- a single digest is the root
 pub root_of_digests-one : (s : TreeSettingsFields) (digests : List (List ℕ)) → 2 ≤ fan s → length digests ≡ 1
     → root_of_digests s digests ≡ get_or digests 0 []
 unfolding root_of_digests digests_up
 root_of_digests-one s digests two one =
-    ap (λ (l : ℕ). get_or (digests_up s digests l) 0 []) (ap (level_count (fan s)) one ∙ level_count-one (fan s) two)
+    rw (one, level_count-one (fan s) two) refl
 
 -- the digests of the blocks of a level
 pub map-hash-blocks_up : (s : TreeSettingsFields) (blocks : List (List ℕ)) (l : ℕ)
@@ -88,18 +85,11 @@ root-digests s blocks two some =
     let l = level_count (fan s) (length blocks) in
     let low : 0 < fan s = omega arith in
     let left : 0 < length (blocks_up s blocks l) =
-    omega (
+    grind (arith, div_ceil-pos, one-le-pow l (fan s) low, length-blocks_up s blocks l low) in
+    grind (
       arith,
-      div_ceil-pos (length blocks) (fan s ^ l) (one-le-pow l (fan s) low) some,
-      length-blocks_up s blocks l low,
-    ) in
-    ap (λ (k : ℕ). hash s (get_or (blocks_up s blocks k) 0 [])) (height-level_count s blocks low)
-    ∙ sym (get_or-map (hash s) (blocks_up s blocks l) 0 [] [] left)
-    ∙ ap (λ (ds : List (List ℕ)). get_or ds 0 []) (map-hash-blocks_up s blocks l)
-    ∙ ap (λ (n : ℕ). get_or (digests_up s (map (hash s) blocks) (level_count (fan s) n)) 0 [])
-    (sym (length-map blocks (hash s)))
-
--- how many digests are one level up
-pub length-above : (s : TreeSettingsFields) (digests above : List (List ℕ)) → above ≡ map (hash s) (pack s digests)
-    → length above ≡ div_ceil (length digests) (fan s)
-length-above s digests above e = ap length e ∙ length-map (pack s digests) (hash s) ∙ length-pack s digests
+      height-level_count s blocks low,
+      get_or-map (hash s) (blocks_up s blocks l) 0 [] [] left,
+      map-hash-blocks_up s blocks l,
+      length-map blocks (hash s),
+    )

@@ -24,8 +24,7 @@ pub length-blocks_up : (s : TreeSettingsFields) (blocks : List (List ℕ)) (l : 
     → length (blocks_up s blocks l) ≡ div_ceil (length blocks) (fan s ^ l)
 unfolding blocks_up
 length-blocks_up s blocks zero some =
-    let one : length blocks ≡ div_ceil (length blocks) 1 = omega arith in
-    one ∙ ap (λ (a : ℕ). div_ceil (length blocks) a) (sym (pow-zero (fan s)))
+    let one : length blocks ≡ div_ceil (length blocks) 1 = omega arith in rw pow-zero one
 length-blocks_up s blocks (suc l) some =
     length-up s (blocks_up s blocks l)
     ∙ ap (λ (n : ℕ). div_ceil n (fan s)) (length-blocks_up s blocks l some)

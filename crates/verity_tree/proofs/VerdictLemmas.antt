@@ -1,6 +1,6 @@
 -- Stored blocks beside the tree's.
-use Rattle.std.proofs.Common.{◌≡◌, ℕ, zero, suc, ◌+◌, ◌*◌, ◌<◌, ◌≤◌, Bool, true, false, arith, ◌∙◌, ap, refl, inl, inr}
-use Rattle.std.proofs.lemmas.Bool.{cases_lt}
+use Rattle.std.proofs.Common.{◌≡◌, ℕ, zero, suc, ◌+◌, ◌*◌, ◌<◌, ◌≤◌, Bool, true, false, arith, refl, inl, inr}
+use Rattle.std.proofs.lemmas.Bool.{cases_eq}
 use Rattle.std.proofs.Math.Nat.{mul-le-mul_right}
 use Rattle.std.specs.Prelude.{find, Some, None}
 use Rattle.std.specs.List.{range_with_len}
@@ -16,17 +16,13 @@ pub find-range : (p : ℕ → Bool) (from n k : ℕ) → from ≤ k → k < from
     → p k ≡ true
     → find p (range_with_len from n) ≡ Some k
 find-range p from zero k low high before here = absurd (omega arith)
-find-range p from (suc n) k low high before here =
-    elim (cases_lt from k) [
-      | inl less ↦
-          let no : p from ≡ false = before from (omega arith) less in
-          rw no (find-range p (from + 1) n k (omega (arith, less)) (omega (arith, high))
-          (λ j a b. before j (omega (arith, a)) b) here)
-      | inr past ↦
-          let same : from ≡ k = omega (arith, low, past) in
-          let yes : p from ≡ true = ap p same ∙ here in
-          rw yes (ap (λ (m : ℕ). Some m) same)
-    ]
+find-range p from (suc n) k low high before here = elim (cases_eq from k) [
+  | inl same ↦ rw (same, here) refl
+  | inr other ↦
+      let no : p from ≡ false = before from (omega arith) (omega (arith, other)) in
+      rw no (find-range p (from + 1) n k (omega (arith, other)) (omega (arith, high))
+      (λ j a b. before j (omega (arith, a)) b) here)
+]
 
 -- a range of which none passes
 pub find-range_none : (p : ℕ → Bool) (from n : ℕ) → ((j : ℕ) → from ≤ j → j < from + n → p j ≡ false)

@@ -1,7 +1,8 @@
-use Rattle.std.proofs.Common.{◌≡◌, sym, ◌∙◌, true, false, refl}
+use Rattle.std.proofs.Common.{sym, ◌∙◌, refl}
 use Rattle.std.proofs.lemmas.List.Elements.{All-nil}
 use Rattle.std.proofs.lemmas.Slice.Eq.{bytes_eq-Decides}
 use Rattle.verity_tree.proofs.JudgeLemmas.{comes-to, judges-differs, judges-right, judges-root, judges-short}
+use Rattle.verity_tree.proofs.PathSteps.{bytes_eq-false}
 use Rattle.verity_tree.proofs.comparing.compare.Goals as goal
 
 pub returns-then-eq-clause-verdict : goal.returns-then-eq-clause-verdict
@@ -18,10 +19,8 @@ returns-else-eq-clause-verdict g c = λ tells told.
     let h = c.in-Ok.ensures.run.leaves tells told (refl, All-nil _) in
     let r = c.in-Ok.ensures.run.read tells in
     judges-root c.args.plan.now _ _ c.in-Ok.computed c.args.root.now r.1.enough h.1 r.0
-    (λ same.
-    let equal = (bytes_eq-Decides c.as_bytes.result.now c.as_bytes-in-Ok.result.now).1 (c.as_bytes.ensures.bytes ∙ same
-    ∙ sym c.as_bytes-in-Ok.ensures.bytes) in
-    let bad : true ≡ false = sym equal ∙ sym c.eq.ensures ∙ c.if-eq.false in cc)
+    (λ same. bytes_eq-false c.as_bytes.result.now _ (sym c.eq.ensures ∙ c.if-eq.false)
+    (c.as_bytes.ensures.bytes ∙ same ∙ sym c.as_bytes-in-Ok.ensures.bytes))
 
 pub returns-in-Short-clause-verdict : goal.returns-in-Short-clause-verdict
 returns-in-Short-clause-verdict g c = λ tells told.

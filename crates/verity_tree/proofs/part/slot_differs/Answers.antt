@@ -1,7 +1,5 @@
 -- The digests in a slot, as the code cuts them.
-use Rattle.std.proofs.Common.{◌≡◌, ℕ, ◌+◌, ◌-◌, ◌*◌, List, take, drop, arith, ◌∙◌, ap}
-use Rattle.std.specs.Prelude.{not}
-use Rattle.std.specs.Str.{bytes_eq}
+use Rattle.std.proofs.Common.{◌≡◌, ℕ, ◌+◌, ◌-◌, ◌*◌, List, take, drop, arith, ◌∙◌, ap, refl}
 use Rattle.verity_plan.specs.Settings.{TreeSettingsFields, digest_len, slot_width}
 use Rattle.verity_tree.specs.Verdicts.{digest_in}
 use Rattle.verity_tree.proofs.part.slot_differs.Goals as goal
@@ -16,14 +14,7 @@ cut_is s bytes slot width len width_is len_is =
 pub returns : goal.returns
 returns c =
     let s = c.args.plan.now.settings in
-    let slot = c.args.slot in
-    let computed = cut_is s c.args.computed.now slot c.slot_width.result c.digest_len-len.result (c.slot_width.ensures.value ∙ ap slot_width c.settings.ensures)
-    c.digest_len-len.ensures in
-    let on_device = cut_is s c.args.stored.now slot c.slot_width.result c.digest_len-len.result (c.slot_width.ensures.value ∙ ap slot_width c.settings.ensures)
-    c.digest_len-len.ensures in
-    let cut = λ (bytes : List ℕ). take
-    (slot * c.slot_width.result + c.digest_len-len.result - slot * c.slot_width.result)
-    (drop (slot * c.slot_width.result) bytes) in
-    c.ne.ensures
-    ∙ ap (λ (xs : List ℕ). not (bytes_eq xs (cut c.args.computed.now))) on_device
-    ∙ ap (λ (xs : List ℕ). not (bytes_eq (digest_in s c.args.stored.now slot) xs)) computed
+    let width = c.slot_width.ensures.value ∙ ap slot_width c.settings.ensures in
+    let stored = cut_is s c.args.stored.now c.args.slot _ _ width c.digest_len-len.ensures in
+    let computed = cut_is s c.args.computed.now c.args.slot _ _ width c.digest_len-len.ensures in
+    c.ne.ensures ∙ rw (stored, computed) refl

@@ -1,23 +1,13 @@
 -- Each block gives its digest, and the blocks end where the bytes do.
-use Rattle.std.proofs.Common.{◌≡◌, ℕ, List, map, arith, sym, ◌∙◌, ap, length, ◌*◌, ◌<◌}
+use Rattle.std.proofs.Common.{◌≡◌, ℕ, map, arith, sym, ◌∙◌, ap, length}
 use Rattle.std.proofs.lemmas.List.{take_all}
 use Rattle.std.specs.List.{range_with_len}
 use Rattle.std.specs.Int.{div_ceil}
-use Rattle.std.specs.Fork.{slice_chunk}
-use Rattle.verity_hash.specs.Hashing.{with_zeros}
 use Rattle.verity_plan.proofs.CountLemmas.{mul-lt_div_ceil}
-use Rattle.verity_plan.specs.Settings.{TreeSettingsFields, IsValid, hash}
 use Rattle.verity_plan.proofs.FanLemmas.{some_data}
-use Rattle.verity_tree.specs.Levels.{block_at}
 use Rattle.verity_tree.specs.Steps.PlainRoots.{digest_of_block}
 use Rattle.verity_tree.proofs.LevelLemmas.{map-hash-cut, mapped_more, take-run}
 use Rattle.verity_tree.proofs.plain_root.digests_of.Goals as goal
-
--- each block begins within the bytes
-begins-within : (s : TreeSettingsFields) → IsValid s → (bytes : List ℕ) (size i count : ℕ) → size ≡ s.data_block
-    → count ≡ div_ceil (length bytes) size → i < count → i * size < length bytes
-begins-within s valid bytes size i count size_is count_is below =
-    mul-lt_div_ceil (length bytes) size i (omega (arith, size_is, some_data s valid)) (omega (arith, count_is, below))
 
 pub loop-i-preserved : goal.loop-i-preserved
 loop-i-preserved c =
@@ -25,49 +15,27 @@ loop-i-preserved c =
     let bytes = c.args.bytes.now in
     let run = take-run bytes c.loop-i.i c.data_block-size.result c.min-count.result settings.data_block
     c.data_block-size.ensures.value c.min-count.ensures in
-    let block = c.deref.ensures.value ∙ c.in_ok-block.ensures ∙ ap (with_zeros c.data_block-size.result) run
-    ∙ ap (λ (n : ℕ). with_zeros n (slice_chunk bytes settings.data_block c.loop-i.i)) c.data_block-size.ensures.value
-    ∙ ap (λ (xs : List ℕ). block_at settings.data_block xs c.loop-i.i)
-    (sym (take_all (length bytes) bytes (omega arith))) in
     mapped_more (digest_of_block settings (length bytes) bytes) c.loop-i.digests.items _ c.loop-i.i c.hash.result
-    c.in_ok-push.ensures.items c.loop-i.invariant (c.hash.ensures ∙ ap (hash settings) block)
+    c.in_ok-push.ensures.items c.loop-i.invariant (grind (arith, run, take_all (length bytes) bytes (omega arith)))
 
 pub returns : goal.returns
 returns c =
     let settings = c.args.settings.now in
     let bytes = c.args.bytes.now in
     let count = div_ceil (length bytes) settings.data_block in
-    let same : c.div_ceil-i-end.result ≡ count =
-    c.div_ceil-i-end.ensures ∙ ap (λ (n : ℕ). div_ceil (length bytes) n) c.data_block-size.ensures.value in
-    let last : c.loop-i.i ≡ count = omega (arith, same, c.loop-i.auto.i-end, c.loop-i-test.false) in
+    let last : c.loop-i.i ≡ count = grind arith in
     c.loop-i.invariant
     ∙ ap (λ (n : ℕ). map (digest_of_block settings (length bytes) bytes) (range_with_len 0 n)) last
     ∙ sym (map-hash-cut settings count (length bytes) bytes)
 
 pub overflow_mul-from : goal.overflow_mul-from
-overflow_mul-from c = omega (
-  arith,
-  begins-within c.args.settings.now c.data_block-size.ensures.valid c.args.bytes.now c.data_block-size.result
-      c.loop-i.i c.div_ceil-i-end.result c.data_block-size.ensures.value c.div_ceil-i-end.ensures c.loop-i-test.true,
-)
+overflow_mul-from c = let some = some_data c.args.settings.now c.data_block-size.ensures.valid in grind (arith, mul-lt_div_ceil)
 
 pub overflow_sub-bytes : goal.overflow_sub-bytes
-overflow_sub-bytes c = omega (
-  arith,
-  begins-within c.args.settings.now c.data_block-size.ensures.valid c.args.bytes.now c.data_block-size.result
-      c.loop-i.i c.div_ceil-i-end.result c.data_block-size.ensures.value c.div_ceil-i-end.ensures c.loop-i-test.true,
-)
+overflow_sub-bytes c = let some = some_data c.args.settings.now c.data_block-size.ensures.valid in grind (arith, mul-lt_div_ceil)
 
 pub overflow_add-from : goal.overflow_add-from
-overflow_add-from c = omega (
-  arith,
-  begins-within c.args.settings.now c.data_block-size.ensures.valid c.args.bytes.now c.data_block-size.result
-      c.loop-i.i c.div_ceil-i-end.result c.data_block-size.ensures.value c.div_ceil-i-end.ensures c.loop-i-test.true,
-)
+overflow_add-from c = let some = some_data c.args.settings.now c.data_block-size.ensures.valid in grind (arith, mul-lt_div_ceil)
 
 pub slice_bounds-filled_block-end : goal.slice_bounds-filled_block-end
-slice_bounds-filled_block-end c = omega (
-  arith,
-  begins-within c.args.settings.now c.data_block-size.ensures.valid c.args.bytes.now c.data_block-size.result
-      c.loop-i.i c.div_ceil-i-end.result c.data_block-size.ensures.value c.div_ceil-i-end.ensures c.loop-i-test.true,
-)
+slice_bounds-filled_block-end c = let some = some_data c.args.settings.now c.data_block-size.ensures.valid in grind (arith, mul-lt_div_ceil)

@@ -1,5 +1,5 @@
 -- Each digest adds its slot, and zeros fill the block.
-use Rattle.std.proofs.Common.{◌≡◌, ◌-◌, ◌≤◌, arith, length, vec_len}
+use Rattle.std.proofs.Common.{arith}
 use Rattle.verity_tree.proofs.SlotLemmas.{slots-filled, slots-more}
 use Rattle.verity_tree.proofs.plain_root.hash_block_of.Goals as goal
 
@@ -13,10 +13,8 @@ pub returns : goal.returns
 returns c =
     let settings = c.args.settings.now in
     let before = c.loop-digest.block.items in
-    let all : length c.args.digests.now ≤ c.loop-digest.digest-index = omega (arith, c.loop-digest-test.false) in
-    let long : length before ≤ c.max-size.result =
-    omega (arith, c.max-size.ensures, c.len.ensures, c.loop-digest.block.ok) in
-    let left : c.max-size.result - vec_len c.loop-digest.block ≡ settings.hash_block - length before =
-    omega (arith, c.max-size.ensures, c.len.ensures, c.loop-digest.block.ok, c.hash_block-size.ensures.value) in
     slots-filled settings before c.resize.new.self.items c.args.digests.now c.loop-digest.digest-index c.max-size.result
-    _ all long left c.loop-digest.invariant c.in_ok-resize.ensures.items
+    _ (omega (arith, c.loop-digest-test.false))
+    (omega (arith, c.max-size.ensures, c.len.ensures, c.loop-digest.block.ok))
+    (omega (arith, c.max-size.ensures, c.len.ensures, c.loop-digest.block.ok, c.hash_block-size.ensures.value))
+    c.loop-digest.invariant c.in_ok-resize.ensures.items

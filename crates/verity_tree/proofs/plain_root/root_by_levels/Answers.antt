@@ -1,5 +1,5 @@
 -- The root above the digests of the data blocks.
-use Rattle.std.proofs.Common.{◌≡◌, ◌<◌, ℕ, List, map, length, IfOk, arith, sym, ◌∙◌, ap, subst}
+use Rattle.std.proofs.Common.{◌≡◌, ◌<◌, ℕ, List, map, length, IfOk, arith, sym, ◌∙◌, ap, refl, subst}
 use Rattle.std.proofs.lemmas.List.{length-map}
 use Rattle.std.specs.Int.{div_ceil}
 use Rattle.verity_plan.specs.Settings.{TreeSettingsFields, hash}
@@ -18,10 +18,7 @@ digests-are : (p : PlanFields) → IsPlan p → (s : TreeSettingsFields) (bytes 
     → digests ≡ map (hash s) (cut s (div_ceil (length bytes) s.data_block) (length bytes) bytes)
     → digests ≡ map (hash p.settings) (data_blocks p bytes)
 digests-are p planned s bytes digests same all is =
-    is
-    ∙ ap (λ (t : TreeSettingsFields). map (hash t) (cut t (div_ceil (length bytes) t.data_block) (length bytes) bytes)) same
-    ∙ ap (λ (n : ℕ). map (hash p.settings) (cut p.settings (div_ceil n p.settings.data_block) n bytes)) all
-    ∙ ap (λ (n : ℕ). map (hash p.settings) (cut p.settings n p.wanted bytes)) (sym planned.blocks_are)
+    is ∙ rw (same, all, planned.blocks_are) refl
 
 -- there are some
 blocks-are-some : (p : PlanFields) → IsPlan p → (bytes : List ℕ) → 0 < length (data_blocks p bytes)
@@ -31,13 +28,13 @@ pub root_of_digests-requires : goal.root_of_digests-requires
 root_of_digests-requires c =
     let p = c.args.plan.now in
     let planned = c.wanted-wanted.ensures.planned in
-    let bytes = c.args.bytes.now in
+    let digests = digests-are p planned _ _ _ c.settings-settings.ensures c.requires c.in_ok-digests.ensures in
     omega (
       arith,
       c.in_ok-digests.digests.ok,
-      ap length (digests-are p planned _ bytes _ c.settings-settings.ensures c.requires c.in_ok-digests.ensures),
-      length-map (data_blocks p bytes) (hash p.settings),
-      blocks-are-some p planned bytes,
+      ap length digests,
+      length-map (data_blocks p c.args.bytes.now) (hash p.settings),
+      blocks-are-some p planned c.args.bytes.now,
     )
 
 pub returns : goal.returns
