@@ -3,20 +3,22 @@ use Rattle.std.proofs.Common.{◌≡◌, ℕ, ◌+◌, ◌-◌, ◌*◌, ◌/◌
 use Rattle.std.proofs.Common.{arith, sym, ◌∙◌, ap, subst, inl, inr}
 use Rattle.std.proofs.lemmas.Bool.{cases_lt}
 use Rattle.std.proofs.Math.Nat.{div-eq_of_lt, pow-le-pow_right}
-use Rattle.verity_plan.specs.Plans.{IsPlan, PlanFields}
+use Rattle.std.specs.Fork.{slice_chunk}
+use Rattle.verity_plan.specs.Plans.{IsPlan, PlanFields, level_count}
 use Rattle.verity_plan.specs.PlanCounts.{level_count_of}
 use Rattle.verity_plan.specs.Settings.{fan, hash}
 use Rattle.verity_plan.proofs.FanLemmas.{fan-some}
 use Rattle.verity_tree.specs.ClosingOrder.{blocks_before}
-use Rattle.verity_tree.specs.Levels.{blocks_up, data_blocks, root}
-use Rattle.verity_tree.specs.Steps.Feeding.{HasCome, HasFed, IsWindowPlace, after_windows, windows_before}
+use Rattle.verity_tree.specs.Levels.{blocks_up, data_blocks, height, root}
+use Rattle.verity_tree.specs.Steps.Feeding.{HasCome, HasFed, IsHandingOut, IsWindowPlace, after_windows, windows_before}
 use Rattle.verity_tree.specs.Steps.OpenBlocks.{HasOpenBlocks, IsAsking, carry_state, digests_under, level_digest}
 use Rattle.verity_tree.specs.Steps.OpenBlocks.{open_block}
 use Rattle.verity_tree.specs.Windows.{window_blocks, window_length}
 use Rattle.verity_tree.specs.declared.feeding.window.WindowPlace.{WindowPlace}
-use Rattle.verity_tree.proofs.AdvanceLemmas.{blocks-most, height-is}
-use Rattle.verity_tree.proofs.ClimbLemmas.{last-block}
+use Rattle.verity_tree.proofs.ClimbLemmas.{blocks-most, last-block}
 use Rattle.verity_tree.proofs.FirstBlockLemmas.{plan-first_blocks}
+use Rattle.verity_tree.proofs.LevelLemmas.{length-cut}
+use Rattle.verity_tree.proofs.TreeLemmas.{height-level_count}
 use Rattle.verity_tree.proofs.WindowLemmas.{placed-in-window}
 
 -- the last data block's digest comes to level 0
@@ -24,13 +26,19 @@ pub IsAsking-first : (p : PlanFields) (levels first last : ℕ) (fed opened dige
     → last + 1 ≡ p.blocks → HasCome p levels fed opened digest
     → IsAsking p.settings (data_blocks p fed) first (carry_state last 0 levels) opened digest
 IsAsking-first p levels first last fed opened digest planned all last_is h =
-    let s = p.settings in
-    let e : blocks_before s (length fed) ≡ last = ap (blocks_before s) all ∙ omega (arith, last-block p planned, last_is) in
+    let e : blocks_before p.settings (length fed) ≡ last =
+    ap (blocks_before p.settings) all ∙ omega (arith, last-block p planned, last_is) in
     record {
       below = λ l from to. absurd (omega (arith, to));
-      above = subst (λ (n : ℕ). HasOpenBlocks s (data_blocks p fed) 0 levels n opened) e h.stands;
-      digest_is = h.digest_is ∙ ap (λ (n : ℕ). level_digest s (data_blocks p fed) n 0) e;
+      above = rw (← e) h.stands;
+      digest_is = rw (← e) h.digest_is;
     }
+
+-- a tree's levels by its data blocks
+height-is : (p : PlanFields) (fed : List ℕ) → height p.settings (data_blocks p fed) ≡ level_count_of p
+height-is p fed =
+    height-level_count p.settings (data_blocks p fed) (fan-some p.settings)
+    ∙ ap (level_count (fan p.settings)) (length-cut p.settings p.blocks p.wanted fed)
 
 -- above all levels there is one place
 top-place : (p : PlanFields) (i l : ℕ) → IsPlan p → i < p.blocks → level_count_of p ≤ l → i / fan p.settings ^ l ≡ 0
@@ -47,6 +55,14 @@ root-above p last top fed planned last_is top_is =
     let first = top-place p last top planned (omega (arith, last_is)) (omega (arith, top_is)) in
     ap (λ (k : ℕ). hash s (get_or (blocks_up s blocks top) k [])) first
     ∙ ap (λ (l : ℕ). hash s (get_or (blocks_up s blocks l) 0 [])) (top_is ∙ sym (height-is p fed))
+
+-- the hash block of the top level that closed above the last byte gives the root
+pub top-root : (p : PlanFields) (levels level : ℕ) (fed opened : List ℕ) → IsPlan p → level_count_of p ≡ level + 1
+    → length fed ≡ p.wanted → IsHandingOut p levels level fed opened
+    → hash p.settings (slice_chunk opened p.settings.hash_block level) ≡ root p.settings (data_blocks p fed)
+top-root p levels level fed opened planned top all h =
+    ap (hash p.settings) h.closed.stands
+    ∙ root-above p _ (level + 1) fed planned (ap (λ (n : ℕ). blocks_before p.settings n + 1) all ∙ last-block p planned) (sym top)
 
 -- the open blocks are those before the last window, and the window's bytes that were fed are as they were
 pub HasFed-asked : (p : PlanFields) (levels last top n : ℕ) (place : WindowPlace)

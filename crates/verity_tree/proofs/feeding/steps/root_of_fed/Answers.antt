@@ -1,7 +1,6 @@
 -- The digest goes up level after level.
-use Rattle.std.proofs.Common.{◌≡◌, ℕ, ◌+◌, ◌-◌, ◌/◌, ◌≤◌, arith, ap, sym, ◌∙◌}
+use Rattle.std.proofs.Common.{◌≡◌, ℕ, ◌+◌, ◌-◌, ◌≤◌, arith, ap, sym, ◌∙◌}
 use Rattle.verity_plan.specs.Plans.{IsPlan, PlanFields}
-use Rattle.verity_plan.specs.Settings.{fan}
 use Rattle.verity_tree.specs.ClosingOrder.{blocks_before}
 use Rattle.verity_tree.specs.Levels.{data_blocks}
 use Rattle.verity_tree.proofs.AskingLemmas.{HasFed-asked, IsAsking-first, root-above}
@@ -27,12 +26,10 @@ loop-level-init c = record {
 pub digest_with-digest-requires-clause-beside : goal.digest_with-digest-requires-clause-beside
 digest_with-digest-requires-clause-beside c =
     let p = c.args.plan.now in
-    let s = p.settings in
-    let last : blocks_before s c.wanted-wanted.result ≡ c.blocks-last.result - 1 =
-    ap (blocks_before s) c.wanted-wanted.ensures.value ∙ omega (arith, last-block p c.requires.planned, c.blocks-last.ensures.value) in
-    ap (λ (n : ℕ). n / fan s) c.window_place-first.ensures.first_is
-    ∙ window-beside s c.wanted-wanted.result c.requires.planned.valid
-    ∙ ap (λ (n : ℕ). n / fan s) last
+    let last : blocks_before p.settings c.wanted-wanted.result ≡ c.blocks-last.result - 1 =
+    ap (blocks_before p.settings) c.wanted-wanted.ensures.value
+    ∙ omega (arith, last-block p c.requires.planned, c.blocks-last.ensures.value) in
+    rw (c.window_place-first.ensures.first_is, ← last) (window-beside p.settings c.wanted-wanted.result c.requires.planned.valid)
 
 pub loop-level-preserved : goal.loop-level-preserved
 loop-level-preserved c = record {
