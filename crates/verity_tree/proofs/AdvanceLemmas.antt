@@ -19,12 +19,6 @@ use Rattle.verity_tree.proofs.FirstBlockLemmas.{plan-first_blocks}
 use Rattle.verity_tree.proofs.PieceOfBytesLemmas.{HasWindow-full, closed_after-placed}
 use Rattle.verity_tree.proofs.WindowLemmas.{last-run, window-ended, window-wide}
 
--- a number that is a multiple is the one after those of the runs before its last
-last-multiple : (n w : ℕ) → 0 < w → 0 < n → n % w ≡ 0 → n ≡ ((n - 1) / w + 1) * w
-last-multiple n w wide some whole =
-    let split : n ≡ n / w * w = omega (arith, div-add-mod' n w, whole) in
-    split ∙ ap (λ (k : ℕ). k * w) (sym (last-run n w (n / w) wide some split))
-
 -- a number that isn't a multiple has its last in the run that isn't whole
 pub partial-quotient : (n w : ℕ) → 0 < w → (n ≡ 0) ⊎ (0 < n % w) → n / w ≡ (n - 1) / w
 partial-quotient n w wide ends = elim ends [
@@ -44,10 +38,12 @@ Stands-ends p levels zero fed opened window planned some most ends h = record {
   most = most;
   ends = elim ends [
     | inl none ↦ absurd (omega (arith, none))
-    | inr last ↦ elim last [
-      | inl whole ↦ inl (last-multiple (length fed) (window_length p.settings) (window-wide p.settings planned.valid) some whole)
-      | inr all ↦ inr all
-    ]
+    | inr (inl whole) ↦
+        let wide = window_length p.settings in
+        let split : length fed ≡ length fed / wide * wide = omega (arith, div-add-mod' (length fed) wide, whole) in
+        let last = last-run (length fed) wide (length fed / wide) (window-wide p.settings planned.valid) some split in
+        inl (split ∙ ap (λ (k : ℕ). k * wide) (sym last))
+    | inr (inr all) ↦ inr all
   ];
 }
 Stands-ends p levels (suc level) fed opened window planned some most ends h = h.ends

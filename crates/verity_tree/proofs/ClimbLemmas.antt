@@ -1,20 +1,20 @@
 -- How digests come from the last byte's data block up through the levels whose hash blocks close.
-use Rattle.std.proofs.Common.{◌≡◌, ℕ, zero, suc, ◌+◌, ◌-◌, ◌*◌, ◌/◌, ◌%◌, ◌^◌, ◌<◌, ◌≤◌, List, [], ◌∷◌, ◌++◌, length}
-use Rattle.std.proofs.Common.{true, false, arith, sym, ◌∙◌, ap, subst, inl, inr, append_assoc}
+use Rattle.std.proofs.Common.{◌≡◌, ℕ, zero, suc, ◌+◌, ◌-◌, ◌*◌, ◌/◌, ◌%◌, ◌^◌, ◌<◌, ◌≤◌, List, length}
+use Rattle.std.proofs.Common.{true, false, arith, refl, sym, ◌∙◌, ap, subst, inl, inr, append_assoc}
 use Rattle.std.proofs.lemmas.Bool.{cases_lt}
-use Rattle.std.proofs.Math.Nat.{mul_assoc, pow-le-pow_right}
+use Rattle.std.proofs.Math.Nat.{pow-le-pow_right}
 use Rattle.verity_plan.specs.Plans.{IsPlan, PlanFields}
 use Rattle.verity_plan.specs.PlanCounts.{level_count_of}
 use Rattle.verity_plan.specs.Settings.{IsValid, TreeSettingsFields, fan}
 use Rattle.verity_plan.proofs.CountLemmas.{IsLevelCount-level_count, div_ceil-below, le-div_ceil, mul_le}
 use Rattle.verity_plan.proofs.FanLemmas.{fan-some, fan-two, some_data}
 use Rattle.verity_plan.proofs.IndexLemmas.{quotient-below}
-use Rattle.verity_tree.specs.ClosingOrder.{BlockIndex, closed_after, first_closing, blocks_before}
+use Rattle.verity_tree.specs.ClosingOrder.{blocks_before}
 use Rattle.verity_tree.specs.Levels.{data_blocks}
 use Rattle.verity_tree.specs.Steps.Feeding.{Climbs, EndsWindow, HasFed, IsHandingOut, Stands}
-use Rattle.verity_tree.specs.Steps.Feeding.{handed_at, windows_before}
+use Rattle.verity_tree.specs.Steps.Feeding.{windows_before}
 use Rattle.verity_tree.specs.Steps.OpenBlocks.{HasClosed, HasOpenBlocks, IsCarrying, carry_state}
-use Rattle.verity_tree.specs.Windows.{window_blocks, window_length}
+use Rattle.verity_tree.specs.Windows.{window_length}
 use Rattle.verity_tree.proofs.ClosingLemmas.{reached-down}
 use Rattle.verity_tree.proofs.LevelLemmas.{length-cut}
 use Rattle.verity_tree.proofs.OrderSplit.{closed_after-more, closes-none, closes-reached, closing-prefix}
@@ -25,12 +25,8 @@ use Rattle.verity_tree.proofs.WindowLemmas.{window-ended}
 pub last-below : (p : PlanFields) (count : ℕ) → IsPlan p → 0 < count → count ≤ p.wanted
     → blocks_before p.settings count < p.blocks
 last-below p count planned some most =
-    let wide = some_data p.settings planned.valid in
-    omega (
-      arith,
-      quotient-below (count - 1) p.wanted p.settings.data_block wide (omega (arith, some, most)),
-      planned.blocks_are,
-    )
+    rw planned.blocks_are (quotient-below (count - 1) p.wanted p.settings.data_block (some_data p.settings planned.valid)
+    (omega (arith, some, most)))
 
 -- the last byte of all is in the last data block
 pub last-block : (p : PlanFields) → IsPlan p → blocks_before p.settings p.wanted + 1 ≡ p.blocks
@@ -52,8 +48,7 @@ handing-out p levels (suc m) fed opened window some h =
 -- nothing was handed out
 pub nothing-out : (p : PlanFields) (levels level : ℕ) (fed opened window : List ℕ) → level ≡ 0
     → Stands p levels fed level opened window → HasFed p.settings levels fed opened window
-nothing-out p levels level fed opened window none h =
-    subst (λ (n : ℕ). Stands p levels fed n opened window) none h
+nothing-out p levels level fed opened window none h = rw none at h
 
 -- more data blocks come after the last byte's only if its window is full
 pub whole-count : (p : PlanFields) (count : ℕ) → IsPlan p → EndsWindow p count
@@ -68,9 +63,8 @@ whole-count p count planned ends more = elim ends.ends [
 pub whole-block : (s : TreeSettingsFields) (count : ℕ) → IsValid s → 0 < count
     → count ≡ (windows_before s count + 1) * window_length s → count ≡ (blocks_before s count + 1) * s.data_block
 whole-block s count valid some whole =
-    let w = windows_before s count + 1 in
-    whole ∙ sym (mul_assoc w (window_blocks s) s.data_block)
-    ∙ ap (λ (n : ℕ). n * s.data_block) (sym (window-ended s count w valid some whole))
+    let last = window-ended s count (windows_before s count + 1) valid some whole in
+    omega (arith, whole, ap (λ (n : ℕ). n * s.data_block) last)
 
 -- the last byte is the last of all if its data block is
 pub all-count : (p : PlanFields) (count : ℕ) → IsPlan p → EndsWindow p count
@@ -89,13 +83,10 @@ pub climbs-closed : (p : PlanFields) (levels level : ℕ) (fed opened : List ℕ
     → level < level_count_of p
     → HasClosed p.settings (data_blocks p fed) (blocks_before p.settings (length fed)) level levels opened
     → Climbs p levels fed level true opened
-climbs-closed p levels level fed opened ends below closed =
-    let f = fan p.settings in
-    let i = blocks_before p.settings (length fed) in (
-      record { ends = ends; level_below = below; closed = closed },
-      ap (λ (xs : List BlockIndex). closed_after f p.blocks i ++ xs) (first_closing-more f i level)
-          ∙ sym (append_assoc (closed_after f p.blocks i) (first_closing f i level) (handed_at p (length fed) level ∷ [])),
-    )
+climbs-closed p levels level fed opened ends below closed = (
+  record { ends = ends; level_below = below; closed = closed },
+  rw (first_closing-more (fan p.settings) (blocks_before p.settings (length fed)) level, append_assoc) refl,
+)
 
 -- the level's open block has room for more, and all windows that are full have come to the open blocks
 pub climbs-kept : (p : PlanFields) (levels level : ℕ) (fed before digest opened : List ℕ) → IsPlan p
@@ -107,21 +98,15 @@ pub climbs-kept : (p : PlanFields) (levels level : ℕ) (fed before digest opene
     → HasOpenBlocks p.settings (data_blocks p fed) 0 levels (blocks_before p.settings (length fed) + 1) opened
     → Climbs p levels fed level false opened
 climbs-kept p levels level fed before digest opened planned ends within h room more stands =
-    let s = p.settings in
-    let f = fan s in
-    let some = fan-some s in
-    let i = blocks_before s (length fed) in
-    let many : length (data_blocks p fed) ≡ p.blocks = length-cut s p.blocks p.wanted fed in
-    let next : i + 1 < p.blocks = omega (arith, more, many) in
-    let reached = h.reached more in (
-      whole-count p (length fed) planned ends next,
-      stands,
-      closed_after-more f p.blocks i
-          ∙ ap (λ (xs : List BlockIndex). closed_after f p.blocks i ++ xs)
-          (closing-prefix f p.blocks i level within
-          (λ l low. closes-reached f p.blocks i l some (reached-down f i level (l + 1) some reached (omega (arith, low))))
-          (λ l high below. closes-none f p.blocks i level l some reached room next high)),
-    )
+    let f = fan p.settings in
+    let some = fan-some p.settings in
+    let i = blocks_before p.settings (length fed) in
+    let next : i + 1 < p.blocks = omega (arith, more, length-cut p.settings p.blocks p.wanted fed) in
+    let reached = h.reached more in
+    let closing = closing-prefix f p.blocks i level within
+    (λ l low. closes-reached f p.blocks i l some (reached-down f i level (l + 1) some reached (omega (arith, low))))
+    (λ l high below. closes-none f p.blocks i level l some reached room next high) in
+    (whole-count p (length fed) planned ends next, stands, rw (closed_after-more, closing) refl)
 
 -- past all levels no digest comes but with the last byte of all
 pub climbs-past : (p : PlanFields) (levels level : ℕ) (fed before digest : List ℕ) → IsPlan p

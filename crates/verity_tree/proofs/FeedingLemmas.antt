@@ -1,8 +1,9 @@
 -- The memory of a builder between two calls: its open blocks, and what comes after them.
-use Rattle.std.proofs.Common.{List, [], ap, arith, drop, length, refl, replicate, sym, take, ℕ, suc, Some, None}
+use Rattle.std.proofs.lemmas.List.{places, same_lists}
+use Rattle.std.proofs.Common.{rules, List, [], ap, arith, drop, length, refl, replicate, sym, take, ℕ, suc, Some, None}
 use Rattle.std.proofs.Common.{true, false, Bool, inl, inr, ◌*◌, ◌++◌, ◌+◌, ◌-◌, ◌<◌, ◌∙◌}
 use Rattle.std.proofs.Common.{◌≡◌, ◌≤◌, cond}
-use Rattle.std.proofs.lemmas.List.{append-nil, drop-take, drop_at, length-replicate, take-take, take_at}
+use Rattle.std.proofs.lemmas.List.{append-nil, drop_at, length-replicate, take_at}
 use Rattle.std.proofs.Math.Nat.{zero-div, zero-mul}
 use Rattle.std.proofs.Math.Seq.{drop-nil}
 use Rattle.verity_plan.specs.Plans.{IsPlan, PlanFields, block_count, checked_plan, has_room, plan_for_bytes}
@@ -11,7 +12,7 @@ use Rattle.verity_plan.specs.declared.plan_fault.PlanFault.TheVariants.{NoData, 
 use Rattle.verity_io.specs.Writing.{most_bytes}
 use Rattle.std.proofs.lemmas.Bool.{cases_lt}
 use Rattle.std.proofs.lemmas.Bool.Decides.{nat_tests}
-use Rattle.std.specs.Prelude.{◌==◌, Err, Ok, nat_eq}
+use Rattle.std.specs.Prelude.{Err, Ok, nat_eq}
 use Rattle.verity_plan.specs.Settings.{IsValid, TreeSettingsFields}
 use Rattle.verity_plan.proofs.CountLemmas.{div_ceil-pos, le-div_ceil, mul_le}
 use Rattle.verity_plan.proofs.FanLemmas.{fan-some, some_data}
@@ -61,12 +62,8 @@ IsFedFile-parted b n memory opened window fed same front back h = rw (front, bac
 block-within : (size level levels : ℕ) (memory : List ℕ) → level + 1 ≤ levels
     → take size (drop (level * size) (take (levels * size) memory)) ≡ take size (drop (level * size) memory)
 block-within size level levels memory step =
-    let rest = levels * size - level * size in
     let room : level * size + size ≤ levels * size = omega (arith, mul_le (level + 1) levels size step) in
-    let all : levels * size ≡ level * size + rest = omega (arith, room) in
-    ap (λ (n : ℕ). take size (drop (level * size) (take n memory))) all
-    ∙ ap (take size) (drop-take (level * size) rest memory)
-    ∙ take-take size rest (drop (level * size) memory) (omega (arith, room))
+    same_lists _ _ (search (rules, places)) (λ k d h. grind (arith, places))
 
 -- the hash block that was handed out last stands in the memory
 pub IsHandedOut-last : (b : TreeBuilder) (memory fed : List ℕ) (block : HashBlock) → IsPlan b.plan
@@ -163,15 +160,15 @@ FilePlan-large s size valid past =
 no_blocks : (asked : PlanFields) → Err NoData ≡ checked_plan asked → asked.blocks ≡ 0
 no_blocks asked is =
     elim (cases_lt 0 asked.blocks) [
-      | inl some ↦ by_tests (asked.blocks == 0) (has_room asked) (let e : nat_eq asked.blocks 0 ≡ false = grind (arith, nat_tests, some) in e) is
+      | inl some ↦
+          let tested : nat_eq asked.blocks 0 ≡ false = grind (arith, nat_tests, some) in
+          absurd (none_by (has_room asked) (rw tested at is))
       | inr none ↦ omega (arith, none)
     ]
   where
-    by_tests : (none room : Bool) → none ≡ false
-        → Err NoData ≡ cond none (Err NoData) (cond room (Ok asked) (Err NoRoom)) → asked.blocks ≡ 0
-    by_tests true room e is = absurd cc
-    by_tests false true e is = absurd cc
-    by_tests false false e is = absurd cc
+    none_by : (room : Bool) → Err NoData ≡ cond room (Ok asked) (Err NoRoom) → ⊥
+    none_by true is = cc
+    none_by false is = cc
 
 -- a file without data blocks has no bytes
 pub FilePlan-none : (s : TreeSettingsFields) (size : ℕ) → IsValid s → Err NoData ≡ plan_for_bytes s size 0 → size ≡ 0

@@ -5,6 +5,7 @@ use Rattle.std.proofs.Common.{length-append}
 use Rattle.std.proofs.lemmas.Bool.{cases_lt}
 use Rattle.std.proofs.lemmas.List.{append-nil, nil_from_length}
 use Rattle.std.proofs.Math.Nat.{one-le-pow, zero-div}
+use Rattle.std.proofs.lemmas.List.Folds.{flat_map-map}
 use Rattle.std.specs.List.{flat_map}
 use Rattle.std.specs.Int.{div_ceil}
 use Rattle.verity_plan.specs.Plans.{IsPlan, PlanFields}
@@ -90,16 +91,11 @@ asked-joined b after memory room fed (call ∷ rest) h calls =
     rw (← append_assoc) (asked-joined calls.0 after calls.1 room (fed ++ bytes_fed call) rest
     (call-fed b calls.0 memory calls.1 fed call calls.2 h) calls.3)
 
--- calls that feed pieces feed their bytes joined
-joined : (pieces : List (List ℕ)) → flat_map bytes_fed (map feeds pieces) ≡ flat_map (λ piece. piece) pieces
-joined [] = refl
-joined (piece ∷ rest) = ap (λ (bytes : List ℕ). piece ++ bytes) (joined rest)
-
 -- pieces are fed one after another
 pub pieces-joined : (b after : FileBuilder) (memory room fed : List ℕ) (pieces : List (List ℕ)) → IsFedFile b memory fed
     → FeedsPieces b memory pieces after room → IsFedFile after room (fed ++ flat_map (λ piece. piece) pieces)
 pieces-joined b after memory room fed pieces h calls =
-    rw (← joined pieces) (asked-joined b after memory room fed (map feeds pieces) h calls)
+    rw (← flat_map-map bytes_fed feeds pieces) (asked-joined b after memory room fed (map feeds pieces) h calls)
 
 -- what one call hands out, written, is the next of the tree's blocks put at its place
 written-given : (p : PlanFields) (closed : Option HashBlock) (memory fed more all device : List ℕ)
@@ -161,11 +157,9 @@ all-handed-out p planned =
     let f = fan p.settings in
     let i = blocks_before p.settings p.wanted in
     let last : i + 1 ≡ p.blocks = last-block p planned in
-    ap (λ (xs : List BlockIndex). closed_after f p.blocks i ++ xs)
-    (sym (closing-prefix f p.blocks i (level_count_of p) (omega arith) (λ l low. closes-last f p.blocks i l last)
-    (λ l high low. absurd (omega (arith, high, low)))))
-    ∙ sym (closed_after-more f p.blocks i)
-    ∙ ap (closed_after f p.blocks) last
+    let closing = closing-prefix f p.blocks i (level_count_of p) (omega arith) (λ l low. closes-last f p.blocks i l last)
+    (λ l high low. absurd (omega (arith, high, low))) in
+    rw (← closing, ← closed_after-more) (ap (closed_after f p.blocks) last)
 
 -- nothing was handed out at the beginning
 none-handed-out : (p : PlanFields) → handed_out p 0 0 ≡ []

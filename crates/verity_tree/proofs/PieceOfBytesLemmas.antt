@@ -1,16 +1,14 @@
 -- Pieces of bytes that come one after another: the data block that the last byte is in, and those before it.
-use Rattle.std.proofs.Common.{◌≡◌, ℕ, zero, suc, ◌+◌, ◌-◌, ◌*◌, ◌/◌, ◌%◌, ◌^◌, ◌<◌, ◌≤◌, List, [], ◌++◌, length, take}
-use Rattle.std.proofs.Common.{drop, replicate, arith, sym, ◌∙◌, ap, refl, inl, inr, subst}
-use Rattle.std.proofs.Common.{append_assoc, length-append, length-drop}
+use Rattle.std.proofs.lemmas.List.{places, same_lists}
+use Rattle.std.proofs.Common.{rules, ◌≡◌, ◌≢◌, ℕ, zero, suc, ◌+◌, ◌-◌, ◌*◌, ◌/◌, ◌%◌, ◌<◌, ◌≤◌, List, [], ◌++◌, length, take}
+use Rattle.std.proofs.Common.{drop, replicate, arith, sym, ◌∙◌, ap, refl, inl, inr}
+use Rattle.std.proofs.Common.{length-append, length-drop}
 use Rattle.std.proofs.Math.Nat.{div-eq_of_lt-le}
-use Rattle.std.proofs.Math.Seq.{take-append-add}
-use Rattle.std.proofs.lemmas.Bool.{cases_lt}
 use Rattle.std.proofs.lemmas.List.{append-nil, drop-append-le, drop-drop, drop_all, length-replicate, length-take-le}
-use Rattle.std.proofs.lemmas.List.{take-append-le, take-replicate, take_all, take_at}
+use Rattle.std.proofs.lemmas.List.{take_all}
 use Rattle.std.proofs.lemmas.Nat.{div-add-mod', mod_below}
 use Rattle.std.specs.Fork.{slice_chunk}
 use borrow.Rule.Slice.PartMut.{put_mid}
-use Rattle.verity_hash.specs.Hashing.{with_zeros}
 use Rattle.verity_plan.specs.Plans.{IsPlan, PlanFields}
 use Rattle.verity_plan.specs.Settings.{TreeSettingsFields, fan, hash}
 use Rattle.verity_plan.proofs.CountLemmas.{mul_le}
@@ -26,7 +24,6 @@ use Rattle.verity_tree.specs.Windows.{window_blocks, window_length}
 use Rattle.verity_tree.specs.declared.feeding.window.WindowPlace.{WindowPlace}
 use Rattle.verity_tree.proofs.DataBlockLemmas.{level_digest-data}
 use Rattle.verity_tree.proofs.FirstBlockLemmas.{first_blocks-more, first_blocks-plan}
-use Rattle.verity_tree.proofs.FirstBlockLemmas.{with_zeros-whole}
 use Rattle.verity_tree.proofs.LevelLemmas.{length-cut}
 use Rattle.verity_tree.proofs.OpenBlockSteps.{place-first}
 use Rattle.verity_tree.proofs.OrderSplit.{closed_after-more, closes-none, closing-prefix}
@@ -37,30 +34,13 @@ use Rattle.verity_tree.proofs.WindowLemmas.{placed-in-window, window-batch}
 chunk-filled : (size n r : ℕ) (bytes : List ℕ) → r < n → r * size < length bytes → length bytes ≤ n * size
     → slice_chunk (bytes ++ replicate (n * size - length bytes) 0) size r ≡ block_at size bytes r
 chunk-filled size n r bytes low here most =
-    let k = n * size - length bytes in
-    let rest = drop (r * size) bytes in
-    let left : length rest ≡ length bytes - r * size = length-drop (r * size) bytes in
-    ap (take size) (drop-append-le (r * size) bytes (replicate k 0) (omega (arith, here)))
-    ∙ elim (cases_lt (length rest) size) [
-      | inl short ↦
-          let zeros = size - length rest in
-          let split : size ≡ length rest + zeros = omega (arith, short) in
-          let enough : zeros ≤ k = omega (arith, mul_le (r + 1) n size (omega (arith, low)), left, here, most) in
-          ap (λ (m : ℕ). take m (rest ++ replicate k 0)) split
-          ∙ take-append-add rest (replicate k 0) zeros
-          ∙ ap (λ (xs : List ℕ). rest ++ xs) (take-replicate zeros k 0 enough)
-          ∙ ap (with_zeros size) (sym (take_all size rest (omega (arith, short))))
-      | inr whole ↦
-          take-append-le size rest (replicate k 0) whole
-          ∙ sym (with_zeros-whole size (take size rest) (length-take-le size rest whole))
-    ]
+    let last : r * size + size ≤ n * size = omega (arith, mul_le (r + 1) n size (omega (arith, low))) in
+    same_lists _ _ (search (rules, places)) (λ k d h. grind (arith, places))
 
 -- zeros put after the bytes that are there
 filled-front : (a k end : ℕ) (xs zeros : List ℕ) → end ≡ a + k → a ≤ length xs → length zeros ≡ k
     → take end (put_mid a k xs zeros) ≡ take a xs ++ zeros
-filled-front a k end xs zeros all within long =
-    rw (← append_assoc) (take_at (take a xs ++ zeros) (drop k (drop a xs)) end
-    (omega (arith, length-append (take a xs) zeros, length-take-le a xs within, long, all)))
+filled-front a k end xs zeros all within long = same_lists _ _ (search (rules, places)) (λ j d h. grind (arith, places))
 
 -- a data block of the window
 window-row : (p : PlanFields) (w r count : ℕ) (fed window digest : List ℕ)
@@ -148,17 +128,12 @@ HasCome-window p levels place fed opened window rows after digest planned some m
 -- a data block that isn't the last below a hash block closes none
 closing-none : (f n k : ℕ) → 0 < f → k < n → ¬ EndsBlock f n k → closing_with f n k ≡ []
 closing-none f n k some below stays =
-    let more : k + 1 < n = elim (cases_lt (k + 1) n) [
-      | inl more ↦ more
-      | inr past ↦ absurd (stays (inr (omega (arith, past, below))))
-    ] in
-    let room : k % f + 1 < f = elim (cases_lt (k % f + 1) f) [
-      | inl room ↦ room
-      | inr full ↦ absurd (stays (inl (omega (arith, full, mod_below k f some))))
-    ] in
-    let first : k / f ^ 0 % f + 1 < f = subst (λ (q : ℕ). q % f + 1 < f) (place-first k f) room in
+    let apart : k + 1 ≢ n = λ last. stays (inr last) in
+    let within : k % f + 1 ≢ f = λ full. stays (inl full) in
+    let more : k + 1 < n = omega (arith, below, apart) in
+    let room : k % f + 1 < f = omega (arith, within, mod_below k f some) in
     closing-prefix f n k 0 (omega arith) (λ l low. absurd (omega (arith, low)))
-    (λ l high low. closes-none f n k 0 l some (IsReached-zero f k) first more high)
+    (λ l high low. closes-none f n k 0 l some (IsReached-zero f k) (rw (← place-first k f) room) more high)
 
 -- nor do several
 pub closed_after-none : (f n i m : ℕ) → 0 < f → i + m ≤ n → ((k : ℕ) → i ≤ k → k < i + m → ¬ EndsBlock f n k)

@@ -1,11 +1,10 @@
 -- A device on which the tree's blocks were put at their places holds the whole tree.
-use Rattle.std.proofs.Common.{◌≡◌, ℕ, ◌+◌, ◌-◌, ◌*◌, ◌^◌, ◌<◌, ◌≤◌, ◌⊎◌, List, [], ◌∷◌, ◌++◌, length, take, drop}
-use Rattle.std.proofs.Common.{replicate, get_or, arith, sym, subst, ◌∙◌, ap, refl, inl, inr, append_assoc}
+use Rattle.std.proofs.Common.{◌≡◌, ℕ, ◌+◌, ◌-◌, ◌*◌, ◌^◌, ◌<◌, ◌≤◌, ◌⊎◌, List, [], ◌∷◌, length, take, drop}
+use Rattle.std.proofs.Common.{get_or, rules, arith, sym, subst, ◌∙◌, ap, refl, inl, inr}
 use Rattle.std.proofs.Common.{length-append, length-drop}
-use Rattle.std.proofs.lemmas.Bool.{cases_lt, cases_order}
-use Rattle.std.proofs.lemmas.List.{drop_at, ext_get_or, get_or-append_right, get_or-drop, get_or-replicate, get_or-take}
-use Rattle.std.proofs.lemmas.List.{get_or_append_left, get_or_past, length-replicate, length-take, length-take-le}
-use Rattle.std.proofs.lemmas.List.{take_at}
+use Rattle.std.proofs.lemmas.Bool.{cases_order}
+use Rattle.std.proofs.lemmas.List.{length-replicate, length-take}
+use Rattle.std.proofs.lemmas.List.{places, same_lists}
 use Rattle.std.proofs.Math.Nat.{mul-div_cancel, one-le-pow}
 use Rattle.verity_io.specs.Writing.{put}
 use Rattle.verity_plan.specs.Plans.{IsPlan, IsTreeBlock, PlanFields, place, start_byte, start_byte_of}
@@ -24,13 +23,6 @@ use Rattle.verity_tree.proofs.HoldsLemmas.{times-cases, times-first, times-more}
 use Rattle.verity_tree.proofs.LevelLemmas.{length-cut}
 use Rattle.verity_tree.proofs.OrderLemmas.{ClosesOnce-all}
 
--- what stands before bytes that are put at an offset
-abbrev before_put : List ℕ → ℕ → List ℕ
-before_put device at = take at device ++ replicate (at - length device) 0
-
-length-before_put : (device : List ℕ) (at : ℕ) → length (before_put device at) ≡ at
-length-before_put device at = simp (length-append, length-take, length-replicate) (omega arith)
-
 pub length-put : (device : List ℕ) (at : ℕ) (bytes : List ℕ)
     → length (put device at bytes) ≡ at + length bytes + (length device - (at + length bytes))
 length-put device at bytes = simp (length-append, length-take, length-replicate, length-drop) (omega arith)
@@ -38,55 +30,17 @@ length-put device at bytes = simp (length-append, length-take, length-replicate,
 -- bytes that are put stand there
 pub put-here : (device : List ℕ) (at : ℕ) (bytes : List ℕ)
     → take (length bytes) (drop at (put device at bytes)) ≡ bytes
-put-here device at bytes =
-    let rest = drop (at + length bytes) device in
-    ap (λ (xs : List ℕ). take (length bytes) (drop at xs)) (append_assoc (before_put device at) bytes rest)
-    ∙ ap (take (length bytes)) (drop_at (before_put device at) (bytes ++ rest) at (length-before_put device at))
-    ∙ take_at bytes rest (length bytes) refl
+put-here device at bytes = same_lists _ _ (search (rules, places)) (λ k d h. grind (arith, places))
 
 -- bytes beside them stay, or are zeros past the old end
 pub put-byte : (device : List ℕ) (at : ℕ) (bytes : List ℕ) (i : ℕ) → (i < at) ⊎ (at + length bytes ≤ i)
     → get_or (put device at bytes) i 0 ≡ get_or device i 0
-put-byte device at bytes i (inl low) =
-    let gap : i < length (before_put device at) = omega (arith, length-before_put device at, low) in
-    let inside : i < length (before_put device at ++ bytes) =
-    omega (arith, gap, length-append (before_put device at) bytes) in
-    get_or_append_left (before_put device at ++ bytes) (drop (at + length bytes) device) 0 i inside
-    ∙ get_or_append_left (before_put device at) bytes 0 i gap
-    ∙ elim (cases_lt i (length device)) [
-      | inl below ↦
-          get_or_append_left (take at device) _ 0 i (omega (arith, length-take at device, low, below))
-          ∙ get_or-take at device i 0 low
-      | inr past ↦
-          get_or-append_right (take at device) _ (length device) i 0 (omega (arith, length-take at device, low, past)) past
-          ∙ get_or-replicate (at - length device) (i - length device) 0 0 (omega (arith, low, past))
-          ∙ sym (get_or_past device i 0 past)
-    ]
-put-byte device at bytes i (inr past) =
-    let long : length (before_put device at ++ bytes) ≡ at + length bytes =
-    omega (arith, length-append (before_put device at) bytes, length-before_put device at) in
-    let back : at + length bytes + (i - (at + length bytes)) ≡ i = omega (arith, past) in
-    get_or-append_right (before_put device at ++ bytes) (drop (at + length bytes) device) (at + length bytes) i 0 long past
-    ∙ get_or-drop (at + length bytes) device (i - (at + length bytes)) 0
-    ∙ ap (λ (n : ℕ). get_or device n 0) back
+put-byte device at bytes i apart = search (rules, places)
 
 -- and so does a range of them
 pub put-beside : (device : List ℕ) (at : ℕ) (bytes : List ℕ) (a n : ℕ) → a + n ≤ length device
     → (a + n ≤ at) ⊎ (at + length bytes ≤ a) → take n (drop a (put device at bytes)) ≡ take n (drop a device)
-put-beside device at bytes a n within apart =
-    let after = put device at bytes in
-    let of_after : length (take n (drop a after)) ≡ n =
-    length-take-le n (drop a after) (omega (arith, length-drop a after, length-put device at bytes, within)) in
-    let of_device : length (take n (drop a device)) ≡ n =
-    length-take-le n (drop a device) (omega (arith, length-drop a device, within)) in
-    ext_get_or 0 (take n (drop a after)) (take n (drop a device)) (of_after ∙ sym of_device) (λ k low.
-    let below : k < n = omega (arith, low, of_after) in
-    let out : (a + k < at) ⊎ (at + length bytes ≤ a + k) = elim apart [
-      | inl before ↦ inl (omega (arith, before, below))
-      | inr past ↦ inr (omega (arith, past))
-    ] in
-    get_or-take n (drop a after) k 0 below ∙ get_or-drop a after k 0 ∙ put-byte device at bytes (a + k) out
-    ∙ sym (get_or-take n (drop a device) k 0 below ∙ get_or-drop a device k 0))
+put-beside device at bytes a n within apart = same_lists _ _ (search (rules, places)) (λ k d h. grind (arith, places))
 
 -- bytes of a device that are as many as a range has are the whole range
 pub range-within : (device bytes : List ℕ) (a n : ℕ) → 0 < n → length bytes ≡ n → take n (drop a device) ≡ bytes

@@ -3,7 +3,7 @@ use Rattle.std.proofs.Common.{◌≡◌, ℕ, zero, suc, ◌+◌, ◌-◌, ◌*�
 use Rattle.std.proofs.Common.{min}
 use Rattle.std.proofs.lemmas.Bool.{cases_lt}
 use Rattle.std.proofs.lemmas.Nat.{div-add-mod', le-div, mod-mul-add, mod_below, mul-le, pow-add, pow_pos}
-use Rattle.std.proofs.Math.Nat.{div-div-eq-div-mul, div-eq_of_lt-le, mul-div-mul_right, mul-div_cancel, mul_assoc}
+use Rattle.std.proofs.Math.Nat.{div-div-eq-div-mul, div-eq_of_lt-le, mul-div_cancel, mul_assoc}
 use Rattle.std.proofs.Math.Pow.{pow-lt}
 use Rattle.verity_plan.specs.Plans.{IsPlan, PlanFields}
 use Rattle.verity_plan.specs.Settings.{IsValid, TreeSettingsFields, fan}
@@ -84,21 +84,6 @@ windows-are s count =
     let e : window_length s ≡ s.data_block * window_blocks s = omega arith in
     ap (λ (n : ℕ). (count - 1) / n) e ∙ sym (div-div-eq-div-mul (count - 1) s.data_block (window_blocks s))
 
--- the first data block of its window and its own are below one hash block of level 0
-pub window-beside : (s : TreeSettingsFields) (count : ℕ) → IsValid s
-    → windows_before s count * window_blocks s / fan s ≡ blocks_before s count / fan s
-window-beside s count valid =
-    let b = window_blocks s in
-    let i = blocks_before s count in
-    let times = window-fan s valid in
-    let g = 2 ^ times.0 in
-    let area : b * g ≡ fan s = omega (arith, times.1) in
-    ap (λ (n : ℕ). windows_before s count * b / n) times.1
-    ∙ mul-div-mul_right (windows_before s count) g (window-some s valid)
-    ∙ ap (λ (n : ℕ). n / g) (windows-are s count)
-    ∙ div-div-eq-div-mul i b g
-    ∙ ap (λ (n : ℕ). i / n) area
-
 -- where the last of some bytes is: the data blocks before its window, its data block, and the bytes
 pub record IsPlacedInWindow (s : TreeSettingsFields) (count : ℕ) : Type 0 where
   pub from : windows_before s count * window_blocks s ≤ blocks_before s count
@@ -135,6 +120,15 @@ placed-in-window s count valid some =
       end = block.1;
     }
 
+-- the first data block of its window and its own are below one hash block of level 0
+pub window-beside : (s : TreeSettingsFields) (count : ℕ) → IsValid s → 0 < count
+    → windows_before s count * window_blocks s / fan s ≡ blocks_before s count / fan s
+window-beside s count valid some =
+    let place = placed-in-window s count valid some in
+    let split = div-add-mod' (windows_before s count * window_blocks s) (fan s) in
+    let room = window-room s (windows_before s count) valid in
+    sym (div-eq_of_lt-le (fan s) (omega (arith, split, place.from)) (omega (arith, split, room, place.to)))
+
 -- the last of the elements of so many runs is in the last run
 pub last-run : (n w k : ℕ) → 0 < w → 0 < n → n ≡ k * w → (n - 1) / w + 1 ≡ k
 last-run n w zero wide some whole = absurd (omega (arith, some, whole))
@@ -146,8 +140,7 @@ last-run n w (suc k) wide some whole =
 pub window-ended : (s : TreeSettingsFields) (count w : ℕ) → IsValid s → 0 < count → count ≡ w * window_length s
     → blocks_before s count + 1 ≡ w * window_blocks s
 window-ended s count w valid some whole =
-    last-run count s.data_block (w * window_blocks s) (some_data s valid) some
-    (whole ∙ sym (mul_assoc w (window_blocks s) s.data_block))
+    last-run count s.data_block (w * window_blocks s) (some_data s valid) some (omega (arith, whole))
 
 -- of the data blocks up to the last byte's, from the first of its window on, none but the last closes a hash block
 pub window-batch : (p : PlanFields) (count first rows : ℕ) → IsPlan p → 0 < count → blocks_before p.settings count < p.blocks

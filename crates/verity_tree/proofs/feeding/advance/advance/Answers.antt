@@ -1,5 +1,5 @@
 -- A hash block closes, or bytes are taken.
-use Rattle.std.proofs.Common.{◌≡◌, ◌⊎◌, ℕ, ◌+◌, ◌<◌, ◌≤◌, List, length, take, true, false, ◌*◌, ◌/◌, ◌%◌, Bool, nat_lt, eqb}
+use Rattle.std.proofs.Common.{◌≡◌, ◌⊎◌, ℕ, ◌+◌, ◌<◌, ◌≤◌, List, length, take, true, false, ◌*◌, ◌/◌, ◌%◌, Bool}
 use Rattle.std.proofs.Common.{arith, inl, inr, sym, ◌∙◌, ap, subst}
 use Rattle.std.proofs.lemmas.Bool.Decides.{nat_tests}
 use Rattle.std.proofs.lemmas.List.{length-take-le}
@@ -40,21 +40,18 @@ ended c test levels fed count h =
         elim w.if-progress-gt0.branch [
           | then-progress-gt0 v ↦ inl v.if-progress-gt0.true
           | else-progress-gt0 v ↦
-              let tested : eqb (c.args.progress.now.fed % c.window_length-wide.result) 0 ≡ true =
-              sym v.value-is ∙ w.if-count-wide-eq0.true in
-              let none : c.args.progress.now.fed % c.window_length-wide.result ≡ 0 = grind (arith, nat_tests, tested) in
+              let none : c.args.progress.now.fed % c.window_length-wide.result ≡ 0 =
+              grind (arith, nat_tests, sym v.value-is ∙ w.if-count-wide-eq0.true) in
               inr (inl (in-window c n count ∙ none))
         ],
       )
       | then-count-gt0+else-count-wide-eq0 w ↦ (
         omega (arith, count, w.if-count-gt0.true),
-        let tested : eqb c.args.progress.now.fed w.wanted.result ≡ true = sym w.ends-is ∙ test in
-            let all : c.args.progress.now.fed ≡ w.wanted.result = grind (arith, nat_tests, tested) in
+        let all : c.args.progress.now.fed ≡ w.wanted.result = grind (arith, nat_tests, sym w.ends-is ∙ test) in
             inr (inr (count ∙ all ∙ w.wanted.ensures.value)),
       )
       | else-count-gt0 w ↦
-          let tested : nat_lt 0 c.args.progress.now.fed ≡ true = sym w.ends-is ∙ test in
-          let some : 0 < c.args.progress.now.fed = grind (arith, nat_tests, tested) in
+          let some : 0 < c.args.progress.now.fed = grind (arith, nat_tests, sym w.ends-is ∙ test) in
           absurd (omega (arith, some, w.if-count-gt0.false))
     ] in
     Stands-ends p levels closed fed c.args.opened.now c.args.window.now c.requires.step.planned ends.0
@@ -103,13 +100,11 @@ returns-clause-stands c = λ levels fed enough room count h.
                 let bad : true ≡ false = sym u.if-count-wide-eq0.true ∙ sym u.ends-is ∙ w.if-ends.false in absurd cc
             | then-count-gt0+else-count-wide-eq0 u ↦ elim u.if-progress-gt0.branch [
               | then-progress-gt0 v ↦
-                  let tested : nat_lt 0 closed ≡ false = sym v.value-is ∙ u.if-count-wide-eq0.false in
-                  let none : closed ≤ 0 = grind (arith, nat_tests, tested) in
+                  let none : closed ≤ 0 = grind (arith, nat_tests, sym v.value-is ∙ u.if-count-wide-eq0.false) in
                   absurd (omega (arith, none, v.if-progress-gt0.true))
               | else-progress-gt0 v ↦
-                  let tested : eqb (c.args.progress.now.fed % c.window_length-wide.result) 0 ≡ false =
-                  sym v.value-is ∙ u.if-count-wide-eq0.false in
-                  let some : 0 < c.args.progress.now.fed % c.window_length-wide.result = grind (arith, nat_tests, tested) in
+                  let some : 0 < c.args.progress.now.fed % c.window_length-wide.result =
+                  grind (arith, nat_tests, sym v.value-is ∙ u.if-count-wide-eq0.false) in
                   inr (omega (arith, v.if-progress-gt0.false), omega (arith, some, in-window j n count))
             ]
             | else-count-gt0 u ↦ inl (omega (arith, count, u.if-count-gt0.false))
