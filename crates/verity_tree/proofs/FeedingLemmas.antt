@@ -1,9 +1,8 @@
 -- The memory of a builder between two calls: its open blocks, and what comes after them.
-use Rattle.std.proofs.lemmas.List.{places, same_lists}
-use Rattle.std.proofs.Common.{rules, List, [], ap, arith, drop, length, refl, replicate, sym, take, ℕ, suc, Some, None}
+use Rattle.std.proofs.Common.{List, [], ap, arith, rules, drop, length, refl, replicate, sym, take, ℕ, suc, Some, None}
 use Rattle.std.proofs.Common.{true, false, Bool, inl, inr, ◌*◌, ◌++◌, ◌+◌, ◌-◌, ◌<◌, ◌∙◌}
 use Rattle.std.proofs.Common.{◌≡◌, ◌≤◌, cond}
-use Rattle.std.proofs.lemmas.List.{append-nil, drop_at, length-replicate, take_at}
+use Rattle.std.proofs.lemmas.List.{append-nil, drop_at, length-replicate, places, same_lists, take_at}
 use Rattle.std.proofs.Math.Nat.{zero-div, zero-mul}
 use Rattle.std.proofs.Math.Seq.{drop-nil}
 use Rattle.verity_plan.specs.Plans.{IsPlan, PlanFields, block_count, checked_plan, has_room, plan_for_bytes}

@@ -1,11 +1,9 @@
 -- Pieces of bytes that come one after another: the data block that the last byte is in, and those before it.
-use Rattle.std.proofs.lemmas.List.{places, same_lists}
-use Rattle.std.proofs.Common.{rules, ◌≡◌, ◌≢◌, ℕ, zero, suc, ◌+◌, ◌-◌, ◌*◌, ◌/◌, ◌%◌, ◌<◌, ◌≤◌, List, [], ◌++◌, length, take}
-use Rattle.std.proofs.Common.{drop, replicate, arith, sym, ◌∙◌, ap, refl, inl, inr}
+use Rattle.std.proofs.Common.{◌≡◌, ◌≢◌, ℕ, zero, suc, ◌+◌, ◌-◌, ◌*◌, ◌/◌, ◌%◌, ◌<◌, ◌≤◌, List, [], ◌++◌, length, take}
+use Rattle.std.proofs.Common.{drop, replicate, arith, rules, sym, ◌∙◌, ap, refl, inl, inr}
 use Rattle.std.proofs.Common.{length-append, length-drop}
 use Rattle.std.proofs.Math.Nat.{div-eq_of_lt-le}
-use Rattle.std.proofs.lemmas.List.{append-nil, drop-append-le, drop-drop, drop_all, length-replicate, length-take-le}
-use Rattle.std.proofs.lemmas.List.{take_all}
+use Rattle.std.proofs.lemmas.List.{append-nil, drop-append-le, drop-drop, drop_all, places, same_lists, take_all}
 use Rattle.std.proofs.lemmas.Nat.{div-add-mod', mod_below}
 use Rattle.std.specs.Fork.{slice_chunk}
 use borrow.Rule.Slice.PartMut.{put_mid}
@@ -29,18 +27,6 @@ use Rattle.verity_tree.proofs.OpenBlockSteps.{place-first}
 use Rattle.verity_tree.proofs.OrderSplit.{closed_after-more, closes-none, closing-prefix}
 use Rattle.verity_tree.proofs.QuotientLemmas.{IsReached-zero}
 use Rattle.verity_tree.proofs.WindowLemmas.{placed-in-window, window-batch}
-
--- a run of bytes that are filled with zeros up to whole runs
-chunk-filled : (size n r : ℕ) (bytes : List ℕ) → r < n → r * size < length bytes → length bytes ≤ n * size
-    → slice_chunk (bytes ++ replicate (n * size - length bytes) 0) size r ≡ block_at size bytes r
-chunk-filled size n r bytes low here most =
-    let last : r * size + size ≤ n * size = omega (arith, mul_le (r + 1) n size (omega (arith, low))) in
-    same_lists _ _ (search (rules, places)) (λ k d h. grind (arith, places))
-
--- zeros put after the bytes that are there
-filled-front : (a k end : ℕ) (xs zeros : List ℕ) → end ≡ a + k → a ≤ length xs → length zeros ≡ k
-    → take end (put_mid a k xs zeros) ≡ take a xs ++ zeros
-filled-front a k end xs zeros all within long = same_lists _ _ (search (rules, places)) (λ j d h. grind (arith, places))
 
 -- a data block of the window
 window-row : (p : PlanFields) (w r count : ℕ) (fed window digest : List ℕ)
@@ -85,19 +71,13 @@ pub window-filled : (s : TreeSettingsFields) (place : WindowPlace) (end bytes : 
     → slice_chunk (take end (put_mid bytes (end - bytes) window zeros)) s.data_block r
     ≡ block_at s.data_block (take place.bytes window) r
 window-filled s place end bytes window zeros at area here each wide are r low =
-    let d = s.data_block in
-    let k = end - bytes in
-    let held = take place.bytes window in
-    let long : length held ≡ place.bytes = length-take-le place.bytes window (omega (arith, at.enough, at.room, wide)) in
-    let all : end ≡ bytes + k = omega (arith, area, at.enough, here) in
-    let left : length (take k (drop bytes window)) ≡ k =
-    length-take-le k (drop bytes window) (omega (arith, length-drop bytes window, area, at.room, wide)) in
-    let filled : zeros ≡ replicate k 0 = rw left at are in
-    let rest : k ≡ (place.rows + 1) * d - length held = omega (arith, area, here, long) in
-    ap (λ (xs : List ℕ). slice_chunk xs d r)
-    (filled-front bytes k end window zeros all (omega (arith, at.enough, at.room, here, wide)) (rw filled (length-replicate k 0))
-    ∙ rw (filled, rest, here) refl)
-    ∙ chunk-filled d (place.rows + 1) r held (omega (arith, low)) (omega (arith, long, each r low)) (omega (arith, long, at.enough))
+    let size = s.data_block in
+    let some : r * size < place.bytes = each r low in
+    let last : r * size + size ≤ (place.rows + 1) * size =
+    omega (arith, mul_le (r + 1) (place.rows + 1) size (omega (arith, low))) in
+    let enough : place.bytes ≤ end = omega (arith, area, at.enough) in
+    let within : end ≤ length window = omega (arith, area, at.room, wide) in
+    rw are (same_lists _ _ (search (rules, places)) (λ k d h. grind (arith, places)))
 
 -- the data blocks of the window come to the open blocks, but the last
 pub HasCome-window : (p : PlanFields) (levels : ℕ) (place : WindowPlace) (fed opened window rows after digest : List ℕ)

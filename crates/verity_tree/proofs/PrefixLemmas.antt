@@ -1,7 +1,7 @@
 -- A block that has closed depends on the data before it alone.
-use Rattle.std.proofs.Common.{◌≡◌, ℕ, zero, suc, ◌+◌, ◌*◌, ◌^◌, ◌<◌, ◌≤◌, min, List, [], get_or, drop, length, map}
+use Rattle.std.proofs.Common.{◌≡◌, ℕ, zero, suc, ◌+◌, ◌*◌, ◌^◌, ◌<◌, ◌≤◌, min, List, [], get_or, length, map}
 use Rattle.std.proofs.Common.{arith, sym, ◌∙◌, ap, length-drop}
-use Rattle.std.proofs.lemmas.List.{length-map, length-take, get_or-map, get_or-take, get_or-drop, ext_get_or}
+use Rattle.std.proofs.lemmas.List.{length-map, length-take, get_or-map, ext_get_or, places}
 use Rattle.std.proofs.lemmas.List.FromFn.{get_or-map-range_with_len}
 use Rattle.std.proofs.Math.Nat.{pow-zero, pow-suc, one-le-pow}
 use Rattle.std.specs.Fork.{slice_chunk}
@@ -27,12 +27,8 @@ pub slice_chunk-same : (xs ys : List (List ℕ)) (size j : ℕ) → length xs �
     → ((k : ℕ) → k < j * size + size → k < length xs → get_or xs k [] ≡ get_or ys k [])
     → slice_chunk xs size j ≡ slice_chunk ys size j
 slice_chunk-same xs ys size j same each =
-    let at : (zs : List (List ℕ)) (m : ℕ) → m < size → get_or (slice_chunk zs size j) m [] ≡ get_or zs (j * size + m) [] =
-    λ zs m below. get_or-take size (drop (j * size) zs) m [] below ∙ get_or-drop (j * size) zs m [] in
-    ext_get_or [] (slice_chunk xs size j) (slice_chunk ys size j) (simp (length-take, length-drop, same)) (λ m h.
-    let inside = simp (length-take, length-drop) at h in
-    let below : m < size = omega (arith, inside) in
-    at xs m below ∙ each (j * size + m) (omega (arith, below)) (omega (arith, inside)) ∙ sym (at ys m below))
+    ext_get_or [] (slice_chunk xs size j) (slice_chunk ys size j) (simp (length-take, length-drop, same))
+    (λ m h. grind (arith, places, each (j * size + m)))
 
 -- a block depends on the data blocks before its closing time alone
 pub blocks_up-prefix : (s : TreeSettingsFields) (xs ys : List (List ℕ)) (i l j : ℕ) → 0 < fan s → length xs ≡ length ys
