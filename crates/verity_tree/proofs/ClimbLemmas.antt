@@ -1,6 +1,6 @@
 -- How digests come from the last byte's data block up through the levels whose hash blocks close.
 use Rattle.std.proofs.Common.{◌≡◌, ℕ, zero, suc, ◌+◌, ◌-◌, ◌*◌, ◌/◌, ◌%◌, ◌^◌, ◌<◌, ◌≤◌, List, length}
-use Rattle.std.proofs.Common.{true, false, arith, refl, sym, ◌∙◌, ap, subst, inl, inr, append_assoc}
+use Rattle.std.proofs.Common.{true, false, arith, refl, sym, ◌∙◌, ap, inl, inr, append_assoc}
 use Rattle.std.proofs.lemmas.Bool.{cases_lt}
 use Rattle.std.proofs.Math.Nat.{pow-le-pow_right}
 use Rattle.verity_plan.specs.Plans.{IsPlan, PlanFields}
@@ -41,9 +41,7 @@ blocks-most p planned = (IsLevelCount-level_count (fan p.settings) p.blocks (fan
 pub handing-out : (p : PlanFields) (levels level : ℕ) (fed opened window : List ℕ) → 0 < level
     → Stands p levels fed level opened window → IsHandingOut p levels (level - 1) fed opened
 handing-out p levels zero fed opened window some h = absurd (omega (arith, some))
-handing-out p levels (suc m) fed opened window some h =
-    let e : m ≡ suc m - 1 = omega arith in
-    subst (λ (n : ℕ). IsHandingOut p levels n fed opened) e h
+handing-out p levels (suc m) fed opened window some h = let e : suc m - 1 ≡ m = omega arith in rw e h
 
 -- nothing was handed out
 pub nothing-out : (p : PlanFields) (levels level : ℕ) (fed opened window : List ℕ) → level ≡ 0

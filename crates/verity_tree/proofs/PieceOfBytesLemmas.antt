@@ -71,10 +71,8 @@ pub window-filled : (s : TreeSettingsFields) (place : WindowPlace) (end bytes : 
     → slice_chunk (take end (put_mid bytes (end - bytes) window zeros)) s.data_block r
     ≡ block_at s.data_block (take place.bytes window) r
 window-filled s place end bytes window zeros at area here each wide are r low =
-    let size = s.data_block in
-    let some : r * size < place.bytes = each r low in
-    let last : r * size + size ≤ (place.rows + 1) * size =
-    omega (arith, mul_le (r + 1) (place.rows + 1) size (omega (arith, low))) in
+    let some = each r low in
+    let last = mul_le (r + 1) (place.rows + 1) s.data_block (omega (arith, low)) in
     let enough : place.bytes ≤ end = omega (arith, area, at.enough) in
     let within : end ≤ length window = omega (arith, area, at.room, wide) in
     rw are (same_lists _ _ (search (rules, places)) (λ k d h. grind (arith, places)))
@@ -131,13 +129,13 @@ pub closed_after-placed : (p : PlanFields) (count : ℕ) → IsPlan p → 0 < co
     ≡ closed_after (fan p.settings) p.blocks (windows_before p.settings count * window_blocks p.settings)
 closed_after-placed p count planned some below =
     let s = p.settings in
-    let i = blocks_before s count in
     let first = windows_before s count * window_blocks s in
+    let rows = blocks_before s count - first in
     let place = placed-in-window s count planned.valid some in
-    let batch = window-batch p count first (i - first) planned some below refl (omega (arith, place.from)) in
-    let split : i ≡ first + (i - first) = omega (arith, place.from) in
+    let split : blocks_before s count ≡ first + rows = omega (arith, place.from) in
+    let batch = window-batch p count first rows planned some below refl (sym split) in
     ap (closed_after (fan s) p.blocks) split
-    ∙ closed_after-none (fan s) p.blocks first (i - first) (fan-some s) (omega (arith, place.from, below))
+    ∙ closed_after-none (fan s) p.blocks first rows (fan-some s) (omega (arith, split, below))
     (λ k from to. batch.none_closes k from (omega (arith, to)))
 
 -- after windows that are full no bytes are in the window

@@ -68,15 +68,13 @@ window-wide s valid = omega (arith, mul-le 1 1 _ _ (window-some s valid) (some_d
 pub window-room : (s : TreeSettingsFields) (w : ℕ) → IsValid s → w * window_blocks s % fan s + window_blocks s ≤ fan s
 window-room s w valid =
     let b = window_blocks s in
-    let f = fan s in
     let times = window-fan s valid in
     let g = 2 ^ times.0 in
-    let some : 0 < g = pow_pos times.0 in
-    let area : (w % g + 1) * b ≤ g * b = mul_le (w % g + 1) g b (omega (arith, mod_below w g some)) in
-    let split : w * b ≡ w / g * f + w % g * b =
-    omega (arith, ap (λ (n : ℕ). n * b) (div-add-mod' w g), mul_assoc (w / g) g b, ap (λ (n : ℕ). w / g * n) times.1) in
-    let low : w % g * b < f = omega (arith, area, times.1, window-some s valid) in
-    omega (arith, area, times.1, ap (λ (n : ℕ). n % f) split ∙ mod-mul-add (w / g) f (w % g * b) low)
+    let area : (w % g + 1) * b ≤ g * b = mul_le (w % g + 1) g b (omega (arith, mod_below w g (pow_pos times.0))) in
+    let split : w * b ≡ w / g * fan s + w % g * b =
+    omega (arith, ap (λ (n : ℕ). n * b) (div-add-mod' w g), ap (λ (n : ℕ). w / g * n) times.1) in
+    let low : w % g * b < fan s = omega (arith, area, times.1, window-some s valid) in
+    omega (arith, area, times.1, ap (λ (n : ℕ). n % fan s) split ∙ mod-mul-add (w / g) (fan s) (w % g * b) low)
 
 -- the windows before the last of so many bytes are those of the data blocks before it
 pub windows-are : (s : TreeSettingsFields) (count : ℕ) → windows_before s count ≡ blocks_before s count / window_blocks s
@@ -149,9 +147,9 @@ pub window-batch : (p : PlanFields) (count first rows : ℕ) → IsPlan p → 0 
 window-batch p count first rows planned some below start sum =
     let s = p.settings in
     let place = placed-in-window s count planned.valid some in
-    let slot : first % fan s ≡ windows_before s count * window_blocks s % fan s = ap (λ (n : ℕ). n % fan s) start in
+    let slot = window-room s (windows_before s count) planned.valid in
     let room : rows + 1 ≤ fan s - first % fan s =
-    omega (arith, place.to, start, sum, slot, window-room s (windows_before s count) planned.valid) in
+    omega (arith, place.to, start, sum, ap (λ (n : ℕ). n % fan s) start, slot) in
     let most : first + (rows + 1) ≤ p.blocks = omega (arith, sum, below) in
     record {
       some = omega arith;
