@@ -1,22 +1,23 @@
 -- The root hash is asked for when all data of a plan has come: the last data block's digest goes up through all levels.
-use Rattle.std.proofs.Common.{◌≡◌, ℕ, ◌+◌, ◌-◌, ◌*◌, ◌/◌, ◌^◌, ◌<◌, ◌≤◌, List, [], get_or, length, length-drop, take}
-use Rattle.std.proofs.Common.{arith, sym, ◌∙◌, ap, subst, inl, inr}
+use Rattle.std.proofs.Common.{◌≡◌, ℕ, ◌+◌, ◌-◌, ◌*◌, ◌/◌, ◌^◌, ◌<◌, ◌≤◌, List, length, length-drop, take}
+use Rattle.std.proofs.Common.{arith, refl, sym, ◌∙◌, ap, inl, inr}
 use Rattle.std.proofs.lemmas.Bool.{cases_lt}
 use Rattle.std.proofs.Math.Nat.{div-eq_of_lt, pow-le-pow_right}
+use Rattle.std.specs.Fork.{slice_chunk}
 use Rattle.verity_plan.specs.Plans.{IsPlan, PlanFields}
 use Rattle.verity_plan.specs.PlanCounts.{level_count_of}
 use Rattle.verity_plan.specs.Settings.{fan, hash}
 use Rattle.verity_plan.proofs.FanLemmas.{fan-some}
 use Rattle.verity_tree.specs.ClosingOrder.{blocks_before}
-use Rattle.verity_tree.specs.Levels.{blocks_up, data_blocks, root}
-use Rattle.verity_tree.specs.Steps.Feeding.{HasCome, HasFed, IsWindowPlace, after_windows, windows_before}
-use Rattle.verity_tree.specs.Steps.OpenBlocks.{HasOpenBlocks, IsAsking, carry_state, digests_under, level_digest}
-use Rattle.verity_tree.specs.Steps.OpenBlocks.{open_block}
+use Rattle.verity_tree.specs.Levels.{data_blocks, root}
+use Rattle.verity_tree.specs.Steps.Feeding.{HasCome, HasFed, HasWindow, IsHandingOut, IsWindowPlace, after_windows, windows_before}
+use Rattle.verity_tree.specs.Steps.OpenBlocks.{IsAsking, carry_state, level_digest}
 use Rattle.verity_tree.specs.Windows.{window_blocks, window_length}
 use Rattle.verity_tree.specs.declared.feeding.window.WindowPlace.{WindowPlace}
-use Rattle.verity_tree.proofs.AdvanceLemmas.{blocks-most, height-is}
-use Rattle.verity_tree.proofs.ClimbLemmas.{last-block}
+use Rattle.verity_tree.proofs.ClimbLemmas.{blocks-most, last-block}
 use Rattle.verity_tree.proofs.FirstBlockLemmas.{plan-first_blocks}
+use Rattle.verity_tree.proofs.LevelLemmas.{length-cut}
+use Rattle.verity_tree.proofs.TreeLemmas.{height-level_count}
 use Rattle.verity_tree.proofs.WindowLemmas.{placed-in-window}
 
 -- the last data block's digest comes to level 0
@@ -24,12 +25,12 @@ pub IsAsking-first : (p : PlanFields) (levels first last : ℕ) (fed opened dige
     → last + 1 ≡ p.blocks → HasCome p levels fed opened digest
     → IsAsking p.settings (data_blocks p fed) first (carry_state last 0 levels) opened digest
 IsAsking-first p levels first last fed opened digest planned all last_is h =
-    let s = p.settings in
-    let e : blocks_before s (length fed) ≡ last = ap (blocks_before s) all ∙ omega (arith, last-block p planned, last_is) in
+    let e : blocks_before p.settings (length fed) ≡ last =
+    ap (blocks_before p.settings) all ∙ omega (arith, last-block p planned, last_is) in
     record {
       below = λ l from to. absurd (omega (arith, to));
-      above = subst (λ (n : ℕ). HasOpenBlocks s (data_blocks p fed) 0 levels n opened) e h.stands;
-      digest_is = h.digest_is ∙ ap (λ (n : ℕ). level_digest s (data_blocks p fed) n 0) e;
+      above = rw (← e) h.stands;
+      digest_is = rw (← e) h.digest_is;
     }
 
 -- above all levels there is one place
@@ -42,11 +43,20 @@ pub root-above : (p : PlanFields) (last top : ℕ) (fed : List ℕ) → IsPlan p
     → level_digest p.settings (data_blocks p fed) last top ≡ root p.settings (data_blocks p fed)
 unfolding root
 root-above p last top fed planned last_is top_is =
-    let s = p.settings in
-    let blocks = data_blocks p fed in
-    let first = top-place p last top planned (omega (arith, last_is)) (omega (arith, top_is)) in
-    ap (λ (k : ℕ). hash s (get_or (blocks_up s blocks top) k [])) first
-    ∙ ap (λ (l : ℕ). hash s (get_or (blocks_up s blocks l) 0 [])) (top_is ∙ sym (height-is p fed))
+    rw (
+      top-place p last top planned (omega (arith, last_is)) (omega (arith, top_is)),
+      top_is,
+      height-level_count p.settings (data_blocks p fed) (fan-some p.settings),
+      length-cut p.settings p.blocks p.wanted fed,
+    ) refl
+
+-- the hash block of the top level that closed above the last byte gives the root
+pub top-root : (p : PlanFields) (levels level : ℕ) (fed opened : List ℕ) → IsPlan p → level_count_of p ≡ level + 1
+    → length fed ≡ p.wanted → IsHandingOut p levels level fed opened
+    → hash p.settings (slice_chunk opened p.settings.hash_block level) ≡ root p.settings (data_blocks p fed)
+top-root p levels level fed opened planned top all h =
+    ap (hash p.settings) h.closed.stands
+    ∙ root-above p _ (level + 1) fed planned (ap (λ (n : ℕ). blocks_before p.settings n + 1) all ∙ last-block p planned) (sym top)
 
 -- the open blocks are those before the last window, and the window's bytes that were fed are as they were
 pub HasFed-asked : (p : PlanFields) (levels last top n : ℕ) (place : WindowPlace)
@@ -58,25 +68,23 @@ pub HasFed-asked : (p : PlanFields) (levels last top n : ℕ) (place : WindowPla
     → HasFed p.settings levels fed before held → HasFed p.settings levels fed opened window
 HasFed-asked p levels last top n place fed before opened held window digest planned many all last_is top_is is same h fed_is =
     let s = p.settings in
-    let k = windows_before s (length fed) in
-    let rest = after_windows s k fed in
-    let placed = placed-in-window s (length fed) planned.valid (omega (arith, many, all, planned.some)) in
-    let start : place.first ≡ k * window_blocks s =
-    is.first_is ∙ ap (λ (m : ℕ). windows_before s m * window_blocks s) (sym many) in
-    let long : length rest ≡ n - windows_before s n * window_length s =
-    length-drop (k * window_length s) fed ∙ ap (λ (m : ℕ). m - windows_before s m * window_length s) many in
-    record {
-      stands = plan-first_blocks p (k * window_blocks s) levels fed opened planned (omega (arith, placed.start, placed.before))
+    let k = windows_before s n in
+    let placed = placed-in-window s n planned.valid (omega (arith, all, planned.some)) in
+    let long : length (after_windows s k fed) ≡ n - k * window_length s =
+    omega (arith, length-drop (k * window_length s) fed, many) in
+    let held_is : HasWindow s levels k fed before held = rw many at fed_is in
+    rw many (record {
+      stands = plan-first_blocks p (k * window_blocks s) levels fed opened planned (omega (arith, placed.before, many))
           (omega (arith, many, all))
-          (subst (λ (m : ℕ). HasOpenBlocks s (data_blocks p fed) 0 levels m opened) start
-          (λ l from to. elim (cases_lt l top) [
+          (rw (← is.first_is) (λ l from to. elim (cases_lt l top) [
             | inl low ↦ h.below l from low
             | inr high ↦
                 let past : level_count_of p ≤ l = omega (arith, high, top_is) in
                 h.above l high to
-                ∙ ap (open_block s (digests_under s (data_blocks p fed) l))
-                (top-place p last l planned (omega (arith, last_is)) past
-                ∙ sym (top-place p place.first l planned (omega (arith, is.batch.below)) past))
+                ∙ rw (
+                  top-place p last l planned (omega (arith, last_is)) past,
+                  top-place p place.first l planned (omega (arith, is.batch.below)) past,
+                ) refl
           ]));
-      holds = ap (λ (m : ℕ). take m window) long ∙ same ∙ ap (λ (m : ℕ). take m held) (sym long) ∙ fed_is.holds;
-    }
+      holds = rw long (same ∙ (rw long at held_is.holds));
+    })

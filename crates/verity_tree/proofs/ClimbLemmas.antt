@@ -1,105 +1,90 @@
 -- How digests come from the last byte's data block up through the levels whose hash blocks close.
-use Rattle.std.proofs.Common.{◌≡◌, ℕ, zero, suc, ◌+◌, ◌-◌, ◌*◌, ◌/◌, ◌%◌, ◌^◌, ◌<◌, ◌≤◌, List, [], ◌∷◌, ◌++◌, length}
-use Rattle.std.proofs.Common.{true, false, arith, sym, ◌∙◌, ap, subst, inl, inr, append_assoc}
+use Rattle.std.proofs.Common.{◌≡◌, ℕ, zero, suc, ◌+◌, ◌-◌, ◌*◌, ◌/◌, ◌%◌, ◌^◌, ◌<◌, ◌≤◌, List, length}
+use Rattle.std.proofs.Common.{true, false, arith, refl, sym, ◌∙◌, ap, inl, inr, append_assoc}
 use Rattle.std.proofs.lemmas.Bool.{cases_lt}
-use Rattle.std.proofs.Math.Nat.{mul_assoc, mul-le-mul_right}
-use Rattle.std.specs.Int.{div_ceil}
+use Rattle.std.proofs.Math.Nat.{pow-le-pow_right}
 use Rattle.verity_plan.specs.Plans.{IsPlan, PlanFields}
 use Rattle.verity_plan.specs.PlanCounts.{level_count_of}
 use Rattle.verity_plan.specs.Settings.{IsValid, TreeSettingsFields, fan}
-use Rattle.verity_plan.proofs.CountLemmas.{IsLevelCount-level_count, div_ceil-le, le-div_ceil}
+use Rattle.verity_plan.proofs.CountLemmas.{IsLevelCount-level_count, div_ceil-below, le-div_ceil, mul_le}
 use Rattle.verity_plan.proofs.FanLemmas.{fan-some, fan-two, some_data}
 use Rattle.verity_plan.proofs.IndexLemmas.{quotient-below}
-use Rattle.verity_tree.specs.ClosingOrder.{BlockIndex, closed_after, first_closing, blocks_before}
+use Rattle.verity_tree.specs.ClosingOrder.{blocks_before}
 use Rattle.verity_tree.specs.Levels.{data_blocks}
 use Rattle.verity_tree.specs.Steps.Feeding.{Climbs, EndsWindow, HasFed, IsHandingOut, Stands}
-use Rattle.verity_tree.specs.Steps.Feeding.{handed_at, windows_before}
+use Rattle.verity_tree.specs.Steps.Feeding.{windows_before}
 use Rattle.verity_tree.specs.Steps.OpenBlocks.{HasClosed, HasOpenBlocks, IsCarrying, carry_state}
-use Rattle.verity_tree.specs.Windows.{window_blocks, window_length}
+use Rattle.verity_tree.specs.Windows.{window_length}
 use Rattle.verity_tree.proofs.ClosingLemmas.{reached-down}
 use Rattle.verity_tree.proofs.LevelLemmas.{length-cut}
-use Rattle.verity_tree.proofs.QuotientLemmas.{div_ceil-last}
 use Rattle.verity_tree.proofs.OrderSplit.{closed_after-more, closes-none, closes-reached, closing-prefix}
 use Rattle.verity_tree.proofs.OrderSplit.{first_closing-more}
-use Rattle.verity_tree.proofs.WindowLemmas.{last-place, window-ended}
+use Rattle.verity_tree.proofs.WindowLemmas.{window-ended}
 
 -- the last byte's data block is one of the plan's
 pub last-below : (p : PlanFields) (count : ℕ) → IsPlan p → 0 < count → count ≤ p.wanted
     → blocks_before p.settings count < p.blocks
 last-below p count planned some most =
-    let wide = some_data p.settings planned.valid in
-    omega (
-      arith,
-      quotient-below (count - 1) p.wanted p.settings.data_block wide (omega (arith, some, most)),
-      planned.blocks_are,
-    )
+    rw planned.blocks_are (quotient-below (count - 1) p.wanted p.settings.data_block (some_data p.settings planned.valid)
+    (omega (arith, some, most)))
+
+-- the last byte of all is in the last data block
+pub last-block : (p : PlanFields) → IsPlan p → blocks_before p.settings p.wanted + 1 ≡ p.blocks
+last-block p planned =
+    div_ceil-below p.wanted p.settings.data_block (some_data p.settings planned.valid) planned.some ∙ sym planned.blocks_are
+
+-- the data blocks of a plan are no more than its levels have room for
+pub blocks-most : (p : PlanFields) → IsPlan p → p.blocks ≤ fan p.settings ^ level_count_of p
+blocks-most p planned = (IsLevelCount-level_count (fan p.settings) p.blocks (fan-two p.settings planned.valid)).enough
 
 -- a hash block was handed out
 pub handing-out : (p : PlanFields) (levels level : ℕ) (fed opened window : List ℕ) → 0 < level
     → Stands p levels fed level opened window → IsHandingOut p levels (level - 1) fed opened
 handing-out p levels zero fed opened window some h = absurd (omega (arith, some))
-handing-out p levels (suc m) fed opened window some h =
-    let e : m ≡ suc m - 1 = omega arith in
-    subst (λ (n : ℕ). IsHandingOut p levels n fed opened) e h
+handing-out p levels (suc m) fed opened window some h = let e : suc m - 1 ≡ m = omega arith in rw e h
 
 -- nothing was handed out
 pub nothing-out : (p : PlanFields) (levels level : ℕ) (fed opened window : List ℕ) → level ≡ 0
     → Stands p levels fed level opened window → HasFed p.settings levels fed opened window
-nothing-out p levels level fed opened window none h =
-    subst (λ (n : ℕ). Stands p levels fed n opened window) none h
+nothing-out p levels level fed opened window none h = rw none at h
 
 -- more data blocks come after the last byte's only if its window is full
 pub whole-count : (p : PlanFields) (count : ℕ) → IsPlan p → EndsWindow p count
     → blocks_before p.settings count + 1 < p.blocks
     → count ≡ (windows_before p.settings count + 1) * window_length p.settings
-whole-count p count planned ends more =
-    let s = p.settings in
-    let size = s.data_block in
-    let wide = some_data s planned.valid in
-    elim ends.ends [
-      | inl whole ↦ whole
-      | inr all ↦
-          let i = blocks_before s count in
-          let place = last-place count size wide ends.some in
-          let most : p.wanted ≤ (i + 1) * size = omega (arith, all, place.1) in
-          absurd (omega (arith, more, planned.blocks_are, div_ceil-le p.wanted size (i + 1) wide most))
-    ]
+whole-count p count planned ends more = elim ends.ends [
+  | inl whole ↦ whole
+  | inr all ↦ absurd (omega (arith, more, last-block p planned, ap (blocks_before p.settings) all))
+]
 
 -- the last byte of a window that is full is the last of its data block
 pub whole-block : (s : TreeSettingsFields) (count : ℕ) → IsValid s → 0 < count
     → count ≡ (windows_before s count + 1) * window_length s → count ≡ (blocks_before s count + 1) * s.data_block
 whole-block s count valid some whole =
-    let w = windows_before s count + 1 in
-    whole ∙ sym (mul_assoc w (window_blocks s) s.data_block)
-    ∙ ap (λ (n : ℕ). n * s.data_block) (sym (window-ended s count w valid some whole))
+    let last = window-ended s count (windows_before s count + 1) valid some whole in
+    omega (arith, whole, ap (λ (n : ℕ). n * s.data_block) last)
 
 -- the last byte is the last of all if its data block is
 pub all-count : (p : PlanFields) (count : ℕ) → IsPlan p → EndsWindow p count
     → blocks_before p.settings count + 1 ≡ p.blocks → count ≡ p.wanted
-all-count p count planned ends last =
-    let s = p.settings in
-    let size = s.data_block in
-    elim ends.ends [
-      | inl full ↦
-          let whole = whole-block s count planned.valid ends.some full in
-          let most = le-div_ceil p.wanted size p.blocks (some_data s planned.valid) (omega (arith, planned.blocks_are)) in
-          let area : (blocks_before s count + 1) * size ≡ p.blocks * size = ap (λ (n : ℕ). n * size) last in
-          omega (arith, whole, most, area, ends.most)
-      | inr all ↦ all
-    ]
+all-count p count planned ends last = elim ends.ends [
+  | inl full ↦
+      let size = p.settings.data_block in
+      let whole = whole-block p.settings count planned.valid ends.some full in
+      let most = le-div_ceil p.wanted size p.blocks (some_data p.settings planned.valid) (omega (arith, planned.blocks_are)) in
+      omega (arith, whole ∙ ap (λ (n : ℕ). n * size) last, most, ends.most)
+  | inr all ↦ all
+]
 
 -- the hash block of a level has closed, and is handed out next
 pub climbs-closed : (p : PlanFields) (levels level : ℕ) (fed opened : List ℕ) → EndsWindow p (length fed)
     → level < level_count_of p
     → HasClosed p.settings (data_blocks p fed) (blocks_before p.settings (length fed)) level levels opened
     → Climbs p levels fed level true opened
-climbs-closed p levels level fed opened ends below closed =
-    let f = fan p.settings in
-    let i = blocks_before p.settings (length fed) in (
-      record { ends = ends; level_below = below; closed = closed },
-      ap (λ (xs : List BlockIndex). closed_after f p.blocks i ++ xs) (first_closing-more f i level)
-          ∙ sym (append_assoc (closed_after f p.blocks i) (first_closing f i level) (handed_at p (length fed) level ∷ [])),
-    )
+climbs-closed p levels level fed opened ends below closed = (
+  record { ends = ends; level_below = below; closed = closed },
+  rw (first_closing-more (fan p.settings) (blocks_before p.settings (length fed)) level, append_assoc) refl,
+)
 
 -- the level's open block has room for more, and all windows that are full have come to the open blocks
 pub climbs-kept : (p : PlanFields) (levels level : ℕ) (fed before digest opened : List ℕ) → IsPlan p
@@ -111,21 +96,15 @@ pub climbs-kept : (p : PlanFields) (levels level : ℕ) (fed before digest opene
     → HasOpenBlocks p.settings (data_blocks p fed) 0 levels (blocks_before p.settings (length fed) + 1) opened
     → Climbs p levels fed level false opened
 climbs-kept p levels level fed before digest opened planned ends within h room more stands =
-    let s = p.settings in
-    let f = fan s in
-    let some = fan-some s in
-    let i = blocks_before s (length fed) in
-    let many : length (data_blocks p fed) ≡ p.blocks = length-cut s p.blocks p.wanted fed in
-    let next : i + 1 < p.blocks = omega (arith, more, many) in
-    let reached = h.reached more in (
-      whole-count p (length fed) planned ends next,
-      stands,
-      closed_after-more f p.blocks i
-          ∙ ap (λ (xs : List BlockIndex). closed_after f p.blocks i ++ xs)
-          (closing-prefix f p.blocks i level within
-          (λ l low. closes-reached f p.blocks i l some (reached-down f i level (l + 1) some reached (omega (arith, low))))
-          (λ l high below. closes-none f p.blocks i level l some reached room next high)),
-    )
+    let f = fan p.settings in
+    let some = fan-some p.settings in
+    let i = blocks_before p.settings (length fed) in
+    let next : i + 1 < p.blocks = omega (arith, more, length-cut p.settings p.blocks p.wanted fed) in
+    let reached = h.reached more in
+    let closing = closing-prefix f p.blocks i level within
+    (λ l low. closes-reached f p.blocks i l some (reached-down f i level (l + 1) some reached (omega (arith, low))))
+    (λ l high below. closes-none f p.blocks i level l some reached room next high) in
+    (whole-count p (length fed) planned ends next, stands, rw (closed_after-more, closing) refl)
 
 -- past all levels no digest comes but with the last byte of all
 pub climbs-past : (p : PlanFields) (levels level : ℕ) (fed before digest : List ℕ) → IsPlan p
@@ -134,33 +113,15 @@ pub climbs-past : (p : PlanFields) (levels level : ℕ) (fed before digest : Lis
     → IsCarrying p.settings (data_blocks p fed) (carry_state (blocks_before p.settings (length fed)) level levels)
     before digest → ⊥
 climbs-past p levels level fed before digest planned ends past within more h =
-    let s = p.settings in
-    let f = fan s in
-    let i = blocks_before s (length fed) in
-    let many : length (data_blocks p fed) ≡ p.blocks = length-cut s p.blocks p.wanted fed in
+    let f = fan p.settings in
+    let i = blocks_before p.settings (length fed) in
+    let many = length-cut p.settings p.blocks p.wanted fed in
     let below = last-below p (length fed) planned ends.some ends.most in
-    let top : level ≡ level_count_of p = omega (arith, past, within) in
-    let most : p.blocks ≤ f ^ level =
-    omega (
-      arith,
-      (IsLevelCount-level_count f p.blocks (fan-two s planned.valid)).enough,
-      ap (λ (n : ℕ). f ^ n) top,
-    ) in
+    let most : p.blocks ≤ f ^ level = omega (arith, blocks-most p planned, pow-le-pow_right (fan-some p.settings) past) in
     elim (cases_lt (i + 1) p.blocks) [
       | inl less ↦
           let whole = (h.reached (omega (arith, less, many))).whole in
-          let one : 1 ≤ i / f ^ level + 1 = omega arith in
-          omega (arith, whole, mul-le-mul_right (f ^ level) one, most, less)
+          omega (arith, whole, mul_le 1 (i / f ^ level + 1) (f ^ level) (omega arith), most, less)
       | inr last ↦
-          let all = all-count p (length fed) planned ends (omega (arith, last, below)) in
-          omega (arith, past, more all)
+          omega (arith, past, within, more (all-count p (length fed) planned ends (omega (arith, last, below))))
     ]
-
--- the last byte of all is in the last data block
-pub last-block : (p : PlanFields) → IsPlan p → blocks_before p.settings p.wanted + 1 ≡ p.blocks
-last-block p planned =
-    let size = p.settings.data_block in
-    let e : p.wanted - 1 + 1 ≡ p.wanted = omega (arith, planned.some) in
-    sym (div_ceil-last (p.wanted - 1) size (some_data p.settings planned.valid))
-    ∙ ap (λ (n : ℕ). div_ceil n size) e
-    ∙ sym planned.blocks_are

@@ -1,20 +1,20 @@
 -- Hash blocks that are handed out stay the tree's, and joined over all calls they are those that building writes.
 use Rattle.std.proofs.Common.{map, ◌≡◌, ℕ, ◌+◌, ◌*◌, ◌/◌, ◌^◌, ◌<◌, ◌≤◌, List, [], ◌∷◌, ◌++◌, get_or, length, min, zero, suc}
-use Rattle.std.proofs.Common.{Option, Some, None, take, drop, arith, refl, sym, ◌∙◌, ap, subst, inl, inr, append_assoc}
+use Rattle.std.proofs.Common.{Option, Some, None, arith, refl, sym, ◌∙◌, ap, inl, inr, append_assoc}
 use Rattle.std.proofs.Common.{length-append}
 use Rattle.std.proofs.lemmas.Bool.{cases_lt}
-use Rattle.std.proofs.lemmas.List.{append-nil}
-use Rattle.std.proofs.lemmas.List.Concat.{flat_map-cons}
-use Rattle.std.proofs.Math.Nat.{mul-le-mul_right, one-le-pow, zero-div}
+use Rattle.std.proofs.lemmas.List.{append-nil, nil_from_length}
+use Rattle.std.proofs.Math.Nat.{one-le-pow, zero-div}
+use Rattle.std.proofs.lemmas.List.Folds.{flat_map-map}
 use Rattle.std.specs.List.{flat_map}
 use Rattle.std.specs.Int.{div_ceil}
-use Rattle.verity_io.specs.Writing.{put}
-use Rattle.verity_plan.specs.Plans.{IsPlan, PlanFields, start_byte}
+use Rattle.verity_plan.specs.Plans.{IsPlan, PlanFields}
 use Rattle.verity_plan.specs.PlanCounts.{level_count_of}
 use Rattle.verity_plan.specs.Settings.{fan}
+use Rattle.verity_plan.proofs.CountLemmas.{mul_le}
 use Rattle.verity_plan.proofs.FanLemmas.{fan-some}
 use Rattle.verity_plan.proofs.IndexLemmas.{quotient-below}
-use Rattle.verity_tree.specs.ClosingOrder.{BlockIndex, closed_after, first_closing, handed_out, blocks_before}
+use Rattle.verity_tree.specs.ClosingOrder.{BlockIndex, closed_after, handed_out, blocks_before}
 use Rattle.verity_tree.specs.Feeding.{BuildsInCalls, FeedCall, FeedsCalls, FeedsPieces, IsFed, IsFedFile, IsHandedOut}
 use Rattle.verity_tree.specs.Feeding.{FileCall, IsAfterCall, IsAfterCalls, asks, bytes_fed, feeds, given, written, written_all}
 use Rattle.verity_tree.specs.Levels.{data_blocks}
@@ -37,16 +37,11 @@ whole-same : (p : PlanFields) (n k : ℕ) (fed more : List ℕ) → n * p.settin
 whole-same p n k fed more enough most few below =
     let s = p.settings in
     let size = s.data_block in
-    let step : k + 1 ≤ n = omega (arith, below) in
-    let room : k * size + size ≤ length fed = omega (arith, mul-le-mul_right size step, enough) in
+    let room : k * size + size ≤ length fed = omega (arith, mul_le (k + 1) n size (omega (arith, below)), enough) in
     cut-block s p.blocks p.wanted k fed (omega (arith, below, few)) (omega (arith, room, most)) room
     ∙ sym (chunk-front fed more size k room)
     ∙ sym (cut-block s p.blocks p.wanted k (fed ++ more) (omega (arith, below, few)) (omega (arith, room, most))
     (omega (arith, room, length-append fed more)))
-
-no-more : (fed more : List ℕ) (wanted : ℕ) → length fed ≡ wanted → length (fed ++ more) ≤ wanted → more ≡ []
-no-more fed [] wanted all most = refl
-no-more fed (x ∷ xs) wanted all most = absurd (omega (arith, all, most, length-append fed (x ∷ xs)))
 
 -- the hash block that is handed out is the tree's whatever bytes come after
 pub handed-out-stays : (p : PlanFields) (levels level : ℕ) (fed more opened : List ℕ) → IsPlan p
@@ -57,73 +52,50 @@ pub handed-out-stays : (p : PlanFields) (levels level : ℕ) (fed more opened : 
     (blocks_before p.settings (length fed) / fan p.settings ^ (level + 1))
 handed-out-stays p levels level fed more opened planned h most =
     let s = p.settings in
-    let f = fan s in
+    let wide = fan s ^ (level + 1) in
     let i = blocks_before s (length fed) in
-    let j = i / f ^ (level + 1) in
-    let ends = h.ends in
-    let n = p.blocks in
     let xs = data_blocks p fed in
     let ys = data_blocks p (fed ++ more) in
-    let left : length xs ≡ n = length-cut s n p.wanted fed in
-    let right : length ys ≡ n = length-cut s n p.wanted (fed ++ more) in
-    let below : i < n = last-below p (length fed) planned ends.some ends.most in
-    elim ends.ends [
+    let left : length xs ≡ p.blocks = length-cut s p.blocks p.wanted fed in
+    let right : length ys ≡ p.blocks = length-cut s p.blocks p.wanted (fed ++ more) in
+    let below = last-below p (length fed) planned h.ends.some h.ends.most in
+    elim h.ends.ends [
       | inl whole ↦
-          let wide : 0 < f ^ (level + 1) = one-le-pow (level + 1) f (fan-some s) in
-          let time : min ((j + 1) * f ^ (level + 1)) (length xs) ≤ i + 1 = elim (cases_lt (i + 1) n) [
-            | inl less ↦ omega (arith, (h.closed.reached (omega (arith, less, left))).whole)
-            | inr last ↦ omega (arith, last, left)
+          let inside : i / wide < div_ceil (length xs) wide =
+          rw left (quotient-below i p.blocks wide (one-le-pow (level + 1) (fan s) (fan-some s)) below) in
+          let time : min ((i / wide + 1) * wide) (length xs) ≤ i + 1 = elim (cases_lt (i + 1) (length xs)) [
+            | inl less ↦ omega (arith, (h.closed.reached less).whole)
+            | inr last ↦ omega (arith, last)
           ] in
-          blocks_up-prefix s xs ys (i + 1) (level + 1) j (fan-some s) (left ∙ sym right)
+          blocks_up-prefix s xs ys (i + 1) (level + 1) (i / wide) (fan-some s) (left ∙ sym right)
           (λ k low. whole-same p (i + 1) k fed more
-          (omega (arith, whole-block s (length fed) planned.valid ends.some whole)) ends.most (omega (arith, below)) low)
-          (omega (arith, quotient-below i n (f ^ (level + 1)) wide below, ap (λ (m : ℕ). div_ceil m (f ^ (level + 1))) left))
-          time
+          (omega (arith, whole-block s (length fed) planned.valid h.ends.some whole)) h.ends.most (omega (arith, below)) low)
+          inside time
       | inr all ↦
-          let none : more ≡ [] = no-more fed more p.wanted all most in
-          let same : fed ≡ fed ++ more = sym (ap (λ (bytes : List ℕ). fed ++ bytes) none ∙ append-nil fed) in
-          ap (λ (bytes : List ℕ). tree_block s (data_blocks p bytes) level j) same
+          let none : more ≡ [] = nil_from_length more (omega (arith, all, most, length-append fed more)) in
+          rw (none, append-nil) refl
     ]
 
 -- after one call the bytes are those before it and those that are fed with it
 call-fed : (b after : FileBuilder) (memory room fed : List ℕ) (call : FileCall) → IsAfterCall b memory call after room
     → IsFedFile b memory fed → IsFedFile after room (fed ++ bytes_fed call)
 call-fed b after memory room fed (feeds piece) step h = step fed h
-call-fed b after memory room fed asks step h =
-    subst (λ (bytes : List ℕ). IsFedFile after room bytes) (sym (append-nil fed))
-    (subst (λ (builder : FileBuilder). IsFedFile builder room fed) (sym step.0) (step.1 fed h))
+call-fed b after memory room fed asks step h = rw (append-nil, step.0) (step.1 fed h)
 
 -- and after several
 pub asked-joined : (b after : FileBuilder) (memory room fed : List ℕ) (calls : List FileCall) → IsFedFile b memory fed
     → IsAfterCalls b memory calls after room → IsFedFile after room (fed ++ flat_map bytes_fed calls)
 unfolding IsAfterCalls
-asked-joined b after memory room fed [] h calls =
-    subst (λ (bytes : List ℕ). IsFedFile after room bytes) (sym (append-nil fed))
-    (subst (λ (bytes : List ℕ). IsFedFile after bytes fed) (sym calls.1)
-    (subst (λ (builder : FileBuilder). IsFedFile builder memory fed) (sym calls.0) h))
+asked-joined b after memory room fed [] h calls = rw (append-nil, calls.1, calls.0) h
 asked-joined b after memory room fed (call ∷ rest) h calls =
-    let next = calls.0 in
-    let mid = calls.1 in
-    subst (λ (bytes : List ℕ). IsFedFile after room bytes)
-    (append_assoc fed (bytes_fed call) (flat_map bytes_fed rest)
-    ∙ ap (λ (bytes : List ℕ). fed ++ bytes) (sym (flat_map-cons bytes_fed call rest)))
-    (asked-joined next after mid room (fed ++ bytes_fed call) rest
-    (call-fed b next memory mid fed call calls.2 h) calls.3)
-
--- calls that feed pieces feed their bytes joined
-joined : (pieces : List (List ℕ)) → flat_map bytes_fed (map feeds pieces) ≡ flat_map (λ piece. piece) pieces
-joined [] = refl
-joined (piece ∷ rest) =
-    flat_map-cons bytes_fed (feeds piece) (map feeds rest)
-    ∙ ap (λ (bytes : List ℕ). piece ++ bytes) (joined rest)
-    ∙ sym (flat_map-cons (λ piece. piece) piece rest)
+    rw (← append_assoc) (asked-joined calls.0 after calls.1 room (fed ++ bytes_fed call) rest
+    (call-fed b calls.0 memory calls.1 fed call calls.2 h) calls.3)
 
 -- pieces are fed one after another
 pub pieces-joined : (b after : FileBuilder) (memory room fed : List ℕ) (pieces : List (List ℕ)) → IsFedFile b memory fed
     → FeedsPieces b memory pieces after room → IsFedFile after room (fed ++ flat_map (λ piece. piece) pieces)
 pieces-joined b after memory room fed pieces h calls =
-    subst (λ (bytes : List ℕ). IsFedFile after room (fed ++ bytes)) (joined pieces)
-    (asked-joined b after memory room fed (map feeds pieces) h calls)
+    rw (← flat_map-map bytes_fed feeds pieces) (asked-joined b after memory room fed (map feeds pieces) h calls)
 
 -- what one call hands out, written, is the next of the tree's blocks put at its place
 written-given : (p : PlanFields) (closed : Option HashBlock) (memory fed more all device : List ℕ)
@@ -134,13 +106,8 @@ unfolding device_with
 written-given p None memory fed more all device handed is most = refl
 written-given p (Some block) memory fed more all device handed is most =
     let h = handed block refl in
-    let s = p.settings in
-    let many : p.blocks ≡ length (data_blocks p all) = sym (length-cut s p.blocks p.wanted all) in
     let bytes = h.bytes more (omega (arith, most, ap length is)) in
-    ap (λ (at : ℕ). put device at (take s.hash_block (drop block.at memory)))
-    (h.byte_is ∙ ap (λ (n : ℕ). start_byte s n p.base block.level block.index) many)
-    ∙ ap (put device (start_byte s (length (data_blocks p all)) p.base block.level block.index))
-    (bytes ∙ ap (λ (xs : List ℕ). tree_block s (data_blocks p xs) block.level block.index) (sym is))
+    rw (h.byte_is, bytes, is, length-cut p.settings p.blocks p.wanted (fed ++ more)) refl
 
 -- calls are made one after another
 pub record AreCalled (p : PlanFields) (calls : List FeedCall) (b after : TreeBuilder) (room fed all device : List ℕ) : Type 0 where
@@ -157,11 +124,9 @@ pub calls-joined : (p : PlanFields) (calls : List FeedCall) (b after : TreeBuild
     → AreCalled p calls b after room fed all device
 unfolding FeedsCalls written_all device_with
 calls-joined p [] b after memory room fed all device plan h calls = record {
-  plan_is = ap (λ (x : TreeBuilder). x.plan) calls.0 ∙ plan;
-  fed_is = subst (λ (bytes : List ℕ). IsFed after room bytes) (sym (append-nil fed))
-      (subst (λ (bytes : List ℕ). IsFed after bytes fed) (sym calls.1)
-      (subst (λ (builder : TreeBuilder). IsFed builder memory fed) (sym calls.0) h));
-  order = ap (λ (x : TreeBuilder). handed_out p x.fed x.closed) calls.0 ∙ sym (append-nil (handed_out p b.fed b.closed));
+  plan_is = rw calls.0 plan;
+  fed_is = rw (append-nil, calls.1, calls.0) h;
+  order = rw (calls.0, append-nil) refl;
   stands = λ is most. refl;
 }
 calls-joined p (call ∷ rest) b after memory room fed all device plan h calls =
@@ -169,33 +134,20 @@ calls-joined p (call ∷ rest) b after memory room fed all device plan h calls =
     let step = calls.2 fed h in
     let taken = flat_map (λ (c : FeedCall). c.taken) rest in
     let blocks = flat_map (λ (c : FeedCall). given c.hash_block) rest in
-    let joined : flat_map (λ (c : FeedCall). c.taken) (call ∷ rest) ≡ call.taken ++ taken =
-    flat_map-cons (λ (c : FeedCall). c.taken) call rest in
-    let handed : flat_map (λ (c : FeedCall). given c.hash_block) (call ∷ rest) ≡ given call.hash_block ++ blocks =
-    flat_map-cons (λ (c : FeedCall). given c.hash_block) call rest in
-    let whole : (fed ++ call.taken) ++ taken ≡ fed ++ flat_map (λ (c : FeedCall). c.taken) (call ∷ rest) =
-    append_assoc fed call.taken taken ∙ ap (λ (bytes : List ℕ). fed ++ bytes) (sym joined) in
-    let device_next = written p call.hash_block call.memory device in
-    let goes_on = calls-joined p rest next after call.memory room (fed ++ call.taken) all device_next
-    (calls.1 ∙ plan) step.is_fed calls.3 in
+    let goes_on = calls-joined p rest next after call.memory room (fed ++ call.taken) all
+    (written p call.hash_block call.memory device) (calls.1 ∙ plan) step.is_fed calls.3 in
     record {
       plan_is = goes_on.plan_is;
-      fed_is = subst (λ (bytes : List ℕ). IsFed after room bytes) whole goes_on.fed_is;
+      fed_is = rw (← append_assoc) goes_on.fed_is;
       order = goes_on.order
-          ∙ ap (λ (xs : List BlockIndex). xs ++ blocks)
-          (subst (λ (q : PlanFields). handed_out q next.fed next.closed ≡ handed_out q b.fed b.closed ++ given call.hash_block)
-          plan step.order)
-          ∙ append_assoc (handed_out p b.fed b.closed) (given call.hash_block) blocks
-          ∙ ap (λ (xs : List BlockIndex). handed_out p b.fed b.closed ++ xs) (sym handed);
+          ∙ ap (λ (xs : List BlockIndex). xs ++ blocks) (rw plan at step.order)
+          ∙ append_assoc (handed_out p b.fed b.closed) (given call.hash_block) blocks;
       stands = λ is most.
-          let is_all : all ≡ (fed ++ call.taken) ++ taken = is ∙ sym whole in
+          let is_all : all ≡ (fed ++ call.taken) ++ taken = is ∙ sym (append_assoc fed call.taken taken) in
           goes_on.stands is_all most
           ∙ ap (device_with p.settings (data_blocks p all) p.base blocks)
-          (written-given p call.hash_block call.memory (fed ++ call.taken) taken all device
-          (subst (λ (q : PlanFields). (block : HashBlock) → call.hash_block ≡ Some block
-          → IsHandedOut q (fed ++ call.taken) call.memory block) plan step.stands) is_all most)
-          ∙ sym (device_with-append p.settings (data_blocks p all) p.base (given call.hash_block) blocks device)
-          ∙ ap (λ (xs : List BlockIndex). device_with p.settings (data_blocks p all) p.base xs device) (sym handed);
+          (written-given p call.hash_block call.memory (fed ++ call.taken) taken all device (rw plan at step.stands) is_all most)
+          ∙ sym (device_with-append p.settings (data_blocks p all) p.base (given call.hash_block) blocks device);
     }
 
 -- when all bytes were fed and all levels have closed, all hash blocks were handed out
@@ -205,19 +157,14 @@ all-handed-out p planned =
     let f = fan p.settings in
     let i = blocks_before p.settings p.wanted in
     let last : i + 1 ≡ p.blocks = last-block p planned in
-    ap (λ (xs : List BlockIndex). closed_after f p.blocks i ++ xs)
-    (sym (closing-prefix f p.blocks i (level_count_of p) (omega arith) (λ l low. closes-last f p.blocks i l last)
-    (λ l high low. absurd (omega (arith, high, low)))))
-    ∙ sym (closed_after-more f p.blocks i)
-    ∙ ap (closed_after f p.blocks) last
+    let closing = closing-prefix f p.blocks i (level_count_of p) (omega arith) (λ l low. closes-last f p.blocks i l last)
+    (λ l high low. absurd (omega (arith, high, low))) in
+    rw (← closing, ← closed_after-more) (ap (closed_after f p.blocks) last)
 
 -- nothing was handed out at the beginning
-pub none-handed-out : (p : PlanFields) → IsPlan p → handed_out p 0 0 ≡ []
+none-handed-out : (p : PlanFields) → handed_out p 0 0 ≡ []
 unfolding closed_after
-none-handed-out p planned =
-    let size = p.settings.data_block in
-    let zero_place : blocks_before p.settings 0 ≡ 0 = zero-div size in
-    ap (λ (n : ℕ). closed_after (fan p.settings) p.blocks n ++ first_closing (fan p.settings) n 0) zero_place
+none-handed-out p = rw zero-div refl
 
 -- before the first byte nothing was handed out
 first-closed : (p : PlanFields) (levels closed : ℕ) (opened window : List ℕ) → Stands p levels [] closed opened window
@@ -232,22 +179,16 @@ pub calls-build : (b after : TreeBuilder) (memory room device : List ℕ) (calls
     × BuildsInCalls b.plan (flat_map (λ call. call.taken) calls) calls device
 calls-build b after memory room device calls planned h fed_to all closed =
     let p = b.plan in
-    let first = first-closed p (level_count_of p) b.closed _ _ h.stands in
     let bytes = flat_map (λ (c : FeedCall). c.taken) calls in
     let done = calls-joined p calls b after memory room [] bytes device refl h fed_to in
-    let most : length bytes ≤ p.wanted = omega (arith, done.fed_is.count, all) in
+    let first = first-closed p (level_count_of p) b.closed _ _ h.stands in
+    let none : handed_out p b.fed b.closed ≡ [] = rw (← h.count, first) (none-handed-out p) in
     let order : flat_map (λ (c : FeedCall). given c.hash_block) calls ≡ closed_after (fan p.settings) p.blocks p.blocks =
-    sym (done.order
-    ∙ ap (λ (n : ℕ). handed_out p n b.closed ++ flat_map (λ (c : FeedCall). given c.hash_block) calls) (sym h.count)
-    ∙ ap (λ (n : ℕ). handed_out p 0 n ++ flat_map (λ (c : FeedCall). given c.hash_block) calls) first
-    ∙ ap (λ (xs : List BlockIndex). xs ++ flat_map (λ (c : FeedCall). given c.hash_block) calls) (none-handed-out p planned))
-    ∙ ap (λ (n : ℕ). handed_out p n after.closed) all
-    ∙ ap (handed_out p p.wanted) closed
-    ∙ all-handed-out p planned in (
+    sym (rw (all, closed, none) at done.order) ∙ all-handed-out p planned in (
       done.fed_is,
       record {
         order = order;
-        stands = done.stands refl most
+        stands = done.stands refl (omega (arith, done.fed_is.count, all))
             ∙ ap (λ (xs : List BlockIndex). device_with p.settings (data_blocks p bytes) p.base xs device) order;
       },
     )

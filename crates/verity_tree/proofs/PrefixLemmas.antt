@@ -1,9 +1,9 @@
 -- A block that has closed depends on the data before it alone.
-use Rattle.std.proofs.Common.{◌≡◌, ℕ, zero, suc, ◌+◌, ◌*◌, ◌^◌, ◌<◌, ◌≤◌, min, List, [], get_or, drop, length, map}
+use Rattle.std.proofs.Common.{◌≡◌, ℕ, zero, suc, ◌+◌, ◌*◌, ◌^◌, ◌<◌, ◌≤◌, min, List, [], get_or, length, map}
 use Rattle.std.proofs.Common.{arith, sym, ◌∙◌, ap, length-drop}
-use Rattle.std.proofs.lemmas.List.{length-map, length-take, get_or-map, get_or-take, get_or-drop, ext_get_or}
+use Rattle.std.proofs.lemmas.List.{length-map, length-take, get_or-map, ext_get_or, places}
 use Rattle.std.proofs.lemmas.List.FromFn.{get_or-map-range_with_len}
-use Rattle.std.proofs.Math.Nat.{pow-zero, pow-suc, one-le-pow, mul-le-mul_right}
+use Rattle.std.proofs.Math.Nat.{pow-zero, pow-suc, one-le-pow}
 use Rattle.std.specs.Fork.{slice_chunk}
 use Rattle.std.specs.Int.{div_ceil}
 use Rattle.verity_tree.specs.ClosingOrder.{closed_after, times}
@@ -11,7 +11,7 @@ use Rattle.verity_tree.specs.TreeOnDevice.{tree_block}
 use Rattle.verity_tree.proofs.OrderLemmas.{closed_time}
 use Rattle.verity_plan.specs.Settings.{TreeSettingsFields, hash, fan}
 use Rattle.verity_tree.specs.Levels.{pack, hash_block_of, blocks_up}
-use Rattle.verity_plan.proofs.CountLemmas.{div_ceil-div_ceil}
+use Rattle.verity_plan.proofs.CountLemmas.{div_ceil-div_ceil, mul_le}
 use Rattle.verity_tree.proofs.TreeLemmas.{length-blocks_up}
 
 -- the j-th block of digests that are packed
@@ -27,22 +27,8 @@ pub slice_chunk-same : (xs ys : List (List ℕ)) (size j : ℕ) → length xs �
     → ((k : ℕ) → k < j * size + size → k < length xs → get_or xs k [] ≡ get_or ys k [])
     → slice_chunk xs size j ≡ slice_chunk ys size j
 slice_chunk-same xs ys size j same each =
-    ext_get_or [] (slice_chunk xs size j) (slice_chunk ys size j)
-    (omega (
-      arith,
-      length-take size (drop (j * size) xs),
-      length-take size (drop (j * size) ys),
-      length-drop (j * size) xs,
-      length-drop (j * size) ys,
-      same,
-    ))
-    (λ m h.
-    let below : m < size = omega (arith, h, length-take size (drop (j * size) xs)) in
-    let within : j * size + m < length xs =
-    omega (arith, h, length-take size (drop (j * size) xs), length-drop (j * size) xs) in
-    get_or-take size (drop (j * size) xs) m [] below ∙ get_or-drop (j * size) xs m []
-    ∙ each (j * size + m) (omega (arith, below)) within
-    ∙ sym (get_or-take size (drop (j * size) ys) m [] below ∙ get_or-drop (j * size) ys m []))
+    ext_get_or [] (slice_chunk xs size j) (slice_chunk ys size j) (simp (length-take, length-drop, same))
+    (λ m h. grind (arith, places, each (j * size + m)))
 
 -- a block depends on the data blocks before its closing time alone
 pub blocks_up-prefix : (s : TreeSettingsFields) (xs ys : List (List ℕ)) (i l j : ℕ) → 0 < fan s → length xs ≡ length ys
@@ -50,45 +36,37 @@ pub blocks_up-prefix : (s : TreeSettingsFields) (xs ys : List (List ℕ)) (i l j
     → min ((j + 1) * fan s ^ l) (length xs) ≤ i → get_or (blocks_up s xs l) j [] ≡ get_or (blocks_up s ys l) j []
 unfolding blocks_up
 blocks_up-prefix s xs ys i zero j pos same each below time =
-    let one : fan s ^ 0 ≡ 1 = pow-zero (fan s) in
-    let area : (j + 1) * fan s ^ 0 ≡ (j + 1) * 1 = ap (λ (n : ℕ). (j + 1) * n) one in
-    let size : div_ceil (length xs) (fan s ^ 0) ≡ div_ceil (length xs) 1 = ap (λ (n : ℕ). div_ceil (length xs) n) one in
-    each j (omega (arith, area, size, below, time))
+    let inside = simp pow-zero at below in
+    let sooner = simp pow-zero at time in
+    each j (omega (arith, inside, sooner))
 blocks_up-prefix s xs ys i (suc l) j pos same each below time =
-    let width = fan s ^ l in
-    let wide : 0 < width = one-le-pow l (fan s) pos in
+    let f = fan s in
+    let width = f ^ l in
     let before = blocks_up s xs l in
     let after = blocks_up s ys l in
-    let count : length (map (hash s) before) ≡ div_ceil (length xs) width =
-    length-map before (hash s) ∙ length-blocks_up s xs l pos in
-    let other : length (map (hash s) after) ≡ div_ceil (length ys) width =
-    length-map after (hash s) ∙ length-blocks_up s ys l pos in
-    let equal : div_ceil (length xs) width ≡ div_ceil (length ys) width = ap (λ (n : ℕ). div_ceil n width) same in
-    let whole : div_ceil (length xs) (fan s ^ suc l) ≡ div_ceil (div_ceil (length xs) width) (fan s) =
-    ap (div_ceil (length xs)) (pow-suc (fan s) l) ∙ sym (div_ceil-div_ceil (length xs) width (fan s) wide pos) in
-    let here : j < div_ceil (length (map (hash s) before)) (fan s) =
-    omega (arith, below, whole, ap (λ (n : ℕ). div_ceil n (fan s)) count) in
-    let there : j < div_ceil (length (map (hash s) after)) (fan s) =
-    omega (arith, below, whole, ap (λ (n : ℕ). div_ceil n (fan s)) (other ∙ sym equal)) in
-    get_or-pack s (map (hash s) before) j here
+    let count : length (map (hash s) before) ≡ div_ceil (length xs) width = simp length-map (length-blocks_up s xs l pos) in
+    let other : length (map (hash s) after) ≡ div_ceil (length xs) width =
+    simp length-map (length-blocks_up s ys l pos ∙ ap (λ (n : ℕ). div_ceil n width) (sym same)) in
+    let whole : div_ceil (length xs) (f ^ suc l) ≡ div_ceil (div_ceil (length xs) width) f =
+    ap (div_ceil (length xs)) (pow-suc f l) ∙ sym (div_ceil-div_ceil (length xs) width f (one-le-pow l f pos) pos) in
+    let here : j < div_ceil (div_ceil (length xs) width) f = rw (← whole) below in
+    get_or-pack s (map (hash s) before) j (rw count here)
     ∙ ap (hash_block_of s)
-    (slice_chunk-same (map (hash s) before) (map (hash s) after) (fan s) j (count ∙ equal ∙ sym other)
+    (slice_chunk-same (map (hash s) before) (map (hash s) after) f j (count ∙ sym other)
     (λ k low within.
     let inside : k < length before = omega (arith, within, length-map before (hash s)) in
-    let beside : k < length after = omega (arith, within, count, equal, other, length-map after (hash s)) in
-    let step : k + 1 ≤ (j + 1) * fan s = omega (arith, low) in
+    let beside : k < length after = omega (arith, within, count, other, length-map after (hash s)) in
     let sooner : min ((k + 1) * width) (length xs) ≤ i =
     omega (
       arith,
       time,
-      mul-le-mul_right width step,
-      pow-suc (fan s) l,
-      ap (λ (n : ℕ). (j + 1) * n) (pow-suc (fan s) l),
+      mul_le (k + 1) ((j + 1) * f) width (omega (arith, low)),
+      ap (λ (n : ℕ). (j + 1) * n) (pow-suc f l),
     ) in
     get_or-map (hash s) before k [] [] inside
     ∙ ap (hash s) (blocks_up-prefix s xs ys i l k pos same each (omega (arith, within, count)) sooner)
     ∙ sym (get_or-map (hash s) after k [] [] beside)))
-    ∙ sym (get_or-pack s (map (hash s) after) j there)
+    ∙ sym (get_or-pack s (map (hash s) after) j (rw other here))
 
 -- what has closed after i data blocks depends on these alone
 pub closed-prefix : (s : TreeSettingsFields) (xs ys : List (List ℕ)) (i l j : ℕ) → 0 < fan s → length xs ≡ length ys

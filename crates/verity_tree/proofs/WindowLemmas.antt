@@ -1,9 +1,9 @@
 -- The window of data blocks: how many it has, that no hash block closes within it, and where the last byte is in it.
-use Rattle.std.proofs.Common.{◌≡◌, ℕ, ◌+◌, ◌-◌, ◌*◌, ◌/◌, ◌%◌, ◌^◌, ◌<◌, ◌≤◌, arith, sym, ◌∙◌, ap, inl, inr}
+use Rattle.std.proofs.Common.{◌≡◌, ℕ, zero, suc, ◌+◌, ◌-◌, ◌*◌, ◌/◌, ◌%◌, ◌^◌, ◌<◌, ◌≤◌, arith, sym, ◌∙◌, ap, inl, inr}
 use Rattle.std.proofs.Common.{min}
 use Rattle.std.proofs.lemmas.Bool.{cases_lt}
-use Rattle.std.proofs.lemmas.Nat.{div-add-mod', div-mul-add, mod-mul-add, mod_below, pow-add}
-use Rattle.std.proofs.Math.Nat.{div-div-eq-div-mul, mul_assoc}
+use Rattle.std.proofs.lemmas.Nat.{div-add-mod', le-div, mod-mul-add, mod_below, mul-le, pow-add, pow_pos}
+use Rattle.std.proofs.Math.Nat.{div-div-eq-div-mul, div-eq_of_lt-le, mul-div_cancel, mul_assoc}
 use Rattle.std.proofs.Math.Pow.{pow-lt}
 use Rattle.verity_plan.specs.Plans.{IsPlan, PlanFields}
 use Rattle.verity_plan.specs.Settings.{IsValid, TreeSettingsFields, fan}
@@ -16,66 +16,45 @@ use Rattle.verity_tree.specs.Steps.Batches.{IsBatch}
 use Rattle.verity_tree.specs.Windows.{window_blocks, window_length}
 use Rattle.verity_tree.proofs.BatchLemmas.{none_closes-batch}
 
--- a power of two that isn't above another divides it
-power-divides : (x y j k : ℕ) → x ≡ 2 ^ j → y ≡ 2 ^ k → x ≤ y → (g : ℕ) × (y ≡ g * x)
+-- a power of two that isn't above another divides it, and as often as a power of two
+power-divides : (x y j k : ℕ) → x ≡ 2 ^ j → y ≡ 2 ^ k → x ≤ y → (m : ℕ) × (y ≡ 2 ^ m * x)
 power-divides x y j k first second most = elim (cases_lt k j) [
   | inl less ↦ absurd (omega (arith, pow-lt less, first, second, most))
   | inr within ↦
-      let split : k ≡ k - j + j = omega (arith, within) in (
-        2 ^ (k - j),
-        second ∙ ap (λ (n : ℕ). 2 ^ n) split ∙ pow-add 2 (k - j) j ∙ ap (λ (n : ℕ). 2 ^ (k - j) * n) (sym first),
-      )
+      let split : k ≡ k - j + j = omega (arith, within) in
+      (k - j, rw (second, first) (ap (λ (n : ℕ). 2 ^ n) split ∙ pow-add 2 (k - j) j))
 ]
 
 -- the lesser of two powers of two is one
 power-min : (x y j k : ℕ) → x ≡ 2 ^ j → y ≡ 2 ^ k → (m : ℕ) × (min x y ≡ 2 ^ m)
 power-min x y j k first second = elim (cases_lt x y) [
-  | inl less ↦ let e : min x y ≡ x = omega arith in (j, e ∙ first)
-  | inr most ↦ let e : min x y ≡ y = omega arith in (k, e ∙ second)
+  | inl less ↦ (j, omega (arith, less, first))
+  | inr most ↦ (k, omega (arith, most, second))
 ]
 
 -- the largest block, divided by a block's size
 power-quotient : (d k : ℕ) → 0 < d → d ≡ 2 ^ k → d ≤ 524288 → (m : ℕ) × (524288 / d ≡ 2 ^ m)
 power-quotient d k some is most =
-    let largest : 524288 ≡ 2 ^ 19 = omega arith in
-    elim (cases_lt 19 k) [
-      | inl less ↦ absurd (omega (arith, pow-lt less, largest, is, most))
-      | inr within ↦
-          let split : 19 ≡ 19 - k + k = omega (arith, within) in
-          let area : 524288 ≡ 2 ^ (19 - k) * d + 0 = omega (
-            arith,
-            largest ∙ ap (λ (n : ℕ). 2 ^ n) split ∙ pow-add 2 (19 - k) k ∙ ap (λ (n : ℕ). 2 ^ (19 - k) * n) (sym is),
-          ) in (
-            19 - k,
-            ap (λ (n : ℕ). n / d) area ∙ div-mul-add (2 ^ (19 - k)) d 0 some,
-          )
-    ]
+    let whole = power-divides d 524288 k 19 is (omega arith) most in
+    (whole.0, ap (λ (n : ℕ). n / d) whole.1 ∙ mul-div_cancel (2 ^ whole.0) some)
 
 -- a hash block's slots are those of some windows
-pub window-fan : (s : TreeSettingsFields) → IsValid s → (g : ℕ) × (fan s ≡ g * window_blocks s)
+window-fan : (s : TreeSettingsFields) → IsValid s → (m : ℕ) × (fan s ≡ 2 ^ m * window_blocks s)
 unfolding window_blocks
 window-fan s valid =
     let some = some_data s valid in
     let d = power_of_two-is s.data_block some (block_power _ s.data_block valid.data_size) in
     let f = fan-power s in
     let room = power-quotient s.data_block d.0 some d.1 (data_most s valid) in
-    let eight : 8 ≡ 2 ^ 3 = omega arith in
-    let rows = power-min 8 (524288 / s.data_block) 3 room.0 eight room.1 in
+    let rows = power-min 8 (524288 / s.data_block) 3 room.0 (omega arith) room.1 in
     let blocks = power-min (min 8 (524288 / s.data_block)) (fan s) rows.0 f.0 rows.1 f.1 in
     power-divides (min (min 8 (524288 / s.data_block)) (fan s)) (fan s) blocks.0 f.0 blocks.1 f.1 (omega arith)
 
 pub window-some : (s : TreeSettingsFields) → IsValid s → 0 < window_blocks s
 unfolding window_blocks
 window-some s valid =
-    let some = some_data s valid in
-    let split = div-add-mod' 524288 s.data_block in
-    let room : 0 < 524288 / s.data_block = elim (cases_lt 0 (524288 / s.data_block)) [
-      | inl more ↦ more
-      | inr none ↦
-          let zero_is : 524288 / s.data_block * s.data_block ≡ 0 * s.data_block =
-          ap (λ (n : ℕ). n * s.data_block) (let e : 524288 / s.data_block ≡ 0 = omega (arith, none) in e) in
-          absurd (omega (arith, split, zero_is, mod_below 524288 s.data_block some, data_most s valid))
-    ] in
+    let room : 1 ≤ 524288 / s.data_block =
+    le-div 1 524288 s.data_block (some_data s valid) (omega (arith, data_most s valid)) in
     omega (arith, room, fan-some s)
 
 pub window-eight : (s : TreeSettingsFields) → window_blocks s ≤ 8
@@ -83,62 +62,25 @@ unfolding window_blocks
 window-eight s = omega arith
 
 pub window-wide : (s : TreeSettingsFields) → IsValid s → 0 < window_length s
-window-wide s valid =
-    let one : 1 * s.data_block ≤ window_blocks s * s.data_block =
-    mul_le 1 (window_blocks s) s.data_block (omega (arith, window-some s valid)) in
-    omega (arith, one, some_data s valid)
+window-wide s valid = omega (arith, mul-le 1 1 _ _ (window-some s valid) (some_data s valid))
 
 -- from the first data block of a window to the end of the hash block above it there is room for the window
 pub window-room : (s : TreeSettingsFields) (w : ℕ) → IsValid s → w * window_blocks s % fan s + window_blocks s ≤ fan s
 window-room s w valid =
     let b = window_blocks s in
-    let f = fan s in
     let times = window-fan s valid in
-    let g = times.0 in
-    let whole : f ≡ g * b = times.1 in
-    let some : 0 < g = elim (cases_lt 0 g) [
-      | inl more ↦ more
-      | inr none ↦ absurd (omega (
-        arith,
-        ap (λ (n : ℕ). n * b) (let e : g ≡ 0 = omega (arith, none) in e),
-        whole,
-        fan-some s,
-      ))
-    ] in
-    let low : w % g < g = mod_below w g some in
-    let step : w % g + 1 ≤ g = omega (arith, low) in
-    let area : (w % g + 1) * b ≤ g * b = mul_le (w % g + 1) g b step in
-    let split : w * b ≡ w / g * f + w % g * b =
-    ap (λ (n : ℕ). n * b) (sym (div-add-mod' w g))
-    ∙ (let e : (w / g * g + w % g) * b ≡ w / g * g * b + w % g * b = omega arith in e)
-    ∙ ap (λ (n : ℕ). n + w % g * b) (mul_assoc (w / g) g b ∙ ap (λ (n : ℕ). w / g * n) (sym whole)) in
-    let one_more : (w % g + 1) * b ≡ w % g * b + b = omega arith in
-    let place : w * b % f ≡ w % g * b =
-    ap (λ (n : ℕ). n % f) split
-    ∙ mod-mul-add (w / g) f (w % g * b) (omega (arith, area, whole, one_more, window-some s valid)) in
-    omega (arith, place, area, whole, one_more)
+    let g = 2 ^ times.0 in
+    let area : (w % g + 1) * b ≤ g * b = mul_le (w % g + 1) g b (omega (arith, mod_below w g (pow_pos times.0))) in
+    let split : w * b ≡ w / g * fan s + w % g * b =
+    omega (arith, ap (λ (n : ℕ). n * b) (div-add-mod' w g), ap (λ (n : ℕ). w / g * n) times.1) in
+    let low : w % g * b < fan s = omega (arith, area, times.1, window-some s valid) in
+    omega (arith, area, times.1, ap (λ (n : ℕ). n % fan s) split ∙ mod-mul-add (w / g) (fan s) (w % g * b) low)
 
 -- the windows before the last of so many bytes are those of the data blocks before it
 pub windows-are : (s : TreeSettingsFields) (count : ℕ) → windows_before s count ≡ blocks_before s count / window_blocks s
 windows-are s count =
     let e : window_length s ≡ s.data_block * window_blocks s = omega arith in
     ap (λ (n : ℕ). (count - 1) / n) e ∙ sym (div-div-eq-div-mul (count - 1) s.data_block (window_blocks s))
-
--- the first data block of its window and its own are below one hash block of level 0
-pub window-beside : (s : TreeSettingsFields) (count : ℕ) → IsValid s
-    → windows_before s count * window_blocks s / fan s ≡ blocks_before s count / fan s
-window-beside s count valid =
-    let b = window_blocks s in
-    let w = windows_before s count in
-    let times = window-fan s valid in
-    let g = times.0 in
-    let split : (n : ℕ) → n / fan s ≡ n / b / g = λ n.
-    let e : g * b ≡ b * g = omega arith in
-    ap (λ (k : ℕ). n / k) (times.1 ∙ e) ∙ sym (div-div-eq-div-mul n b g) in
-    let e : w * b ≡ w * b + 0 = omega arith in
-    split (w * b)
-    ∙ ap (λ (n : ℕ). n / g) (ap (λ (n : ℕ). n / b) e ∙ div-mul-add w b 0 (window-some s valid) ∙ windows-are s count)
-    ∙ sym (split (blocks_before s count))
 
 -- where the last of some bytes is: the data blocks before its window, its data block, and the bytes
 pub record IsPlacedInWindow (s : TreeSettingsFields) (count : ℕ) : Type 0 where
@@ -176,24 +118,27 @@ placed-in-window s count valid some =
       end = block.1;
     }
 
+-- the first data block of its window and its own are below one hash block of level 0
+pub window-beside : (s : TreeSettingsFields) (count : ℕ) → IsValid s → 0 < count
+    → windows_before s count * window_blocks s / fan s ≡ blocks_before s count / fan s
+window-beside s count valid some =
+    let place = placed-in-window s count valid some in
+    let split = div-add-mod' (windows_before s count * window_blocks s) (fan s) in
+    let room = window-room s (windows_before s count) valid in
+    sym (div-eq_of_lt-le (fan s) (omega (arith, split, place.from)) (omega (arith, split, room, place.to)))
+
+-- the last of the elements of so many runs is in the last run
+pub last-run : (n w k : ℕ) → 0 < w → 0 < n → n ≡ k * w → (n - 1) / w + 1 ≡ k
+last-run n w zero wide some whole = absurd (omega (arith, some, whole))
+last-run n w (suc k) wide some whole =
+    let last : (n - 1) / w ≡ k = div-eq_of_lt-le w (omega (arith, whole, wide)) (omega (arith, whole, wide)) in
+    omega (arith, last)
+
 -- the last of all bytes of windows that are full is the last of their last data block
 pub window-ended : (s : TreeSettingsFields) (count w : ℕ) → IsValid s → 0 < count → count ≡ w * window_length s
     → blocks_before s count + 1 ≡ w * window_blocks s
 window-ended s count w valid some whole =
-    let d = s.data_block in
-    let i = blocks_before s count in
-    let k = w * window_blocks s in
-    let block = last-place count d (some_data s valid) some in
-    let all : k * d ≡ count = mul_assoc w (window_blocks s) d ∙ sym whole in
-    elim (cases_lt (i + 1) k) [
-      | inl less ↦
-          let step : i + 2 ≤ k = omega (arith, less) in
-          absurd (omega (arith, mul_le (i + 2) k d step, all, block.1, some_data s valid))
-      | inr most ↦ elim (cases_lt i k) [
-        | inl low ↦ omega (arith, most, low)
-        | inr past ↦ absurd (omega (arith, mul_le k i d past, all, block.0))
-      ]
-    ]
+    last-run count s.data_block (w * window_blocks s) (some_data s valid) some (omega (arith, whole))
 
 -- of the data blocks up to the last byte's, from the first of its window on, none but the last closes a hash block
 pub window-batch : (p : PlanFields) (count first rows : ℕ) → IsPlan p → 0 < count → blocks_before p.settings count < p.blocks
@@ -202,9 +147,9 @@ pub window-batch : (p : PlanFields) (count first rows : ℕ) → IsPlan p → 0 
 window-batch p count first rows planned some below start sum =
     let s = p.settings in
     let place = placed-in-window s count planned.valid some in
-    let slot : first % fan s ≡ windows_before s count * window_blocks s % fan s = ap (λ (n : ℕ). n % fan s) start in
+    let slot = window-room s (windows_before s count) planned.valid in
     let room : rows + 1 ≤ fan s - first % fan s =
-    omega (arith, place.to, start, sum, slot, window-room s (windows_before s count) planned.valid) in
+    omega (arith, place.to, start, sum, ap (λ (n : ℕ). n % fan s) start, slot) in
     let most : first + (rows + 1) ≤ p.blocks = omega (arith, sum, below) in
     record {
       some = omega arith;

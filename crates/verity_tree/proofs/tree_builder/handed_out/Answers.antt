@@ -1,9 +1,8 @@
-use Rattle.std.proofs.Common.{ap, arith, ℕ, ◌-◌, ◌/◌, ◌<◌, ◌≡◌, ◌≤◌}
+use Rattle.std.proofs.Common.{arith, ◌-◌, ◌≤◌}
 use Rattle.std.proofs.Math.Nat.{mul-le-mul}
-use Rattle.verity_plan.specs.Plans.{PlanFields, IsPlan}
 use Rattle.verity_plan.proofs.FanLemmas.{hash_most, some_data}
-use Rattle.verity_plan.proofs.IndexLemmas.{quotient-below}
 use Rattle.verity_plan.proofs.PlanLemmas.{levels_few}
+use Rattle.verity_tree.proofs.ClimbLemmas.{last-below}
 use Rattle.verity_tree.proofs.tree_builder.handed_out.Goals as goal
 
 pub nonzero_div-i : goal.nonzero_div-i
@@ -11,18 +10,10 @@ nonzero_div-i c =
     let p = c.args.plan.now in
     omega (arith, c.data_block.ensures, some_data p.settings c.planned.ensures.valid)
 
--- the last byte is in a data block of the plan
-last-below : (p : PlanFields) (count size : ℕ) → IsPlan p → 0 < count → count ≤ p.wanted → size ≡ p.settings.data_block
-    → (count - 1) / size < p.blocks
-last-below p count size planned some most same =
-    let below : count - 1 < p.wanted = omega (arith, some, most) in
-    let here = quotient-below (count - 1) p.wanted p.settings.data_block (some_data p.settings planned.valid) below in
-    omega (arith, here, planned.blocks_are, ap (λ (n : ℕ). (count - 1) / n) same)
-
 pub byte_above-requires-clause-index : goal.byte_above-requires-clause-index
 byte_above-requires-clause-index c =
-    last-below c.args.plan.now c.args.progress.now.fed c.data_block.result c.planned.ensures
-    c.requires.some c.requires.most c.data_block.ensures
+    rw c.data_block.ensures
+    (last-below c.args.plan.now c.args.progress.now.fed c.planned.ensures c.requires.some c.requires.most)
 
 pub overflow_mul-result : goal.overflow_mul-result
 overflow_mul-result c =

@@ -1,12 +1,12 @@
 -- The digest of the block that is left is the root hash.
 use Rattle.std.proofs.Common.{◌≡◌, ℕ, ◌+◌, ◌-◌, ◌*◌, ◌<◌, List, take, drop, arith, sym, ◌∙◌, ap}
 use Rattle.verity_tree.proofs.OpenBlockLemmas.{hash-by}
-use Rattle.std.proofs.Common.{subst}
+use Rattle.std.proofs.Common.{refl, subst}
 use Rattle.std.specs.Fork.{slice_chunk}
 use Rattle.verity_plan.specs.PlanCounts.{level_count_of}
 use Rattle.verity_plan.specs.Settings.{hash}
 use Rattle.verity_tree.specs.Steps.Feeding.{Stands}
-use Rattle.verity_tree.proofs.AdvanceLemmas.{top-root}
+use Rattle.verity_tree.proofs.AskingLemmas.{top-root}
 use Rattle.verity_tree.proofs.ClimbLemmas.{handing-out, nothing-out}
 use Rattle.verity_tree.proofs.feeding.steps.digest_at_the_top.Goals as goal
 
@@ -29,26 +29,18 @@ returns-then-levels-eq0-clause-stays c = λ fed all h.
 top-range : (opened : List ℕ) (levels size top block : ℕ) → levels ≡ top + 1 → size ≡ block
     → take (levels * size - (levels - 1) * size) (drop ((levels - 1) * size) opened) ≡ slice_chunk opened block top
 top-range opened levels size top block one is =
-    let low : levels - 1 ≡ top = omega (arith, one) in
-    let place : (levels - 1) * size ≡ top * block =
-    ap (λ (n : ℕ). n * size) low ∙ ap (λ (n : ℕ). top * n) is in
-    let area : levels * size ≡ top * block + block =
-    ap (λ (n : ℕ). n * size) one ∙ ap (λ (n : ℕ). (top + 1) * n) is
-    ∙ (let t : (top + 1) * block ≡ top * block + block = omega arith in t) in
-    let wide : levels * size - (levels - 1) * size ≡ block = omega (arith, place, area) in
-    ap (λ (n : ℕ). take n (drop ((levels - 1) * size) opened)) wide
-    ∙ ap (λ (n : ℕ). take block (drop n opened)) place
+    let low : top + 1 - 1 ≡ top = omega arith in
+    let wide : (top + 1) * block - top * block ≡ block = omega arith in
+    rw (one, is, low, wide) refl
 
 pub returns-clause-root : goal.returns-clause-root
 returns-clause-root c = λ fed all h.
     let p = c.args.plan.now in
-    let s = p.settings in
     let levels = level_count_of p in
-    let top = levels - 1 in
     let some : 0 < c.levels-levels.result = grind (arith, c.if-levels-eq0.false) in
-    let next : levels ≡ top + 1 = omega (arith, c.levels-levels.ensures, some) in
+    let next : levels ≡ levels - 1 + 1 = omega (arith, c.levels-levels.ensures, some) in
     (hash-by _ _ _ _ c.settings.ensures c.hash.ensures)
-    ∙ ap (hash s) (top-range c.args.opened.now c.levels-levels.result c.hash_block-size.result top s.hash_block
-    (c.levels-levels.ensures ∙ next) c.hash_block-size.ensures)
-    ∙ top-root p levels top fed c.args.opened.now c.requires.planned next all
+    ∙ ap (hash p.settings) (top-range c.args.opened.now c.levels-levels.result c.hash_block-size.result (levels - 1)
+    p.settings.hash_block (c.levels-levels.ensures ∙ next) c.hash_block-size.ensures)
+    ∙ top-root p levels (levels - 1) fed c.args.opened.now c.requires.planned next all
     (handing-out p levels levels fed c.args.opened.now c.args.window.now (omega (arith, next)) h)

@@ -8,9 +8,7 @@ pub returns-clause-fed : goal.returns-clause-fed
 returns-clause-fed c =
     let p = c.args.plan.now in
     let n = c.levels.result * c.hash_block.result in
-    let size : n ≡ level_count_of p * p.settings.hash_block =
-    ap (λ (m : ℕ). m * c.hash_block.result) c.levels.ensures
-    ∙ ap (λ (m : ℕ). level_count_of p * m) c.hash_block.ensures in
+    let size : n ≡ level_count_of p * p.settings.hash_block = rw (c.levels.ensures, c.hash_block.ensures) refl in
     record {
       count = refl;
       stands = HasFed-none p.settings (level_count_of p) n c.fill.new.self _ size

@@ -1,66 +1,45 @@
-use Rattle.std.proofs.Common.{Bool, List, ap, arith, length, length-append, subst, take, ℕ, ◌*◌, ◌++◌, ◌+◌, ◌∙◌, ◌≡◌}
-use Rattle.std.proofs.Common.{◌≤◌}
-use Rattle.std.proofs.lemmas.List.{length-take-le}
+use Rattle.std.proofs.Common.{List, arith, refl, take, ℕ, ◌*◌, ◌∙◌, ◌≡◌}
 use Rattle.verity_plan.specs.PlanCounts.{level_count_of}
-use Rattle.verity_tree.specs.Steps.Feeding.{FeedsOn}
-use Rattle.verity_tree.proofs.FeedingLemmas.{Feeds-none, Feeds-some, IsFed-parted}
+use Rattle.verity_tree.specs.Feeding.{IsFed}
+use Rattle.verity_tree.proofs.AdvanceLemmas.{length-fed}
+use Rattle.verity_tree.proofs.FeedingLemmas.{Feeds-none, Feeds-some, HasFedOn, IsFed-parted}
 use Rattle.verity_tree.proofs.tree_builder.TreeBuilder.feed.Goals as goal
+use Rattle.verity_tree.proofs.tree_builder.TreeBuilder.feed.Goals.{After-feed_until_closed-taken}
 
--- the bytes that were fed before, and those of the piece that were taken
-count-taken : (fed piece : List ℕ) (before after taken : ℕ) → length fed ≡ before → after ≡ before + taken
-    → taken ≤ length piece → length (fed ++ take taken piece) ≡ after
-count-taken fed piece before after taken had is most =
-    omega (arith, length-append fed (take taken piece), length-take-le taken piece most, had, is)
-
--- equal factors
-product : (a b c d : ℕ) → a ≡ c → b ≡ d → a * b ≡ c * d
-product a b c d first second = ap (λ (n : ℕ). n * b) first ∙ ap (λ (n : ℕ). c * n) second
+-- what was fed stands in the memory's two parts after the step
+fed-on : (c : After-feed_until_closed-taken) → (fed : List ℕ) → IsFed c.args.self.now c.args.memory.now fed
+    → HasFedOn c.args.self.now c.feed_until_closed-taken.new.progress.fed c.feed_until_closed-taken.new.progress.closed fed
+    (take c.feed_until_closed-taken.result.0 c.args.piece.now) c.feed_until_closed-taken.result.1
+    c.feed_until_closed-taken.new.opened c.feed_until_closed-taken.new.window
+fed-on c fed h =
+    let b = c.args.self.now in
+    let step = c.feed_until_closed-taken in
+    let all : c.levels-2.result * c.hash_block.result ≡ level_count_of b.plan * b.plan.settings.hash_block =
+    rw (c.levels-2.ensures, c.hash_block.ensures) refl in
+    let room = c.split_at_mut-opened.ensures.front_len ∙ all in
+    record {
+      had = h.count;
+      has = length-fed fed c.args.piece.now b.fed step.result.0 step.new.progress.fed h.count step.ensures.most step.ensures.fed;
+      size = step.auto.opened ∙ room;
+      on = step.ensures.stands (level_count_of b.plan) fed (omega arith) (omega (arith, room)) h.count
+          (IsFed-parted b _ c.args.memory.now _ _ fed all c.split_at_mut-opened.ensures.front
+          c.split_at_mut-opened.ensures.back h);
+    }
 
 pub returns-then-closes-clause-fed : goal.returns-then-closes-clause-fed
 returns-then-closes-clause-fed c = λ fed h.
-    let p = c.args.self.now.plan in
-    let levels = level_count_of p in
-    let taken = c.feed_until_closed-taken.result.0 in
-    let closed = c.feed_until_closed-taken.new.progress.closed in
-    let opened = c.feed_until_closed-taken.new.opened in
-    let window = c.feed_until_closed-taken.new.window in
-    let all : c.levels-2.result * c.hash_block.result ≡ levels * p.settings.hash_block =
-    product c.levels-2.result c.hash_block.result levels p.settings.hash_block c.levels-2.ensures
-    c.hash_block.ensures in
-    let room : length c.split_at_mut-opened.result.0.now ≡ levels * p.settings.hash_block =
-    c.split_at_mut-opened.ensures.front_len ∙ all in
-    let stood = IsFed-parted c.args.self.now _ c.args.memory.now _ _ fed all c.split_at_mut-opened.ensures.front
-    c.split_at_mut-opened.ensures.back h in
-    let has = count-taken fed c.args.piece.now c.args.self.now.fed c.feed_until_closed-taken.new.progress.fed taken
-    h.count c.feed_until_closed-taken.ensures.fed c.feed_until_closed-taken.ensures.most in
-    let on = subst
-    (λ (b : Bool). FeedsOn p levels fed c.args.self.now.closed (take taken c.args.piece.now) b closed opened window)
-    c.if-closes.true
-    (c.feed_until_closed-taken.ensures.stands levels fed (omega arith) (omega (arith, room)) h.count stood) in
-    Feeds-some c.args.self.now _ closed fed (take taken c.args.piece.now) opened window c.handed_out.result c.wanted.ensures.planned h.count has
-    (c.feed_until_closed-taken.auto.opened ∙ room) on c.handed_out.ensures.level c.handed_out.ensures.index
-    c.handed_out.ensures.byte c.handed_out.ensures.at
+    Feeds-some c.args.self.now _ _ fed _ c.feed_until_closed-taken.new.opened c.feed_until_closed-taken.new.window
+    c.handed_out.result c.wanted.ensures.planned
+    (rw (← c.if-closes.true) (fed-on (goal.at.returns-then-closes-clause-fed c).After-feed_until_closed-taken fed h))
+    (record {
+      level_is = c.handed_out.ensures.level;
+      level_below = omega (arith, c.handed_out.ensures.level, c.feed_until_closed-taken.ensures.closed);
+      index_is = c.handed_out.ensures.index;
+      byte_is = c.handed_out.ensures.byte;
+      at_is = c.handed_out.ensures.at;
+    })
 
 pub returns-else-closes-clause-fed : goal.returns-else-closes-clause-fed
 returns-else-closes-clause-fed c = λ fed h.
-    let p = c.args.self.now.plan in
-    let levels = level_count_of p in
-    let taken = c.feed_until_closed-taken.result.0 in
-    let closed = c.feed_until_closed-taken.new.progress.closed in
-    let opened = c.feed_until_closed-taken.new.opened in
-    let window = c.feed_until_closed-taken.new.window in
-    let all : c.levels-2.result * c.hash_block.result ≡ levels * p.settings.hash_block =
-    product c.levels-2.result c.hash_block.result levels p.settings.hash_block c.levels-2.ensures
-    c.hash_block.ensures in
-    let room : length c.split_at_mut-opened.result.0.now ≡ levels * p.settings.hash_block =
-    c.split_at_mut-opened.ensures.front_len ∙ all in
-    let stood = IsFed-parted c.args.self.now _ c.args.memory.now _ _ fed all c.split_at_mut-opened.ensures.front
-    c.split_at_mut-opened.ensures.back h in
-    let has = count-taken fed c.args.piece.now c.args.self.now.fed c.feed_until_closed-taken.new.progress.fed taken
-    h.count c.feed_until_closed-taken.ensures.fed c.feed_until_closed-taken.ensures.most in
-    let on = subst
-    (λ (b : Bool). FeedsOn p levels fed c.args.self.now.closed (take taken c.args.piece.now) b closed opened window)
-    c.if-closes.false
-    (c.feed_until_closed-taken.ensures.stands levels fed (omega arith) (omega (arith, room)) h.count stood) in
-    Feeds-none c.args.self.now _ closed fed (take taken c.args.piece.now) opened window h.count has
-    (c.feed_until_closed-taken.auto.opened ∙ room) on
+    Feeds-none c.args.self.now _ _ fed _ c.feed_until_closed-taken.new.opened c.feed_until_closed-taken.new.window
+    (rw (← c.if-closes.false) (fed-on (goal.at.returns-else-closes-clause-fed c).After-feed_until_closed-taken fed h))
