@@ -1,12 +1,12 @@
 -- A digest on its way up: which hash blocks close with its data block.
 use Rattle.std.proofs.Common.{List, ap, arith, inl, inr, length}
-use Rattle.std.proofs.Common.{sym, true, ℕ, ◌%◌, ◌*◌, ◌+◌, ◌-◌, ◌/◌, ◌<◌, ◌^◌, ◌∙◌, ◌≡◌, ◌≤◌}
+use Rattle.std.proofs.Common.{true, ℕ, ◌%◌, ◌*◌, ◌+◌, ◌-◌, ◌/◌, ◌<◌, ◌^◌, ◌∙◌, ◌≡◌, ◌≤◌}
 use Rattle.std.proofs.lemmas.Bool.{cases_lt}
 use Rattle.std.proofs.lemmas.Nat.{div-mul-add, mod-mul-add, pow-add}
 use Rattle.std.proofs.Math.Nat.{one-le-pow}
 use Rattle.verity_tree.proofs.QuotientLemmas.{div_ceil-last}
 use Rattle.verity_plan.specs.Settings.{TreeSettingsFields, fan}
-use Rattle.verity_plan.specs.Plans.{level_count, level_size, place}
+use Rattle.verity_plan.specs.Plans.{level_count, level_size}
 use Rattle.verity_tree.specs.ClosingOrder.{closing_with, closes, first_closing}
 use Rattle.verity_tree.specs.Steps.OpenBlocks.{IsReached, IsCarrying}
 use Rattle.verity_tree.specs.Steps.OpenBlocks.{carry_state}

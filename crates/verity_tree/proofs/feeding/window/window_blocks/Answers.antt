@@ -1,4 +1,4 @@
-use Rattle.std.proofs.Common.{◌≡◌, ℕ, ◌*◌, ◌/◌, ◌^◌, ◌≤◌, arith, ap, min, sym, ◌∙◌}
+use Rattle.std.proofs.Common.{◌≡◌, ℕ, ◌/◌, ◌^◌, ◌≤◌, arith, ap, min, sym, ◌∙◌}
 use Rattle.std.proofs.Math.Nat.{div-mul-le_self, mul-le-mul_right}
 use Rattle.verity_plan.proofs.FanLemmas.{block_power, some_data}
 use Rattle.verity_plan.proofs.FitLemmas.{power_of_two-exponent}
