@@ -10,10 +10,12 @@ built=crates/$crate/out/$crate
 log=$(mktemp)
 trap 'rm -f "$log"' EXIT
 
-# Prints the processor, the sum of all that programs are built of, and that of the program.
+# What programs are built of, before any is: a source that changes meanwhile has changed.
+of=$(sources)
+
+# Prints the processor, what programs are built of, and the sum of the program.
 made() {
-    echo "$cpu"
-    sources
+    printf '%s\n' "$cpu" "$of"
     sha256sum "bin/$program"
 }
 

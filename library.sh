@@ -13,10 +13,12 @@ crate=verity_c
 scratch=$(mktemp -d)
 trap 'rm -rf "$scratch"' EXIT
 
-# made FILE FOR: prints for what a file was built, the sum of all that it is built of, and that of the file.
+# What a library is built of, before one is: a source that changes meanwhile has changed.
+of=$({ sources && cat library.sh; } | sha256sum)
+
+# made FILE FOR: prints for what a file was built, what libraries are built of, and the sum of the file.
 made() {
-    echo "$2"
-    { sources && cat library.sh; } | sha256sum
+    printf '%s\n' "$2" "$of"
     sha256sum <"$1"
 }
 
