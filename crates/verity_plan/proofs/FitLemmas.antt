@@ -34,7 +34,7 @@ power_of_two-is n some h =
     let none : n - 2 ^ top.0 ≡ 0 = zero_from_ones (n - 2 ^ top.0) (omega (arith, one, apart, bit)) in
     (top.0, omega (arith, low, none))
 
--- its exponent, from the powers that it lies between
+-- a power of two is the one that it isn't below, if it is below its double
 pub power_of_two-exponent : (n k : ℕ) → 0 < n → is_power_of_two n ≡ true → 2 ^ k ≤ n → n < 2 * 2 ^ k → n ≡ 2 ^ k
 power_of_two-exponent n k some power low high =
     let whole = power_of_two-is n some power in
@@ -47,9 +47,10 @@ least_power-found len =
     let passing : leb len (2 ^ len) ≡ true = grind (arith, nat_tests, high) in
     IsLeast-least_from (λ m. nat_le len (2 ^ m)) 0 len len (omega arith) (omega arith) passing
 
-pub least_power-power : (len : ℕ) → (k : ℕ) × (least_power len ≡ 2 ^ k)
+-- it is a power of two
+pub least_power-is_power : (len : ℕ) → (k : ℕ) × (least_power len ≡ 2 ^ k)
 unfolding least_power
-least_power-power len = (least_up_to len (λ k. nat_le len (2 ^ k)), refl)
+least_power-is_power len = (least_up_to len (λ k. nat_le len (2 ^ k)), refl)
 
 pub least_power-above : (len : ℕ) → len ≤ least_power len
 unfolding least_power
@@ -132,7 +133,7 @@ fan-digests s one = slot_count-fits (digest_len s) s.hash_block (digest_len_of-p
 -- dm-verity's slots: the least power of two that is not below the digest
 pub slot-power : (s : TreeSettingsFields) → s.rule ≡ Before → (k : ℕ) × (slot_width s ≡ 2 ^ k)
 unfolding slot_width
-slot-power s before = rw before (least_power-power (digest_len s))
+slot-power s before = rw before (least_power-is_power (digest_len s))
 
 pub slot-least : (s : TreeSettingsFields) → s.rule ≡ Before → slot_width s < 2 * digest_len s
 unfolding slot_width
@@ -169,7 +170,7 @@ fan-exponents s block slot valid block_low block_high slot_low slot_high =
     let size : s.hash_block ≡ 2 ^ block =
     power_of_two-exponent s.hash_block block (omega (arith, some, room)) (block_power _ s.hash_block valid.hash_size)
     block_low block_high in
-    let least = least_power-power len in
+    let least = least_power-is_power len in
     let above = least_power-above len in
     let width : least_power len ≡ 2 ^ slot =
     least.1 ∙ ap (λ (n : ℕ). 2 ^ n)

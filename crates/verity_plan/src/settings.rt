@@ -173,10 +173,10 @@ impl TreeSettings {
         ensures most { result ≤ most_block }
         ensures fits { fan self.now * slot_width self.now ≤ self.now.hash_block }
     {
-        // Block and slot are powers of two: their exponents do it, in a fraction of the time that a division takes.
+        // As many digests fit as powers of two that hold one: of those the exponents do it, faster than a division.
         let block = self.hash_block.ilog2();
-        let slot = least_power(self.algorithm.digest_len()).ilog2();
-        1 << (block - slot)
+        let least = least_power(self.algorithm.digest_len()).ilog2();
+        1 << (block - least)
     }
 
     /// The width of a slot in bytes (cryptsetup's on-disk format page).

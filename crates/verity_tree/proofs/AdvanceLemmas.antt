@@ -143,10 +143,10 @@ FeedsOn-more p levels closed middle new_closed fed more further before held open
     hands-more p a c b d e f true one two = rw (← one) two
     hands-more p a c b d e f false one two = two ∙ one
 
--- the bytes of a piece up to a place, and the next ones
-pub take-rest : (n m : ℕ) (piece : List ℕ)
+-- the bytes of a piece up to a place, and those of its rest up to another
+pub take-of_rest : (n m : ℕ) (piece : List ℕ)
     → take n piece ++ take m (take (length piece - n) (drop n piece)) ≡ take (n + m) piece
-take-rest n m piece = rw (take_rest, take-add) refl
+take-of_rest n m piece = rw (take_rest, take-add) refl
 
 -- how many bytes were fed with those of a piece up to a place
 pub length-fed : (fed piece : List ℕ) (count taken all : ℕ) → length fed ≡ count → taken ≤ length piece

@@ -23,7 +23,7 @@ use Rattle.verity_tree.proofs.StandingLemmas.{length-put, length-tree_block, put
 
 -- ---- blocks that are put one after another
 
--- what each block that is put keeps of a device
+-- what each put of a block keeps of a device, all of them keep
 device-keeps : (P : List ℕ → Type 0) (s : TreeSettingsFields) (blocks : List (List ℕ)) (base : ℕ) (all : List BlockIndex)
     → ((m k : ℕ) → 0 < times m k all → (device : List ℕ) → P device
     → P (put device (start_byte s (length blocks) base m k) (tree_block s blocks m k)))
@@ -54,7 +54,7 @@ length-block p bytes l j planned here =
     length-tree_block p.settings (data_blocks p bytes) l j (fan-fits p.settings planned.valid)
     (subst (λ (n : ℕ). IsTreeBlock (fan p.settings) n l j) (sym (length-cut p.settings p.blocks p.wanted bytes)) here)
 
--- what is put in each block's place keeps is kept as the tree is put
+-- what every put of a hash block in its place keeps of a device, putting the whole tree keeps
 tree-keeps : (P : List ℕ → Type 0) (p : PlanFields) (bytes : List ℕ) → IsPlan p
     → ((l j : ℕ) → HasBlock p l j → (block device : List ℕ) → length block ≡ p.settings.hash_block → P device
     → P (put device (start_byte_of p l j) block))

@@ -21,7 +21,7 @@ use Rattle.verity_tree.proofs.LevelLemmas.{length-cut, run-of_front}
 use Rattle.verity_tree.proofs.PrefixLemmas.{get_or-pack}
 use Rattle.verity_tree.proofs.TreeLemmas.{length-blocks_up, length-pack}
 
--- a product within a number is within its quotient
+-- if k times w is within a number, k is within its quotient, rounded up
 div_ceil-most : (n w k : ℕ) → 0 < w → k * w ≤ n → k ≤ div_ceil n w
 div_ceil-most n w k some within =
     le_of_mul-le-mul_right {k = w} (omega (arith, le-div_ceil n w (div_ceil n w) some (omega arith), within)) some
@@ -85,7 +85,7 @@ open-front s xs n l some most =
     ∙ sym (run xs (omega (arith, within, most))))
 
 -- a whole block needs no zeros
-pub with_zeros-whole : (size : ℕ) (bytes : List ℕ) → length bytes ≡ size → with_zeros size bytes ≡ bytes
+with_zeros-whole : (size : ℕ) (bytes : List ℕ) → length bytes ≡ size → with_zeros size bytes ≡ bytes
 with_zeros-whole size bytes whole =
     let none : size - length bytes ≡ 0 = omega (arith, whole) in
     ap (λ (n : ℕ). bytes ++ replicate n 0) none ∙ append-nil bytes

@@ -60,7 +60,7 @@ pub ok-IsTop : (p : PlanFields) (i : ℕ) (block digest : List ℕ) → IsTop p 
 ok-IsTop p i block digest h = let same = (bytes_eq-Decides _ _).1 h.holds in grind (arith, nat_tests)
 
 -- a hash block is as long as those that stand above the data
-pub size-up : (s : TreeSettingsFields) (l : ℕ) → block_size_up s (suc l) ≡ s.hash_block
+size-up : (s : TreeSettingsFields) (l : ℕ) → block_size_up s (suc l) ≡ s.hash_block
 size-up s l = grind (arith, nat_tests)
 
 -- each block above the first has a hash block's length

@@ -1,4 +1,4 @@
--- A digest that comes to the open block of its level.
+-- A digest that comes to the open block of its level, and how the block is written among the others.
 use Rattle.std.proofs.Common.{◌≡◌, ℕ, ◌+◌, ◌-◌, ◌*◌, ◌/◌, ◌%◌, ◌^◌, ◌<◌, ◌≤◌, ◌⊎◌, List, [], length-drop}
 use Rattle.std.proofs.Common.{◌++◌, get_or, take, drop, length, replicate, arith, sym, ◌∙◌, ap, subst, inl, inr}
 use Rattle.std.proofs.lemmas.Bool.{cases_lt}
@@ -25,7 +25,7 @@ use Rattle.verity_tree.proofs.TreeLemmas.{length-blocks_up, height-level_count}
 use Rattle.verity_tree.proofs.QuotientLemmas.{div_ceil-last, IsReached-zero}
 use Rattle.verity_tree.proofs.OpenBlockLemmas.{open-push, open-close, block-up}
 
--- that block once digest q has come too
+-- an open block once digest q has come too
 abbrev pub open_block_with : TreeSettingsFields → List (List ℕ) → ℕ → List ℕ
 open_block_with s digests q = hash_block_of s (take (q % fan s + 1) (drop (q / fan s * fan s) digests))
 

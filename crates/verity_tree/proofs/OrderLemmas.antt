@@ -85,7 +85,7 @@ times-closed_after fan n l j (suc i) pos most =
 
 -- what has closed is a block of the tree whose time has come
 pub closed_time : (fan n l j i : ℕ) → 0 < fan → i ≤ n → 0 < times l j (closed_after fan n i)
-    → IsTreeBlock fan n l j × (min ((j + 1) * fan ^ (l + 1)) n ≤ i)
+    → IsTreeBlock fan n l j × (closing_time fan n l j ≤ i)
 closed_time fan n l j i pos most some =
     let closed = times-closed_after fan n l j i pos most in (
       record { level_below = grind (arith, nat_tests); block_below = grind (arith, nat_tests) },

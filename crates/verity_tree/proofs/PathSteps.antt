@@ -1,4 +1,4 @@
--- The check of a path, level by level.
+-- The check of a path, level by level, and chains of blocks that meet.
 use Rattle.std.proofs.Common.{◌≡◌, ℕ, suc, ◌+◌, ◌-◌, ◌*◌, ◌/◌, ◌%◌, ◌^◌, ◌<◌, ◌≤◌, false, List, take}
 use Rattle.std.proofs.Common.{drop, arith, sym, ◌∙◌, ap}
 use Rattle.std.proofs.Common.{◌≢◌, ◌⊎◌, zero, inl, inr}
@@ -52,7 +52,7 @@ div-pow-zero f i = let one : i ≡ i / 1 = omega arith in one ∙ ap (λ (n : �
 pub bytes_eq-false : (xs ys : List ℕ) → bytes_eq xs ys ≡ false → ¬ (xs ≡ ys)
 bytes_eq-false xs ys = not_from_Decides _ (bytes_eq-Decides xs ys)
 
--- two lists of bytes are one, or they are two
+-- two lists of bytes are the same, or they differ
 pub same_or_two : (xs ys : List ℕ) → (xs ≡ ys) ⊎ (xs ≢ ys)
 same_or_two xs ys = elim (cases_Bool (bytes_eq xs ys)) [
   | inl same ↦ inl ((bytes_eq-Decides xs ys).0 same)

@@ -93,7 +93,7 @@ pub record IsPlacedInWindow (s : TreeSettingsFields) (count : ℕ) : Type 0 wher
   pub end : count ≤ blocks_before s count * s.data_block + s.data_block
 
 -- the place of the last of some bytes in runs of a size
-pub last-place : (count size : ℕ) → 0 < size → 0 < count
+last-place : (count size : ℕ) → 0 < size → 0 < count
     → ((count - 1) / size * size < count) × (count ≤ (count - 1) / size * size + size)
 last-place count size wide some =
     let split : (count - 1) / size * size + (count - 1) % size ≡ count - 1 = div-add-mod' (count - 1) size in

@@ -22,6 +22,7 @@ fn window_blocks(settings: &TreeSettings) -> usize
     ensures most { result ≤ 8 }
     ensures room { result * settings.now.data_block ≤ 524288 }
 {
+    // A data block's size is a power of two.
     let room = MOST_BYTES >> settings.data_block().ilog2();
     ROWS.min(room as usize).min(settings.fan())
 }
@@ -112,13 +113,13 @@ pub(crate) fn take_short_piece(window: &mut [u8], count: u64, piece: &[u8]) -> b
         → HasFed s levels fed opened window.old → HasFed s levels (fed ++ piece.now) opened window.new }
 {
     let wide = window.len();
+    // It always is one: tested, shifts find the place in the window, faster than a division.
     if !wide.is_power_of_two() || piece.is_empty() {
         return false;
     }
     if count.saturating_add(piece.len() as u64) > SMALL_FILE {
         return false;
     }
-    // A window's length is a power of two: shifts do it, in a fraction of the time that a division takes.
     let power = wide.ilog2();
     let at = (count - (count >> power << power)) as usize;
     if at == 0 || piece.len() > wide - at {

@@ -4,10 +4,10 @@ use Rattle.verity_plan.specs.Settings.{IsValid, TreeSettingsFields, digest_len, 
 use Rattle.verity_plan.proofs.FitLemmas.{ByExponents, fan-exponents, fan-fits, fan-most, least_power-above}
 use Rattle.verity_plan.proofs.FanLemmas.{digest_len_of-pos, fan-two}
 use Rattle.verity_plan.proofs.settings.TreeSettings.fan.Goals as goal
-use Rattle.verity_plan.proofs.settings.TreeSettings.fan.Goals.{After-ilog2-slot}
+use Rattle.verity_plan.proofs.settings.TreeSettings.fan.Goals.{After-ilog2-least}
 
-pub ilog2-slot-requires : goal.ilog2-slot-requires
-ilog2-slot-requires c = omega (
+pub ilog2-least-requires : goal.ilog2-least-requires
+ilog2-least-requires c = omega (
   arith,
   c.least_power.ensures.value,
   least_power-above c.digest_len.result,
@@ -16,7 +16,7 @@ ilog2-slot-requires c = omega (
 )
 
 -- the exponents are those of the hash block and of the least power of two that holds a digest
-exponents : (c : After-ilog2-slot) → ByExponents c.args.self.now c.ilog2-block.result c.ilog2-slot.result
+exponents : (c : After-ilog2-least) → ByExponents c.args.self.now c.ilog2-block.result c.ilog2-least.result
 exponents c =
     let s = c.args.self.now in
     let valid = subst (λ (t : TreeSettingsFields). IsValid t) c.self.view_is c.self.invariant in
@@ -24,17 +24,17 @@ exponents c =
     let width : c.least_power.result ≡ least_power (digest_len s) =
     c.least_power.ensures.value
     ∙ ap least_power (c.digest_len.ensures ∙ ap (λ (t : TreeSettingsFields). digest_len t) c.self.view_is) in
-    fan-exponents s c.ilog2-block.result c.ilog2-slot.result valid
+    fan-exponents s c.ilog2-block.result c.ilog2-least.result valid
     (omega (arith, size, c.ilog2-block.ensures.power_le)) (omega (arith, size, c.ilog2-block.ensures.next_power_gt))
-    (omega (arith, width, c.ilog2-slot.ensures.power_le)) (omega (arith, width, c.ilog2-slot.ensures.next_power_gt))
+    (omega (arith, width, c.ilog2-least.ensures.power_le)) (omega (arith, width, c.ilog2-least.ensures.next_power_gt))
 
 pub overflow_sub-result : goal.overflow_sub-result
-overflow_sub-result c = (exponents (goal.at.overflow_sub-result c).After-ilog2-slot).within
+overflow_sub-result c = (exponents (goal.at.overflow_sub-result c).After-ilog2-least).within
 
 pub returns-clause-value : goal.returns-clause-value
 returns-clause-value c =
-    one_shl (c.ilog2-block.result - c.ilog2-slot.result) 64 (omega (arith, c.ilog2-block.ensures.bound))
-    ∙ sym (exponents (goal.at.returns-clause-value c).After-ilog2-slot).fan_is
+    one_shl (c.ilog2-block.result - c.ilog2-least.result) 64 (omega (arith, c.ilog2-block.ensures.bound))
+    ∙ sym (exponents (goal.at.returns-clause-value c).After-ilog2-least).fan_is
 
 pub returns-clause-two : goal.returns-clause-two
 returns-clause-two c =

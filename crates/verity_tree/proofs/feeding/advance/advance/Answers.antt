@@ -58,9 +58,9 @@ ended c test levels fed count h =
     (omega (arith, count, c.requires.step.most)) ends.1 h
 
 -- when all bytes were fed, the hash block of a level hasn't closed
-some-level : (c : Joined-count-gt0) → c.args.progress.now.fed ≡ c.args.plan.now.wanted
+level-left : (c : Joined-count-gt0) → c.args.progress.now.fed ≡ c.args.plan.now.wanted
     → c.args.progress.now.closed < level_count_of c.args.plan.now
-some-level c last = elim c.requires.some [
+level-left c last = elim c.requires.some [
   | inl some ↦ absurd (omega (arith, some, last, c.requires.step.most))
   | inr both ↦ both.1
 ]
@@ -71,7 +71,7 @@ returns-then-climb-clause-stands c = λ levels fed enough room count h.
     let closed = c.args.progress.now.closed in
     let j = (goal.at.returns-then-climb-clause-stands c).Joined-count-gt0 in
     let climbs : Climbs p levels fed closed c.climb.result c.climb.new.opened =
-    c.climb.ensures.stands levels fed enough room count (ended j c.if-ends.true levels fed count h) (some-level j) h in
+    c.climb.ensures.stands levels fed enough room count (ended j c.if-ends.true levels fed count h) (level-left j) h in
     FeedsOn-climbs p levels closed c.climb.new.progress.closed fed c.climb.new.opened c.climb.new.window
     (c.climb.ensures.closed c.if-climb.true).0
     (subst (λ (b : Bool). Climbs p levels fed closed b c.climb.new.opened) c.if-climb.true climbs)
@@ -90,7 +90,7 @@ returns-clause-stands c = λ levels fed enough room count h.
       | else-ends-via-then-ends+else-climb w ↦
           let ends = ended j w.if-ends.true levels fed count h in
           let climbs : Climbs p levels fed closed w.climb.result w.climb.new.opened =
-          w.climb.ensures.stands levels fed enough room count ends (some-level j) h in
+          w.climb.ensures.stands levels fed enough room count ends (level-left j) h in
           rw w.opened-is (Climbs-settled p levels closed fed w.climb.new.opened c.else-ends.window planned ends.some most
           (subst (λ (b : Bool). Climbs p levels fed closed b w.climb.new.opened) w.if-climb.false climbs))
       | else-ends-via-else-ends w ↦

@@ -5,7 +5,7 @@ use Rattle.std.proofs.lemmas.Bool.{cases_lt}
 use Rattle.std.proofs.lemmas.List.{take_all}
 use Rattle.verity_plan.specs.PlanCounts.{level_count_of}
 use Rattle.verity_plan.proofs.CountLemmas.{mul_le}
-use Rattle.verity_tree.proofs.AdvanceLemmas.{length-fed, take-rest}
+use Rattle.verity_tree.proofs.AdvanceLemmas.{length-fed, take-of_rest}
 use Rattle.verity_tree.proofs.feeding.steps.feed_all.Goals as goal
 
 -- a step takes bytes, or closes one level more
@@ -50,7 +50,7 @@ pieces-preserved c =
           length-fed fed piece c.args.count taken c.pieces.progress.fed many inv.most inv.fed in
           let next = step.stands levels (fed ++ take taken piece) enough
           (omega (arith, room, c.pieces.auto.opened)) all (inv.stands levels fed enough room many h) in
-          rw (← take-rest taken c.advance-taken.result piece, ← append_assoc) next.stands;
+          rw (← take-of_rest taken c.advance-taken.result piece, ← append_assoc) next.stands;
     }
 
 pub returns : goal.returns

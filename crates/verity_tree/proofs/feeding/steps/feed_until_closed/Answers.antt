@@ -1,7 +1,7 @@
 -- Bytes are taken until a hash block closes.
 use Rattle.std.proofs.Common.{◌≡◌, ◌++◌, false, eqb, length, take, arith}
 use Rattle.std.proofs.lemmas.Bool.Decides.{nat_tests}
-use Rattle.verity_tree.proofs.AdvanceLemmas.{FeedsOn-more, length-fed, take-rest}
+use Rattle.verity_tree.proofs.AdvanceLemmas.{FeedsOn-more, length-fed, take-of_rest}
 use Rattle.verity_tree.proofs.feeding.steps.feed_until_closed.Goals as goal
 
 pub loop-taken-preserved : goal.loop-taken-preserved
@@ -22,7 +22,7 @@ loop-taken-preserved c =
           length-fed fed piece c.args.progress.now.fed taken c.loop-taken.progress.fed many inv.most inv.fed in
           let next = rw some at (c.advance-count.ensures.stands levels (fed ++ take taken piece) enough
           (omega (arith, room, c.loop-taken.auto.opened)) all before.stands) in
-          rw (← take-rest taken count piece) (FeedsOn-more _ _ _ _ _ _ _ _ _ _ _ _ _ before next);
+          rw (← take-of_rest taken count piece) (FeedsOn-more _ _ _ _ _ _ _ _ _ _ _ _ _ before next);
     }
 
 pub returns-then-count-eq0-clause-closes : goal.returns-then-count-eq0-clause-closes
