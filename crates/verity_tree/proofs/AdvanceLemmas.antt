@@ -10,8 +10,8 @@ use Rattle.std.proofs.Math.Seq.{take-add}
 use Rattle.verity_plan.specs.Plans.{IsPlan, PlanFields}
 use Rattle.verity_plan.specs.Settings.{fan}
 use Rattle.verity_tree.specs.ClosingOrder.{closed_after, handed_out, blocks_before}
-use Rattle.verity_tree.specs.Steps.Feeding.{Climbs, EndsWindow, FeedsOn, Hands, HasFed, HasWindow}
-use Rattle.verity_tree.specs.Steps.Feeding.{IsSettled, Stands, first_blocks, windows_before}
+use Rattle.verity_tree.specs.Steps.Feeding.{Climbs, Closes, EndsWindow, FeedsOn, Hands, HasFed, HasWindow}
+use Rattle.verity_tree.specs.Steps.Feeding.{Stands, TakesMore, first_blocks, windows_before}
 use Rattle.verity_tree.specs.Steps.OpenBlocks.{HasOpenBlocks}
 use Rattle.verity_tree.specs.Windows.{window_blocks, window_length}
 use Rattle.verity_tree.proofs.ClimbLemmas.{last-below}
@@ -48,12 +48,6 @@ Stands-ends p levels zero fed opened window planned some most ends h = record {
 }
 Stands-ends p levels (suc level) fed opened window planned some most ends h = h.ends
 
--- bytes may come: the windows that are full have come to the open blocks, and all that closed with them was handed out
-pub record TakesMore (p : PlanFields) (levels : ℕ) (fed : List ℕ) (closed : ℕ) (opened window : List ℕ) : Type 0 where
-  pub settled : IsSettled p.settings levels fed opened window
-  pub order : closed_after (fan p.settings) p.blocks (length fed / window_length p.settings * window_blocks p.settings)
-      ≡ handed_out p (length fed) closed
-
 -- the hash blocks that closed before the last byte's window are those that closed before its data block
 closed-before : (p : PlanFields) (count : ℕ) → IsPlan p → count ≤ p.wanted
     → closed_after (fan p.settings) p.blocks (windows_before p.settings count * window_blocks p.settings)
@@ -81,10 +75,12 @@ Stands-settled p levels (suc level) fed opened window planned most part h = elim
   | inr within ↦ absurd (omega (arith, within.0))
 ]
 
--- a digest was carried up and no hash block has closed
-pub Climbs-settled : (p : PlanFields) (levels closed : ℕ) (fed opened window : List ℕ) → IsPlan p → 0 < length fed
-    → length fed ≤ p.wanted → Climbs p levels fed closed false opened → TakesMore p levels fed closed opened window
-Climbs-settled p levels closed fed opened window planned some most h =
+-- a digest was carried up: a hash block has closed, or bytes may come
+pub Climbs-closes : (p : PlanFields) (levels closed : ℕ) (result : Bool) (fed opened window : List ℕ) → IsPlan p
+    → 0 < length fed → length fed ≤ p.wanted → Climbs p levels fed closed result opened
+    → Closes p levels fed closed result opened window
+Climbs-closes p levels closed true fed opened window planned some most h = h
+Climbs-closes p levels closed false fed opened window planned some most h =
     let s = p.settings in
     let n = length fed in
     let k = windows_before s n + 1 in

@@ -29,36 +29,6 @@ reached-down f i m l some h le =
     grind (arith, whole, div-mul-add k w 0 wide, mod-mul-add k w 0 wide, div_ceil-last i w wide) in
     record { whole = omega (arith, whole, ap (λ (n : ℕ). n * w) next) }
 
--- a level that stays open ends the data block's list
-pub closing-kept : (s : TreeSettingsFields) (blocks : List (List ℕ)) (i m levels count : ℕ) (store digest : List ℕ)
-    → m ≤ level_count (fan s) count → count ≡ length blocks → i + 1 < length blocks
-    → i / fan s ^ m % fan s + 1 < fan s → IsCarrying s blocks (carry_state i m levels) store digest
-    → closing_with (fan s) count i ≡ first_closing (fan s) i m
-closing-kept s blocks i m levels count store digest within many more room h =
-    let f = fan s in
-    let n = length blocks in
-    let some = fan-some s in
-    let reached = h.reached more in
-    let top : m ≤ level_count f n = omega (arith, within, ap (level_count f) many) in
-    ap (λ (k : ℕ). closing_with f k i) many
-    ∙ closing-prefix f n i m top
-    (λ j low. closes-reached f n i j some (reached-down f i m (j + 1) some reached (omega (arith, low))))
-    (λ j high below. closes-none f n i m j some reached room more high)
-
--- all levels close
-pub closing-done : (s : TreeSettingsFields) (blocks : List (List ℕ)) (i levels count : ℕ) (store digest : List ℕ) → 2 ≤ fan s
-    → i < count → levels ≡ level_count (fan s) count → count ≡ length blocks
-    → IsCarrying s blocks (carry_state i levels levels) store digest
-    → closing_with (fan s) count i ≡ first_closing (fan s) i levels
-closing-done s blocks i levels count store digest two below all many h =
-    let f = fan s in
-    let n = length blocks in
-    let top : levels ≡ level_count f n = all ∙ ap (level_count f) many in
-    let done = level_digest-root s blocks i levels store digest two (omega (arith, below, many)) top h in
-    ap (λ (k : ℕ). closing_with f k i) many
-    ∙ closing-prefix f n i levels (omega (arith, top)) (λ j low. closes-last f n i j done.0)
-    (λ j high within. absurd (omega (arith, high, within, top)))
-
 -- the block that closes with data block i is one of its level
 pub closing-below : (f count m i : ℕ) → 0 < f → i < count → i / f ^ (m + 1) < level_size f count m
 closing-below f count m i some below = quotient-below i count (f ^ (m + 1)) (one-le-pow (m + 1) f some) below

@@ -16,6 +16,7 @@ use Rattle.verity_plan.specs.Settings.{TreeSettingsFields, hash, fan}
 use Rattle.std.specs.Int.{div_ceil}
 use Rattle.verity_plan.proofs.CountLemmas.{mul-lt_div_ceil, div_ceil-pos, le-div_ceil}
 use Rattle.verity_plan.proofs.FanLemmas.{some_data}
+use Rattle.verity_plan.proofs.IndexLemmas.{quotient-below}
 use Rattle.verity_tree.proofs.OpenBlockSteps.{place-first}
 use Rattle.std.specs.Prelude.{nat_le}
 use Rattle.std.proofs.lemmas.Bool.Decides.{nat_tests}
@@ -77,6 +78,25 @@ data-next p planned i data_len bytes rest after block below w read_before more i
       level_digest-data s p.blocks size i bytes (hash s block) below digest,
     )
 
+-- the bytes that come next were read too
+pub HasRead-more : (n m : ℕ) (bytes more after : List ℕ) → length more ≡ m → n ≤ length bytes → drop n bytes ≡ more ++ after
+    → HasRead (n + m) bytes after
+HasRead-more n m bytes more after long enough next = record {
+  enough = omega (arith, enough, sym (length-drop n bytes) ∙ ap length next ∙ length-append more after, long);
+  rest = sym (drop_at more after m long) ∙ ap (drop m) (sym next) ∙ drop-drop m n bytes;
+}
+
+-- so many bytes, which are whole data blocks and not all that are wanted, were read
+pub HasRead-blocks : (p : PlanFields) → IsPlan p → (n : ℕ) (bytes rest : List ℕ) → n < p.wanted
+    → n / p.settings.data_block * p.settings.data_block ≡ n → HasRead n bytes rest
+    → (n / p.settings.data_block < p.blocks) × HasRead (bytes_of p (n / p.settings.data_block)) bytes rest
+HasRead-blocks p planned n bytes rest less whole read =
+    let size = p.settings.data_block in
+    let most : min (n / size * size) p.wanted ≡ n = omega (arith, whole, less) in (
+      rw planned.blocks_are (quotient-below n p.wanted size (some_data p.settings planned.valid) less),
+      rw most read,
+    )
+
 -- nothing was read of the source
 pub HasRead-none : (p : PlanFields) (bytes : List ℕ) → HasRead (bytes_of p 0) bytes bytes
 HasRead-none p bytes =
@@ -128,9 +148,9 @@ whole_blocks-above p planned i bytes within enough = elim (cases_lt (length byte
   | inr all ↦ omega (arith, whole_blocks-all p bytes all, within)
 ]
 
--- the source ends within block i
+-- the source ends within block i, of which no more bytes are read
 pub short-within : (p : PlanFields) → IsPlan p → (i data_len : ℕ) (bytes rest after : List ℕ) → i < p.blocks
-    → data_len ≡ min (p.wanted - i * p.settings.data_block) p.settings.data_block → HasRead (bytes_of p i) bytes rest
+    → data_len ≤ min (p.wanted - i * p.settings.data_block) p.settings.data_block → HasRead (bytes_of p i) bytes rest
     → length rest < data_len → after ≡ [] → EndsWithin p i bytes after
 short-within p planned i data_len bytes rest after below w read_before short none =
     let left = ap length read_before.rest ∙ length-drop (bytes_of p i) bytes in
@@ -146,19 +166,13 @@ short-within p planned i data_len bytes rest after below w read_before short non
 
 -- the source failed within block i
 pub failed-within : (p : PlanFields) → IsPlan p → (i data_len : ℕ) (bytes rest after taken : List ℕ) → i < p.blocks
-    → data_len ≡ min (p.wanted - i * p.settings.data_block) p.settings.data_block → HasRead (bytes_of p i) bytes rest
+    → data_len ≤ min (p.wanted - i * p.settings.data_block) p.settings.data_block → HasRead (bytes_of p i) bytes rest
     → length taken < data_len → rest ≡ taken ++ after → FailsWithin p i bytes after
 failed-within p planned i data_len bytes rest after taken below w read_before less is =
-    let left = ap length read_before.rest ∙ length-drop (bytes_of p i) bytes in
-    let within : length taken ≤ length rest = omega (arith, ap length is, length-append taken after) in
     record {
       below = below;
       count = bytes_of p i + length taken;
       from = omega arith;
       to = omega (arith, begins-within p planned i below, w, less);
-      read = record {
-        enough = omega (arith, left, read_before.enough, within);
-        rest = sym (ap (drop (length taken)) is ∙ drop_at taken after (length taken) refl)
-            ∙ ap (drop (length taken)) read_before.rest ∙ drop-drop (length taken) (bytes_of p i) bytes;
-      };
+      read = HasRead-more (bytes_of p i) (length taken) bytes taken after refl read_before.enough (sym read_before.rest ∙ is);
     }

@@ -25,7 +25,7 @@ use Rattle.verity_tree.specs.Windows.{window_blocks}
 use Rattle.verity_tree.specs.declared.file_builder.FileBuilder.{FileBuilder}
 use Rattle.verity_tree.specs.declared.tree_builder.HashBlock.{HashBlock}
 use Rattle.verity_tree.specs.declared.tree_builder.TreeBuilder.{TreeBuilder}
-use Rattle.verity_tree.proofs.OnePassLemmas.{HasOpenBlocks-zeros}
+use Rattle.verity_tree.proofs.OnePassLemmas.{HasFed-zeros}
 
 -- memory that begins with zeros for the open blocks, to which nothing was fed
 pub HasFed-none : (s : TreeSettingsFields) (levels n : ℕ) (zeros rest : List ℕ) → n ≡ levels * s.hash_block
@@ -34,12 +34,8 @@ pub HasFed-none : (s : TreeSettingsFields) (levels n : ℕ) (zeros rest : List �
 HasFed-none s levels n zeros rest room are =
     let m = levels * s.hash_block in
     let memory = replicate m 0 ++ rest in
-    let start : windows_before s 0 * window_blocks s ≡ 0 = simp (zero-div, zero-mul) in
-    rw (are, room) (record {
-      stands = rw start (HasOpenBlocks-zeros s (first_blocks s 0 []) levels m (open_blocks s levels memory) (fan-some s)
-          (take_at (replicate m 0) rest m (length-replicate m 0)) (omega arith));
-      holds = rw drop-nil refl;
-    })
+    rw (are, room) (HasFed-zeros s levels m (open_blocks s levels memory) (after_open_blocks s levels memory)
+    (take_at (replicate m 0) rest m (length-replicate m 0)) (omega arith))
 
 -- what is known of the two parts of some memory, which are put together
 pub joined : (P : List ℕ → List ℕ → Type 0) (n : ℕ) (opened window : List ℕ) → length opened ≡ n → P opened window

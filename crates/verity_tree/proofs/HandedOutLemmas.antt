@@ -162,7 +162,7 @@ all-handed-out p planned =
     rw (← closing, ← closed_after-more) (ap (closed_after f p.blocks) last)
 
 -- nothing was handed out at the beginning
-none-handed-out : (p : PlanFields) → handed_out p 0 0 ≡ []
+pub none-handed-out : (p : PlanFields) → handed_out p 0 0 ≡ []
 unfolding closed_after
 none-handed-out p = rw zero-div refl
 

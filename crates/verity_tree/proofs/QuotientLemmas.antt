@@ -55,3 +55,9 @@ quotient-stays f i m l some h room above =
     ∙ (slots-more f (i / f ^ m) room).1
     ∙ sym (quotient-next f i m) in
     split (i + 1) ∙ ap (λ (x : ℕ). x / f ^ k) next ∙ sym (split i)
+
+-- so many are whole runs, and with a run more they are too
+pub whole-next : (n d m : ℕ) → 0 < d → n / d * d ≡ n → m ≡ d → (n + m) / d * d ≡ n + m
+whole-next n d m some whole is =
+    let e : n + m ≡ (n / d + 1) * d = omega (arith, whole, is) in
+    ap (λ (k : ℕ). k / d * d) e ∙ ap (λ (k : ℕ). k * d) (mul-div_cancel (n / d + 1) some) ∙ sym e

@@ -179,7 +179,7 @@ impl TreeBuilder {
 }
 
 /// The hash block that was handed out last.
-fn handed_out(plan: &Plan, progress: &Progress) -> HashBlock
+pub(crate) fn handed_out(plan: &Plan, progress: &Progress) -> HashBlock
     requires some { 0 < progress.now.fed }
     requires most { progress.now.fed ≤ plan.now.wanted }
     requires closed { 0 < progress.now.closed }

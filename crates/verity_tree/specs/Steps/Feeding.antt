@@ -84,6 +84,17 @@ Climbs p levels fed closed false opened = (length fed ≡ (windows_before p.sett
     × (closed_after (fan p.settings) p.blocks (blocks_before p.settings (length fed) + 1)
     ≡ handed_out p (length fed) closed)
 
+-- bytes may come: the windows that are full have come to the open blocks, and all that closed with them was handed out
+pub record TakesMore (p : PlanFields) (levels : ℕ) (fed : List ℕ) (closed : ℕ) (opened window : List ℕ) : Type 0 where
+  pub settled : IsSettled p.settings levels fed opened window
+  pub order : closed_after (fan p.settings) p.blocks (length fed / window_length p.settings * window_blocks p.settings)
+      ≡ handed_out p (length fed) closed
+
+-- the next hash block above the bytes that were fed has closed, or more may come
+abbrev pub Closes : PlanFields → ℕ → List ℕ → ℕ → Bool → List ℕ → List ℕ → Type 0
+Closes p levels fed closed true opened window = Climbs p levels fed closed true opened
+Closes p levels fed closed false opened window = TakesMore p levels fed closed opened window
+
 -- what a step needs of what it is given: memory for the open blocks and the window of a plan that can be carried out, and
 -- no more bytes, nor levels whose hash blocks were handed out, than the plan has
 pub record CanStep (p : PlanFields) (count closed : ℕ) (opened window : List ℕ) : Type 0 where

@@ -53,11 +53,6 @@ pub record IsAsking (s : TreeSettingsFields) (blocks : List (List ℕ)) (first :
   pub above : HasOpenBlocks s blocks c.level c.levels c.i store
   pub digest_is : digest ≡ level_digest s blocks c.i c.level
 
--- data block i has come to all levels; the last one gives the root
-pub record IsCarriedOn (s : TreeSettingsFields) (blocks : List (List ℕ)) (i levels : ℕ) (store digest : List ℕ) : Type 0 where
-  pub stands : i + 1 < length blocks → HasOpenBlocks s blocks 0 levels (i + 1) store
-  pub root_is : i + 1 ≡ length blocks → digest ≡ root s blocks
-
 -- the hash block of a level has closed above data block i, and still stands in its open block; those below it closed
 -- before
 pub record HasClosed (s : TreeSettingsFields) (blocks : List (List ℕ)) (i level levels : ℕ) (opened : List ℕ) : Type 0 where

@@ -1,7 +1,7 @@
 //! One step of a tree that is built as pieces of its data come.
-ghost use Rattle.std.specs.Prelude.{◌≡◌, ◌⊎◌, ℕ, ◌+◌, ◌*◌, ◌<◌, ◌≤◌, ◌==◌, List, length, take, true};
+ghost use Rattle.std.specs.Prelude.{◌≡◌, ◌⊎◌, ℕ, ◌+◌, ◌*◌, ◌<◌, ◌≤◌, ◌==◌, List, length, take, true, false};
 ghost use Rattle.verity_plan.specs.PlanCounts.{level_count_of};
-ghost use Rattle.verity_tree.specs.Steps.Feeding.{CanStep, Climbs, EndsWindow, FeedsOn, Stands};
+ghost use Rattle.verity_tree.specs.Steps.Feeding.{CanStep, Climbs, Closes, EndsWindow, FeedsOn, Stands};
 ghost use Rattle.verity_tree.specs.Windows.{window_length};
 
 use crate::feeding::window::{add_window, take_bytes, window_length};
@@ -51,6 +51,28 @@ fn climb(plan: &Plan, progress: &mut Progress, opened: &mut [u8], window: &mut [
     true
 }
 
+/// Closes the next hash block above the bytes that were fed, if one closes before more bytes come: whether one has closed.
+pub(crate) fn close_next(plan: &Plan, progress: &mut Progress, opened: &mut [u8], window: &mut [u8]) -> bool
+    requires step { CanStep plan.now progress.old.fed progress.old.closed opened.old window.old }
+    requires some { progress.old.fed ≡ plan.now.wanted → progress.old.closed < level_count_of plan.now }
+    ensures fed { progress.new.fed ≡ progress.old.fed }
+    ensures closed { result ≡ true → (progress.new.closed ≡ progress.old.closed + 1)
+        × (progress.old.closed < level_count_of plan.now) × (0 < progress.old.fed) }
+    ensures more { result ≡ false → progress.old.fed < plan.now.wanted }
+    ensures stands { (levels : ℕ) (fed : List ℕ) → level_count_of plan.now ≤ levels
+        → levels * plan.now.settings.hash_block ≤ length opened.old → length fed ≡ progress.old.fed
+        → Stands plan.now levels fed progress.old.closed opened.old window.old
+        → Closes plan.now levels fed progress.old.closed result opened.new window.new }
+{
+    let wide = window_length(plan.settings()) as u64;
+    let count = progress.fed;
+    let ends = count > 0 && (progress.closed > 0 || count % wide == 0 || count == plan.wanted());
+    if !ends {
+        return false;
+    }
+    climb(plan, progress, opened, window)
+}
+
 /// Goes on until a hash block closes or bytes of the piece are taken: how many, none if a hash block has closed.
 pub(crate) fn advance(
     plan: &Plan,
@@ -73,14 +95,11 @@ pub(crate) fn advance(
         → FeedsOn plan.now levels fed progress.old.closed (take result piece.now) (result == 0) progress.new.closed
         opened.new window.new }
 {
-    let wide = window_length(plan.settings()) as u64;
-    let count = progress.fed;
-    let ends = count > 0 && (progress.closed > 0 || count % wide == 0 || count == plan.wanted());
-    if ends && climb(plan, progress, opened, window) {
+    if close_next(plan, progress, opened, window) {
         return 0;
     }
-    let taken = take_bytes(plan, window, count, piece);
-    progress.fed = count + taken as u64;
+    let taken = take_bytes(plan, window, progress.fed, piece);
+    progress.fed += taken as u64;
     progress.closed = 0;
     taken
 }

@@ -2,6 +2,7 @@
 ghost use Rattle.std.specs.Prelude.{◌≡◌, ◌⊎◌, ℕ, ◌+◌, ◌-◌, ◌*◌, ◌<◌, ◌≤◌, ◌++◌, List, length, take, true, false};
 ghost use Rattle.verity_plan.specs.PlanCounts.{level_count_of};
 ghost use Rattle.verity_plan.specs.Plans.{IsPlan};
+ghost use Rattle.verity_plan.specs.Settings.{digest_len};
 ghost use Rattle.verity_tree.specs.Levels.{data_blocks, root};
 ghost use Rattle.verity_tree.specs.Steps.Feeding.{CanStep, FeedsOn, HasFed, Stands};
 ghost use Rattle.verity_tree.specs.Windows.{window_length};
@@ -73,6 +74,7 @@ pub(crate) fn root_of_fed(plan: &Plan, opened: &mut [u8], window: &mut [u8]) -> 
     requires planned { IsPlan plan.now }
     requires opened { level_count_of plan.now * plan.now.settings.hash_block ≤ length opened.old }
     requires window { length window.old ≡ window_length plan.now.settings }
+    ensures size { length result ≡ digest_len plan.now.settings }
     ensures root { (levels : ℕ) (fed : List ℕ) → level_count_of plan.now ≤ levels
         → levels * plan.now.settings.hash_block ≤ length opened.old → length fed ≡ plan.now.wanted
         → HasFed plan.now.settings levels fed opened.old window.old
@@ -97,6 +99,7 @@ pub(crate) fn digest_at_the_top(plan: &Plan, opened: &mut [u8], window: &mut [u8
     requires planned { IsPlan plan.now }
     requires opened { level_count_of plan.now * plan.now.settings.hash_block ≤ length opened.old }
     requires window { length window.old ≡ window_length plan.now.settings }
+    ensures size { length result ≡ digest_len plan.now.settings }
     ensures root { (fed : List ℕ) → length fed ≡ plan.now.wanted
         → Stands plan.now (level_count_of plan.now) fed (level_count_of plan.now) opened.old window.old
         → result ≡ root plan.now.settings (data_blocks plan.now fed) }

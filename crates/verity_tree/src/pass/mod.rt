@@ -1,9 +1,8 @@
 //! The one pass over the data, which building and comparing share.
 
-pub(crate) mod batches;
-pub(crate) mod carry;
 pub(crate) mod comparing;
 pub(crate) mod on_closed;
 pub(crate) mod one_pass;
 pub(crate) mod pass_fault;
+pub(crate) mod reading;
 pub(crate) mod writing;

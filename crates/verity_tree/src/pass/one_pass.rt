@@ -1,24 +1,33 @@
-//! One pass over the data, with one open block a level.
+//! One pass over the data: it is read window by window, and each hash block that closes is handed on.
 ghost use Rattle.std.specs.Prelude.{◌≡◌, ◌*◌, ◌≤◌, length};
 ghost use Rattle.verity_io.specs.Counting.{change};
 ghost use Rattle.verity_plan.specs.Plans.{IsPlan};
 ghost use Rattle.verity_plan.specs.PlanCounts.{level_count_of, store_length_of};
+ghost use Rattle.verity_tree.specs.Steps.Feeding.{CanStep};
 ghost use Rattle.verity_tree.specs.Steps.OnClosed.{effects};
-ghost use Rattle.verity_tree.specs.Steps.Batches.{length_of, window_for};
 ghost use Rattle.verity_tree.specs.Steps.OnePass.{PassRun};
+ghost use Rattle.verity_tree.specs.Windows.{window_length};
 
-use crate::pass::batches::{
-    LARGE_WINDOW, MIDDLE_WINDOW, SMALL_WINDOW, Window, rows_from, take_batch, window_for,
-};
-use crate::pass::carry::carry;
+use crate::feeding::advance::{Progress, close_next};
+use crate::feeding::steps::digest_at_the_top;
+use crate::feeding::window::window_length;
 use crate::pass::on_closed::OnClosed;
-use crate::pass::pass_fault::PassFault;
+use crate::pass::pass_fault::{PassFault, Stop};
+use crate::pass::reading::read_window;
 use crate::planned::planned;
+use crate::tree_builder::handed_out;
 use verity_hash::Digest;
 use verity_io::{Device, Source};
 use verity_plan::Plan;
 
-/// Passes over the data once, with a store to work in, and hands on each hash block that closes.
+/// The lengths of the windows that data blocks are read into, in bytes: for eight of up to 4096 bytes, of up to 16384, and
+/// for all others.
+const SMALL_WINDOW: usize = 32_768;
+const MIDDLE_WINDOW: usize = 131_072;
+const LARGE_WINDOW: usize = 524_288;
+
+/// Passes over the data once, with a store to work in, and hands on each hash block that closes. The one data block of a
+/// tree without levels is read into the store.
 pub(crate) fn pass<C: OnClosed, S: Source, D: Device>(
     plan: &Plan,
     on_closed: &C,
@@ -37,25 +46,27 @@ pub(crate) fn pass<C: OnClosed, S: Source, D: Device>(
     planned(plan);
     let (work, stored) = store.split_at_mut(store.len() - plan.hash_block());
     let (opened, block) = work.split_at_mut(plan.levels() * plan.hash_block());
-    match window_for(plan) {
-        Window::Empty => {
-            block.fill(0);
-            pass_over_blocks(plan, on_closed, opened, block, stored, source, device)
-        }
-        Window::Small => pass_with_window::<SMALL_WINDOW, C, S, D>(
-            plan, on_closed, opened, stored, source, device,
-        ),
-        Window::Middle => pass_with_window::<MIDDLE_WINDOW, C, S, D>(
-            plan, on_closed, opened, stored, source, device,
-        ),
-        Window::Large => pass_with_window::<LARGE_WINDOW, C, S, D>(
-            plan, on_closed, opened, stored, source, device,
-        ),
+    if plan.levels() == 0 {
+        return match read_window(plan, block, 0, source) {
+            Ok(count) => {
+                block[count..].fill(0);
+                Ok(plan.settings().hash(block))
+            }
+            Err(stop) => Err(PassFault::InData(stop)),
+        };
+    }
+    let wide = window_length(plan.settings());
+    if wide <= SMALL_WINDOW {
+        pass_with_window::<SMALL_WINDOW, C, S, D>(plan, on_closed, opened, stored, source, device)
+    } else if wide <= MIDDLE_WINDOW {
+        pass_with_window::<MIDDLE_WINDOW, C, S, D>(plan, on_closed, opened, stored, source, device)
+    } else {
+        pass_with_window::<LARGE_WINDOW, C, S, D>(plan, on_closed, opened, stored, source, device)
     }
 }
 
-/// The pass over the data blocks with a window of `N` bytes. It isn't inlined, so that the stack holds only the window that
-/// is used.
+/// The pass over the data blocks with a window in `N` bytes. It isn't inlined, so that the stack holds only those that are
+/// used.
 #[inline(never)]
 fn pass_with_window<const N: usize, C: OnClosed, S: Source, D: Device>(
     plan: &Plan,
@@ -66,8 +77,8 @@ fn pass_with_window<const N: usize, C: OnClosed, S: Source, D: Device>(
     device: &mut D,
 ) -> Result<Digest, PassFault<C::Why>>
     requires planned { IsPlan plan.now }
-    requires window { N ≡ length_of (window_for plan.now) }
-    requires block { plan.now.settings.data_block ≤ N }
+    requires window { window_length plan.now.settings ≤ N }
+    requires most { N ≤ 524288 }
     requires room { level_count_of plan.now * plan.now.settings.hash_block ≤ length opened.old }
     requires stored { length stored.old ≡ plan.now.settings.hash_block }
     ensures source_told { S.tells source.old → S.tells source.new }
@@ -76,12 +87,13 @@ fn pass_with_window<const N: usize, C: OnClosed, S: Source, D: Device>(
         (change S.tells S.remaining S.failures source.old source.new)
         (change D.tells D.content D.failures device.old device.new) }
 {
-    pass_over_blocks(plan, on_closed, opened, &mut [0; N], stored, source, device)
+    let window = &mut [0; N][..window_length(plan.settings())];
+    pass_over_windows(plan, on_closed, opened, window, stored, source, device)
 }
 
-/// The pass over the data blocks. As many of them as the window has room for are read into it together, and hashed side by
-/// side. What stood in the open blocks doesn't count; a hash block to compare with is read into `stored`.
-fn pass_over_blocks<C: OnClosed, S: Source, D: Device>(
+/// The pass over the data blocks, window by window. What stood in the open blocks doesn't count; a hash block to compare
+/// with is read into `stored`.
+fn pass_over_windows<C: OnClosed, S: Source, D: Device>(
     plan: &Plan,
     on_closed: &C,
     opened: &mut [u8],
@@ -90,9 +102,7 @@ fn pass_over_blocks<C: OnClosed, S: Source, D: Device>(
     source: &mut S,
     device: &mut D,
 ) -> Result<Digest, PassFault<C::Why>>
-    requires planned { IsPlan plan.now }
-    requires window { plan.now.settings.data_block ≤ length window.old }
-    requires room { level_count_of plan.now * plan.now.settings.hash_block ≤ length opened.old }
+    requires step { CanStep plan.now 0 0 opened.old window.old }
     requires stored { length stored.old ≡ plan.now.settings.hash_block }
     ensures source_told { S.tells source.old → S.tells source.new }
     ensures device_told { D.tells device.old → D.tells device.new }
@@ -101,20 +111,24 @@ fn pass_over_blocks<C: OnClosed, S: Source, D: Device>(
         (change D.tells D.content D.failures device.old device.new) }
 {
     opened.fill(0);
-    let mut root = Digest::zeros(plan.settings().algorithm());
-    let mut i = 0;
-    'batches: while i < plan.blocks() {
-        let count = rows_from(plan, window.len(), i);
-        let digest = match take_batch(plan, opened, window, i, count, source) {
-            Ok(digest) => digest,
-            Err(stop) => return Err(PassFault::InData(stop)),
-        };
-        let last = i + count as u64 - 1;
-        root = match carry(plan, on_closed, opened, stored, last, digest, device) {
-            Ok(above) => above,
-            Err(stop) => return Err(PassFault::AtBlock(stop)),
-        };
-        i = last + 1;
+    let mut progress = Progress { fed: 0, closed: 0 };
+    'steps: while progress.fed < plan.wanted() || progress.closed < plan.levels() {
+        if close_next(plan, &mut progress, opened, window) {
+            let next = handed_out(plan, &progress);
+            let (level, block) = (next.level, next.index);
+            let bytes = &opened[next.at..][..plan.hash_block()];
+            match on_closed.take(plan, level, block, bytes, stored, device) {
+                Ok(()) => {}
+                Err(why) => return Err(PassFault::AtBlock(Stop { level, block, why })),
+            }
+        } else {
+            let count = match read_window(plan, window, progress.fed, source) {
+                Ok(count) => count,
+                Err(stop) => return Err(PassFault::InData(stop)),
+            };
+            progress.fed += count as u64;
+            progress.closed = 0;
+        }
     }
-    Ok(root)
+    Ok(digest_at_the_top(plan, opened, window))
 }

@@ -1,6 +1,6 @@
 -- The digest of the block that is left is the root hash.
-use Rattle.std.proofs.Common.{◌≡◌, ℕ, ◌+◌, ◌-◌, ◌*◌, ◌<◌, List, take, drop, arith, sym, ◌∙◌, ap}
-use Rattle.verity_tree.proofs.OpenBlockLemmas.{hash-by}
+use Rattle.std.proofs.Common.{◌≡◌, ℕ, ◌+◌, ◌-◌, ◌*◌, ◌<◌, List, length, take, drop, arith, sym, ◌∙◌, ap}
+use Rattle.verity_tree.proofs.OpenBlockLemmas.{hash-by, length-hash}
 use Rattle.std.proofs.Common.{refl, subst}
 use Rattle.std.specs.Fork.{slice_chunk}
 use Rattle.verity_plan.specs.PlanCounts.{level_count_of}
@@ -44,3 +44,7 @@ returns-clause-root c = λ fed all h.
     p.settings.hash_block (c.levels-levels.ensures ∙ next) c.hash_block-size.ensures)
     ∙ top-root p levels (levels - 1) fed c.args.opened.now c.requires.planned next all
     (handing-out p levels levels fed c.args.opened.now c.args.window.now (omega (arith, next)) h)
+
+pub returns-clause-size : goal.returns-clause-size
+returns-clause-size c =
+    ap length (hash-by _ _ _ _ c.settings.ensures c.hash.ensures) ∙ length-hash c.args.plan.now.settings _
