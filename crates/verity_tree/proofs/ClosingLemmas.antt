@@ -1,19 +1,17 @@
 -- A digest on its way up: which hash blocks close with its data block.
 use Rattle.std.proofs.Common.{List, ap, arith, inl, inr, length}
-use Rattle.std.proofs.Common.{true, ℕ, ◌%◌, ◌*◌, ◌+◌, ◌-◌, ◌/◌, ◌<◌, ◌^◌, ◌∙◌, ◌≡◌, ◌≤◌}
+use Rattle.std.proofs.Common.{true, ℕ, ◌*◌, ◌+◌, ◌-◌, ◌/◌, ◌<◌, ◌^◌, ◌∙◌, ◌≡◌, ◌≤◌}
 use Rattle.std.proofs.lemmas.Bool.{cases_lt}
 use Rattle.std.proofs.lemmas.Nat.{div-mul-add, mod-mul-add, pow-add}
 use Rattle.std.proofs.Math.Nat.{one-le-pow}
 use Rattle.verity_tree.proofs.QuotientLemmas.{div_ceil-last}
 use Rattle.verity_plan.specs.Settings.{TreeSettingsFields, fan}
-use Rattle.verity_plan.specs.Plans.{level_count, level_size}
-use Rattle.verity_tree.specs.ClosingOrder.{closing_with, closes, first_closing}
-use Rattle.verity_tree.specs.Steps.OpenBlocks.{IsReached, IsCarrying}
-use Rattle.verity_tree.specs.Steps.OpenBlocks.{carry_state}
+use Rattle.verity_plan.specs.Plans.{level_size}
+use Rattle.verity_tree.specs.ClosingOrder.{closes}
+use Rattle.verity_tree.specs.Steps.OpenBlocks.{IsReached}
 use Rattle.verity_plan.proofs.FanLemmas.{fan-some}
 use Rattle.verity_plan.proofs.IndexLemmas.{quotient-below}
-use Rattle.verity_tree.proofs.OpenBlockSteps.{level_digest-root}
-use Rattle.verity_tree.proofs.OrderSplit.{closing-prefix, closes-reached, closes-last, closes-none}
+use Rattle.verity_tree.proofs.OrderSplit.{closes-reached, closes-last}
 use Rattle.verity_tree.specs.Steps.OpenBlocks.{HasClosed}
 
 -- what is reached was reached at the levels below

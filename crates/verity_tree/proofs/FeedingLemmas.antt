@@ -3,8 +3,6 @@ use Rattle.std.proofs.Common.{List, [], ap, arith, rules, drop, length, refl, re
 use Rattle.std.proofs.Common.{true, false, Bool, inl, inr, ◌*◌, ◌++◌, ◌+◌, ◌-◌, ◌<◌, ◌∙◌}
 use Rattle.std.proofs.Common.{◌≡◌, ◌≤◌, cond}
 use Rattle.std.proofs.lemmas.List.{append-nil, drop_at, length-replicate, places, same_lists, take_at}
-use Rattle.std.proofs.Math.Nat.{zero-div, zero-mul}
-use Rattle.std.proofs.Math.Seq.{drop-nil}
 use Rattle.verity_plan.specs.Plans.{IsPlan, PlanFields, block_count, checked_plan, has_room, plan_for_bytes}
 use Rattle.verity_plan.specs.PlanCounts.{level_count_of, most_level_count}
 use Rattle.verity_plan.specs.declared.plan_fault.PlanFault.TheVariants.{NoData, TooLarge as NoRoom}
@@ -14,14 +12,12 @@ use Rattle.std.proofs.lemmas.Bool.Decides.{nat_tests}
 use Rattle.std.specs.Prelude.{Err, Ok, nat_eq}
 use Rattle.verity_plan.specs.Settings.{IsValid, TreeSettingsFields}
 use Rattle.verity_plan.proofs.CountLemmas.{div_ceil-pos, le-div_ceil, mul_le}
-use Rattle.verity_plan.proofs.FanLemmas.{fan-some, some_data}
+use Rattle.verity_plan.proofs.FanLemmas.{some_data}
 use Rattle.verity_plan.proofs.PlanLemmas.{checked_plan-large, has_room-data, levels_most, planned_is}
 use Rattle.verity_tree.specs.Feeding.{Feeds, IsFed, IsFedFile, IsHandedOut, IsPlaced, after_open_blocks}
 use Rattle.verity_tree.specs.Feeding.{open_blocks}
 use Rattle.verity_tree.proofs.HandedOutLemmas.{handed-out-stays}
-use Rattle.verity_tree.specs.Steps.Feeding.{FeedsOn, HasFed, IsHandingOut, Stands, first_blocks}
-use Rattle.verity_tree.specs.Steps.Feeding.{windows_before}
-use Rattle.verity_tree.specs.Windows.{window_blocks}
+use Rattle.verity_tree.specs.Steps.Feeding.{FeedsOn, HasFed, IsHandingOut, Stands}
 use Rattle.verity_tree.specs.declared.file_builder.FileBuilder.{FileBuilder}
 use Rattle.verity_tree.specs.declared.tree_builder.HashBlock.{HashBlock}
 use Rattle.verity_tree.specs.declared.tree_builder.TreeBuilder.{TreeBuilder}

@@ -1,5 +1,5 @@
 -- The one pass over the data: windows are read, and the hash blocks that close are handed on.
-use Rattle.std.proofs.Common.{List, [], ap, append_assoc, arith, drop, inl, inr, length, length-append, length-drop, refl}
+use Rattle.std.proofs.Common.{List, [], ap, append_assoc, arith, drop, inl, inr, length, length-drop, refl}
 use Rattle.std.proofs.Common.{replicate, sym, take, ℕ}
 use Rattle.std.proofs.Common.{◌*◌, ◌%◌, ◌++◌, ◌+◌, ◌-◌, ◌/◌, ◌<◌, ◌^◌, ◌∙◌, ◌∷◌, ◌≡◌, ◌≤◌}
 use Rattle.std.proofs.lemmas.List.{append-nil, drop-replicate, drop_all, length-take, length-take-le, take-replicate, take-take, take_all}

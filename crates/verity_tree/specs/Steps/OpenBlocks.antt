@@ -4,7 +4,7 @@ use Rattle.std.specs.Prelude.{◌≡◌, ℕ, ◌+◌, ◌*◌, ◌/◌, ◌%◌
 use Rattle.std.specs.Prelude.{slice_index_or, Bool, true, false}
 use Rattle.std.specs.Fork.{slice_chunk}
 use Rattle.verity_plan.specs.Settings.{TreeSettingsFields, hash, fan}
-use Rattle.verity_tree.specs.Levels.{hash_block_of, blocks_up, root}
+use Rattle.verity_tree.specs.Levels.{hash_block_of, blocks_up}
 use Rattle.verity_tree.specs.TreeOnDevice.{tree_block}
 
 -- the digests that the blocks of level l are made of, level 0 next to the data

@@ -1,5 +1,5 @@
 -- A hash block closes, or bytes are taken.
-use Rattle.std.proofs.Common.{◌≡◌, ℕ, ◌+◌, ◌*◌, ◌/◌, length, take, arith, refl, sym}
+use Rattle.std.proofs.Common.{◌≡◌, ◌+◌, ◌*◌, ◌/◌, length, take, arith, refl, sym}
 use Rattle.std.proofs.lemmas.List.{length-take-le}
 use Rattle.verity_plan.specs.Settings.{fan}
 use Rattle.verity_tree.specs.ClosingOrder.{closed_after, blocks_before}

@@ -1,11 +1,9 @@
 -- The one data block of a tree without levels.
-use Rattle.std.proofs.Common.{◌≡◌, ℕ, ◌+◌, ◌*◌, ◌-◌, ◌∙◌, ◌≤◌, [], arith, ap, length, refl, subst, take}
-use Rattle.std.proofs.lemmas.List.{length-take-le}
+use Rattle.std.proofs.Common.{◌≡◌, ℕ, ◌+◌, ◌*◌, ◌∙◌, arith, ap, length, refl, subst, take}
 use Rattle.verity_hash.specs.Hashing.{with_zeros}
 use Rattle.verity_io.specs.Reading.{HasRead}
 use Rattle.verity_plan.specs.PlanCounts.{level_count_of}
-use Rattle.verity_plan.specs.Settings.{hash}
-use Rattle.verity_tree.proofs.OnePassLemmas.{HasOneBlock, block-filled, not-of_device, one-block, one-root, stopped-below}
+use Rattle.verity_tree.proofs.OnePassLemmas.{block-filled, not-of_device, one-block, one-root, stopped-below}
 use Rattle.verity_tree.proofs.OpenBlockLemmas.{hash-by, length-hash}
 use Rattle.verity_tree.proofs.pass.one_pass.pass.Goals as goal
 

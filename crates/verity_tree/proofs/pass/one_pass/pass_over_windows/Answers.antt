@@ -1,13 +1,13 @@
-use Rattle.std.proofs.Common.{List, arith, ap, drop, length, length-drop, refl, subst, suc, sym, take, false, min, true, ℕ, ◌+◌, ◌*◌, ◌-◌, ◌/◌, ◌^◌, ◌<◌, ◌∙◌, ◌≡◌, ◌≤◌}
+use Rattle.std.proofs.Common.{List, arith, ap, drop, length, length-drop, refl, subst, suc, sym, take, false, min, true, ℕ, ◌+◌, ◌-◌, ◌/◌, ◌^◌, ◌<◌, ◌∙◌, ◌≡◌, ◌≤◌}
 use Rattle.std.proofs.lemmas.List.{length-take, length-take-le}
-use Rattle.std.proofs.Math.Nat.{mul-div_cancel, zero-div, zero-mul}
+use Rattle.std.proofs.Math.Nat.{zero-div, zero-mul}
 use Rattle.verity_plan.specs.PlanCounts.{level_count_of}
 use Rattle.verity_plan.specs.Settings.{fan}
 use Rattle.verity_plan.proofs.CountLemmas.{mul_le}
 use Rattle.verity_plan.proofs.FanLemmas.{fan-some}
 use Rattle.verity_tree.specs.ClosingOrder.{blocks_before, handed_out}
 use Rattle.verity_tree.specs.Levels.{data_blocks, root}
-use Rattle.verity_tree.specs.Steps.Feeding.{Climbs, Stands, TakesMore}
+use Rattle.verity_tree.specs.Steps.Feeding.{Climbs, TakesMore}
 use Rattle.verity_tree.specs.Steps.OnClosed.{effects, stop_at}
 use Rattle.verity_io.specs.Reading.{HasRead}
 use Rattle.verity_tree.proofs.LevelLemmas.{length-cut}
