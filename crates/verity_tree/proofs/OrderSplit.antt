@@ -80,13 +80,13 @@ device_with-append s blocks base (p ∷ ps) qs device =
     (put device (start_byte s (length blocks) base p.level p.index)
     (slice_index_or (blocks_up s blocks (p.level + 1)) p.index []))
 
--- one block more
-pub device_with-one : (s : TreeSettingsFields) (blocks : List (List ℕ)) (base : ℕ) (ps : List BlockIndex) (at : BlockIndex)
-    (device : List ℕ) → device_with s blocks base (ps ++ at ∷ []) device
+-- one block more that is put at its place
+pub one_more_written : (s : TreeSettingsFields) (blocks : List (List ℕ)) (base : ℕ) (ps : List BlockIndex)
+    (at : BlockIndex) (device : List ℕ) → device_with s blocks base (ps ++ at ∷ []) device
     ≡ put (device_with s blocks base ps device) (start_byte s (length blocks) base at.level at.index)
     (tree_block s blocks at.level at.index)
 unfolding device_with
-device_with-one s blocks base ps at device = device_with-append s blocks base ps (at ∷ []) device
+one_more_written s blocks base ps at device = device_with-append s blocks base ps (at ∷ []) device
 
 -- one data block more in the closing order
 pub closed_after-more : (f n i : ℕ) → closed_after f n (i + 1) ≡ closed_after f n i ++ closing_with f n i

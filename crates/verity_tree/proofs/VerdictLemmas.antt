@@ -1,6 +1,10 @@
 -- Stored blocks beside the tree's.
-use Rattle.std.proofs.Common.{◌≡◌, ℕ, zero, suc, ◌+◌, ◌*◌, ◌<◌, ◌≤◌, Bool, true, false, arith, refl, inl, inr}
+use Rattle.std.proofs.Common.{◌≡◌, ℕ, zero, suc, ◌+◌, ◌*◌, ◌<◌, ◌≤◌, Bool, true, false, List, [], ◌∷◌, ◌++◌}
+use Rattle.std.proofs.Common.{arith, refl, inl, inr}
 use Rattle.std.proofs.lemmas.Bool.{cases_eq}
+use Rattle.std.proofs.lemmas.List.{take_all}
+use Rattle.std.proofs.lemmas.List.Elements.{All-push}
+use Rattle.std.proofs.lemmas.Slice.Eq.{bytes_eq-Decides}
 use Rattle.std.proofs.Math.Nat.{mul-le-mul_right}
 use Rattle.std.specs.Prelude.{find, Some, None}
 use Rattle.std.specs.List.{range_with_len}
@@ -10,6 +14,9 @@ use Rattle.verity_plan.specs.Settings.{TreeSettingsFields, digest_len, fan, slot
 use Rattle.verity_plan.proofs.CountLemmas.{mul-lt_div_ceil}
 use Rattle.verity_plan.proofs.FitLemmas.{digest-slot}
 use Rattle.verity_plan.proofs.PlanLemmas.{size-more}
+use Rattle.verity_tree.specs.ClosingOrder.{BlockIndex}
+use Rattle.verity_tree.specs.TreeOnDevice.{stored_block, tree_block}
+use Rattle.verity_tree.specs.Verdicts.{HoldsBlockAt, NoneDiffers}
 
 -- the first number of a range that passes a test
 pub find-range : (p : ℕ → Bool) (from n k : ℕ) → from ≤ k → k < from + n → ((j : ℕ) → from ≤ j → j < k → p j ≡ false)
@@ -44,3 +51,13 @@ pub digest-room : (s : TreeSettingsFields) (slot : ℕ) → slot < fan s → fan
 digest-room s slot below fits =
     let next : slot + 1 ≤ fan s = omega arith in
     omega (arith, digest-slot s, mul-le-mul_right (slot_width s) next, fits)
+
+-- one block more that a device holds
+pub one_more_held : (p : PlanFields) (blocks : List (List ℕ)) (device : List ℕ) (done : List BlockIndex)
+    (at : BlockIndex) → NoneDiffers p blocks device done
+    → stored_block p device at.level at.index ≡ tree_block p.settings blocks at.level at.index
+    → NoneDiffers p blocks device (done ++ at ∷ [])
+one_more_held p blocks device done at so_far here = All-push (HoldsBlockAt p blocks device) done at so_far here
+
+-- what a whole block that was read and compared says
+pub ruleset block_compared = (bytes_eq-Decides, take_all, one_more_held)

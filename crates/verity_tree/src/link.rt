@@ -1,6 +1,5 @@
 //! A block that is checked by the one hash block above it, or by the root hash.
-ghost use Rattle.std.specs.Prelude.{◌≡◌, ◌<◌, ◌≤◌, ◌*◌, ◌/◌, ◌%◌, ◌^◌};
-ghost use Rattle.verity_plan.specs.Settings.{fan, slot_width};
+ghost use Rattle.std.specs.Prelude.{◌≡◌};
 ghost use Rattle.verity_tree.specs.Links.{block_size_up, checked_link, checked_top};
 
 use crate::path::has_digest;
@@ -44,7 +43,8 @@ pub fn check_link(
         return Err(LinkFault::Length);
     }
     let digest = plan.settings().hash(block);
-    if has_digest(plan, above, slot_above(plan, i, level), &digest) {
+    let slot = (plan.index_above(i, level) % plan.fan() as u64) as usize;
+    if has_digest(plan, above, slot, &digest) {
         Ok(())
     } else {
         Err(LinkFault::Differs)
@@ -70,15 +70,6 @@ pub fn check_top(plan: &Plan, i: u64, block: &[u8], root: &Digest) -> Result<(),
     } else {
         Err(LinkFault::Differs)
     }
-}
-
-/// In the hash block of a level above data block `i`, the slot of the block under it.
-fn slot_above(plan: &Plan, i: u64, level: usize) -> usize
-    ensures value { result ≡ i / fan plan.now.settings ^ level % fan plan.now.settings }
-    ensures below { result < fan plan.now.settings }
-    ensures fits { fan plan.now.settings * slot_width plan.now.settings ≤ plan.now.settings.hash_block }
-{
-    (plan.index_above(i, level) % plan.fan() as u64) as usize
 }
 
 /// The length, in bytes, of a block that stands so many levels above the data: of a data block, or of a hash block.

@@ -1,9 +1,9 @@
 //! The open blocks of a tree, one a level, one after another: digests come to them, and they close.
 ghost use Rattle.std.specs.Prelude.{◌≡◌, ◌⊎◌, ℕ, ◌+◌, ◌*◌, ◌/◌, ◌%◌, ◌^◌, ◌<◌, ◌≤◌, ◌++◌, ◌-◌, List, [], length, take, drop};
-ghost use Rattle.std.specs.Prelude.{replicate, slice_index_or, true, false};
+ghost use Rattle.std.specs.Prelude.{slice_index_or, true, false};
 ghost use Rattle.verity_plan.specs.PlanCounts.{level_count_of};
 ghost use Rattle.verity_plan.specs.Plans.{IsPlan};
-ghost use Rattle.verity_plan.specs.Settings.{digest_len, fan, hash};
+ghost use Rattle.verity_plan.specs.Settings.{digest_len, fan};
 ghost use Rattle.verity_tree.specs.Steps.OpenBlocks.{Adds, HasClosed, HasOpenBlocks, IsAsking, IsCarrying, carry_state};
 ghost use Rattle.verity_tree.specs.Steps.OpenBlocks.{level_digest};
 ghost use Rattle.verity_tree.specs.Steps.Batches.{HoldsDataBlocks, IsBatch};
@@ -11,7 +11,7 @@ ghost use Rattle.verity_tree.specs.Steps.Batches.{HoldsDataBlocks, IsBatch};
 use crate::planned::planned;
 use crate::side_by_side::digest_rows;
 use verity_hash::Digest;
-use verity_plan::{Plan, TreeSettings};
+use verity_plan::Plan;
 
 /// Puts a digest into a block.
 fn put_slot(block: &mut [u8], from: usize, digest: &Digest)
@@ -71,28 +71,6 @@ pub(crate) fn close_block(plan: &Plan, opened: &mut [u8], level: usize) -> Diges
     digest
 }
 
-/// The digest of a block with a digest more. Then the block is cleared from a byte on.
-fn hash_with(
-    settings: &TreeSettings,
-    block: &mut [u8],
-    from: usize,
-    digest: &Digest,
-    clear: usize,
-) -> Digest
-    requires from { from + length digest.now ≤ length block.old }
-    requires clear { clear ≤ length block.old }
-    ensures digest { result
-        ≡ hash settings.now (take from block.old ++ digest.now ++ drop (from + length digest.now) block.old) }
-    ensures zeros { block.new
-        ≡ take clear (take from block.old ++ digest.now ++ drop (from + length digest.now) block.old)
-        ++ replicate (length block.old - clear) 0 }
-{
-    put_slot(block, from, digest);
-    let above = settings.hash(block);
-    block[clear..].fill(0);
-    above
-}
-
 /// The digest of a level's open block above the last data block, with the digest that comes to it. The open block is left
 /// as it was before data block `first`, which is below the same hash block of level 0 as the last one.
 pub(crate) fn digest_with(
@@ -120,7 +98,10 @@ pub(crate) fn digest_with(
     let slot = (plan.index_above(last, level) % fan) as usize;
     let clear = (plan.index_above(first, level) % fan) as usize;
     let block = &mut opened[level * size..level * size + size];
-    hash_with(plan.settings(), block, slot * width, digest, clear * width)
+    put_slot(block, slot * width, digest);
+    let above = plan.settings().hash(block);
+    block[clear * width..].fill(0);
+    above
 }
 
 /// Adds the digests of a batch of data blocks from `i` on, which stand one after another in `rows`, to the open block of

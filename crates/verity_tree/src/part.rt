@@ -1,8 +1,7 @@
 //! Where a stored hash block differs from the tree's.
-ghost use Rattle.std.specs.Prelude.{◌≡◌, ◌+◌, ◌-◌, ◌*◌, ◌<◌, ◌≤◌, ◌^◌, not, length, min};
-ghost use Rattle.std.specs.Str.{bytes_eq};
+ghost use Rattle.std.specs.Prelude.{◌≡◌, ◌*◌, length};
 ghost use Rattle.verity_plan.specs.Plans.{HasBlock};
-ghost use Rattle.verity_plan.specs.Settings.{digest_len, fan, slot_width};
+ghost use Rattle.verity_plan.specs.Settings.{fan};
 
 /// Where a stored hash block differs.
 #[derive(Clone, Copy, Debug, PartialEq, Eq)]
@@ -15,7 +14,7 @@ pub enum Part {
     Spare,
 }
 
-ghost use Rattle.verity_tree.specs.Verdicts.{digest_in, first_slot, part_at};
+ghost use Rattle.verity_tree.specs.Verdicts.{first_slot, part_at};
 
 use verity_plan::Plan;
 
@@ -34,26 +33,16 @@ pub(crate) fn part_between(
         (first_slot plan.now level index stored.now computed.now) }
 {
     let fan = plan.fan();
+    let len = plan.digest_len();
+    let width = plan.settings().slot_width();
     let below = plan.size_under(level);
     let first = index * fan as u64;
     let used = (below - first).min(fan as u64) as usize;
     for slot in 0..used {
-        if slot_differs(plan, slot, stored, computed) {
+        let from = slot * width;
+        if stored[from..from + len] != computed[from..from + len] {
             return Part::Child(first + slot as u64);
         }
     }
     Part::Spare
-}
-
-/// Whether the digests in a slot differ.
-fn slot_differs(plan: &Plan, slot: usize, stored: &[u8], computed: &[u8]) -> bool
-    requires room { slot * slot_width plan.now.settings + digest_len plan.now.settings ≤ plan.now.settings.hash_block }
-    requires stored { length stored.now ≡ plan.now.settings.hash_block }
-    requires computed { length computed.now ≡ plan.now.settings.hash_block }
-    ensures { result
-        ≡ not (bytes_eq (digest_in plan.now.settings stored.now slot) (digest_in plan.now.settings computed.now slot)) }
-{
-    let len = plan.digest_len();
-    let from = slot * plan.settings().slot_width();
-    stored[from..from + len] != computed[from..from + len]
 }

@@ -1,7 +1,6 @@
 //! The root hash by whole lists, level by level: the plain body that the passes are tested beside.
-ghost use Rattle.std.specs.Prelude.{◌≡◌, ◌+◌, ◌*◌, ◌<◌, ◌≤◌, ◌++◌, length, map, vec_len, IfOk, OnOk};
+ghost use Rattle.std.specs.Prelude.{◌≡◌, ◌+◌, ◌*◌, ◌<◌, length, map, vec_len, IfOk};
 ghost use Rattle.std.specs.Int.{div_ceil};
-ghost use Rattle.verity_hash.specs.Hashing.{with_zeros};
 ghost use Rattle.verity_tree.specs.Levels.{cut, hash_block_of, pack, root, data_blocks};
 ghost use Rattle.verity_tree.specs.Steps.PlainRoots.{root_of_digests};
 ghost use Rattle.verity_plan.specs.Settings.{hash};
@@ -21,26 +20,14 @@ fn hash_block_of(
     let width = settings.slot_width();
     let mut block = Vec::new(alloc);
     for digest in digests {
-        push_slot(&mut block, width, digest)?;
+        let bytes = digest.as_bytes();
+        block.extend_from_slice(bytes)?;
+        block.extend_from_slice(&[0; 128][..width.saturating_sub(bytes.len())])?;
     }
     let size = settings.hash_block() as usize;
     let size = size.max(block.len());
     block.resize(size, 0)?;
     Ok(block)
-}
-
-/// Zeros to fill a slot with.
-const ZEROS: [u8; 128] = [0; 128];
-
-/// Adds a digest in its slot.
-fn push_slot(block: &mut Vec<u8>, width: usize, digest: &Digest) -> Result<(), AllocError>
-    requires { width ≤ 128 }
-    ensures ok { OnOk result (block.new.items ≡ block.old.items ++ with_zeros width digest.now) }
-{
-    let bytes = digest.as_bytes();
-    block.extend_from_slice(bytes)?;
-    block.extend_from_slice(&ZEROS[..width.saturating_sub(bytes.len())])?;
-    Ok(())
 }
 
 /// The digests of the hash blocks one level above these digests.
@@ -80,16 +67,6 @@ fn root_of_digests(
     Ok(level[0])
 }
 
-/// Some bytes, and zeros after them.
-fn filled_block(alloc: Global, bytes: &[u8], size: usize) -> Result<Vec<u8>, AllocError>
-    requires { length bytes.now ≤ size }
-    ensures { IfOk result (λ block. block.items ≡ with_zeros size bytes.now) }
-{
-    let mut block = Vec::from_slice(alloc, bytes)?;
-    block.resize(size, 0)?;
-    Ok(block)
-}
-
 /// The digests of the data blocks.
 fn digests_of(
     alloc: Global,
@@ -104,7 +81,8 @@ fn digests_of(
     for i in 0..bytes.len().div_ceil(size) {
         let from = i * size;
         let count = size.min(bytes.len() - from);
-        let block = filled_block(alloc, &bytes[from..from + count], size)?;
+        let mut block = Vec::from_slice(alloc, &bytes[from..from + count])?;
+        block.resize(size, 0)?;
         digests.push(settings.hash(&block))?;
     }
     Ok(digests)

@@ -30,7 +30,11 @@ impl Store {
         ensures length { IfOk result (λ store. store.length ≡ store_length_of plan.now) }
         ensures room { IfOk result (λ store. store.room ≡ store_length_of plan.now) }
     {
-        let bytes = zeros(alloc, plan.store_length())?;
+        let length = plan.store_length();
+        let mut bytes = Vec::with_capacity(alloc, length)?;
+        while bytes.len() < length {
+            bytes.push_reserved(0);
+        }
         Ok(Store { bytes })
     }
 
@@ -48,16 +52,4 @@ impl Store {
     {
         &mut self.bytes
     }
-}
-
-/// `count` zeros, with memory for no more.
-fn zeros(alloc: Global, count: usize) -> Result<Vec<u8>, AllocError>
-    ensures length { IfOk result (λ bytes. length bytes.items ≡ count) }
-    ensures room { IfOk result (λ bytes. vec_capacity bytes ≡ count) }
-{
-    let mut bytes = Vec::with_capacity(alloc, count)?;
-    while bytes.len() < count {
-        bytes.push_reserved(0);
-    }
-    Ok(bytes)
 }

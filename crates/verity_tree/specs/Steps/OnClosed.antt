@@ -1,8 +1,8 @@
 -- What becomes of hash blocks that have closed, and of a device with them: they are written, or compared.
 -- For the private steps; not needed to read a public contract.
-use Rattle.std.specs.Prelude.{◌≡◌, ◌≢◌, ℕ, Bool, true, false, List, Option, Some, None, Result, Ok, Err, if◌then◌else◌}
+use Rattle.std.specs.Prelude.{◌≡◌, ◌≢◌, ℕ, Bool, true, false, List, Option, Some, None, if◌then◌else◌}
 use Rattle.verity_io.specs.Counting.{Side, TheDevice}
-use Rattle.verity_io.specs.Writing.{put, Spoiled}
+use Rattle.verity_io.specs.Writing.{Spoiled}
 use Rattle.verity_io.specs.declared.failed.Failed.{Failed}
 use Rattle.verity_plan.specs.Plans.{PlanFields, start_byte_of}
 use Rattle.verity_tree.specs.ClosingOrder.{BlockIndex, block_index}
@@ -11,7 +11,6 @@ use Rattle.verity_tree.specs.TreeWriting.{device_with}
 use Rattle.verity_tree.specs.Verdicts.{NoneDiffers, part_of}
 use Rattle.verity_tree.specs.declared.pass.comparing.CompareStop.{CompareStop}
 use Rattle.verity_tree.specs.declared.pass.comparing.CompareStop.TheVariants.{Unread, Differs}
-use Rattle.verity_tree.specs.declared.part.Part.{Part}
 use Rattle.verity_tree.specs.declared.pass.pass_fault.Stop.{Stop}
 
 -- whose call failed: the device's, or no one's
@@ -28,12 +27,6 @@ stop_side failed stop = side_by failed stop.why
 -- whether a hash block couldn't be written: each stop of writing is that
 abbrev pub is_unwritten : Failed → Bool
 is_unwritten why = true
-
--- bytes are put at the place of a hash block, or its range is unknown
-abbrev pub WritesBlock : PlanFields → BlockIndex → List ℕ → Result Unit Failed → List ℕ → List ℕ → Type 0
-WritesBlock p at bytes (Ok _) before after = after ≡ put before (start_byte_of p at.level at.index) bytes
-WritesBlock p at bytes (Err why) before after =
-    Spoiled before (start_byte_of p at.level at.index) p.settings.hash_block after
 
 -- of a device that is written nothing is known without the blocks
 abbrev pub KeepsAny : List ℕ → List ℕ → Type 0
@@ -61,17 +54,13 @@ KeepsSame before after = after ≡ before
 abbrev pub HoldsAll : PlanFields → List (List ℕ) → List BlockIndex → List ℕ → List ℕ → Type 0
 HoldsAll p blocks done before after = (after ≡ before) × NoneDiffers p blocks before done
 
--- whether stored bytes are the computed block of a place, and if not, where they differ
-abbrev pub ComparesBlock : PlanFields → BlockIndex → List ℕ → List ℕ → Result Unit Part → Type 0
-ComparesBlock p at computed on_device (Ok _) = on_device ≡ computed
-ComparesBlock p at computed on_device (Err part) =
-    (on_device ≢ computed) × (part ≡ part_of p at.level at.index on_device computed)
-
 -- the block at a place could not be read, or isn't the tree's
 abbrev pub IsStopFor : PlanFields → List (List ℕ) → List ℕ → BlockIndex → CompareStop → Type 0
 IsStopFor p blocks device at Unread = Unit {0}
-IsStopFor p blocks device at (Differs part) = ComparesBlock p at (tree_block p.settings blocks at.level at.index)
-    (stored_block p device at.level at.index) (Err part)
+IsStopFor p blocks device at (Differs part) =
+    (stored_block p device at.level at.index ≢ tree_block p.settings blocks at.level at.index)
+    × (part ≡ part_of p at.level at.index (stored_block p device at.level at.index)
+    (tree_block p.settings blocks at.level at.index))
 
 -- the blocks before it stand at their places, the device stays, and this is why it stops
 abbrev pub StopsComparing : PlanFields → List (List ℕ) → List BlockIndex → Stop CompareStop → List ℕ → List ℕ → Type 0

@@ -1,9 +1,4 @@
 //! Hash blocks that have closed are compared with the stored ones.
-ghost use Rattle.std.specs.Prelude.{◌≡◌, ◌≤◌, length, take};
-ghost use Rattle.verity_plan.specs.Plans.{HasBlock};
-ghost use Rattle.verity_tree.specs.ClosingOrder.{block_index};
-ghost use Rattle.verity_tree.specs.Steps.OnClosed.{ComparesBlock};
-
 use crate::part::{Part, part_between};
 use crate::pass::on_closed::OnClosed;
 use verity_io::Device;
@@ -34,6 +29,7 @@ impl OnClosed for Comparing {
 
     ghost stops = { StopsComparing };
 
+    #[tactic(auto, using(crate::proofs::VerdictLemmas::block_compared))]
     fn take<D: Device>(
         &self,
         plan: &Plan,
@@ -44,35 +40,10 @@ impl OnClosed for Comparing {
         device: &mut D,
     ) -> Result<(), CompareStop> {
         match device.read_at(plan.byte(level, index), stored) {
-            Ok(count) => match compare_block(plan, level, index, bytes, stored, count) {
-                Ok(()) => Ok(()),
-                Err(part) => Err(CompareStop::Differs(part)),
-            },
+            Ok(count) if count < stored.len() => Err(CompareStop::Differs(Part::Missing)),
+            Ok(_) if &*stored == bytes => Ok(()),
+            Ok(_) => Err(CompareStop::Differs(part_between(plan, level, index, stored, bytes))),
             Err(_) => Err(CompareStop::Unread),
         }
     }
-}
-
-/// Compares the stored block, of which the first `count` bytes were read, with the computed one: where they differ.
-fn compare_block(
-    plan: &Plan,
-    level: usize,
-    index: u64,
-    bytes: &[u8],
-    stored: &[u8],
-    count: usize,
-) -> Result<(), Part>
-    requires here { HasBlock plan.now level index }
-    requires size { length bytes.now ≡ plan.now.settings.hash_block }
-    requires stored { length stored.now ≡ plan.now.settings.hash_block }
-    requires count { count ≤ plan.now.settings.hash_block }
-    ensures { ComparesBlock plan.now (block_index level index) bytes.now (take count stored.now) result }
-{
-    if count < stored.len() {
-        return Err(Part::Missing);
-    }
-    if stored == bytes {
-        return Ok(());
-    }
-    Err(part_between(plan, level, index, stored, bytes))
 }

@@ -1,12 +1,15 @@
-use Rattle.std.proofs.Common.{length, ap, refl, ◌∙◌}
+use Rattle.std.proofs.Common.{◌≡◌, ℕ, ◌-◌, List, ◌++◌, length, take, drop, replicate, arith, ap, ◌∙◌}
+use Rattle.std.proofs.Common.{length-drop}
+use Rattle.std.proofs.lemmas.List.{append-nil, drop_all, length-take-le}
+use borrow.Rule.Slice.PartMut.{put_mid}
 use Rattle.verity_plan.specs.Settings.{slot_width}
 use Rattle.verity_tree.proofs.ClosedLevelLemmas.{IsAsking-up}
 use Rattle.verity_tree.proofs.OpenBlockLemmas.{hash-by, length-hash}
 use Rattle.verity_tree.proofs.OpenBlockSteps.{slot-room}
 use Rattle.verity_tree.proofs.open_blocks.digest_with.Goals as goal
 
-pub hash_with-requires-clause-from : goal.hash_with-requires-clause-from
-hash_with-requires-clause-from c =
+pub put_slot-requires : goal.put_slot-requires
+put_slot-requires c =
     slot-room c.args.plan.now.settings c.index_above.result c.fan-fan.result c.slot_width-width.result
     (length c.args.digest.now) c.args.level c.hash_block-size.result c.args.opened.now c.fan-fan.ensures.value
     (c.slot_width-width.ensures.value ∙ ap slot_width c.settings.ensures) c.hash_block-size.ensures c.requires.size
@@ -14,14 +17,26 @@ hash_with-requires-clause-from c =
 
 pub returns-clause-size : goal.returns-clause-size
 returns-clause-size c =
-    ap length (hash-by _ _ _ _ c.settings-2.ensures c.hash_with.ensures.digest) ∙ length-hash c.args.plan.now.settings _
+    ap length (hash-by _ _ _ _ c.settings-2.ensures c.hash-above.ensures) ∙ length-hash c.args.plan.now.settings _
+
+-- a block that is filled with zeros from a byte on
+cleared-is : (at len : ℕ) (block zeros : List ℕ) → length block ≡ len
+    → zeros ≡ replicate (length (take (length block - at) (drop at block))) 0
+    → put_mid at (length block - at) block zeros ≡ take at block ++ replicate (len - at) 0
+cleared-is at len block zeros long is =
+    let k = length block - at in
+    let rest = length-take-le k (drop at block) (omega (arith, length-drop at block)) in
+    let none = drop_all k (drop at block) (omega (arith, length-drop at block)) in
+    let end = append-nil zeros in
+    cc
 
 pub returns-clause-asks : goal.returns-clause-asks
 returns-clause-asks c = λ blocks levels many inside room h.
     IsAsking-up c.args.plan.now.settings blocks c.args.first c.args.last c.args.level levels c.index_above.result
-    c.index_above-2.result c.fan-fan.result c.slot_width-width.result c.hash_block-size.result c.args.opened.now _
-    c.hash_with.new.block c.args.digest.now c.hash_with.result c.fan-fan.ensures.value
+    c.index_above-2.result c.fan-fan.result c.slot_width-width.result c.hash_block-size.result c.args.opened.now
+    c.put_slot.new.block _ c.args.digest.now c.hash-above.result c.fan-fan.ensures.value
     (c.slot_width-width.ensures.value ∙ ap slot_width c.settings.ensures) c.hash_block-size.ensures c.fan-fan.ensures.fits
     (c.requires.last ∙ many) c.requires.order c.requires.beside inside c.requires.room c.index_above.ensures
-    c.index_above-2.ensures refl (hash-by _ _ _ _ c.settings-2.ensures c.hash_with.ensures.digest) c.hash_with.ensures.zeros
-    c.hash_with.auto.block h
+    c.index_above-2.ensures c.put_slot.ensures (hash-by _ _ _ _ c.settings-2.ensures c.hash-above.ensures)
+    (cleared-is _ _ c.put_slot.new.block c.fill.new.self c.put_slot.auto.block (c.fill.ensures.after (λ y e. e)))
+    (omega arith) h
