@@ -13,8 +13,7 @@ use Rattle.verity_tree.specs.Steps.PlainRoots.{digest_of_block}
 use Rattle.verity_tree.specs.Steps.OpenBlocks.{level_digest}
 use Rattle.verity_plan.specs.Plans.{IsPlan, PlanFields}
 use Rattle.verity_plan.specs.Settings.{TreeSettingsFields, hash, fan}
-use Rattle.std.specs.Int.{div_ceil}
-use Rattle.verity_plan.proofs.CountLemmas.{mul-lt_div_ceil, div_ceil-pos, le-div_ceil}
+use Rattle.verity_plan.proofs.CountLemmas.{mul-lt_div_ceil, div_ceil-pos}
 use Rattle.verity_plan.proofs.FanLemmas.{some_data}
 use Rattle.verity_plan.proofs.IndexLemmas.{quotient-below}
 use Rattle.verity_tree.proofs.OpenBlockSteps.{place-first}
@@ -102,13 +101,6 @@ pub HasRead-none : (p : PlanFields) (bytes : List ℕ) → HasRead (bytes_of p 0
 HasRead-none p bytes =
     let none : bytes_of p 0 ≡ 0 = omega arith in
     record { enough = omega (arith, none); rest = ap (λ (k : ℕ). drop k bytes) (sym none) }
-
--- all data blocks have all bytes that are wanted
-pub bytes_of-all : (p : PlanFields) → IsPlan p → bytes_of p p.blocks ≡ p.wanted
-bytes_of-all p planned =
-    let size = p.settings.data_block in
-    let most : div_ceil p.wanted size ≤ p.blocks = omega (arith, planned.blocks_are) in
-    omega (arith, le-div_ceil p.wanted size p.blocks (some_data p.settings planned.valid) most)
 
 -- a plan has a data block
 pub blocks-some : (p : PlanFields) → IsPlan p → 0 < p.blocks

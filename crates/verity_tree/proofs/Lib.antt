@@ -11,7 +11,6 @@ pub mod OpenBlockLemmas
 pub mod OpenBlockSteps
 pub mod ClosingLemmas
 pub mod ClosedLevelLemmas
-pub mod BatchLemmas
 pub mod WindowLemmas
 pub mod OnePassLemmas
 pub mod DataBlockLemmas

@@ -14,7 +14,7 @@ use Rattle.verity_tree.specs.ClosingOrder.{blocks_before}
 use Rattle.verity_tree.specs.Steps.Feeding.{windows_before}
 use Rattle.verity_tree.specs.Steps.Batches.{IsBatch}
 use Rattle.verity_tree.specs.Windows.{window_blocks, window_length}
-use Rattle.verity_tree.proofs.BatchLemmas.{none_closes-batch}
+use Rattle.verity_tree.specs.Steps.Closing.{EndsBlock}
 
 -- a power of two that isn't above another divides it, and as often as a power of two
 power-divides : (x y j k : ℕ) → x ≡ 2 ^ j → y ≡ 2 ^ k → x ≤ y → (m : ℕ) × (y ≡ 2 ^ m * x)
@@ -139,6 +139,15 @@ pub window-ended : (s : TreeSettingsFields) (count w : ℕ) → IsValid s → 0 
     → blocks_before s count + 1 ≡ w * window_blocks s
 window-ended s count w valid some whole =
     last-run count s.data_block (w * window_blocks s) (some_data s valid) some (omega (arith, whole))
+
+-- of data blocks that go no further than the next end of a hash block, none but the last ends one
+none_closes-batch : (f n i count k : ℕ) → 0 < f → count ≤ f - i % f → i + count ≤ n → i ≤ k → k + 1 < i + count
+    → ¬ EndsBlock f n k
+none_closes-batch f n i count k some within room from to (inr last) = omega arith
+none_closes-batch f n i count k some within room from to (inl full) =
+    let here : i / f * f + i % f ≡ i = div-add-mod' i f in
+    let same : k / f ≡ i / f = div-eq_of_lt-le f (omega arith) (omega (arith, mod_below i f some)) in
+    omega (arith, mod_below i f some, div-add-mod' k f, ap (λ (x : ℕ). x * f) same)
 
 -- of the data blocks up to the last byte's, from the first of its window on, none but the last closes a hash block
 pub window-batch : (p : PlanFields) (count first rows : ℕ) → IsPlan p → 0 < count → blocks_before p.settings count < p.blocks

@@ -52,7 +52,12 @@ fn climb(plan: &Plan, progress: &mut Progress, opened: &mut [u8], window: &mut [
 }
 
 /// Closes the next hash block above the bytes that were fed, if one closes before more bytes come: whether one has closed.
-pub(crate) fn close_next(plan: &Plan, progress: &mut Progress, opened: &mut [u8], window: &mut [u8]) -> bool
+pub(crate) fn close_next(
+    plan: &Plan,
+    progress: &mut Progress,
+    opened: &mut [u8],
+    window: &mut [u8],
+) -> bool
     requires step { CanStep plan.now progress.old.fed progress.old.closed opened.old window.old }
     requires some { progress.old.fed ≡ plan.now.wanted → progress.old.closed < level_count_of plan.now }
     ensures fed { progress.new.fed ≡ progress.old.fed }

@@ -23,7 +23,9 @@ use verity_plan::Plan;
 /// The lengths of the windows that data blocks are read into, in bytes: for eight of up to 4096 bytes, of up to 16384, and
 /// for all others.
 const SMALL_WINDOW: usize = 32_768;
+
 const MIDDLE_WINDOW: usize = 131_072;
+
 const LARGE_WINDOW: usize = 524_288;
 
 /// Passes over the data once, with a store to work in, and hands on each hash block that closes. The one data block of a
