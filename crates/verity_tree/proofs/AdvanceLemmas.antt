@@ -10,7 +10,7 @@ use Rattle.std.proofs.Math.Seq.{take-add}
 use Rattle.verity_plan.specs.Plans.{IsPlan, PlanFields}
 use Rattle.verity_plan.specs.Settings.{fan}
 use Rattle.verity_tree.specs.ClosingOrder.{closed_after, handed_out, blocks_before}
-use Rattle.verity_tree.specs.Steps.Feeding.{Climbs, Closes, EndsWindow, FeedsOn, Hands, HasFed, HasWindow}
+use Rattle.verity_tree.specs.Steps.Feeding.{Climbs, EndsWindow, FeedsOn, Hands, HasFed, HasWindow}
 use Rattle.verity_tree.specs.Steps.Feeding.{Stands, TakesMore, first_blocks, windows_before}
 use Rattle.verity_tree.specs.Steps.OpenBlocks.{HasOpenBlocks}
 use Rattle.verity_tree.specs.Windows.{window_blocks, window_length}
@@ -75,12 +75,10 @@ Stands-settled p levels (suc level) fed opened window planned most part h = elim
   | inr within ↦ absurd (omega (arith, within.0))
 ]
 
--- a digest was carried up: a hash block has closed, or bytes may come
-pub Climbs-closes : (p : PlanFields) (levels closed : ℕ) (result : Bool) (fed opened window : List ℕ) → IsPlan p
-    → 0 < length fed → length fed ≤ p.wanted → Climbs p levels fed closed result opened
-    → Closes p levels fed closed result opened window
-Climbs-closes p levels closed true fed opened window planned some most h = h
-Climbs-closes p levels closed false fed opened window planned some most h =
+-- a digest was carried up and no hash block has closed
+pub Climbs-settled : (p : PlanFields) (levels closed : ℕ) (fed opened window : List ℕ) → IsPlan p → 0 < length fed
+    → length fed ≤ p.wanted → Climbs p levels fed closed false opened → TakesMore p levels fed closed opened window
+Climbs-settled p levels closed fed opened window planned some most h =
     let s = p.settings in
     let n = length fed in
     let k = windows_before s n + 1 in

@@ -13,7 +13,7 @@ use Rattle.verity_tree.specs.Levels.{data_blocks, root}
 use Rattle.verity_tree.specs.Steps.Feeding.{HasCome, HasFed, HasWindow, IsHandingOut, IsWindowPlace, after_windows, windows_before}
 use Rattle.verity_tree.specs.Steps.OpenBlocks.{IsAsking, carry_state, level_digest}
 use Rattle.verity_tree.specs.Windows.{window_blocks, window_length}
-use Rattle.verity_tree.specs.declared.feeding.window.WindowPlace.{WindowPlace}
+use Rattle.verity_tree.specs.declared.window.WindowPlace.{WindowPlace}
 use Rattle.verity_tree.proofs.ClimbLemmas.{blocks-most, last-block}
 use Rattle.verity_tree.proofs.FirstBlockLemmas.{plan-first_blocks}
 use Rattle.verity_tree.proofs.LevelLemmas.{length-cut}

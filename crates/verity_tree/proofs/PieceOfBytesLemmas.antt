@@ -19,7 +19,7 @@ use Rattle.verity_tree.specs.Steps.Feeding.{HasCome, HasFed, HasWindow, IsSettle
 use Rattle.verity_tree.specs.Steps.Feeding.{IsWindowPlace, first_blocks, windows_before}
 use Rattle.verity_tree.specs.Steps.OpenBlocks.{HasOpenBlocks, level_digest}
 use Rattle.verity_tree.specs.Windows.{window_blocks, window_length}
-use Rattle.verity_tree.specs.declared.feeding.window.WindowPlace.{WindowPlace}
+use Rattle.verity_tree.specs.declared.window.WindowPlace.{WindowPlace}
 use Rattle.verity_tree.proofs.DataBlockLemmas.{level_digest-data}
 use Rattle.verity_tree.proofs.FirstBlockLemmas.{first_blocks-more, first_blocks-plan}
 use Rattle.verity_tree.proofs.LevelLemmas.{length-cut}

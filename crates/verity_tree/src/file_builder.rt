@@ -4,10 +4,12 @@ ghost use Rattle.verity_plan.specs.PlanCounts.{most_level_count};
 ghost use Rattle.verity_tree.specs.Feeding.{IsFedFile, fault_in, feeding_length, file_fault};
 ghost use Rattle.verity_tree.specs.Levels.{root_of_file};
 
+use crate::closing::root_of_fed;
 use crate::feed_fault::FeedFault;
-use crate::feeding::steps::{feed_all, root_of_fed};
-use crate::feeding::window::{take_short_piece, window_length};
+use crate::feeding::pieces::take_short_piece;
+use crate::feeding::steps::feed_all;
 use crate::planned::planned;
+use crate::window::window_length;
 use verity_hash::Digest;
 use verity_plan::{Plan, PlanFault, TreeSettings};
 

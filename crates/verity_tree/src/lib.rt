@@ -4,6 +4,7 @@
 #![tactic(auto)]
 
 mod building;
+mod closing;
 mod comparing;
 mod feed_fault;
 mod feeding;
@@ -19,6 +20,7 @@ mod planned;
 mod side_by_side;
 mod store;
 mod tree_builder;
+mod window;
 
 pub use building::{BuildFault, build, root_only};
 pub use comparing::{CompareFault, compare};

@@ -8,11 +8,11 @@ ghost use Rattle.verity_tree.specs.Feeding.{Feeds, HasLast, IsFed, IsHandedOut, 
 ghost use Rattle.verity_tree.specs.Feeding.{feed_fault, feeding_length};
 ghost use Rattle.verity_tree.specs.Levels.{data_blocks, root};
 
+use crate::closing::{Progress, digest_at_the_top, handed_out};
 use crate::feed_fault::FeedFault;
-use crate::feeding::advance::Progress;
-use crate::feeding::steps::{digest_at_the_top, feed_until_closed};
-use crate::feeding::window::window_length;
+use crate::feeding::steps::feed_until_closed;
 use crate::planned::planned;
+use crate::window::window_length;
 use verity_hash::Digest;
 use verity_plan::Plan;
 
@@ -175,27 +175,5 @@ impl TreeBuilder {
         }
         let (opened, window) = memory.split_at_mut(plan.levels() * plan.hash_block());
         Ok(digest_at_the_top(&plan, opened, window))
-    }
-}
-
-/// The hash block that was handed out last.
-pub(crate) fn handed_out(plan: &Plan, progress: &Progress) -> HashBlock
-    requires some { 0 < progress.now.fed }
-    requires most { progress.now.fed ≤ plan.now.wanted }
-    requires closed { 0 < progress.now.closed }
-    requires level { progress.now.closed ≤ level_count_of plan.now }
-    ensures level { progress.now.closed ≡ result.level + 1 }
-    ensures index { result.index ≡ blocks_before plan.now.settings progress.now.fed / fan plan.now.settings ^ (result.level + 1) }
-    ensures byte { result.byte ≡ start_byte_of plan.now result.level result.index }
-    ensures at { result.at ≡ result.level * plan.now.settings.hash_block }
-{
-    planned(plan);
-    let level = progress.closed - 1;
-    let i = (progress.fed - 1) / plan.data_block() as u64;
-    HashBlock {
-        level,
-        index: plan.index_above(i, level + 1),
-        byte: plan.byte_above(i, level),
-        at: level * plan.hash_block(),
     }
 }

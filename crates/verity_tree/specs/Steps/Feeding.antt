@@ -10,7 +10,7 @@ use Rattle.verity_tree.specs.Levels.{cut, data_blocks}
 use Rattle.verity_tree.specs.Steps.OpenBlocks.{HasClosed, HasOpenBlocks, level_digest}
 use Rattle.verity_tree.specs.Steps.Batches.{IsBatch}
 use Rattle.verity_tree.specs.Windows.{window_blocks, window_length}
-use Rattle.verity_tree.specs.declared.feeding.window.WindowPlace.{WindowPlace}
+use Rattle.verity_tree.specs.declared.window.WindowPlace.{WindowPlace}
 
 -- the first n data blocks of some bytes
 abbrev pub first_blocks : TreeSettingsFields → ℕ → List ℕ → List (List ℕ)

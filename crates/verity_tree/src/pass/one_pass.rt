@@ -8,14 +8,12 @@ ghost use Rattle.verity_tree.specs.Steps.OnClosed.{effects};
 ghost use Rattle.verity_tree.specs.Steps.OnePass.{PassRun};
 ghost use Rattle.verity_tree.specs.Windows.{window_length};
 
-use crate::feeding::advance::{Progress, close_next};
-use crate::feeding::steps::digest_at_the_top;
-use crate::feeding::window::window_length;
+use crate::closing::{Progress, close_next, digest_at_the_top, handed_out};
 use crate::pass::on_closed::OnClosed;
 use crate::pass::pass_fault::{PassFault, Stop};
 use crate::pass::reading::read_window;
 use crate::planned::planned;
-use crate::tree_builder::handed_out;
+use crate::window::window_length;
 use verity_hash::Digest;
 use verity_io::{Device, Source};
 use verity_plan::Plan;

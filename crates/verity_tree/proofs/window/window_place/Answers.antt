@@ -7,7 +7,7 @@ use Rattle.verity_tree.specs.Steps.Feeding.{windows_before, IsWindowPlace}
 use Rattle.verity_tree.specs.Windows.{window_blocks, window_length}
 use Rattle.verity_tree.proofs.ClimbLemmas.{last-below}
 use Rattle.verity_tree.proofs.WindowLemmas.{placed-in-window, window-batch, windows-are}
-use Rattle.verity_tree.proofs.feeding.window.window_place.Goals as goal
+use Rattle.verity_tree.proofs.window.window_place.Goals as goal
 
 -- the place from its numbers: the last byte's data block, and what its window has
 place-is : (p : PlanFields) (count i b long : ℕ) → IsPlan p → 0 < count → count ≤ p.wanted

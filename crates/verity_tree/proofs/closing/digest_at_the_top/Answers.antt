@@ -8,7 +8,7 @@ use Rattle.verity_plan.specs.Settings.{hash}
 use Rattle.verity_tree.specs.Steps.Feeding.{Stands}
 use Rattle.verity_tree.proofs.AskingLemmas.{top-root}
 use Rattle.verity_tree.proofs.ClimbLemmas.{handing-out, nothing-out}
-use Rattle.verity_tree.proofs.feeding.steps.digest_at_the_top.Goals as goal
+use Rattle.verity_tree.proofs.closing.digest_at_the_top.Goals as goal
 
 pub returns-then-levels-eq0-clause-root : goal.returns-then-levels-eq0-clause-root
 returns-then-levels-eq0-clause-root c = λ fed all h.

@@ -8,7 +8,7 @@ use Rattle.verity_tree.specs.Steps.Feeding.{HasFed, HasWindow, IsSettled, window
 use Rattle.verity_tree.specs.Windows.{window_length}
 use Rattle.verity_tree.proofs.AdvanceLemmas.{partial-quotient}
 use Rattle.verity_tree.proofs.PieceOfBytesLemmas.{HasFed-filled}
-use Rattle.verity_tree.proofs.feeding.window.take_short_piece.Goals as goal
+use Rattle.verity_tree.proofs.feeding.pieces.take_short_piece.Goals as goal
 
 -- a piece that has room in the window is put after the bytes that are in it
 short-taken : (s : TreeSettingsFields) (levels count at taken : ℕ) (fed piece opened before window : List ℕ)

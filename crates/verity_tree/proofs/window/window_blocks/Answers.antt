@@ -4,8 +4,8 @@ use Rattle.verity_plan.proofs.FanLemmas.{block_power, some_data}
 use Rattle.verity_plan.proofs.FitLemmas.{power_of_two-exponent}
 use Rattle.verity_plan.specs.Settings.{fan, most_block}
 use Rattle.verity_tree.specs.Windows.{window_blocks}
-use Rattle.verity_tree.proofs.feeding.window.window_blocks.Goals as goal
-use Rattle.verity_tree.proofs.feeding.window.window_blocks.Goals.{After-min-2}
+use Rattle.verity_tree.proofs.window.window_blocks.Goals as goal
+use Rattle.verity_tree.proofs.window.window_blocks.Goals.{After-min-2}
 
 -- a data block's size is a power of two, by whose exponent the largest block is shifted
 blocks : (c : After-min-2) → c.min-2.result ≡ window_blocks c.args.settings.now

@@ -5,7 +5,7 @@ use Rattle.verity_tree.specs.ClosingOrder.{closed_after}
 use Rattle.verity_tree.specs.Windows.{window_blocks, window_length}
 use Rattle.verity_tree.proofs.ClimbLemmas.{last-below}
 use Rattle.verity_tree.proofs.PieceOfBytesLemmas.{HasFed-filled, closed_after-placed, windows_before-filled}
-use Rattle.verity_tree.proofs.feeding.window.take_bytes.Goals as goal
+use Rattle.verity_tree.proofs.feeding.pieces.take_bytes.Goals as goal
 
 pub returns-clause-none_closes : goal.returns-clause-none_closes
 returns-clause-none_closes c =

@@ -7,7 +7,7 @@ use Rattle.verity_tree.proofs.ClimbLemmas.{last-block}
 use Rattle.verity_tree.proofs.DataBlockLemmas.{blocks-some}
 use Rattle.verity_tree.proofs.LevelLemmas.{length-cut}
 use Rattle.verity_tree.proofs.WindowLemmas.{window-beside}
-use Rattle.verity_tree.proofs.feeding.steps.root_of_fed.Goals as goal
+use Rattle.verity_tree.proofs.closing.root_of_fed.Goals as goal
 
 pub loop-level-init : goal.loop-level-init
 loop-level-init c = record {

@@ -5,7 +5,7 @@ use Rattle.verity_plan.specs.Settings.{fan}
 use Rattle.verity_tree.specs.ClosingOrder.{closed_after, blocks_before}
 use Rattle.verity_tree.specs.Windows.{window_blocks, window_length}
 use Rattle.verity_tree.proofs.AdvanceLemmas.{FeedsOn-climbs, FeedsOn-takes}
-use Rattle.verity_tree.proofs.feeding.advance.advance.Goals as goal
+use Rattle.verity_tree.proofs.feeding.steps.advance.Goals as goal
 
 pub returns-then-close_next-clause-stands : goal.returns-then-close_next-clause-stands
 returns-then-close_next-clause-stands c = λ levels fed enough room count h.

@@ -3,7 +3,7 @@ use Rattle.std.proofs.Math.Nat.{mul-le-mul}
 use Rattle.verity_plan.proofs.FanLemmas.{hash_most, some_data}
 use Rattle.verity_plan.proofs.PlanLemmas.{levels_few}
 use Rattle.verity_tree.proofs.ClimbLemmas.{last-below}
-use Rattle.verity_tree.proofs.tree_builder.handed_out.Goals as goal
+use Rattle.verity_tree.proofs.closing.handed_out.Goals as goal
 
 pub nonzero_div-i : goal.nonzero_div-i
 nonzero_div-i c =

@@ -1,0 +1,139 @@
+//! The steps by which a tree is made, whoever brings the bytes: its hash blocks close one after another, and at the end
+//! there is its root hash.
+ghost use Rattle.std.specs.Prelude.{◌≡◌, ℕ, ◌+◌, ◌*◌, ◌/◌, ◌^◌, ◌<◌, ◌≤◌, List, length, true, false};
+ghost use Rattle.verity_plan.specs.PlanCounts.{level_count_of};
+ghost use Rattle.verity_plan.specs.Plans.{IsPlan, start_byte_of};
+ghost use Rattle.verity_plan.specs.Settings.{digest_len, fan};
+ghost use Rattle.verity_tree.specs.ClosingOrder.{blocks_before};
+ghost use Rattle.verity_tree.specs.Levels.{data_blocks, root};
+ghost use Rattle.verity_tree.specs.Steps.Feeding.{CanStep, Closes, HasFed, Stands};
+ghost use Rattle.verity_tree.specs.Windows.{window_length};
+
+use crate::open_blocks::{add_digest, close_block, digest_with};
+use crate::planned::planned;
+use crate::tree_builder::HashBlock;
+use crate::window::{add_window, window_length, window_place};
+use verity_hash::Digest;
+use verity_plan::Plan;
+
+/// How far a tree has come.
+#[derive(Clone, Copy)]
+pub(crate) struct Progress {
+    /// How many bytes were fed.
+    pub fed: u64,
+    /// Of how many levels the hash blocks above the last byte were handed out since it was fed.
+    pub closed: usize,
+}
+
+/// Closes the next hash block above the bytes that were fed, if one closes before more come: whether one has. For that
+/// the window's data blocks are added, or the hash block that closed last is taken, and the digest of the last of them,
+/// or of that block, goes one level up.
+pub(crate) fn close_next(
+    plan: &Plan,
+    progress: &mut Progress,
+    opened: &mut [u8],
+    window: &mut [u8],
+) -> bool
+    requires step { CanStep plan.now progress.old.fed progress.old.closed opened.old window.old }
+    requires some { progress.old.fed ≡ plan.now.wanted → progress.old.closed < level_count_of plan.now }
+    ensures fed { progress.new.fed ≡ progress.old.fed }
+    ensures closed { result ≡ true → (progress.new.closed ≡ progress.old.closed + 1)
+        × (progress.old.closed < level_count_of plan.now) × (0 < progress.old.fed) }
+    ensures more { result ≡ false → progress.old.fed < plan.now.wanted }
+    ensures stands { (levels : ℕ) (fed : List ℕ) → level_count_of plan.now ≤ levels
+        → levels * plan.now.settings.hash_block ≤ length opened.old → length fed ≡ progress.old.fed
+        → Stands plan.now levels fed progress.old.closed opened.old window.old
+        → Closes plan.now levels fed progress.old.closed result opened.new window.new }
+{
+    let wide = window_length(plan.settings()) as u64;
+    let count = progress.fed;
+    let level = progress.closed;
+    let ends = count > 0 && (level > 0 || count % wide == 0 || count == plan.wanted());
+    if !ends {
+        return false;
+    }
+    let i = (count - 1) / plan.data_block() as u64;
+    let digest = if level == 0 {
+        add_window(plan, opened, window, count)
+    } else {
+        close_block(plan, opened, level - 1)
+    };
+    if level >= plan.levels() {
+        return false;
+    }
+    if !add_digest(plan, opened, i, level, &digest) {
+        return false;
+    }
+    progress.closed = level + 1;
+    true
+}
+
+/// The hash block that was handed out last.
+pub(crate) fn handed_out(plan: &Plan, progress: &Progress) -> HashBlock
+    requires some { 0 < progress.now.fed }
+    requires most { progress.now.fed ≤ plan.now.wanted }
+    requires closed { 0 < progress.now.closed }
+    requires level { progress.now.closed ≤ level_count_of plan.now }
+    ensures level { progress.now.closed ≡ result.level + 1 }
+    ensures index { result.index ≡ blocks_before plan.now.settings progress.now.fed / fan plan.now.settings ^ (result.level + 1) }
+    ensures byte { result.byte ≡ start_byte_of plan.now result.level result.index }
+    ensures at { result.at ≡ result.level * plan.now.settings.hash_block }
+{
+    planned(plan);
+    let level = progress.closed - 1;
+    let i = (progress.fed - 1) / plan.data_block() as u64;
+    HashBlock {
+        level,
+        index: plan.index_above(i, level + 1),
+        byte: plan.byte_above(i, level),
+        at: level * plan.hash_block(),
+    }
+}
+
+/// The root hash of the data that the plan wants, when all of it has come: digests go up through the open blocks, and are
+/// taken out again. All stays for more bytes, of a plan that wants more.
+pub(crate) fn root_of_fed(plan: &Plan, opened: &mut [u8], window: &mut [u8]) -> Digest
+    requires planned { IsPlan plan.now }
+    requires opened { level_count_of plan.now * plan.now.settings.hash_block ≤ length opened.old }
+    requires window { length window.old ≡ window_length plan.now.settings }
+    ensures size { length result ≡ digest_len plan.now.settings }
+    ensures root { (levels : ℕ) (fed : List ℕ) → level_count_of plan.now ≤ levels
+        → levels * plan.now.settings.hash_block ≤ length opened.old → length fed ≡ plan.now.wanted
+        → HasFed plan.now.settings levels fed opened.old window.old
+        → result ≡ root plan.now.settings (data_blocks plan.now fed) }
+    ensures stays { (levels : ℕ) (fed : List ℕ) → level_count_of plan.now ≤ levels
+        → levels * plan.now.settings.hash_block ≤ length opened.old → length fed ≡ plan.now.wanted
+        → HasFed plan.now.settings levels fed opened.old window.old
+        → HasFed plan.now.settings levels fed opened.new window.new }
+{
+    let wanted = plan.wanted();
+    let first = window_place(plan, wanted).first;
+    let last = plan.blocks() - 1;
+    let mut digest = add_window(plan, opened, window, wanted);
+    for level in 0..plan.levels() {
+        digest = digest_with(plan, opened, first, last, level, &digest);
+    }
+    digest
+}
+
+/// The root hash, when the hash blocks of all levels have closed: of the top level's, or, without one, of the data block.
+pub(crate) fn digest_at_the_top(plan: &Plan, opened: &mut [u8], window: &mut [u8]) -> Digest
+    requires planned { IsPlan plan.now }
+    requires opened { level_count_of plan.now * plan.now.settings.hash_block ≤ length opened.old }
+    requires window { length window.old ≡ window_length plan.now.settings }
+    ensures size { length result ≡ digest_len plan.now.settings }
+    ensures root { (fed : List ℕ) → length fed ≡ plan.now.wanted
+        → Stands plan.now (level_count_of plan.now) fed (level_count_of plan.now) opened.old window.old
+        → result ≡ root plan.now.settings (data_blocks plan.now fed) }
+    ensures stays { (fed : List ℕ) → length fed ≡ plan.now.wanted
+        → Stands plan.now (level_count_of plan.now) fed (level_count_of plan.now) opened.old window.old
+        → Stands plan.now (level_count_of plan.now) fed (level_count_of plan.now) opened.new window.new }
+{
+    let size = plan.hash_block();
+    let levels = plan.levels();
+    if levels == 0 {
+        return root_of_fed(plan, opened, window);
+    }
+    plan.settings()
+        .hash(&opened[(levels - 1) * size..levels * size])
+}
