@@ -1,4 +1,4 @@
-//! How a pass reads its data blocks: several together, each into a row of a window, or one by one into the store. A
+//! How a pass reads its data blocks: several together, each into a row of a window, or the only one into the store. A
 //! source can't see the window, but it sees what stands in the buffer that it is to fill: zeros at first, and later the
 //! data block that was read into the same row before.
 use crate::cases::{CURRENT, FILE, SHA256, SHA512};
@@ -110,20 +110,21 @@ const SMALLER: [Batches; 14] = [
     (CURRENT, SHA512, (16_384, 512), &[8, 3]),
 ];
 
-/// In a window of 512 KiB it is eight too, or four of the largest data blocks for which it is made.
-const LARGEST: [Batches; 3] = [
+/// In a window of 512 KiB it is eight too, or as many of the largest data blocks as it has room for.
+const LARGEST: [Batches; 5] = [
     (CURRENT, SHA256, (32_768, 512), &[8, 3]),
     (CURRENT, SHA256, (65_536, 65_536), &[8]),
     (CURRENT, SHA256, (131_072, 512), &[4, 1]),
+    (CURRENT, SHA256, (262_144, 512), &[2, 1]),
+    (CURRENT, SHA256, (524_288, 512), &[1, 1, 1]),
 ];
 
-/// The store's room for one data block is the window if a larger one would have room for two data blocks at most, if a hash block has no more, and for one or two
-/// data blocks in all.
-const NONE: [Batches; 5] = [
-    (CURRENT, SHA256, (262_144, 512), &[1, 1, 1]),
-    (FILE, SHA256, (64, 64), &[1, 1, 1, 1, 1, 1, 1]),
-    (FILE, SHA512, (128, 128), &[1, 1, 1, 1, 1]),
-    (CURRENT, SHA256, (4096, 4096), &[1, 1]),
+/// It is two if a hash block has no more slots, or there are no more data blocks. The only one of all is read into the
+/// store.
+const FEWEST: [Batches; 4] = [
+    (FILE, SHA256, (64, 64), &[2, 2, 2, 1]),
+    (FILE, SHA512, (128, 128), &[2, 2, 1]),
+    (CURRENT, SHA256, (4096, 4096), &[2]),
     (CURRENT, SHA256, (512, 512), &[1]),
 ];
 
@@ -197,8 +198,8 @@ fn large_data_blocks_are_read_together_in_windows(rt: HostRuntime) -> Result<(),
 }
 
 #[test]
-fn data_blocks_without_a_window_are_read_one_by_one(rt: HostRuntime) -> Result<(), Fail> {
-    for row in &NONE {
+fn few_data_blocks_are_read_together_in_windows(rt: HostRuntime) -> Result<(), Fail> {
+    for row in &FEWEST {
         let read = is_read(rt.alloc(), row)?;
         assert!(rt; read, "at {row:?}");
     }

@@ -10,7 +10,7 @@ use verity_plan::Plan;
 pub(crate) const ROWS: usize = 8;
 
 /// How many at least: one or two go one by one, which is faster but for two by SHA-1.
-pub(crate) const LEAST_ROWS: usize = 3;
+const LEAST_ROWS: usize = 3;
 
 /// The digests of `count` data blocks, one to eight, which stand one after another in `rows`: side by side, or one or two
 /// one by one. The digests after theirs count for nothing.
