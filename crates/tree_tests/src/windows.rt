@@ -137,25 +137,26 @@ fn settings_of(row: &Batches) -> Result<TreeSettings, SettingFault> {
     }
 }
 
-/// A pass that writes a tree, one that makes the root hash alone, and one that compares the tree, each with a store of its
-/// own: whether they agree, and what stood in the buffers of each.
+/// A pass that writes a tree, one that makes the root hash alone, and one that compares the tree: whether they agree,
+/// and what stood in the buffers of each.
 type Passes = (bool, [(Held, usize); 3]);
 
 fn passes(alloc: Global, plan: &Plan) -> Result<Passes, Fail> {
+    let mut store = Store::new(alloc, plan)?;
+    if !store.fits(plan) {
+        return Err("a store".into());
+    }
     let mut device = MemoryDevice::new(Vec::new(alloc));
     let mut sources = [
         Watcher::new(plan.data_block()),
         Watcher::new(plan.data_block()),
         Watcher::new(plan.data_block()),
     ];
-    let mut store = Store::new(alloc, plan)?;
     let root: Digest = match build(plan, &mut store, &mut sources[0], &mut device) {
         Ok(root) => root,
         Err(_) => return Err("a root hash".into()),
     };
-    let mut store = Store::new(alloc, plan)?;
     let alone = root_only(plan, &mut store, &mut sources[1]);
-    let mut store = Store::new(alloc, plan)?;
     let verdict = compare(plan, &mut store, &mut sources[2], &mut device, &root);
     let [built, rooted, compared] = &sources;
     let read = [

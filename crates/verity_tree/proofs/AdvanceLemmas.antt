@@ -1,6 +1,6 @@
--- Steps of a tree that is built as pieces of its data come: what stands before a step, and what comes of several.
+-- Steps of a tree that is made as its data come: what stands before a step, and what comes of several.
 use Rattle.std.proofs.Common.{◌≡◌, ℕ, zero, suc, ◌+◌, ◌-◌, ◌*◌, ◌/◌, ◌%◌, ◌<◌, ◌≤◌, ◌⊎◌, Bool, true, false, eqb}
-use Rattle.std.proofs.Common.{List, [], ◌++◌, take, drop, length, arith, refl, sym, ◌∙◌, ap, subst, inl, inr}
+use Rattle.std.proofs.Common.{List, [], ◌++◌, ◌∷◌, take, drop, length, arith, refl, sym, ◌∙◌, ap, subst, inl, inr}
 use Rattle.std.proofs.Common.{append_assoc, length-append}
 use Rattle.std.proofs.lemmas.Bool.Decides.{nat_tests}
 use Rattle.std.proofs.lemmas.Nat.{div-add-mod', mod_below}
@@ -10,11 +10,11 @@ use Rattle.std.proofs.Math.Seq.{take-add}
 use Rattle.verity_plan.specs.Plans.{IsPlan, PlanFields}
 use Rattle.verity_plan.specs.Settings.{fan}
 use Rattle.verity_tree.specs.ClosingOrder.{closed_after, handed_out, blocks_before}
-use Rattle.verity_tree.specs.Steps.Feeding.{Climbs, EndsWindow, FeedsOn, Hands, HasFed, HasWindow}
+use Rattle.verity_tree.specs.Steps.Feeding.{EndsWindow, FeedsOn, Hands, HasFed, HasWindow, IsHandingOut, handed_at}
 use Rattle.verity_tree.specs.Steps.Feeding.{Stands, TakesMore, first_blocks, windows_before}
 use Rattle.verity_tree.specs.Steps.OpenBlocks.{HasOpenBlocks}
 use Rattle.verity_tree.specs.Windows.{window_blocks, window_length}
-use Rattle.verity_tree.proofs.ClimbLemmas.{last-below}
+use Rattle.verity_tree.proofs.ClimbLemmas.{KeepsOpen, last-below}
 use Rattle.verity_tree.proofs.FirstBlockLemmas.{plan-first_blocks}
 use Rattle.verity_tree.proofs.PieceOfBytesLemmas.{HasWindow-full, closed_after-placed}
 use Rattle.verity_tree.proofs.WindowLemmas.{last-run, window-ended, window-wide}
@@ -76,28 +76,30 @@ Stands-settled p levels (suc level) fed opened window planned most part h = elim
 ]
 
 -- a digest was carried up and no hash block has closed
-pub Climbs-settled : (p : PlanFields) (levels closed : ℕ) (fed opened window : List ℕ) → IsPlan p → 0 < length fed
-    → length fed ≤ p.wanted → Climbs p levels fed closed false opened → TakesMore p levels fed closed opened window
-Climbs-settled p levels closed fed opened window planned some most h =
+pub KeepsOpen-settled : (p : PlanFields) (levels closed : ℕ) (fed opened window : List ℕ) → IsPlan p → 0 < length fed
+    → length fed ≤ p.wanted → KeepsOpen p levels fed closed opened → TakesMore p levels fed closed opened window
+KeepsOpen-settled p levels closed fed opened window planned some most h =
     let s = p.settings in
     let n = length fed in
     let k = windows_before s n + 1 in
     let same : n / window_length s ≡ k =
-    ap (λ (m : ℕ). m / window_length s) h.0 ∙ mul-div_cancel k (window-wide s planned.valid) in
-    let last : blocks_before s n + 1 ≡ k * window_blocks s = window-ended s n k planned.valid some h.0 in
-    let enough : k * window_blocks s * s.data_block ≤ n = omega (arith, h.0) in
+    ap (λ (m : ℕ). m / window_length s) h.full ∙ mul-div_cancel k (window-wide s planned.valid) in
+    let last : blocks_before s n + 1 ≡ k * window_blocks s = window-ended s n k planned.valid some h.full in
+    let enough : k * window_blocks s * s.data_block ≤ n = omega (arith, h.full) in
     let first : HasOpenBlocks s (first_blocks s (k * window_blocks s) fed) 0 levels (k * window_blocks s) opened =
-    plan-first_blocks p (k * window_blocks s) levels fed opened planned enough most (rw (← last) h.1) in
+    plan-first_blocks p (k * window_blocks s) levels fed opened planned enough most (rw (← last) h.stands) in
     record {
       settled = subst (λ (m : ℕ). HasWindow s levels m fed opened window) (sym same)
-          (HasWindow-full s levels k fed opened window (omega (arith, h.0)) first);
+          (HasWindow-full s levels k fed opened window (omega (arith, h.full)) first);
       order = ap (λ (m : ℕ). closed_after (fan s) p.blocks (m * window_blocks s)) same
-          ∙ ap (closed_after (fan s) p.blocks) (sym last) ∙ h.2;
+          ∙ ap (closed_after (fan s) p.blocks) (sym last) ∙ h.order;
     }
 
 -- a hash block has closed
 pub FeedsOn-climbs : (p : PlanFields) (levels closed new_closed : ℕ) (fed opened window : List ℕ)
-    → new_closed ≡ closed + 1 → Climbs p levels fed closed true opened
+    → new_closed ≡ closed + 1
+    → IsHandingOut p levels closed fed opened
+    × (handed_out p (length fed) (closed + 1) ≡ handed_out p (length fed) closed ++ handed_at p (length fed) closed ∷ [])
     → FeedsOn p levels fed closed [] true new_closed opened window
 FeedsOn-climbs p levels closed new_closed fed opened window next h =
     let one : new_closed ≡ suc closed = omega (arith, next) in

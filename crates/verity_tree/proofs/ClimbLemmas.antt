@@ -1,6 +1,6 @@
 -- How digests come from the last byte's data block up through the levels whose hash blocks close.
-use Rattle.std.proofs.Common.{◌≡◌, ℕ, zero, suc, ◌+◌, ◌-◌, ◌*◌, ◌/◌, ◌%◌, ◌^◌, ◌<◌, ◌≤◌, List, length}
-use Rattle.std.proofs.Common.{true, false, arith, refl, sym, ◌∙◌, ap, inl, inr, append_assoc}
+use Rattle.std.proofs.Common.{◌≡◌, ℕ, zero, suc, ◌+◌, ◌-◌, ◌*◌, ◌/◌, ◌%◌, ◌^◌, ◌<◌, ◌≤◌, List, [], length, ◌++◌, ◌∷◌}
+use Rattle.std.proofs.Common.{arith, refl, sym, ◌∙◌, ap, inl, inr, append_assoc}
 use Rattle.std.proofs.lemmas.Bool.{cases_lt}
 use Rattle.std.proofs.Math.Nat.{pow-le-pow_right}
 use Rattle.verity_plan.specs.Plans.{IsPlan, PlanFields}
@@ -9,9 +9,9 @@ use Rattle.verity_plan.specs.Settings.{IsValid, TreeSettingsFields, fan}
 use Rattle.verity_plan.proofs.CountLemmas.{IsLevelCount-level_count, div_ceil-below, le-div_ceil, mul_le}
 use Rattle.verity_plan.proofs.FanLemmas.{fan-some, fan-two, some_data}
 use Rattle.verity_plan.proofs.IndexLemmas.{quotient-below}
-use Rattle.verity_tree.specs.ClosingOrder.{blocks_before}
+use Rattle.verity_tree.specs.ClosingOrder.{blocks_before, closed_after, handed_out}
 use Rattle.verity_tree.specs.Levels.{data_blocks}
-use Rattle.verity_tree.specs.Steps.Feeding.{Climbs, EndsWindow, HasFed, IsHandingOut, Stands}
+use Rattle.verity_tree.specs.Steps.Feeding.{EndsWindow, HasFed, IsHandingOut, Stands, handed_at}
 use Rattle.verity_tree.specs.Steps.Feeding.{windows_before}
 use Rattle.verity_tree.specs.Steps.OpenBlocks.{HasClosed, HasOpenBlocks, IsCarrying, carry_state}
 use Rattle.verity_tree.specs.Windows.{window_length}
@@ -80,13 +80,20 @@ all-count p count planned ends last = elim ends.ends [
 pub climbs-closed : (p : PlanFields) (levels level : ℕ) (fed opened : List ℕ) → EndsWindow p (length fed)
     → level < level_count_of p
     → HasClosed p.settings (data_blocks p fed) (blocks_before p.settings (length fed)) level levels opened
-    → Climbs p levels fed level true opened
+    → IsHandingOut p levels level fed opened
+    × (handed_out p (length fed) (level + 1) ≡ handed_out p (length fed) level ++ handed_at p (length fed) level ∷ [])
 climbs-closed p levels level fed opened ends below closed = (
   record { ends = ends; level_below = below; closed = closed },
   rw (first_closing-more (fan p.settings) (blocks_before p.settings (length fed)) level, append_assoc) refl,
 )
 
--- the level's open block has room for more, and all windows that are full have come to the open blocks
+-- the window is full, and all its data blocks have come to the open blocks: the level's has room for more
+pub record KeepsOpen (p : PlanFields) (levels : ℕ) (fed : List ℕ) (closed : ℕ) (opened : List ℕ) : Type 0 where
+  pub full : length fed ≡ (windows_before p.settings (length fed) + 1) * window_length p.settings
+  pub stands : HasOpenBlocks p.settings (data_blocks p fed) 0 levels (blocks_before p.settings (length fed) + 1) opened
+  pub order : closed_after (fan p.settings) p.blocks (blocks_before p.settings (length fed) + 1)
+      ≡ handed_out p (length fed) closed
+
 pub climbs-kept : (p : PlanFields) (levels level : ℕ) (fed before digest opened : List ℕ) → IsPlan p
     → EndsWindow p (length fed) → level ≤ level_count_of p
     → IsCarrying p.settings (data_blocks p fed) (carry_state (blocks_before p.settings (length fed)) level levels)
@@ -94,7 +101,7 @@ pub climbs-kept : (p : PlanFields) (levels level : ℕ) (fed before digest opene
     → blocks_before p.settings (length fed) / fan p.settings ^ level % fan p.settings + 1 < fan p.settings
     → blocks_before p.settings (length fed) + 1 < length (data_blocks p fed)
     → HasOpenBlocks p.settings (data_blocks p fed) 0 levels (blocks_before p.settings (length fed) + 1) opened
-    → Climbs p levels fed level false opened
+    → KeepsOpen p levels fed level opened
 climbs-kept p levels level fed before digest opened planned ends within h room more stands =
     let f = fan p.settings in
     let some = fan-some p.settings in
@@ -104,7 +111,11 @@ climbs-kept p levels level fed before digest opened planned ends within h room m
     let closing = closing-prefix f p.blocks i level within
     (λ l low. closes-reached f p.blocks i l some (reached-down f i level (l + 1) some reached (omega (arith, low))))
     (λ l high below. closes-none f p.blocks i level l some reached room next high) in
-    (whole-count p (length fed) planned ends next, stands, rw (closed_after-more, closing) refl)
+    record {
+      full = whole-count p (length fed) planned ends next;
+      stands = stands;
+      order = rw (closed_after-more, closing) refl;
+    }
 
 -- past all levels no digest comes but with the last byte of all
 pub climbs-past : (p : PlanFields) (levels level : ℕ) (fed before digest : List ℕ) → IsPlan p

@@ -1,5 +1,4 @@
--- The window of a builder that is fed: the data blocks in its memory in which bytes are collected, and which are hashed
--- side by side.
+-- The window: the data blocks in which the bytes that are read or fed are collected, and which are hashed side by side.
 use Rattle.std.specs.Prelude.{ℕ, ◌*◌, ◌/◌, min}
 use Rattle.verity_plan.specs.Settings.{TreeSettingsFields, fan, most_block}
 

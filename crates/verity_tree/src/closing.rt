@@ -6,7 +6,7 @@ ghost use Rattle.verity_plan.specs.Plans.{IsPlan, start_byte_of};
 ghost use Rattle.verity_plan.specs.Settings.{digest_len, fan};
 ghost use Rattle.verity_tree.specs.ClosingOrder.{blocks_before};
 ghost use Rattle.verity_tree.specs.Levels.{data_blocks, root};
-ghost use Rattle.verity_tree.specs.Steps.Feeding.{CanStep, Closes, HasFed, Stands};
+ghost use Rattle.verity_tree.specs.Steps.Feeding.{CanStep, ClosesNext, HasFed, Stands};
 ghost use Rattle.verity_tree.specs.Windows.{window_length};
 
 use crate::open_blocks::{add_digest, close_block, digest_with};
@@ -43,7 +43,7 @@ pub(crate) fn close_next(
     ensures stands { (levels : ℕ) (fed : List ℕ) → level_count_of plan.now ≤ levels
         → levels * plan.now.settings.hash_block ≤ length opened.old → length fed ≡ progress.old.fed
         → Stands plan.now levels fed progress.old.closed opened.old window.old
-        → Closes plan.now levels fed progress.old.closed result opened.new window.new }
+        → ClosesNext plan.now levels fed progress.old.closed result opened.new window.new }
 {
     let wide = window_length(plan.settings()) as u64;
     let count = progress.fed;

@@ -1,5 +1,5 @@
 //! A data block that is checked by the hash blocks above it.
-ghost use Rattle.std.specs.Prelude.{◌≡◌, ◌+◌, ◌*◌, ◌<◌, ◌≤◌, length};
+ghost use Rattle.std.specs.Prelude.{◌≡◌, ◌+◌, ◌*◌, ◌≤◌, length};
 ghost use Rattle.std.specs.Str.{bytes_eq};
 ghost use Rattle.verity_plan.specs.Settings.{digest_len, slot_width};
 ghost use Rattle.verity_tree.specs.Verdicts.{digest_in};

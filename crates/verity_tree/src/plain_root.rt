@@ -1,5 +1,5 @@
 //! The root hash by whole lists, level by level: the plain body that the passes are tested beside.
-ghost use Rattle.std.specs.Prelude.{◌≡◌, ◌+◌, ◌*◌, ◌<◌, length, map, vec_len, IfOk};
+ghost use Rattle.std.specs.Prelude.{◌≡◌, ◌<◌, length, map, vec_len, IfOk};
 ghost use Rattle.std.specs.Int.{div_ceil};
 ghost use Rattle.verity_tree.specs.Levels.{cut, hash_block_of, pack, root, data_blocks};
 ghost use Rattle.verity_tree.specs.Steps.PlainRoots.{root_of_digests};

@@ -1,9 +1,6 @@
 //! A tree that is built as pieces of its data come, with each hash block handed out as it closes.
-ghost use Rattle.std.specs.Prelude.{◌≡◌, ℕ, ◌+◌, ◌*◌, ◌/◌, ◌^◌, ◌<◌, ◌≤◌, List, [], length, take, IfErr, IfOk, MatchOption};
-ghost use Rattle.verity_plan.specs.Plans.{start_byte_of};
+ghost use Rattle.std.specs.Prelude.{◌≡◌, ℕ, List, [], length, take, IfErr, IfOk, MatchOption};
 ghost use Rattle.verity_plan.specs.PlanCounts.{level_count_of};
-ghost use Rattle.verity_plan.specs.Settings.{fan};
-ghost use Rattle.verity_tree.specs.ClosingOrder.{blocks_before};
 ghost use Rattle.verity_tree.specs.Feeding.{Feeds, HasLast, IsFed, IsHandedOut, IsPlaced, Takes, end_fault, fault_in};
 ghost use Rattle.verity_tree.specs.Feeding.{feed_fault, feeding_length};
 ghost use Rattle.verity_tree.specs.Levels.{data_blocks, root};

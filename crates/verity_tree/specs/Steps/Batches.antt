@@ -1,4 +1,4 @@
--- Data blocks that are read together and hashed side by side.
+-- Data blocks that are hashed side by side and added together.
 -- For the private steps; not needed to read a public contract.
 use Rattle.std.specs.Prelude.{◌≡◌, ℕ, ◌+◌, ◌<◌, ◌≤◌, List}
 use Rattle.std.specs.Fork.{slice_chunk}

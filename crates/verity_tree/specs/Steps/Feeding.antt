@@ -1,4 +1,4 @@
--- A tree that is built as pieces of its data come: the memory between two calls, and each step.
+-- A tree that is made as its data come, read or fed: the open blocks and the window between two steps, and each step.
 -- For the private steps; a public contract says only that bytes were fed, and it needs none of these to be read.
 use Rattle.std.specs.Prelude.{◌≡◌, ◌⊎◌, ◌<◌, ◌≤◌, ℕ, zero, suc, ◌+◌, ◌-◌, ◌*◌, ◌/◌, ◌^◌, Bool, true, false, List}
 use Rattle.std.specs.Prelude.{◌++◌, ◌∷◌, [], length, take, drop}
@@ -74,16 +74,6 @@ Stands p levels fed (suc level) opened window = IsHandingOut p levels level fed 
 abbrev pub handed_at : PlanFields → ℕ → ℕ → BlockIndex
 handed_at p count level = block_index level (blocks_before p.settings count / fan p.settings ^ (level + 1))
 
--- the digest of the last byte's data block, or of the hash block above it that closed last, has come one level up: a hash
--- block has closed there, or all windows that are full have come to the open blocks
-abbrev pub Climbs : PlanFields → ℕ → List ℕ → ℕ → Bool → List ℕ → Type 0
-Climbs p levels fed closed true opened = IsHandingOut p levels closed fed opened
-    × (handed_out p (length fed) (closed + 1) ≡ handed_out p (length fed) closed ++ handed_at p (length fed) closed ∷ [])
-Climbs p levels fed closed false opened = (length fed ≡ (windows_before p.settings (length fed) + 1) * window_length p.settings)
-    × HasOpenBlocks p.settings (data_blocks p fed) 0 levels (blocks_before p.settings (length fed) + 1) opened
-    × (closed_after (fan p.settings) p.blocks (blocks_before p.settings (length fed) + 1)
-    ≡ handed_out p (length fed) closed)
-
 -- bytes may come: the windows that are full have come to the open blocks, and all that closed with them was handed out
 pub record TakesMore (p : PlanFields) (levels : ℕ) (fed : List ℕ) (closed : ℕ) (opened window : List ℕ) : Type 0 where
   pub settled : IsSettled p.settings levels fed opened window
@@ -91,9 +81,10 @@ pub record TakesMore (p : PlanFields) (levels : ℕ) (fed : List ℕ) (closed : 
       ≡ handed_out p (length fed) closed
 
 -- the next hash block above the bytes that were fed has closed, or more may come
-abbrev pub Closes : PlanFields → ℕ → List ℕ → ℕ → Bool → List ℕ → List ℕ → Type 0
-Closes p levels fed closed true opened window = Climbs p levels fed closed true opened
-Closes p levels fed closed false opened window = TakesMore p levels fed closed opened window
+abbrev pub ClosesNext : PlanFields → ℕ → List ℕ → ℕ → Bool → List ℕ → List ℕ → Type 0
+ClosesNext p levels fed closed true opened window = IsHandingOut p levels closed fed opened
+    × (handed_out p (length fed) (closed + 1) ≡ handed_out p (length fed) closed ++ handed_at p (length fed) closed ∷ [])
+ClosesNext p levels fed closed false opened window = TakesMore p levels fed closed opened window
 
 -- what a step needs of what it is given: memory for the open blocks and the window of a plan that can be carried out, and
 -- no more bytes, nor levels whose hash blocks were handed out, than the plan has

@@ -18,12 +18,13 @@ use verity_hash::Digest;
 use verity_io::{Device, Source};
 use verity_plan::Plan;
 
-/// The lengths of the windows that data blocks are read into, in bytes: for eight of up to 4096 bytes, of up to 16384, and
-/// for all others.
+/// The memory for windows of eight data blocks of up to 4096 bytes, in bytes.
 const SMALL_WINDOW: usize = 32_768;
 
+/// That for eight of up to 16384.
 const MIDDLE_WINDOW: usize = 131_072;
 
+/// That for all others.
 const LARGE_WINDOW: usize = 524_288;
 
 /// Passes over the data once, with a store to work in, and hands on each hash block that closes. The one data block of a
@@ -47,6 +48,8 @@ pub(crate) fn pass<C: OnClosed, S: Source, D: Device>(
     let (work, stored) = store.split_at_mut(store.len() - plan.hash_block());
     let (opened, block) = work.split_at_mut(plan.levels() * plan.hash_block());
     if plan.levels() == 0 {
+        // A source sees nothing of what the store was used for before.
+        block.fill(0);
         return match read_window(plan, block, 0, source) {
             Ok(count) => {
                 block[count..].fill(0);

@@ -10,7 +10,8 @@ use crate::pass::pass_fault::{BlockFault, SourceStop};
 use verity_io::{Source, read_block};
 use verity_plan::Plan;
 
-/// Reads the bytes of a window, when so many were read, one data block after another: how many, or where the source stops.
+/// Reads the next bytes into the window, when `fed` were read before, each data block by a read of its own: how many, or
+/// where the source stops.
 pub(crate) fn read_window<S: Source>(
     plan: &Plan,
     window: &mut [u8],

@@ -9,7 +9,7 @@ use Rattle.verity_tree.specs.ClosingOrder.{blocks_before}
 use Rattle.verity_tree.specs.Steps.Feeding.{EndsWindow, Stands}
 use Rattle.verity_tree.specs.Steps.OpenBlocks.{IsCarrying, carry_state}
 use Rattle.verity_tree.specs.Windows.{window_length}
-use Rattle.verity_tree.proofs.AdvanceLemmas.{Climbs-settled, Stands-ends, Stands-settled}
+use Rattle.verity_tree.proofs.AdvanceLemmas.{KeepsOpen-settled, Stands-ends, Stands-settled}
 use Rattle.verity_tree.proofs.ClimbLemmas.{climbs-closed, climbs-kept, climbs-past, handing-out, last-block}
 use Rattle.verity_tree.proofs.ClimbLemmas.{nothing-out}
 use Rattle.verity_tree.proofs.LevelLemmas.{length-cut}
@@ -148,7 +148,7 @@ returns-then-not-add_digest-clause-stands c = λ levels fed within room count h.
     let added = c.if-not-add_digest.ensures.adds (data_blocks p fed) levels
     (sym (length-cut p.settings p.blocks p.wanted fed)) (omega (arith, c.if-level-levels.false, c.levels.ensures, within))
     (omega (arith, room, c.if-level-eq0.auto.opened)) (rw (← same) comes) in
-    Climbs-settled p levels level fed c.add_digest.new.opened c.if-level-eq0.window c.requires.step.planned ends.some ends.most
+    KeepsOpen-settled p levels level fed c.add_digest.new.opened c.if-level-eq0.window c.requires.step.planned ends.some ends.most
     (climbs-kept p levels level fed c.if-level-eq0.opened c.if-level-eq0.digest c.add_digest.new.opened
     c.requires.step.planned ends c.requires.step.within comes (rw same (c.if-not-add_digest.ensures.room refl))
     (rw same added.0) (rw same added.1))

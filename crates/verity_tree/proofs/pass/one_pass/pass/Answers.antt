@@ -21,6 +21,7 @@ returns-in-Ok-clause-run g c =
     omega (
       arith,
       c.read_window.auto.window,
+      c.fill.auto.self,
       c.split_at_mut-opened.ensures.back_len,
       c.split_at_mut-work.ensures.front_len,
       c.requires,
@@ -40,7 +41,7 @@ returns-in-Ok-clause-run g c =
       read = λ tells.
           let read = subst (λ (k : ℕ). HasRead k bytes after) same (reads tells).0 in (
             digest ∙ one-root p bytes after _ c.planned.ensures none read
-                (block-filled c.in-Ok.count p.settings.data_block window c.fill.new.self bytes (omega (arith, all, only.within)) long (omega (arith, (reads tells).0.enough)) (reads tells).1 (c.fill.ensures.after (λ y e. e))
+                (block-filled c.in-Ok.count p.settings.data_block window c.fill-in-Ok.new.self bytes (omega (arith, all, only.within)) long (omega (arith, (reads tells).0.enough)) (reads tells).1 (c.fill-in-Ok.ensures.after (λ y e. e))
                 ∙ ap (λ (k : ℕ). with_zeros p.settings.data_block (take k bytes)) all),
             read,
           );

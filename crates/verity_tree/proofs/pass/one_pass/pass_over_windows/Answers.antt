@@ -1,4 +1,4 @@
-use Rattle.std.proofs.Common.{List, arith, ap, drop, length, length-drop, refl, subst, suc, sym, take, false, min, true, ℕ, ◌+◌, ◌-◌, ◌/◌, ◌^◌, ◌<◌, ◌∙◌, ◌≡◌, ◌≤◌}
+use Rattle.std.proofs.Common.{List, arith, ap, drop, length, length-drop, refl, subst, suc, sym, take, false, min, ℕ, ◌+◌, ◌-◌, ◌/◌, ◌^◌, ◌<◌, ◌∙◌, ◌≡◌, ◌≤◌}
 use Rattle.std.proofs.lemmas.List.{length-take, length-take-le}
 use Rattle.std.proofs.Math.Nat.{zero-div, zero-mul}
 use Rattle.verity_plan.specs.PlanCounts.{level_count_of}
@@ -7,7 +7,7 @@ use Rattle.verity_plan.proofs.CountLemmas.{mul_le}
 use Rattle.verity_plan.proofs.FanLemmas.{fan-some}
 use Rattle.verity_tree.specs.ClosingOrder.{blocks_before, handed_out}
 use Rattle.verity_tree.specs.Levels.{data_blocks, root}
-use Rattle.verity_tree.specs.Steps.Feeding.{Climbs, TakesMore}
+use Rattle.verity_tree.specs.Steps.Feeding.{IsHandingOut, TakesMore}
 use Rattle.verity_tree.specs.Steps.OnClosed.{effects, stop_at}
 use Rattle.verity_io.specs.Reading.{HasRead}
 use Rattle.verity_tree.proofs.LevelLemmas.{length-cut}
@@ -65,14 +65,14 @@ index-is g c = rw c.close_next.ensures.fed at c.handed_out-next.ensures.index
 
 -- the hash block that has closed
 closed-block : (g : Over) (c : After-handed_out-next g) → g.S.Source.tells c.args.source.now
-    → Climbs c.args.plan.now (level_count_of c.args.plan.now)
-    (take c.steps.progress.fed (g.S.Source.remaining c.args.source.now)) c.steps.progress.closed true c.close_next.new.opened
+    → IsHandingOut c.args.plan.now (level_count_of c.args.plan.now) c.steps.progress.closed
+    (take c.steps.progress.fed (g.S.Source.remaining c.args.source.now)) c.close_next.new.opened
 closed-block g c tells =
     let inv = c.steps.invariant in
     let bytes = g.S.Source.remaining c.args.source.now in
-    c.if-close_next.ensures.stands (level_count_of c.args.plan.now) (take c.steps.progress.fed bytes) (omega arith)
+    (c.if-close_next.ensures.stands (level_count_of c.args.plan.now) (take c.steps.progress.fed bytes) (omega arith)
     (omega (arith, c.requires.step.open_room, inv.long))
-    (length-take-le c.steps.progress.fed bytes (inv.read tells).enough) (inv.stands tells)
+    (length-take-le c.steps.progress.fed bytes (inv.read tells).enough) (inv.stands tells)).0
 
 handed : (g : Over) (c : After-handed_out-next g) → g.S.Source.tells c.args.source.now
     → HandsOn c.args.plan.now c.steps.progress.fed c.handed_out-next.result.level c.handed_out-next.result.index
@@ -82,7 +82,7 @@ handed g c tells =
     let closes = closed-block g c tells in
     hands-on p (level_count_of p) c.handed_out-next.result.level c.handed_out-next.result.index c.steps.progress.fed
     (g.S.Source.remaining c.args.source.now) c.close_next.new.opened c.requires.step.planned
-    (c.steps.invariant.read tells).enough (rw (level-is g c) at closes.0) (index-is g c)
+    (c.steps.invariant.read tells).enough (rw (level-is g c) at closes) (index-is g c)
 
 pub take-requires-clause-here : goal.take-requires-clause-here
 take-requires-clause-here g c =
@@ -153,7 +153,7 @@ steps-preserved-in-Ok g c =
       source_failures = inv.source_failures;
       device_failures = c.in-Ok.ensures.count ∙ inv.device_failures;
       read = λ tells. rw same (inv.read tells);
-      stands = λ tells. rw (same, one) (closed-block g own tells).0;
+      stands = λ tells. rw (same, one) (closed-block g own tells);
       kept = λ told first. c.in-Ok.ensures.keeps (inv.device_told told) start (inv.kept told first);
       closed = λ tells told first.
           let out = handed g own tells in
