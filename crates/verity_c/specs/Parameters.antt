@@ -12,6 +12,7 @@ use Rattle.verity_plan.specs.CheckedSettings.{fsverity_settings, type_of_number,
 use Rattle.verity_plan.specs.declared.hash_type.HashType.{HashType as TypeOfHash}
 use Rattle.verity_plan.specs.declared.plan_fault.PlanFault.{PlanFault}
 use Rattle.verity_plan.specs.declared.setting_fault.SettingFault.{SettingFault}
+use Rattle.verity_plan.specs.declared.setting_fault.SettingFault.TheVariants.{Algorithm as UnknownAlgorithm}
 use Rattle.verity_hash.specs.declared.salting.SaltRule.TheVariants.{PaddedBefore}
 use Rattle.verity_c.specs.Statuses.{fault_of_plan, fault_of_setting}
 use Rattle.verity_c.specs.declared.fault.Fault.{Fault}
@@ -72,6 +73,14 @@ abbrev pub plan_of : VerityParams → Result PlanFields Fault
 plan_of params = plan_by (tree_of params) params
 
 -- the settings of fs-verity that parameters make, or the first fault
+-- the settings of fs-verity that parameters make, whether or not there are as many bytes of the salt as are to count
+abbrev pub fsverity_settings_by : Option HashFunction → FsverityParams → Result TreeSettingsFields SettingFault
+fsverity_settings_by None params = Err UnknownAlgorithm
+fsverity_settings_by (Some function) params = fsverity_settings function (take params.salt_size params.salt) params.block_size
+
+abbrev pub fsverity_settings_of : FsverityParams → Result TreeSettingsFields SettingFault
+fsverity_settings_of params = fsverity_settings_by (algorithm_of params.hash_algorithm) params
+
 abbrev pub fsverity_tree_by : Option HashFunction → FsverityParams → Result TreeSettingsFields Fault
 fsverity_tree_by None params = Err Algorithm
 fsverity_tree_by (Some function) params = if_salt_fits

@@ -1,16 +1,16 @@
 //! Building a file's fs-verity tree as pieces of the file come, whose length isn't known before.
-ghost use Rattle.std.specs.Prelude.{◌≡◌, ◌≢◌, ◌+◌, ℕ, List, [], ◌++◌, length, IfOk};
+ghost use Rattle.std.specs.Prelude.{◌≡◌, ◌≢◌, ◌+◌, ℕ, List, [], ◌++◌, length, Err, IfErr, IfOk, Ok};
 ghost use Rattle.verity_c.specs.Answers.{value_or};
 ghost use Rattle.verity_c.specs.Building.{IsFedFileTo, digest_of_fed, file_memory_length_in, file_memory_length_of};
 ghost use Rattle.verity_c.specs.Building.{file_root_in, with_file_end, with_file_memory, with_file_piece};
-ghost use Rattle.verity_c.specs.Parameters.{fsverity_tree_of};
+ghost use Rattle.verity_c.specs.Parameters.{fsverity_settings_of, fsverity_tree_of};
 ghost use Rattle.verity_c.specs.Statuses.{done, status_of};
 
 use crate::fault::{DONE, Fault};
 use crate::files::{fsverity_file_digest, put_digest};
 use crate::parameters::FsverityParams;
-use crate::plans::fsverity_tree_of;
-use verity_plan::TreeSettings;
+use crate::plans::{fsverity_settings_of, fsverity_tree_of};
+use verity_plan::{SettingFault, TreeSettings};
 use verity_tree::FileBuilder;
 
 /// The length of the memory that a file's tree is built in, in bytes: a block for each level that the tree of the
@@ -45,11 +45,12 @@ pub extern "C" fn fsverity_build_begin(params: &mut FsverityParams, memory: &mut
     ensures size { result ≡ done → params.new ≡ record params.old { size = 0 } }
     ensures fed { result ≡ done → IsFedFileTo params.new memory.new [] }
 {
-    let tree = match tree_with(params, memory.len()) {
+    let made = fsverity_settings_of(params);
+    let tree = match tree_in(&made, params, memory.len()) {
         Ok(tree) => tree,
         Err(fault) => return fault.code(),
     };
-    params.size = FileBuilder::begin(&tree, memory).fed;
+    params.size = FileBuilder::begin(tree, memory).fed;
     DONE
 }
 
@@ -71,12 +72,13 @@ pub extern "C" fn fsverity_build_feed(
     ensures fed { (fed : List ℕ) → IsFedFileTo params.old memory.old fed → result ≡ done
         → IsFedFileTo params.new memory.new (fed ++ piece.now) }
 {
-    let tree = match tree_with(params, memory.len()) {
+    let made = fsverity_settings_of(params);
+    let tree = match tree_in(&made, params, memory.len()) {
         Ok(tree) => tree,
         Err(fault) => return fault.code(),
     };
     let mut builder = FileBuilder {
-        settings: tree,
+        settings: *tree,
         fed: params.size,
     };
     match builder.feed(memory, piece) {
@@ -113,7 +115,8 @@ pub extern "C" fn fsverity_build_end(
         → digest.new ≡ value_or digest.old (digest_of_fed (fsverity_tree_of params.now) fed) }
     ensures stays { (fed : List ℕ) → IsFedFileTo params.now memory.old fed → IsFedFileTo params.now memory.new fed }
 {
-    let tree = match tree_with(params, memory.len()) {
+    let made = fsverity_settings_of(params);
+    let tree = match tree_in(&made, params, memory.len()) {
         Ok(tree) => tree,
         Err(fault) => return fault.code(),
     };
@@ -122,7 +125,7 @@ pub extern "C" fn fsverity_build_end(
         return Fault::Length.code();
     }
     let builder = FileBuilder {
-        settings: tree,
+        settings: *tree,
         fed: params.size,
     };
     match builder.end(memory) {
@@ -134,17 +137,25 @@ pub extern "C" fn fsverity_build_end(
     }
 }
 
-/// The settings of the parameters, if the memory is as long as their builder wants; or the first fault: that of the
-/// settings, `Length`.
+/// The settings that parameters have made, if there can be as many bytes of the salt as are to count, and the memory is as
+/// long as their builder wants; or the first fault: that of the settings, `SaltSize`, `Length`. They aren't moved, which
+/// would take as long as a short piece takes otherwise.
 #[inline(always)]
-fn tree_with(params: &FsverityParams, room: usize) -> Result<TreeSettings, Fault>
-    ensures value { result ≡ with_file_memory (fsverity_tree_of params.now) room }
-    ensures made { IfOk result (λ tree. fsverity_tree_of params.now ≡ Ok tree) }
-    ensures memory { IfOk result (λ tree. room ≡ file_memory_length_of tree) }
+fn tree_in<'a>(
+    made: &'a Result<TreeSettings, SettingFault>,
+    params: &FsverityParams,
+    room: usize,
+) -> Result<&'a TreeSettings, Fault>
+    requires { made.now ≡ fsverity_settings_of params.now }
+    ensures value { IfOk result (λ tree. with_file_memory (fsverity_tree_of params.now) room ≡ Ok tree.now) }
+    ensures made { IfOk result (λ tree. fsverity_tree_of params.now ≡ Ok tree.now) }
+    ensures memory { IfOk result (λ tree. room ≡ file_memory_length_of tree.now) }
+    ensures fault { IfErr result (λ fault. with_file_memory (fsverity_tree_of params.now) room ≡ Err fault) }
 {
-    match fsverity_tree_of(params) {
-        Ok(tree) if room == FileBuilder::memory_length(&tree) => Ok(tree),
+    match made {
+        Ok(_) if params.salt_size as usize > params.salt.len() => Err(Fault::SaltSize),
+        Ok(tree) if room == FileBuilder::memory_length(tree) => Ok(tree),
         Ok(_) => Err(Fault::Length),
-        Err(fault) => Err(fault),
+        Err(fault) => Err(Fault::of_setting(*fault)),
     }
 }

@@ -1,6 +1,7 @@
 //! The settings and plans that parameters make.
 ghost use Rattle.std.specs.Prelude.{◌≡◌, ◌≤◌, length, take};
-ghost use Rattle.verity_c.specs.Parameters.{algorithm_of, fsverity_plan_of, fsverity_tree_of, if_salt_fits, number_of};
+ghost use Rattle.verity_c.specs.Parameters.{algorithm_of, fsverity_plan_of, fsverity_settings_of, fsverity_tree_of};
+ghost use Rattle.verity_c.specs.Parameters.{if_salt_fits, number_of};
 ghost use Rattle.verity_c.specs.Parameters.{plan_of, tree_of};
 
 use crate::fault::Fault;
@@ -94,16 +95,24 @@ pub(crate) fn plan_of(params: &VerityParams) -> Result<Plan, Fault>
     }
 }
 
+/// The settings of fs-verity that parameters make, whether or not there are as many bytes of the salt as are to count; or
+/// the first fault.
+pub(crate) fn fsverity_settings_of(params: &FsverityParams) -> Result<TreeSettings, SettingFault>
+    ensures { result ≡ fsverity_settings_of params.now }
+{
+    let Some(algorithm) = algorithm_of(params.hash_algorithm) else {
+        return Err(SettingFault::Algorithm);
+    };
+    let salt = counting(&params.salt, params.salt_size);
+    TreeSettings::fsverity(algorithm, salt, params.block_size)
+}
+
 /// The settings of fs-verity that parameters make, or the first of `Algorithm`, `DataBlockSize`, `SaltSize`.
 pub(crate) fn fsverity_tree_of(params: &FsverityParams) -> Result<TreeSettings, Fault>
     ensures { result ≡ fsverity_tree_of params.now }
 {
-    let Some(algorithm) = algorithm_of(params.hash_algorithm) else {
-        return Err(Fault::Algorithm);
-    };
-    let salt = counting(&params.salt, params.salt_size);
-    let tree = TreeSettings::fsverity(algorithm, salt, params.block_size);
-    if_salt_fits(tree, params.salt_size, params.salt.len())
+    let made = fsverity_settings_of(params);
+    if_salt_fits(made, params.salt_size, params.salt.len())
 }
 
 /// The plan of fs-verity that parameters make, or the first fault: that of the settings, `NoData`, `TooLarge`.

@@ -6,7 +6,7 @@ use Rattle.verity_c.proofs.file_building.fsverity_build_begin.Goals as goal
 pub returns-clause-fed : goal.returns-clause-fed
 returns-clause-fed c =
     λ _.
-    IsFedFileTo-of c.args.params.now c.in-Ok.tree c.begin.result c.begin.new.memory []
+    IsFedFileTo-of c.args.params.now c.in-Ok.tree.now c.begin.result c.begin.new.memory []
     c.in-Ok.ensures.made
     (ap (λ (b : FileBuilder). b.settings) c.begin.ensures.new)
     c.begin.ensures.fed

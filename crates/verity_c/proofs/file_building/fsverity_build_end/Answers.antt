@@ -14,7 +14,7 @@ returns-in-Ok-end-clause-root c =
     λ fed h _.
     let made = c.in-Ok.ensures.made in
     let same = c.digest_len-digest_len.ensures ∙ ap digest_len_of c.algorithm.ensures in
-    file_root-put c.args.params.now c.in-Ok.tree c.args.memory.now fed c.in-Ok-end.answer c.args.root.now
+    file_root-put c.args.params.now c.in-Ok.tree.now c.args.memory.now fed c.in-Ok-end.answer c.args.root.now
     c.put_digest.new.buffer
     made
     h
@@ -26,7 +26,7 @@ returns-in-Ok-end-clause-root c =
 pub returns-in-Ok-end-clause-digest : goal.returns-in-Ok-end-clause-digest
 returns-in-Ok-end-clause-digest c =
     λ fed h _.
-    let tree = c.in-Ok.tree in
+    let tree = c.in-Ok.tree.now in
     let made = c.in-Ok.ensures.made in
     let same = c.digest_len-digest_len.ensures ∙ ap digest_len_of c.algorithm.ensures in
     let hash : c.put_digest.new.buffer ≡ root_of_file tree (length fed) fed =
@@ -51,7 +51,7 @@ returns-in-Ok-end-clause-digest c =
 pub returns-in-Ok-end-clause-stays : goal.returns-in-Ok-end-clause-stays
 returns-in-Ok-end-clause-stays c =
     λ fed h.
-    let tree = c.in-Ok.tree in
+    let tree = c.in-Ok.tree.now in
     let made = c.in-Ok.ensures.made in
     IsFedFileTo-of c.args.params.now tree (file_builder_of tree c.args.params.now.size) c.end.new.memory fed made refl
     (c.in-Ok-end.ensures.stays fed (IsFedFileTo-at c.args.params.now tree c.args.memory.now fed made h))

@@ -6,6 +6,6 @@ pub returns-in-Ok-feed-clause-fed : goal.returns-in-Ok-feed-clause-fed
 returns-in-Ok-feed-clause-fed c =
     λ fed h _.
     let made = c.in-Ok.ensures.made in
-    IsFedFileTo-of c.args.params.now c.in-Ok.tree c.feed.new.self c.feed.new.memory (fed ++ c.args.piece.now) made
+    IsFedFileTo-of c.args.params.now c.in-Ok.tree.now c.feed.new.self c.feed.new.memory (fed ++ c.args.piece.now) made
     c.in-Ok-feed.ensures.settings
-    (c.in-Ok-feed.ensures.fed fed (IsFedFileTo-at c.args.params.now c.in-Ok.tree c.args.memory.now fed made h))
+    (c.in-Ok-feed.ensures.fed fed (IsFedFileTo-at c.args.params.now c.in-Ok.tree.now c.args.memory.now fed made h))
