@@ -4,9 +4,10 @@
 # processor.
 CPU = $(shell ./processor.sh)
 
-# For what `make library` builds: x86_64, the static library for CPU and the shared one for SHARED_CPU; or aarch64.
+# TARGET is what the library is built and installed for, x86_64 or aarch64. Its static part is for every x86-64
+# processor, or for CPU if make is called with CPU=..
 TARGET = x86_64
-SHARED_CPU = x86-64-v2
+LIBRARY_CPU = $(if $(filter command,$(origin CPU)),$(CPU))
 
 # Where `make install` puts things, what it adds to the programs' names, so that they can stand beside Debian's, and
 # whether what runs is stripped: yes or no.
@@ -29,7 +30,8 @@ SECONDS = 1800
 SEED =
 
 .PHONY: run programs library libraries test check gate wrong-bodies check-programs check-library out-of-memory interop \
-    soak search kernel bench bench-feeding reproducible install uninstall dist clean help
+    soak search kernel bench bench-feeding reproducible install uninstall install-library uninstall-library dist clean \
+    help
 
 # Proves and builds the one program that this needs, and prints the digest of a real file.
 run:
@@ -41,13 +43,14 @@ programs:
 	./build.sh fsverity_cli fsverity $(CPU)
 	./build.sh veritysetup_cli veritysetup $(CPU)
 
-# Proves and builds the library for C: lib/libverity.a and lib/libverity.so.1, or those for 64-bit ARM in lib/aarch64.
+# Proves and builds the library for C: lib/libverity.a and lib/libverity.so.2, with both for x86-64-v3 in
+# lib/glibc-hwcaps; or those for 64-bit ARM in lib/aarch64.
 library:
-	./library.sh $(TARGET) $(CPU) $(SHARED_CPU)
+	./library.sh $(TARGET) $(LIBRARY_CPU)
 
-# Both, for the tests.
+# The libraries for both targets, for the tests.
 libraries:
-	./library.sh x86_64 $(CPU) $(SHARED_CPU)
+	./library.sh x86_64 $(LIBRARY_CPU)
 	./library.sh aarch64
 
 # All tests: the gate, then the programs that it built, the documents' examples, and Debian's programs beside them.
@@ -104,7 +107,8 @@ bench: programs
 	./build.sh bench_bare bench_bare $(CPU)
 	bench/bench.sh
 
-# Measures the library that is fed with pieces of a file beside bin/fsverity, Debian's fsverity and Debian's libfsverity.
+# Measures the library that is fed with pieces of a file beside bin/fsverity, Debian's fsverity and Debian's
+# libfsverity.
 bench-feeding: programs library
 	bench/feeding.sh
 
@@ -112,19 +116,21 @@ bench-feeding: programs library
 reproducible: programs
 	tests/reproducible.sh
 
-# Installs programs, manual pages and bash's completion, and the library if it is built; or removes just these. Nothing
-# is built here, so that no proof runs as root.
-install uninstall: export PREFIX := $(PREFIX)
-install uninstall: export DESTDIR := $(DESTDIR)
-install uninstall: export BINDIR := $(BINDIR)
-install uninstall: export SBINDIR := $(SBINDIR)
-install uninstall: export MANDIR := $(MANDIR)
-install uninstall: export BASHCOMPDIR := $(BASHCOMPDIR)
-install uninstall: export LIBDIR := $(LIBDIR)
-install uninstall: export INCLUDEDIR := $(INCLUDEDIR)
-install uninstall: export SUFFIX := $(SUFFIX)
-install uninstall: export STRIP := $(STRIP)
-install uninstall:
+# Installs programs, manual pages and bash's completion, and the library if it is built; or removes just these. The
+# other two do the same for the library alone, of TARGET. Nothing is built here, so that no proof runs as root.
+INSTALLING = install uninstall install-library uninstall-library
+$(INSTALLING): export TARGET := $(TARGET)
+$(INSTALLING): export PREFIX := $(PREFIX)
+$(INSTALLING): export DESTDIR := $(DESTDIR)
+$(INSTALLING): export BINDIR := $(BINDIR)
+$(INSTALLING): export SBINDIR := $(SBINDIR)
+$(INSTALLING): export MANDIR := $(MANDIR)
+$(INSTALLING): export BASHCOMPDIR := $(BASHCOMPDIR)
+$(INSTALLING): export LIBDIR := $(LIBDIR)
+$(INSTALLING): export INCLUDEDIR := $(INCLUDEDIR)
+$(INSTALLING): export SUFFIX := $(SUFFIX)
+$(INSTALLING): export STRIP := $(STRIP)
+$(INSTALLING):
 	@./install.sh $@
 
 # Makes one archive of the sources as they were committed. The same commit gives the same bytes.
@@ -142,24 +148,27 @@ help:
 	@echo
 	@echo 'make run             7 minutes     proves and builds fsverity, and prints the digest of a file'
 	@echo 'make programs        11 minutes    proves and builds bin/fsverity and bin/veritysetup [CPU]'
-	@echo 'make library         6 minutes     proves and builds the library for C [TARGET, CPU, SHARED_CPU]'
+	@echo 'make library         6 minutes     proves and builds the library for C [TARGET, CPU]'
 	@echo 'make test            65 minutes    all tests: gate, the programs as a user runs them, documents, comparisons'
 	@echo 'make check           5 minutes +   all tests but the gate'
-	@echo 'make gate            60 minutes    every proof from nothing, tests of the crates, wrong bodies that must be refused'
+	@echo 'make gate            60 minutes    every proof from nothing, tests of the crates, wrong bodies to be refused'
 	@echo 'make wrong-bodies    40 minutes +  sees each wrong body refused in its own function [CRATE, ANEW]'
 	@echo 'make check-programs  30 seconds +  runs the programs as a user would'
 	@echo 'make check-library   5 minutes +   calls the library from C, and runs its examples'
 	@echo 'make out-of-memory   7 minutes +   refuses each request for memory in turn'
 	@echo 'make interop         10 minutes +  compares the programs with those of Debian, over all settings'
 	@echo 'make soak            30 minutes +  random runs of both programs, compared with other programs [SECONDS, SEED]'
-	@echo 'make search          30 minutes +  random command lines, for differences from Debian that no row names [SECONDS, SEED]'
+	@echo 'make search          30 minutes +  random command lines, for differences from Debian that no row names'
+	@echo '                                   [SECONDS, SEED]'
 	@echo 'make kernel          10 minutes +  has the Linux kernel open the images, in a virtual machine [KERNEL, MODULES]'
 	@echo 'make bench           7 minutes +   measures speed and memory, beside bare hashing and the programs of Debian'
 	@echo 'make bench-feeding   2 minutes +   measures the library that is fed with pieces of a file'
 	@echo 'make reproducible    5 minutes +   builds once more in another folder, and compares the programs'
-	@echo 'make install         seconds       installs programs, manual pages and completion, and the library if it is built'
-	@echo '                                   [PREFIX, DESTDIR, SUFFIX, STRIP=yes, BINDIR, SBINDIR, MANDIR, BASHCOMPDIR, LIBDIR,'
-	@echo '                                   INCLUDEDIR]'
+	@echo 'make install         seconds       installs programs, pages and completion, and the library if it is built'
+	@echo '                                   [PREFIX, DESTDIR, SUFFIX, STRIP=yes, BINDIR, SBINDIR, MANDIR, BASHCOMPDIR,'
+	@echo '                                   LIBDIR, INCLUDEDIR]'
 	@echo 'make uninstall       seconds       removes what make install has installed; give it the same settings'
-	@echo 'make dist            seconds       makes an archive of the committed sources, with the version in its name [DIST]'
+	@echo 'make install-library seconds       installs the library alone; make uninstall-library removes it'
+	@echo '                                   [TARGET, PREFIX, DESTDIR, STRIP=yes, MANDIR, LIBDIR, INCLUDEDIR]'
+	@echo 'make dist            seconds       makes an archive of what is committed, with the version in its name [DIST]'
 	@echo 'make clean           seconds       removes what was built, and what is kept of the proofs'

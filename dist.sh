@@ -1,7 +1,7 @@
 #!/bin/bash
-# dist.sh: makes one archive of the sources as they were committed, in the folder DIST, and prints its name, which has the
-# version and, for a commit after that version, the commit. The times in it are the commit's, so that the same commit
-# gives the same bytes, wherever and whenever the archive is made.
+# dist.sh: makes one archive of the sources as they were committed, in the folder DIST, and prints its name, which has
+# the version and, as long as CHANGELOG.md says that it is not yet released, the commit. The times in it are the
+# commit's, so that the same commit gives the same bytes, wherever and whenever the archive is made.
 set -euo pipefail
 cd "$(dirname "$0")"
 if [ ! -e .git ] || ! commit=$(git rev-parse --verify --quiet 'HEAD^{commit}'); then
@@ -9,7 +9,8 @@ if [ ! -e .git ] || ! commit=$(git rev-parse --verify --quiet 'HEAD^{commit}'); 
     exit 1
 fi
 version=$(git show "$commit:include/verity.h" | awk '/^#define VERITY_VERSION_/ { printf "%s%s", dot, $3; dot = "." }')
-if git show "$commit:CHANGELOG.md" | grep -qx '## Not yet released'; then version+=+${commit:0:12}; fi
+changes=$(git show "$commit:CHANGELOG.md")
+if grep -qi '^## .*not yet released' <<<"$changes"; then version+=+${commit:0:12}; fi
 name=verity-$version
 archive=${DIST:-dist}/$name.tar.gz
 mkdir -p "${DIST:-dist}"

@@ -2,31 +2,44 @@
 # install.sh install|uninstall: puts the programs of bin/, their manual pages and bash's completion of their words below
 # DESTDIR and PREFIX, with SUFFIX at the end of their names; or removes just these files. BINDIR, SBINDIR, MANDIR,
 # BASHCOMPDIR, LIBDIR and INCLUDEDIR are folders in place of those below PREFIX, and DESTDIR stands before them too. A
-# folder that is there keeps its mode. With STRIP=yes the programs and the shared library are stripped. The pages and the
-# completion speak of the programs by these names. If lib/ has the library for C, that goes there too, by its own names,
-# with its header, its page and what pkg-config says of it. Nothing is built here, so that no proof runs as root.
+# folder that is there keeps its mode. With STRIP=yes the programs and the shared libraries are stripped. The pages and
+# the completion speak of the programs by these names. If lib/ has the library for C, that goes there too, by its own
+# names, with its header, its page and what pkg-config says of it. install.sh install-library|uninstall-library does
+# this with the library alone, that of TARGET: x86_64, or aarch64, for which there are no programs. Its page speaks of
+# the programs by their plain names then. One target's library doesn't take the place of another's, and isn't removed in
+# place of it. Nothing is built here, so that no proof runs as root.
 set -euo pipefail
 cd "$(dirname "$0")"
 prefix=${PREFIX-/usr/local}
 suffix=${SUFFIX--proved}
-if [[ $suffix = *[!A-Za-z0-9._+-]* ]]; then
-    echo "install.sh: SUFFIX may have letters, digits and . _ + - alone" >&2
+
+# refuse MESSAGE: ends before anything is installed or removed.
+refuse() {
+    echo "install.sh: $1" >&2
     exit 1
-fi
+}
+
+if [[ $suffix = *[!A-Za-z0-9._+-]* ]]; then refuse 'SUFFIX may have letters, digits and . _ + - alone'; fi
 case ${STRIP:=no} in
 yes | no) ;;
-*)
-    echo "install.sh: STRIP is yes or no" >&2
-    exit 1
+*) refuse 'STRIP is yes or no' ;;
+esac
+# The files of the library in the folder where it is built, and what links and strips them.
+case ${TARGET:=x86_64} in
+x86_64)
+    built=lib compiler=cc strip=strip
+    archives=(libverity.a) shared=(libverity.so.2 glibc-hwcaps/x86-64-v3/libverity.so.2)
     ;;
+aarch64)
+    built=lib/aarch64 compiler=aarch64-linux-gnu-gcc strip=aarch64-linux-gnu-strip
+    archives=(libverity.a libverity-strict-align.a) shared=(libverity.so.2)
+    ;;
+*) refuse 'TARGET is x86_64 or aarch64' ;;
 esac
 for name in PREFIX BINDIR SBINDIR MANDIR BASHCOMPDIR LIBDIR INCLUDEDIR; do
     case ${!name-/} in
     '' | /*) ;;
-    *)
-        echo "install.sh: $name has to begin with /" >&2
-        exit 1
-        ;;
+    *) refuse "$name has to begin with /" ;;
     esac
 done
 libdir=${LIBDIR:-$prefix/lib}
@@ -37,10 +50,12 @@ pages=${DESTDIR-}${MANDIR:-$prefix/share/man}
 completions=${DESTDIR-}${BASHCOMPDIR:-$prefix/share/bash-completion/completions}
 libraries=${DESTDIR-}$libdir
 headers=${DESTDIR-}$includedir
+pkg_config=$libraries/pkgconfig/verity.pc
 
 # Prints a page with the installed names in its headings, footer, examples and references.
 page() {
-    sed -E -e "s/^\.Dt (FSVERITY|VERITYSETUP) /.Dt \1${suffix^^} /" -e "s/^\.(Nm|Os) (fsverity|veritysetup)\b/&$suffix/" \
+    sed -E -e "s/^\.Dt (FSVERITY|VERITYSETUP) /.Dt \1${suffix^^} /" \
+        -e "s/^\.(Nm|Os) (fsverity|veritysetup)\b/&$suffix/" \
         -e "s/^\.Xr (fsverity|veritysetup) /.Xr \1$suffix /" -e "s/^\\$ (fsverity|veritysetup) /$ \1$suffix /" "$1"
 }
 
@@ -62,8 +77,10 @@ put() {
 
 # put_built FILE: the same for what runs, stripped if that is wanted.
 put_built() {
+    local words=()
+    if [ "$STRIP" = yes ]; then words=(-s "--strip-program=$strip"); fi
     make_folder "$(dirname "$1")"
-    if [ "$STRIP" = yes ]; then install -s -m 755 /dev/stdin "$1"; else install -m 755 /dev/stdin "$1"; fi
+    install "${words[@]}" -m 755 /dev/stdin "$1"
 }
 
 # below_prefix FOLDER: prints a folder as pkg-config's file names it, by its variable if it lies below PREFIX.
@@ -74,14 +91,16 @@ below_prefix() {
     esac
 }
 
-# pkg_config: prints what pkg-config is told of the library, with the version that its header has.
-pkg_config() {
+# described: prints what pkg-config is told of the library, with the version that its header has. The target is for this
+# script alone.
+described() {
     local version
     version=$(awk '/^#define VERITY_VERSION_/ { printf "%s%s", dot, $3; dot = "." }' include/verity.h)
     cat <<END
 prefix=$prefix
 libdir=$(below_prefix "$libdir")
 includedir=$(below_prefix "$includedir")
+target=$TARGET
 
 Name: libverity
 Description: checks blocks of dm-verity and fs-verity, and builds their trees as data comes
@@ -91,21 +110,83 @@ Cflags: -I"\${includedir}"
 END
 }
 
-install_library() {
-    put 644 "$libraries/libverity.a" <lib/libverity.a
-    put_built "$libraries/libverity.so.1" <lib/libverity.so.1
-    ln -sfn libverity.so.1 "$libraries/libverity.so"
-    pkg_config | put 644 "$libraries/pkgconfig/verity.pc"
+# lacks FILE..: prints the first of these files of the library that isn't built. Fails if all are there.
+lacks() {
+    local file
+    for file; do
+        if [ ! -e "$built/$file" ]; then
+            echo "$file"
+            return
+        fi
+    done
+    return 1
+}
+
+# installed_target: prints for which target a library is installed there, if one is: a file of pkg-config that doesn't
+# say so is of an older version, which was for x86_64 alone. A header of this name may be another library's.
+installed_target() {
+    local there
+    if ! grep -qsx 'Name: libverity' "$pkg_config"; then return; fi
+    there=$(sed -n 's/^target=//p' "$pkg_config")
+    echo "${there:-x86_64}"
+}
+
+# takes_place: refuses to install over the library for another target.
+takes_place() {
+    local there
+    there=$(installed_target)
+    if [ "${there:-$TARGET}" != "$TARGET" ]; then
+        refuse "the library in $libraries is for $there: give that for $TARGET a LIBDIR of its own"
+    fi
+}
+
+# put_library: puts the library there, and first what pkg-config says of it, by which it is known when it is removed.
+put_library() {
+    local file
+    described | put 644 "$pkg_config"
+    for file in "${archives[@]}"; do put 644 "$libraries/$file" <"$built/$file"; done
+    for file in "${shared[@]}"; do put_built "$libraries/$file" <"$built/$file"; done
+    ln -sfn libverity.so.2 "$libraries/libverity.so"
     put 644 "$headers/verity.h" <include/verity.h
     page man/verity.3 | put 644 "$pages/man3/verity.3"
 }
 
+remove_library() {
+    rm -f "${archives[@]/#/$libraries/}" "${shared[@]/#/$libraries/}" "$libraries/libverity.so"
+    rm -f "$headers/verity.h" "$pages/man3/verity.3" "$pkg_config"
+}
+
+install_library() {
+    # There may be no programs beside it, so its page names them by their plain names.
+    local make='make library' file suffix=
+    if [ "$TARGET" != x86_64 ]; then make+=" TARGET=$TARGET"; fi
+    if lacks "${archives[@]}" >/dev/null; then refuse "run '$make' first"; fi
+    if file=$(lacks "${shared[@]}"); then refuse "$file isn't built: install $compiler and run '$make' first"; fi
+    takes_place
+    put_library
+}
+
+uninstall_library() {
+    local there
+    there=$(installed_target)
+    case $there in
+    "$TARGET") remove_library ;;
+    '') ;;
+    *) refuse "the library in $libraries is for $there: use 'make uninstall-library TARGET=$there'" ;;
+    esac
+}
+
 install_all() {
-    if [ ! -x bin/fsverity ] || [ ! -x bin/veritysetup ]; then
-        echo "run 'make programs' first" >&2
-        exit 1
+    if [ ! -x bin/fsverity ] || [ ! -x bin/veritysetup ]; then refuse "run 'make programs' first"; fi
+    local name section file has_library=no
+    if ! lacks "${archives[@]}" >/dev/null; then
+        if file=$(lacks "${shared[@]}"); then
+            echo "$file isn't built, so the library is left out" >&2
+        else
+            takes_place
+            has_library=yes
+        fi
     fi
-    local name section
     put_built "$bin/fsverity$suffix" <bin/fsverity
     put_built "$sbin/veritysetup$suffix" <bin/veritysetup
     for name in fsverity.1 veritysetup.8; do
@@ -117,26 +198,28 @@ install_all() {
     if ! [ "$bin" -ef "$sbin" ] && [ -e "$bin/veritysetup$suffix" ]; then
         echo "$bin/veritysetup$suffix may be of an older version: remove it then, for the new one is in $sbin" >&2
     fi
-    if [ -e lib/libverity.a ] && [ -e lib/libverity.so.1 ]; then install_library; fi
-    if [ -e lib/libverity.a ] && [ ! -e lib/libverity.so.1 ]; then
-        echo "libverity.so.1 isn't built, so the library is left out" >&2
-    fi
+    if [ $has_library = yes ]; then put_library; fi
 }
 
 uninstall_all() {
     rm -f "$bin/fsverity$suffix" "$pages/man1/fsverity$suffix.1" "$completions/fsverity$suffix"
     rm -f "$sbin/veritysetup$suffix" "$pages/man8/veritysetup$suffix.8" "$completions/veritysetup$suffix"
-    # A header of this name may be another library's.
-    if ! grep -qsx 'Name: libverity' "$libraries/pkgconfig/verity.pc"; then return; fi
-    rm -f "$libraries/libverity.a" "$libraries/libverity.so" "$libraries/libverity.so.1" "$libraries/pkgconfig/verity.pc"
-    rm -f "$headers/verity.h" "$pages/man3/verity.3"
+    if [ "$(installed_target)" = "$TARGET" ]; then remove_library; fi
 }
 
+if [[ ${1-} = install* ]] && [ "$STRIP" = yes ] && ! type -P "$strip" >/dev/null; then
+    refuse "$strip isn't installed, which STRIP=yes needs"
+fi
 case ${1-} in
-install) install_all ;;
-uninstall) uninstall_all ;;
+install | uninstall)
+    if [ "$TARGET" != x86_64 ]; then
+        refuse "there are no programs for $TARGET: use 'make $1-library TARGET=$TARGET'"
+    fi
+    "$1_all"
+    ;;
+install-library | uninstall-library) "${1/-/_}" ;;
 *)
-    echo "usage: install.sh install|uninstall" >&2
+    echo "usage: install.sh install|uninstall|install-library|uninstall-library" >&2
     exit 1
     ;;
 esac

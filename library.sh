@@ -1,20 +1,62 @@
 #!/bin/bash
-# library.sh TARGET [CPU [SHARED_CPU]]: proves and builds the library for C into lib/. For x86_64 that is libverity.a for
-# the processor CPU, x86-64-v2 or x86-64-v3, and libverity.so.1 for SHARED_CPU. For aarch64 it is aarch64/libverity.a,
-# for any 64-bit ARM. A shared library is left out if the compiler that links it isn't there. A file NAME.made beside each keeps
-# for what and of what it was built, so that nothing is done if both are the same. LIB=FOLDER takes another folder than
-# lib/, counted from here. With OVER_GATE=yes the crates below are those that the gate has just proved.
+# library.sh x86_64 [CPU] or library.sh aarch64: proves and builds the library for C into lib/.
+#
+# For x86_64:
+#   libverity.a       static, for the processor CPU: x86-64, and so every x86-64 processor, if none is said, or
+#                     x86-64-v2 or x86-64-v3
+#   libverity.so.2    shared, for x86-64
+#   glibc-hwcaps/x86-64-v3/libverity.so.2
+#                     shared, for x86-64-v3: glibc's loader takes it from there by itself, where a processor has all of
+#                     that
+#   glibc-hwcaps/x86-64-v3/libverity.a
+#                     static, for x86-64-v3: for tests and bench/feeding.sh
+#
+# For aarch64, in lib/aarch64/, for every 64-bit ARM processor; none of them uses the register x18:
+#   libverity.a       static
+#   libverity-strict-align.a
+#                     static, for where memory is read at aligned addresses alone, as with the MMU off
+#   libverity.so.2    shared
+#
+# Shared libraries, and all in glibc-hwcaps/, are left out if the compiler that links them isn't there. A file NAME.made
+# beside each keeps for what and of what it was built, so that nothing is done if both are the same. LIB=FOLDER takes
+# another folder than lib/, counted from here. With OVER_GATE=yes the crates below are those that the gate has just
+# proved.
 set -euo pipefail
 cd "$(dirname "$0")"
 . ./building.sh
-target=${1:-} cpu=${2:-x86-64-v2} shared_cpu=${3:-x86-64-v2}
-lib=${LIB:-lib}
+
+# refuse MESSAGE: ends before anything is built.
+refuse() {
+    echo "library.sh: $1" >&2
+    exit 1
+}
+
+target=${1:-} cpu=${2:-x86-64} folder=${LIB:-lib} compiler=cc
+case $target in
+x86_64) ;;
+aarch64)
+    if [ $# -gt 1 ]; then refuse 'CPU is for x86_64 alone'; fi
+    if ! type -P cc >/dev/null; then
+        refuse 'cc is not installed: for 64-bit ARM a small program in C is needed, which hands clang its flags'
+    fi
+    folder+=/aarch64 compiler=aarch64-linux-gnu-gcc
+    ;;
+*) refuse 'TARGET is x86_64 or aarch64' ;;
+esac
+case $cpu in
+x86-64 | x86-64-v2 | x86-64-v3) ;;
+*) refuse 'CPU is x86-64, x86-64-v2 or x86-64-v3' ;;
+esac
+if [ $# -gt 2 ]; then refuse 'only TARGET and CPU are taken'; fi
+for_v3=$folder/glibc-hwcaps/x86-64-v3
 crate=verity_c
+# For which processor `rt` has built the library in this run.
+ran_for=
 scratch=$(mktemp -d)
 trap 'rm -rf "$scratch"' EXIT
 
 # What a library is built of, before one is: a source that changes meanwhile has changed.
-of=$({ sources && cat library.sh; } | sha256sum)
+of=$({ sources && cat library.sh clang_for_arm.c; } | sha256sum)
 
 # made FILE FOR: prints for what a file was built, what libraries are built of, and the sum of the file.
 made() {
@@ -24,7 +66,8 @@ made() {
 
 # is_made FILE FOR: whether the file was built for this, and nothing has changed.
 is_made() {
-    [ -e "$1" ] && [ -e "$1.made" ] && cmp -s <(made "$1" "$2") "$1.made" && echo "$1: built for $2, and nothing has changed"
+    [ -e "$1" ] && [ -e "$1.made" ] && cmp -s <(made "$1" "$2") "$1.made" &&
+        echo "$1: built for $2, and nothing has changed"
 }
 
 # put FILE TO FOR: a built file gets its place.
@@ -42,25 +85,72 @@ failed() {
     exit 1
 }
 
-# archive CPU TO: proves and builds the static library for a processor of x86-64, or with `aarch64` for 64-bit ARM.
-archive() {
-    echo "    building for $1"
-    if [ "${OVER_GATE:-no}" = yes ]; then
-        over_proved "$1" "$2"
-        return
-    fi
-    (cd "crates/$crate" && rm -f "out/lib$crate.a" && rt lib "--cpu=${1/aarch64/x86-64-v2}" </dev/null 2>&1) |
-        tee "$scratch/said" | name_proved || true
-    [ -e "crates/$crate/out/lib$crate.a" ] || failed 'the library is not proved or not built'
-    if [ "$1" = aarch64 ]; then over_proved "$1" "$2"; else cp "crates/$crate/out/lib$crate.a" "$2"; fi
+# stands CPU: whether the static library for a processor stands in its folder, and nothing has changed. Leaves it in
+# $scratch.
+stands() {
+    local built
+    for built in "$folder" "$for_v3"; do
+        if is_made "$built/libverity.a" "$1" >"$scratch/said"; then
+            cp "$built/libverity.a" "$scratch/$1.a"
+            return
+        fi
+    done
+    return 1
 }
 
-# over_proved CPU TO: the same over the crates below as they have been proved. `rt` has no word for another processor than
-# x86-64's, so the compiler under it is called, which proves the crate for it.
+# archive CPU: proves and builds the static library for a processor of x86-64, or with `aarch64` or
+# `aarch64-strict-align` for 64-bit ARM, and leaves it in $scratch.
+archive() {
+    local to=$scratch/$1.a native=$1
+    echo "    building for $1"
+    if [ "${OVER_GATE:-no}" = yes ]; then
+        over_proved "$1" "$to"
+        return
+    fi
+    case $1 in aarch64*) native=x86-64 ;; esac
+    if [ "$ran_for" != "$native" ]; then
+        (cd "crates/$crate" && rm -f "out/lib$crate.a" && rt lib "--cpu=$native" </dev/null 2>&1) |
+            tee "$scratch/said" | name_proved || true
+        [ -e "crates/$crate/out/lib$crate.a" ] || failed 'the library is not proved or not built'
+        ran_for=$native
+    fi
+    if [ "$1" != "$native" ]; then over_proved "$1" "$to"; else cp "crates/$crate/out/lib$crate.a" "$to"; fi
+}
+
+# toolchain_for_arm FOLDER FLAG..: makes a folder like the toolchain's, whose clang takes these flags too for 64-bit
+# ARM.
+toolchain_for_arm() {
+    local to=$1 from file flags
+    shift
+    from=$(dirname "$(rt doc)")/toolchain
+    mkdir -p "$to/bin"
+    cp -r "$from/lib" "$to/lib"
+    for file in "$from"/bin/*; do
+        if [ "${file##*/}" != clang ]; then ln -s "$file" "$to/bin/"; fi
+    done
+    printf -v flags '"%s",' "$@"
+    cc -O1 -Wall -Wextra -DTOOLCHAIN="\"$from\"" -DFLAGS="$flags" clang_for_arm.c -o "$to/bin/clang" \
+        >"$scratch/said" 2>&1 || failed "clang_for_arm.c can't be compiled"
+}
+
+# over_proved CPU TO: the same over the crates below as they have been proved. `rt` has no word for another processor
+# than x86-64's, so the compiler under it is called, which proves the crate for it. What is the same for several
+# processors is proved once in a run: it is kept in the scratch folder.
 over_proved() {
-    local kit words=(--cpu="$1") name folder
+    local kit words=(--cpu="$1") tools name folder
     kit=$(dirname "$(rt doc)")
-    if [ "$1" = aarch64 ]; then words=(--target aarch64-unknown-linux-gnu); fi
+    tools=$kit/toolchain
+    case $1 in
+    aarch64*)
+        words=(--target aarch64-unknown-linux-gnu)
+        tools=$scratch/$1
+        # x18 is the platform's: U-Boot's `gd`, Android's shadow call stack.
+        case $1 in
+        aarch64) toolchain_for_arm "$tools" -ffixed-x18 ;;
+        *) toolchain_for_arm "$tools" -ffixed-x18 -mstrict-align ;;
+        esac
+        ;;
+    esac
     words+=(--extern "std=$kit/rlibs/std.rlib")
     for name in $(sed -n "s/^$crate staticlib: //p" crates.txt); do
         words+=(--extern "$name=$PWD/crates/$name/out/rlib/$name.rlib")
@@ -68,48 +158,68 @@ over_proved() {
     for folder in "$PWD"/crates/*/out/rlib "$kit/rlibs"; do words+=(-L "dependency=$folder"); done
     (
         cd "crates/$crate"
-        "$kit/bin/rattle" build --crate-type staticlib --crate-name "$crate" src/lib.rt "${words[@]}" --links "$crate=" \
-            --antt-project "$kit/rattle/logic/antt-project.json" --logic-built "$kit/logic_built" \
-            --toolchain "$kit/toolchain" --jobs 2 -o "$2"
+        "$kit/bin/rattle" build --crate-type staticlib --crate-name "$crate" src/lib.rt "${words[@]}" \
+            --links "$crate=" --antt-project "$kit/rattle/logic/antt-project.json" --logic-built "$kit/logic_built" \
+            --toolchain "$tools" --jobs 2 --incremental "$scratch/kept" -o "$2"
     ) >"$scratch/said" 2>&1 </dev/null || failed "the library is not proved or not built for $1"
     grep -q '^logic=proved ' "$scratch/said" || failed "the library is not proved for $1"
     echo "    $crate is proved for $1"
 }
 
-# shared COMPILER ARCHIVE TO: makes a shared library of an archive, which shows the header's functions alone.
-shared() {
-    echo '{ global: verity_*; fsverity_*; local: *; };' >"$scratch/shown"
-    "$1" -shared -nostartfiles -o "$3" -Wl,--whole-archive "$2" -Wl,--no-whole-archive -Wl,-soname,libverity.so.1 \
-        -Wl,-z,noexecstack -Wl,-z,relro -Wl,-z,now -Wl,--build-id=none "-Wl,--version-script,$scratch/shown" \
-        >"$scratch/said" 2>&1 || failed "the shared library can't be linked"
+# takes FILE CPU DOING: leaves the static library that FILE is made of in $scratch, and says what is done for FILE:
+# DOING, if that library stands in its folder.
+takes() {
+    if stands "$2"; then
+        echo "$1: $3"
+    else
+        echo "$1: proving what has changed"
+        archive "$2"
+    fi
 }
 
-# build FOLDER CPU SHARED_CPU COMPILER: both libraries, each if something has changed.
-build() {
-    if ! is_made "$1/libverity.a" "$2"; then
-        echo "$1/libverity.a: proving what has changed"
-        archive "$2" "$scratch/libverity.a"
-        put "$scratch/libverity.a" "$1/libverity.a" "$2"
+# static FILE CPU: the static library, if something has changed.
+static() {
+    if ! is_made "$1" "$2"; then
+        takes "$1" "$2" copying
+        put "$scratch/$2.a" "$1" "$2"
     fi
-    if ! "$4" -shared -nostartfiles -x c /dev/null -o "$scratch/empty" 2>/dev/null; then
-        echo "$1/libverity.so.1: left out, since $4 isn't installed or can't link"
-        rm -f "$1"/libverity.so*
-        return
+}
+
+# shared FILE CPU: the shared library, if something has changed. It shows the header's functions alone.
+shared() {
+    if ! is_made "$1" "$2"; then
+        takes "$1" "$2" linking
+        echo 'VERITY_2.0 { global: verity_*; fsverity_*; local: *; };' >"$scratch/shown"
+        "$compiler" -shared -nostartfiles -o "$scratch/shared" -Wl,--whole-archive "$scratch/$2.a" \
+            -Wl,--no-whole-archive -Wl,-soname,libverity.so.2 -Wl,-z,noexecstack -Wl,-z,relro -Wl,-z,now \
+            -Wl,--build-id=none "-Wl,--version-script,$scratch/shown" >"$scratch/said" 2>&1 ||
+            failed "the shared library can't be linked"
+        put "$scratch/shared" "$1" "$2"
     fi
-    if ! is_made "$1/libverity.so.1" "$3"; then
-        echo "$1/libverity.so.1:"
-        if [ "$2" = "$3" ]; then cp "$1/libverity.a" "$scratch/shared.a"; else archive "$3" "$scratch/shared.a"; fi
-        shared "$4" "$scratch/shared.a" "$scratch/libverity.so.1"
-        put "$scratch/libverity.so.1" "$1/libverity.so.1" "$3"
-    fi
-    ln -sfn libverity.so.1 "$1/libverity.so"
+}
+
+# can_link: whether the compiler is there and links. If it doesn't, says so, and no shared library is left of earlier.
+can_link() {
+    if "$compiler" -shared -nostartfiles -x c /dev/null -o "$scratch/empty" 2>/dev/null; then return; fi
+    echo "$folder/libverity.so.2: left out, since $compiler isn't installed or can't link"
+    rm -rf "$folder"/libverity.so* "$for_v3"
+    if [ -d "${for_v3%/*}" ]; then rmdir --ignore-fail-on-non-empty "${for_v3%/*}"; fi
+    return 1
 }
 
 case $target in
-x86_64) build "$lib" "$cpu" "$shared_cpu" cc ;;
-aarch64) build "$lib/aarch64" aarch64 aarch64 aarch64-linux-gnu-gcc ;;
-*)
-    echo 'usage: library.sh x86_64|aarch64 [CPU [SHARED_CPU]]' >&2
-    exit 1
+x86_64)
+    static "$folder/libverity.a" "$cpu"
+    if can_link; then
+        shared "$folder/libverity.so.2" x86-64
+        static "$for_v3/libverity.a" x86-64-v3
+        shared "$for_v3/libverity.so.2" x86-64-v3
+    fi
+    ;;
+aarch64)
+    static "$folder/libverity.a" aarch64
+    static "$folder/libverity-strict-align.a" aarch64-strict-align
+    if can_link; then shared "$folder/libverity.so.2" aarch64; fi
     ;;
 esac
+if [ -e "$folder/libverity.so.2" ]; then ln -sfn libverity.so.2 "$folder/libverity.so"; fi

@@ -1,13 +1,15 @@
 #!/bin/bash
-# Measures the library of LIB, fed with the pieces of one file in the page cache as they are read, beside bin/fsverity,
-# Debian's fsverity and Debian's libfsverity (packages fsverity and libfsverity-dev; what isn't there is left out). Then
-# pieces of several lengths, of the same bytes in memory, and short files. All is done in one run, which prints three
-# tables. SIZE=MEBIBYTES and ROUNDS=COUNT change the defaults.
+# Measures the library for this processor, or the one in LIB, fed with the pieces of one file in the page cache as they
+# are read, beside bin/fsverity, Debian's fsverity and Debian's libfsverity (packages fsverity and libfsverity-dev; what
+# isn't there is left out). Then pieces of several lengths, of the same bytes in memory, and short files. All is done in
+# one run, which prints three tables. SIZE=MEBIBYTES and ROUNDS=COUNT change the defaults.
 set -eu
 cd "$(dirname "$0")/.."
 . tests/lib/checks.sh
 needs gcc gcc
-LIB=${LIB:-lib}
+fitting=lib
+if [ "$(./processor.sh)" = x86-64-v3 ]; then fitting=lib/glibc-hwcaps/x86-64-v3; fi
+LIB=${LIB:-$fitting}
 if [ ! -e "$LIB/libverity.a" ]; then
     echo "$0: $LIB/libverity.a is not there: run 'make library' first" >&2
     exit 1

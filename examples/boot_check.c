@@ -1,16 +1,17 @@
 /*
  * boot_check.c - reads one block of a dm-verity image and checks it, as a boot loader does before it uses the block.
  *
- * Nothing is linked but libverity.a: no C library, and no memory is asked for. The first part is the check, which a
- * boot loader can take over. The second part, from "Linux" on, stands for the boot loader itself: its start, its
- * reads of a disk and its end, here by system calls, so that the program can be run.
+ * Nothing is linked but checked_blocks.c and libverity.a: no C library, and no memory is asked for. The first part is
+ * what a boot loader can take over, with checked_blocks.c: it begins an image, and then as many blocks as one likes are
+ * read by checked_read. The second part, from "Linux" on, stands for the boot loader itself: its start, its reads of a
+ * disk and its end, here by system calls, so that the program can be run. Every answer is 0, or below 0 for a fault.
  *
  * Build on x86-64, and for 64-bit ARM:
  *
  *     gcc -std=c11 -O2 -ffreestanding -fno-tree-loop-distribute-patterns -nostdlib -static -Iinclude \
- *         -o boot_check examples/boot_check.c lib/libverity.a
+ *         -o boot_check examples/boot_check.c examples/checked_blocks.c lib/libverity.a
  *     aarch64-linux-gnu-gcc -std=c11 -O2 -ffreestanding -fno-tree-loop-distribute-patterns -nostdlib -static \
- *         -Iinclude -o boot_check_arm examples/boot_check.c lib/aarch64/libverity.a
+ *         -Iinclude -o boot_check_arm examples/boot_check.c examples/checked_blocks.c lib/aarch64/libverity.a
  *
  * Run, with the image's root hash in hexadecimal and the number of a data block:
  *
@@ -26,70 +27,39 @@
 #include <stddef.h>
 #include <stdint.h>
 
+#include "checked_blocks.h"
 #include "verity.h"
 
-/* ---------------------------------------------- The check ---------------------------------------------- */
+/* ---------------------------------------------- The image ---------------------------------------------- */
 
-/* The largest data block, and the most bytes of hash blocks above one, that fit. */
-enum { BLOCK_ROOM = 65536, PATH_ROOM = 4 * 65536 };
-
-/* What can fail here, beside enum verity_status. */
-enum { NOT_READ = 100, NO_ROOM = 101 };
-
-struct image {
-    /* Reads just so many bytes of a device from a start on. Answers 0, or another number if it can't. */
-    int (*read)(void *device, uint64_t start, uint8_t *bytes, size_t length);
-    void *data;
-    void *hash;
-    uint64_t hash_offset;
-    const uint8_t *root; /* the one thing that is trusted */
-    size_t root_length;
-};
+/* The largest data block that fits, how many bytes of hash blocks are kept, and how many hash blocks at most. */
+enum { BLOCK_ROOM = 65536, HASH_ROOM = 4 * 65536, PLACES = 16 };
 
 static uint8_t superblock[512];
 static uint8_t data_block[BLOCK_ROOM];
-static uint8_t path[PATH_ROOM];
+static uint8_t hash_blocks[HASH_ROOM];
+static struct checked_place place[PLACES];
 
 /*
- * Reads a data block and checks it. Only with the answer VERITY_OK are block and length set: to bytes that were checked
- * where they lie, and that stay until the next call. With VERITY_DIFFERS, level says where.
+ * Reads the superblock, and gives the image its parameters and the room that there is. Reader, devices and root hash
+ * are there already. Answers 0, or why the image can't be read.
  */
-static uint32_t read_checked_block(const struct image *image, uint64_t index, const uint8_t **block, size_t *length,
-                                   size_t *level) {
-    struct verity_params params;
-    size_t levels;
-    uint32_t status;
+static int begin_image(struct checked_image *image, uint64_t hash_offset) {
+    int ret;
 
-    if (image->read(image->hash, image->hash_offset, superblock, sizeof superblock) != 0)
-        return NOT_READ;
-    status = verity_read_superblock(superblock, sizeof superblock, image->hash_offset, &params);
-    if (status == VERITY_OK)
-        status = verity_level_count(&params, &levels);
-    if (status != VERITY_OK)
-        return status;
-    if (index >= params.data_blocks)
-        return VERITY_NO_SUCH_BLOCK;
-    if (params.data_block_size > BLOCK_ROOM || levels > PATH_ROOM / params.hash_block_size)
-        return NO_ROOM;
-
-    for (size_t i = 0; i < levels; i++) {
-        uint64_t start;
-        status = verity_hash_block_start(&params, index, i, &start);
-        if (status != VERITY_OK)
-            return status;
-        if (image->read(image->hash, start, path + i * params.hash_block_size, params.hash_block_size) != 0)
-            return NOT_READ;
-    }
-    if (image->read(image->data, index * params.data_block_size, data_block, params.data_block_size) != 0)
-        return NOT_READ;
-
-    status = verity_check_block(&params, index, data_block, params.data_block_size, path,
-                                levels * params.hash_block_size, image->root, image->root_length, level);
-    if (status != VERITY_OK)
-        return status;
-    *block = data_block;
-    *length = params.data_block_size;
-    return VERITY_OK;
+    if (image->read(image->hash_device, hash_offset, superblock, sizeof superblock) != 0)
+        return CHECKED_NOT_READ;
+    ret = verity_read_superblock(superblock, sizeof superblock, hash_offset, &image->params);
+    if (ret < 0)
+        return ret;
+    if (image->params.data_block_size > BLOCK_ROOM)
+        return CHECKED_NO_ROOM;
+    image->places = HASH_ROOM / image->params.hash_block_size;
+    if (image->places > PLACES)
+        image->places = PLACES;
+    image->place = place;
+    image->hash_blocks = hash_blocks;
+    return checked_begin(image);
 }
 
 /* What the library needs of its user. */
@@ -196,7 +166,7 @@ static int read_file(void *device, uint64_t start, uint8_t *bytes, size_t length
     while (length > 0) {
         long found = system_call(PREAD64, *(const int *)device, (long)bytes, (long)length, (long)start);
         if (found <= 0)
-            return 1;
+            return -1;
         bytes += found;
         start += (uint64_t)found;
         length -= (size_t)found;
@@ -239,29 +209,29 @@ static size_t read_hexadecimal(const char *text, uint8_t *bytes, size_t room) {
 _Noreturn void start(long *stack) {
     char **arguments = (char **)(stack + 1);
     uint8_t root[VERITY_MAX_DIGEST_SIZE];
-    const uint8_t *block;
-    size_t length, level = 0;
-    uint32_t status;
+    size_t level = 0;
+    int ret;
 
     if (stack[0] != 5 && stack[0] != 6)
         refuse("usage: boot_check DATA HASH ROOT INDEX [HASH_OFFSET]");
     int data = open_file(arguments[1]);
     int hash = open_file(arguments[2]);
-    struct image image = {.read = read_file, .data = &data, .hash = &hash, .root = root};
+    struct checked_image image = {.root = root, .read = read_file, .data_device = &data, .hash_device = &hash};
     image.root_length = read_hexadecimal(arguments[3], root, sizeof root);
-    image.hash_offset = stack[0] == 6 ? number_of(arguments[5]) : 0;
 
-    status = read_checked_block(&image, number_of(arguments[4]), &block, &length, &level);
-    if (status != VERITY_OK) {
-        say("status ");
-        say_number(status);
-        if (status == VERITY_DIFFERS) {
+    ret = begin_image(&image, stack[0] == 6 ? number_of(arguments[5]) : 0);
+    if (ret == 0)
+        ret = checked_read(&image, number_of(arguments[4]), data_block, image.params.data_block_size, &level);
+    if (ret < 0) {
+        say("status -");
+        say_number((uint64_t)-(int64_t)ret);
+        if (ret == VERITY_DIFFERS) {
             say(", level ");
             say_number(level);
         }
         refuse("");
     }
-    write_all(1, block, length);
+    write_all(1, data_block, image.params.data_block_size);
     for (;;)
         system_call(EXIT, 0, 0, 0, 0);
 }

@@ -8,14 +8,14 @@ ROOT is the trusted root hash in hexadecimal; the superblock of HASH, which it d
 is the trusted file digest as `fsverity digest` prints it, such as sha256:7d3f.., and TREE the file that its option
 --out-merkle-tree writes, with blocks of 4096 bytes and no salt.
 Without a BLOCK every block is checked. Each refused block has a line, and then the end is status 1.
-VERITY_LIBRARY in the environment is the library's path, or else libverity.so.1 is looked for.
+VERITY_LIBRARY in the environment is the library's path, or else libverity.so.2 is looked for.
 """
 import hashlib
 import os
 import sys
 from ctypes import CDLL, Structure, byref, c_char_p, c_size_t, c_uint8, c_uint32, c_uint64
 
-library = CDLL(os.environ.get('VERITY_LIBRARY', 'libverity.so.1'))
+library = CDLL(os.environ.get('VERITY_LIBRARY', 'libverity.so.2'))
 
 
 class Image(Structure):  # struct verity_params
@@ -30,7 +30,9 @@ class File(Structure):  # struct fsverity_params
 
 
 def call(name, *arguments, allowed=(0,)):
-    """Calls a function of the library. Numbers have C's types; bytes go as a pointer and their length."""
+    """Calls a function of the library. Numbers have C's types; bytes go as a pointer and their length. A status is a C
+    int, as ctypes takes every answer: 0, or below 0.
+    """
     pairs = ((c_char_p(word), c_size_t(len(word))) if isinstance(word, bytes) else (word,) for word in arguments)
     status = getattr(library, name)(*sum(pairs, ()))
     if status not in allowed:
@@ -49,8 +51,8 @@ def fault(index):
         call(kind + '_hash_block_start', byref(params), c_uint64(index), c_size_t(number), byref(start))
         path += os.pread(tree, hash_size, start.value)
     status = call(kind + '_check_block', byref(params), c_uint64(index), block, path, root, byref(level),
-                  allowed=range(5))
-    return status and f'block {index}: ' + (f'level {level.value} differs' if status == 1 else f'status {status}')
+                  allowed=range(-4, 1))
+    return status and f'block {index}: ' + (f'level {level.value} differs' if status == -1 else f'status {status}')
 
 
 fsverity = sys.argv[1:2] == ['--fsverity']

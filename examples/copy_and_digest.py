@@ -6,14 +6,14 @@ library alone. Each file is read once: what is copied is fed to its tree. Nothin
 
 A file of the folder is never overwritten. The first file that can't be copied ends the run with status 1, and what
 there is of its copy is removed.
-VERITY_LIBRARY in the environment is the library's path, or else libverity.so.1 is looked for.
+VERITY_LIBRARY in the environment is the library's path, or else libverity.so.2 is looked for.
 """
 import argparse
 import os
 import sys
 from ctypes import CDLL, Structure, byref, c_size_t, c_uint8, c_uint32, c_uint64
 
-library = CDLL(os.environ.get('VERITY_LIBRARY', 'libverity.so.1'))
+library = CDLL(os.environ.get('VERITY_LIBRARY', 'libverity.so.2'))
 piece = bytearray(1 << 20)
 piece_in_c = (c_uint8 * len(piece)).from_buffer(piece)
 
@@ -24,9 +24,11 @@ class File(Structure):  # struct fsverity_params; the library counts the bytes t
 
 
 def call(name, *arguments):
-    """Calls a function of the library; all numbers have C's types."""
+    """Calls a function of the library. All numbers have C's types, and a status is a C int, as ctypes takes every
+    answer.
+    """
     status = getattr(library, name)(*arguments)
-    if status:
+    if status < 0:
         raise ValueError(f'{name}: status {status}')
 
 

@@ -6,7 +6,7 @@
  * Build (Debian: nbdkit-plugin-dev):
  *
  *     gcc -std=c11 -O2 -fPIC -shared -Iinclude -o nbdkit-verity-plugin.so examples/nbdkit-verity-plugin.c \
- *         lib/libverity.a
+ *         examples/checked_blocks.c lib/libverity.a
  *
  * Run, and copy the data (Debian: nbdkit, libnbd-bin):
  *
@@ -31,12 +31,13 @@
 
 #include <nbdkit-plugin.h>
 
+#include "checked_blocks.h"
 #include "verity.h"
 
 /* A connection does one read after another, and each has blocks of its own, so that no lock is needed. */
 #define THREAD_MODEL NBDKIT_THREAD_MODEL_SERIALIZE_REQUESTS
 
-/* How many trusted hash blocks a connection keeps: at least 2. */
+/* How many hash blocks that were accepted a connection keeps. */
 enum { KEPT = 64 };
 
 static char *data_name, *hash_name;
@@ -45,14 +46,10 @@ static uint8_t root[VERITY_MAX_DIGEST_SIZE];
 static size_t root_length;
 static uint64_t hash_offset;
 static struct verity_params params;
-static size_t levels;
 
 struct connection {
-    /* The byte of the hash device where each kept hash block stands, and when it was used last: 0 for no block. */
-    uint64_t start[KEPT];
-    uint64_t used[KEPT];
-    uint64_t now;
-    uint8_t *hash_blocks; /* KEPT of them */
+    struct checked_image image;
+    struct checked_place place[KEPT];
     uint8_t *data_block;
 };
 
@@ -121,7 +118,8 @@ static int open_file(const char *name) {
 
 static int plugin_get_ready(void) {
     uint8_t superblock[512];
-    uint32_t status;
+    size_t levels = 0;
+    int ret;
 
     data_file = open_file(data_name);
     hash_file = open_file(hash_name);
@@ -131,11 +129,11 @@ static int plugin_get_ready(void) {
         nbdkit_error("%s has no superblock at byte %" PRIu64, hash_name, hash_offset);
         return -1;
     }
-    status = verity_read_superblock(superblock, sizeof superblock, hash_offset, &params);
-    if (status == VERITY_OK)
-        status = verity_level_count(&params, &levels);
-    if (status != VERITY_OK) {
-        nbdkit_error("%s: the superblock is refused with status %" PRIu32, hash_name, status);
+    ret = verity_read_superblock(superblock, sizeof superblock, hash_offset, &params);
+    if (ret == 0)
+        ret = verity_level_count(&params, &levels);
+    if (ret < 0) {
+        nbdkit_error("%s: the superblock is refused with status %d", hash_name, ret);
         return -1;
     }
     return 0;
@@ -152,24 +150,43 @@ static void plugin_unload(void) {
 
 /* ------------------------------------------- Connections ------------------------------------------- */
 
+/* Reads just so many bytes of a file, for checked_blocks.c. */
+static int read_device(void *file, uint64_t start, uint8_t *bytes, size_t length) {
+    if (file == &hash_file)
+        nbdkit_debug("a hash block is read at byte %" PRIu64, start);
+    return read_file(*(const int *)file, start, bytes, length);
+}
+
 static void plugin_close(void *handle) {
     struct connection *connection = handle;
-    free(connection->hash_blocks);
+    free(connection->image.hash_blocks);
     free(connection->data_block);
     free(connection);
 }
 
 static void *plugin_open(int readonly) {
     struct connection *connection = calloc(1, sizeof *connection);
+    struct checked_image *image;
+    int ret;
     (void)readonly;
     if (connection == NULL) {
         nbdkit_error("out of memory");
         return NULL;
     }
-    connection->hash_blocks = malloc((size_t)KEPT * params.hash_block_size);
+    image = &connection->image;
+    *image = (struct checked_image){.params = params, .root = root, .root_length = root_length, .read = read_device,
+                                    .data_device = &data_file, .hash_device = &hash_file, .places = KEPT,
+                                    .place = connection->place};
+    image->hash_blocks = malloc((size_t)KEPT * params.hash_block_size);
     connection->data_block = malloc(params.data_block_size);
-    if (connection->hash_blocks == NULL || connection->data_block == NULL) {
+    if (image->hash_blocks == NULL || connection->data_block == NULL) {
         nbdkit_error("out of memory");
+        plugin_close(connection);
+        return NULL;
+    }
+    ret = checked_begin(image);
+    if (ret < 0) {
+        nbdkit_error("%s: the parameters are refused with status %d", hash_name, ret);
         plugin_close(connection);
         return NULL;
     }
@@ -195,95 +212,23 @@ static int plugin_block_size(void *handle, uint32_t *minimum, uint32_t *preferre
     return 0;
 }
 
-/* --------------------------------------------- Checks --------------------------------------------- */
+/* --------------------------------------------- Reads --------------------------------------------- */
 
-/* Says why a data block isn't handed out. */
-static void refuse(uint64_t index, const char *what, size_t level, uint32_t status) {
-    if (status != VERITY_DIFFERS)
-        nbdkit_error("data block %" PRIu64 ": status %" PRIu32, index, status);
-    else if (level == levels)
+/* Says why a data block isn't handed out. level is that of checked_read. */
+static void refuse(const struct checked_image *image, uint64_t index, size_t level, int ret) {
+    const char *what = level == 0 ? "it" : "a hash block above it";
+
+    if (ret == CHECKED_NOT_READ && level == 0)
+        nbdkit_error("data block %" PRIu64 " can't be read", index);
+    else if (ret == CHECKED_NOT_READ)
+        nbdkit_error("data block %" PRIu64 ": its hash block of level %zu can't be read", index, level - 1);
+    else if (ret != VERITY_DIFFERS)
+        nbdkit_error("data block %" PRIu64 ": status %d", index, ret);
+    else if (level == image->levels)
         nbdkit_error("data block %" PRIu64 ": %s isn't the one of the root hash", index, what);
     else
         nbdkit_error("data block %" PRIu64 ": %s isn't the one that level %zu has the digest of", index, what, level);
     nbdkit_set_error(EIO);
-}
-
-/* Checks a block below a level by a hash block of that level, or if it is the top block by the root hash. */
-static uint32_t check(uint64_t index, size_t level, const uint8_t *block, size_t length, const uint8_t *above) {
-    if (level == levels)
-        return verity_check_top(&params, index, block, length, root, root_length);
-    return verity_check_link(&params, index, level, block, length, above, params.hash_block_size);
-}
-
-/*
- * Gives the hash block of a level above a data block, trusted, or NULL after an error. If it isn't kept, the one above
- * it is found first, and then it takes the place of the block that was used least recently.
- */
-static const uint8_t *trusted(struct connection *connection, uint64_t index, size_t level) {
-    uint64_t start;
-    const uint8_t *above = NULL;
-    uint8_t *block;
-    size_t place = 0;
-    uint32_t status = verity_hash_block_start(&params, index, level, &start);
-
-    if (status != VERITY_OK) {
-        refuse(index, "a hash block", level, status);
-        return NULL;
-    }
-    for (size_t i = 0; i < KEPT; i++) {
-        if (connection->used[i] != 0 && connection->start[i] == start) {
-            connection->used[i] = ++connection->now;
-            return connection->hash_blocks + i * params.hash_block_size;
-        }
-    }
-    if (level + 1 < levels) {
-        above = trusted(connection, index, level + 1);
-        if (above == NULL)
-            return NULL;
-    }
-    for (size_t i = 1; i < KEPT; i++) {
-        if (connection->used[i] < connection->used[place])
-            place = i;
-    }
-    block = connection->hash_blocks + place * params.hash_block_size;
-    connection->used[place] = 0;
-    nbdkit_debug("a hash block of level %zu is read at byte %" PRIu64, level, start);
-    if (read_file(hash_file, start, block, params.hash_block_size) == -1) {
-        nbdkit_error("data block %" PRIu64 ": its hash block of level %zu can't be read", index, level);
-        nbdkit_set_error(EIO);
-        return NULL;
-    }
-    status = check(index, level + 1, block, params.hash_block_size, above);
-    if (status != VERITY_OK) {
-        refuse(index, "a hash block above it", level + 1, status);
-        return NULL;
-    }
-    connection->start[place] = start;
-    connection->used[place] = ++connection->now;
-    return block;
-}
-
-/* Reads a data block to connection->data_block. Its bytes can be handed out if the answer is 0. */
-static int read_data_block(struct connection *connection, uint64_t index) {
-    const uint8_t *above = NULL;
-    uint32_t status;
-
-    if (levels > 0) {
-        above = trusted(connection, index, 0);
-        if (above == NULL)
-            return -1;
-    }
-    if (read_file(data_file, index * params.data_block_size, connection->data_block, params.data_block_size) == -1) {
-        nbdkit_error("data block %" PRIu64 " can't be read", index);
-        nbdkit_set_error(EIO);
-        return -1;
-    }
-    status = check(index, 0, connection->data_block, params.data_block_size, above);
-    if (status != VERITY_OK) {
-        refuse(index, "it", 0, status);
-        return -1;
-    }
-    return 0;
 }
 
 static int plugin_pread(void *handle, void *buffer, uint32_t count, uint64_t offset, uint32_t flags) {
@@ -292,12 +237,16 @@ static int plugin_pread(void *handle, void *buffer, uint32_t count, uint64_t off
     (void)flags;
 
     while (count > 0) {
-        size_t skipped = offset % params.data_block_size;
-        size_t length = params.data_block_size - skipped;
+        uint64_t index = offset / params.data_block_size;
+        size_t skipped = offset % params.data_block_size, length = params.data_block_size - skipped, level = 0;
+        int ret = checked_read(&connection->image, index, connection->data_block, params.data_block_size, &level);
+
+        if (ret < 0) {
+            refuse(&connection->image, index, level, ret);
+            return -1;
+        }
         if (length > count)
             length = count;
-        if (read_data_block(connection, offset / params.data_block_size) == -1)
-            return -1;
         memcpy(to, connection->data_block + skipped, length);
         to += length;
         offset += length;

@@ -2,58 +2,138 @@
  * verity.h - superblocks, places of hash blocks, checks of blocks and the building of trees of dm-verity and fs-verity.
  *
  * Each function is proved: whatever numbers, bytes and structs it is handed, it returns, and its answer is that of the
- * definitions. The library takes no memory, keeps nothing between calls, opens and prints nothing, and takes no lock:
- * any number of threads may call it at once. It calls memcpy, memmove and memset, and nothing else.
+ * definitions. Of a tree that is built in pieces, hash blocks, root hash and file digest are so only while its struct
+ * and memory stand as the call before left them (what else holds then is said below). The library takes no memory,
+ * keeps nothing between calls, opens and prints nothing, and takes no lock: any number of threads may call it at once,
+ * but only one at a time with the struct and the memory of one tree that is built. It calls memcpy, memmove and memset,
+ * and nothing else.
  *
  * What every caller owes, since it can't be checked here:
  *   - a pointer is not null, not even for a length of 0, and points to as many bytes as the length after it says, or to
- *     a whole struct or number, all of it initialised; structs and numbers are aligned;
+ *     a whole struct or number; structs and numbers are aligned;
+ *   - what counts has been given a value. No value is needed by what a function only fills, by the padding of structs,
+ *     by bytes of a salt after the first salt_size, by a size and a uuid that aren't looked at, and by the memory with
+ *     which a tree is begun: nothing depends on what stands there, and it may be as malloc gave it;
  *   - what a function writes to overlaps nothing else that it is handed;
  *   - nothing of it is changed by others while the call runs.
  *
  * And what has to be trusted: a root hash stands for the data of dm-verity only together with the parameters, and
- * doesn't cover the superblock. Whoever reads that from where an attacker can write has to compare hash_algorithm,
- * hash_type, both block sizes, data_blocks and the salt with trusted ones. A file digest of fs-verity covers parameters
- * and root hash: check it by fsverity_file_digest before they are used.
+ * doesn't cover the superblock. Whoever reads that from where an attacker can write has to compare the parameters with
+ * trusted ones, by verity_same_params. A file digest of fs-verity covers parameters and root hash: check it by
+ * fsverity_file_digest before they are used.
+ *
+ * The Linux kernel takes less than these functions do. For dm-verity it refuses data blocks above its page size, 4096
+ * bytes on x86-64, blocks smaller than a sector of their device, and a hash device that ends before the place of its
+ * first hash block, as it may with a single data block. For fs-verity it refuses blocks below 1024 bytes, above its
+ * page size or above the file system's block size; before Linux 6.3 it took those of its page size alone.
  *
  * Data blocks are counted from 0, and so are levels; level 0 is next to the data. Sizes, lengths, offsets and starts
- * are in bytes. The last data block of an fs-verity file is handed in whole, with the zeros that fill it. Every
- * function answers a status, VERITY_OK or another one of those below: the first fault, in the order that is said beside
- * the function. What a function fills or changes stays as it was if the status isn't VERITY_OK; only the level of
- * verity_check_block and fsverity_check_block is set with VERITY_DIFFERS.
+ * are in bytes. The last data block of an fs-verity file is handed in whole, with the zeros that fill it.
  *
- * Vector registers must be switched on: SSE2 to SSE4.2 on x86-64 (AVX2 if the library was built for x86-64-v3), NEON
- * on 64-bit ARM. A call takes up to 12 KiB of stack on either, and one that feeds or ends up to 16 KiB: measured are
- * 13.5 for feeding, 11.2 for the end of a file, 8.8 for a file digest, 8.3 for a block with its path, and up to 3.1
- * for those that hash nothing.
+ * Every function but verity_version answers a status: VERITY_OK, which is 0, or one of the negative numbers below, so
+ * that status < 0 and status != VERITY_OK are the same question. Statuses aren't numbers of errno.h. The status is
+ * that of the first fault, in the order that is said beside the function. Don't ignore one: gcc and clang warn where a
+ * status is dropped. What a function fills or changes stays as it was if the status isn't VERITY_OK, but for level:
+ * verity_check_block and fsverity_check_block set it with VERITY_DIFFERS, and it may be looked at after VERITY_DIFFERS
+ * alone.
+ *
+ * Vector registers must be switched on: SSE2 on x86-64 (for a library for x86-64-v2 up to SSE4.2, for x86-64-v3 up to
+ * AVX2), NEON on 64-bit ARM. They are used by most calls, so a kernel saves them before one. What a call keeps is what
+ * the ABI of the target says, as long as memcpy, memmove and memset keep it, too:
+ *   - x86-64 (System V): rbx, rbp, r12 to r15, MXCSR, the x87 control word and the direction flag; x87 and MMX
+ *     registers aren't used. Nothing below the stack pointer is read or written, so the library doesn't use the red
+ *     zone.
+ *   - 64-bit ARM (AAPCS64): x19 to x29, d8 to d15 and FPCR. x18 is left alone, too, and nothing below the stack pointer
+ *     is read or written. libverity-strict-align.a reads and writes memory at aligned addresses alone, as is needed
+ *     with the MMU off; where that or x18 matters, memcpy, memmove and memset have to be compiled so, too.
+ *
+ * The stack is aligned to 16 bytes at each call, as these ABIs want. Bytes may stand at any address. The library has no
+ * variables, so that a call may come at any time, from a signal or interrupt handler also. It has no unwind tables
+ * (.eh_frame): neither a backtrace nor an exception gets through a call. It has no landing pads for IBT or BTI
+ * (endbr64, bti), signs no pointers (PAC), and has no note (.note.gnu.property) that marks it for these or for shadow
+ * stacks, so that no program is marked that it is linked into. On x86-64 it also jumps by tables, so that it can't run
+ * where IBT is on.
+ *
+ * A call takes up to 12 KiB of stack on either target, and one that feeds or ends up to 16 KiB: measured are 14.4 for
+ * feeding, 12.1 for the end of a file, 8.9 for a file digest, 8.3 for a block with its path, and up to 3.1 for those
+ * that hash nothing. With libverity-strict-align.a a call that feeds takes up to 17 KiB.
  *
  * Data that is written, copied or downloaded is fed to a tree as it comes, in pieces of any length, 0 too. The
  * functions whose names have _build_ in them do that, in memory of the caller's, as long as verity_build_memory or
- * fsverity_build_memory says: 65536 bytes for fs-verity with SHA-256 and blocks of 4096 bytes. Memory and struct, which
- * for a file are the parameters, hold all that is kept between the calls. They are left alone then, but may be moved,
- * stored and copied, both together: a copy goes on by itself. If anything else stands in them, a call answers a fault,
- * or its hash blocks, root hash and digest mean nothing; it still returns, reads and writes nothing but what it is
- * handed, and the start that it names is that of a hash block of the tree. A tree of dm-verity has a stated number of
- * data blocks, and each of its hash blocks is handed out once, as it closes:
+ * fsverity_build_memory says: 65536 bytes for fs-verity with SHA-256 and blocks of 4096 bytes. A tree of dm-verity has
+ * a stated number of data blocks, and each of its hash blocks is handed out once, as it closes:
  *
- *     verity_build_begin(&params, &build, memory, memory_length);
+ *     status = verity_build_begin(&params, &build, memory, memory_length);
  *     and for each piece:
  *     for (;;) {
  *         status = verity_build_feed(&params, &build, memory, memory_length, piece, length, &fed);
- *         if (status != VERITY_OK)
+ *         if (status < 0)
  *             return status;
  *         piece += fed.taken;
  *         length -= fed.taken;
  *         if (fed.block_length == 0)
  *             break;
  *         if (pwrite(device, memory + fed.block_at, fed.block_length, fed.block_start) != (ssize_t)fed.block_length)
- *             return -1;
+ *             return 1;
  *     }
  *     and after the last piece:
  *     status = verity_build_end(&params, &build, memory, memory_length, root, root_length);
  *
  * A file's length need not be known before. fsverity_build_begin, fsverity_build_feed for each piece, and
  * fsverity_build_end give root hash and file digest, and the parameters then have the file's size.
+ *
+ * Who wants the blocks of the file's tree, too, calls the functions whose names begin with fsverity_tree_build_. Each
+ * block is handed out as soon as it is the tree's however the file goes on, with its level and its number in the level;
+ * at the end the last block of each level is left. Then it is known where they go: block INDEX of a level stands
+ * INDEX * block_size bytes after the start that fsverity_level_start gives. Here keep keeps a block until then:
+ *
+ *     status = fsverity_tree_build_begin(&params, &build, memory, memory_length);
+ *     and for each piece:
+ *     do {
+ *         status = fsverity_tree_build_feed(&params, &build, memory, memory_length, piece, length, &fed);
+ *         if (status < 0)
+ *             return status;
+ *         if (fed.block_length > 0)
+ *             keep(fed.block_level, fed.block_index, memory + fed.block_at, fed.block_length);
+ *         piece += fed.taken;
+ *         length -= fed.taken;
+ *     } while (length > 0);
+ *     and after the last piece:
+ *     for (level = 0;; level++) {
+ *         status = fsverity_tree_build_end_block(&params, &build, memory, memory_length, level, block,
+ *                                                params.block_size, &index);
+ *         if (status == VERITY_NO_SUCH_LEVEL)
+ *             break;
+ *         if (status < 0)
+ *             return status;
+ *         keep(level, index, block, params.block_size);
+ *     }
+ *     status = fsverity_tree_build_end(&params, &build, memory, memory_length, root, root_length, digest, root_length);
+ *     params.size = build.fed;
+ *
+ * Memory and struct hold all that is kept between the calls. The struct is struct verity_build, but after
+ * fsverity_build_begin struct fsverity_params. They are left alone then, but may be moved and copied, both together: a
+ * copy goes on by itself. They may also be stored between any two calls, together with the parameters, and the tree
+ * goes on from there, in another process or on another machine, by a library of the same major version. Some of the
+ * memory may still be what it was before the tree was begun: clear it first if that is secret. Before they are stored,
+ * every hash block that was handed out has to be where it can't be lost (fsync), except the one that
+ * verity_build_last_block names, which stands in the memory; no function names a block of a file once more. The same
+ * holds for the bytes that were fed, if the caller writes them as they come. Whoever goes on with a tree of dm-verity
+ * writes that hash block first, even if nothing more is to be fed:
+ *
+ *     status = verity_build_last_block(&params, &build, &fed);
+ *     if (status < 0)
+ *         return status;
+ *     if (fed.block_length > 0 &&
+ *         pwrite(device, memory + fed.block_at, fed.block_length, fed.block_start) != (ssize_t)fed.block_length)
+ *         return 1;
+ *
+ * Then the data is fed from byte build.fed on; after fsverity_build_begin, from the size in the parameters on. If a
+ * tree of dm-verity has no more, 0 bytes are fed until no hash block is handed out.
+ *
+ * If anything else stands in memory and struct, hash blocks, root hash and digest mean nothing. All else holds: a call
+ * returns, with the status that is said of the numbers in the struct, it reads and writes nothing but what it is
+ * handed, and a hash block that it names is within the memory and, of dm-verity, has the start of one of the tree.
  *
  * Example: check DATA HASH INDEX ends with 0 if this data block is right, with 1 if it isn't, and with 2 if it can't be
  * checked. The root hash comes from standard input, as bytes. The superblock is trusted here.
@@ -76,9 +156,9 @@
  *     int main(int count, char **words)
  *     {
  *         static uint8_t superblock[512], block[524288], path[5 * 524288], root[VERITY_MAX_DIGEST_SIZE];
- *         struct verity_params params;
- *         size_t root_length = fread(root, 1, sizeof root, stdin), levels, level;
- *         uint64_t index, start;
+ *         struct verity_params params = {0};
+ *         size_t root_length = fread(root, 1, sizeof root, stdin), levels = 0, level;
+ *         uint64_t index, start = 0;
  *
  *         if (count != 4 || !read_at(words[2], 0, superblock, sizeof superblock) ||
  *             verity_read_superblock(superblock, sizeof superblock, 0, &params) != VERITY_OK ||
@@ -109,47 +189,69 @@
 #include <stddef.h>
 #include <stdint.h>
 
-#define VERITY_VERSION_MAJOR 1
-#define VERITY_VERSION_MINOR 4
+#define VERITY_VERSION_MAJOR 2
+#define VERITY_VERSION_MINOR 0
 #define VERITY_VERSION_PATCH 0
 
 #ifdef __cplusplus
 extern "C" {
 #endif
 
-/* Statuses. */
+/*
+ * Stands before each function: gcc and clang warn of a call whose status isn't used, gcc also behind a cast to void.
+ * Other compilers see nothing.
+ */
+#ifdef __GNUC__
+#define VERITY_MUST_CHECK __attribute__((warn_unused_result))
+#else
+#define VERITY_MUST_CHECK
+#endif
+
+/* Statuses: what each function answers, as an int. */
 enum verity_status {
     VERITY_OK = 0,
-    /* A block isn't the one that the digest above it, or the root hash, stands for. */
-    VERITY_DIFFERS = 1,
+    /*
+     * A block isn't the one that the digest above it, or the root hash, stands for; or parameters aren't the trusted
+     * ones.
+     */
+    VERITY_DIFFERS = -1,
     /* There is no data block of this number. */
-    VERITY_NO_SUCH_BLOCK = 2,
-    /* The tree has no level of this number, or not as many as a disturbed struct says. */
-    VERITY_NO_SUCH_LEVEL = 3,
-    /* A block, a path, the memory or a buffer has another length. */
-    VERITY_BAD_LENGTH = 4,
-    /* The root hash isn't as long as a digest of the hash function. Another root hash is VERITY_DIFFERS. */
-    VERITY_BAD_ROOT_LENGTH = 5,
+    VERITY_NO_SUCH_BLOCK = -2,
+    /* The tree has no level of this number, or struct verity_build counts more than the tree has. */
+    VERITY_NO_SUCH_LEVEL = -3,
+    /*
+     * A block, a path, a digest, the memory or a buffer has the wrong length; a root hash and its buffer have the next
+     * status.
+     */
+    VERITY_BAD_LENGTH = -4,
+    /*
+     * The root hash, or the buffer for it, isn't as long as a digest of the hash function. Another root hash is
+     * VERITY_DIFFERS.
+     */
+    VERITY_BAD_ROOT_LENGTH = -5,
     /* The parameters, or the superblock. */
-    VERITY_BAD_HASH_ALGORITHM = 6,
-    VERITY_BAD_HASH_TYPE = 7,
-    VERITY_BAD_DATA_BLOCK_SIZE = 8,
-    VERITY_BAD_HASH_BLOCK_SIZE = 9,
-    VERITY_BAD_SALT_SIZE = 10,
+    VERITY_BAD_HASH_ALGORITHM = -6,
+    VERITY_BAD_HASH_TYPE = -7,
+    VERITY_BAD_DATA_BLOCK_SIZE = -8,
+    VERITY_BAD_HASH_BLOCK_SIZE = -9,
+    VERITY_BAD_SALT_SIZE = -10,
     /* The hash offset is no multiple of 512, or without a superblock of the hash block size. */
-    VERITY_BAD_HASH_OFFSET = 11,
-    VERITY_NO_DATA = 12,
-    /* The data or the hash area would end past 2^63 - 1 bytes. */
-    VERITY_TOO_LARGE = 13,
+    VERITY_BAD_HASH_OFFSET = -11,
+    VERITY_NO_DATA = -12,
+    /*
+     * The data or the hash area would end past 2^63 - 1 bytes. The last block of a file counts with the zeros that
+     * fill it.
+     */
+    VERITY_TOO_LARGE = -13,
     /* The superblock alone: fewer than 512 bytes, another signature, another version. */
-    VERITY_SHORT_SUPERBLOCK = 14,
-    VERITY_BAD_SIGNATURE = 15,
-    VERITY_BAD_VERSION = 16,
+    VERITY_SHORT_SUPERBLOCK = -14,
+    VERITY_BAD_SIGNATURE = -15,
+    VERITY_BAD_VERSION = -16,
     /* What is fed, or a struct that is disturbed: more bytes than the parameters say, or fewer. */
-    VERITY_TOO_LONG = 17,
-    VERITY_TOO_SHORT = 18,
-    /* A hash block is still to be handed out: verity_build_feed is to be called again. */
-    VERITY_WAITING = 19
+    VERITY_TOO_LONG = -17,
+    VERITY_TOO_SHORT = -18,
+    /* A hash block, or the rest of a piece, is still to come: the function that feeds is to be called again. */
+    VERITY_WAITING = -19
 };
 
 /* Hash functions. fs-verity has the first two alone. */
@@ -163,6 +265,9 @@ enum verity_hash_algorithm {
 
 /* The length of the longest digest. */
 #define VERITY_MAX_DIGEST_SIZE 64
+
+/* Room enough for each text, with the zero after it. */
+#define VERITY_MAX_TEXT_SIZE 64
 
 /*
  * Parameters of a dm-verity tree. verity_read_superblock fills them; without a superblock the caller does. Each
@@ -183,8 +288,10 @@ struct verity_params {
 };
 
 /*
- * Parameters of a file's fs-verity tree. Each function below checks them: VERITY_BAD_HASH_ALGORITHM,
- * VERITY_BAD_DATA_BLOCK_SIZE, VERITY_BAD_SALT_SIZE, VERITY_NO_DATA, VERITY_TOO_LARGE.
+ * Parameters of a file's fs-verity tree. Each function below checks all but the size: VERITY_BAD_HASH_ALGORITHM,
+ * VERITY_BAD_DATA_BLOCK_SIZE, VERITY_BAD_SALT_SIZE. Those of levels, starts, the tree's size and checks of blocks go
+ * on with the size: VERITY_NO_DATA, VERITY_TOO_LARGE. A file digest and a descriptor have any size, and the functions
+ * of a tree that is built count it themselves.
  */
 struct fsverity_params {
     uint32_t hash_algorithm; /* VERITY_SHA256 or VERITY_SHA512 */
@@ -202,36 +309,62 @@ struct fsverity_params {
  * VERITY_SHORT_SUPERBLOCK, VERITY_BAD_SIGNATURE, VERITY_BAD_VERSION, VERITY_BAD_HASH_TYPE, VERITY_BAD_DATA_BLOCK_SIZE,
  * VERITY_BAD_HASH_BLOCK_SIZE, VERITY_BAD_HASH_ALGORITHM, VERITY_BAD_SALT_SIZE, VERITY_NO_DATA, VERITY_TOO_LARGE.
  */
-uint32_t verity_read_superblock(const uint8_t *bytes, size_t length, uint64_t hash_offset,
-                                struct verity_params *params);
+VERITY_MUST_CHECK int verity_read_superblock(const uint8_t *bytes, size_t length, uint64_t hash_offset,
+                                             struct verity_params *params);
+
+/*
+ * Whether parameters, as those that were read of a superblock that can't be trusted, are the trusted ones in all that a
+ * root hash needs to stand for the data: hash_algorithm, hash_type, both block sizes, data_blocks, and the bytes of the
+ * salt that count. Hash offset, no_superblock and UUID aren't compared. VERITY_OK, which is 0, if they are:
+ *
+ *     status = verity_same_params(&params, &trusted);
+ *     if (status < 0)
+ *         return status;
+ *
+ * A fault of the parameters, a fault of the trusted parameters, VERITY_DIFFERS.
+ */
+VERITY_MUST_CHECK int verity_same_params(const struct verity_params *params, const struct verity_params *trusted);
 
 /* How many levels of hash blocks the tree has: 0 for a single data block. A fault of the parameters. */
-uint32_t verity_level_count(const struct verity_params *params, size_t *levels);
+VERITY_MUST_CHECK int verity_level_count(const struct verity_params *params, size_t *levels);
 
 /*
  * The byte of the hash device at which a level begins, and how many hash blocks it has. They stand one after another.
  *
  * A fault of the parameters, VERITY_NO_SUCH_LEVEL.
  */
-uint32_t verity_level_start(const struct verity_params *params, size_t level, uint64_t *start, uint64_t *blocks);
+VERITY_MUST_CHECK int verity_level_start(const struct verity_params *params, size_t level, uint64_t *start,
+                                         uint64_t *blocks);
+
+/*
+ * The byte of the hash device at which the hash area ends, after superblock and hash blocks: a hash device that has a
+ * hash block has at least so many bytes, and an image that carries the tree after its data has just as many. A single
+ * data block has no hash block: then it is the byte at which the tree would begin, which the kernel wants to be there.
+ * That is the first multiple of the hash block size from the end of the superblock on, or without one the hash offset.
+ *
+ * A fault of the parameters.
+ */
+VERITY_MUST_CHECK int verity_hash_area_end(const struct verity_params *params, uint64_t *end);
 
 /*
  * The byte of the hash device at which the hash block of a level stands that is above a data block.
  *
  * A fault of the parameters, VERITY_NO_SUCH_BLOCK, VERITY_NO_SUCH_LEVEL.
  */
-uint32_t verity_hash_block_start(const struct verity_params *params, uint64_t index, size_t level, uint64_t *start);
+VERITY_MUST_CHECK int verity_hash_block_start(const struct verity_params *params, uint64_t index, size_t level,
+                                              uint64_t *start);
 
 /*
  * Checks a data block by its path: the hash blocks above it, one after another, level 0 first. With the status
  * VERITY_DIFFERS, level becomes the lowest level at which the hash of the block below isn't the digest in its slot of
- * the path's block, or the number of levels if the hash of the top block isn't the root hash.
+ * the path's block, or the number of levels if the hash of the top block isn't the root hash. No path has more than
+ * 2621440 bytes, in fs-verity 2097152.
  *
  * A fault of the parameters, VERITY_BAD_ROOT_LENGTH, VERITY_NO_SUCH_BLOCK, VERITY_BAD_LENGTH, VERITY_DIFFERS.
  */
-uint32_t verity_check_block(const struct verity_params *params, uint64_t index, const uint8_t *block,
-                            size_t block_length, const uint8_t *path, size_t path_length, const uint8_t *root,
-                            size_t root_length, size_t *level);
+VERITY_MUST_CHECK int verity_check_block(const struct verity_params *params, uint64_t index, const uint8_t *block,
+                                         size_t block_length, const uint8_t *path, size_t path_length,
+                                         const uint8_t *root, size_t root_length, size_t *level);
 
 /*
  * Checks one block by a hash block: the one of this level that is above data block index. For level 0 the block is that
@@ -242,8 +375,9 @@ uint32_t verity_check_block(const struct verity_params *params, uint64_t index, 
  *
  * A fault of the parameters, VERITY_NO_SUCH_BLOCK, VERITY_NO_SUCH_LEVEL, VERITY_BAD_LENGTH, VERITY_DIFFERS.
  */
-uint32_t verity_check_link(const struct verity_params *params, uint64_t index, size_t level, const uint8_t *block,
-                           size_t block_length, const uint8_t *above, size_t above_length);
+VERITY_MUST_CHECK int verity_check_link(const struct verity_params *params, uint64_t index, size_t level,
+                                        const uint8_t *block, size_t block_length, const uint8_t *above,
+                                        size_t above_length);
 
 /*
  * Checks the top block by the root hash: the one hash block of the top level, or the data block if it is the only one.
@@ -252,23 +386,27 @@ uint32_t verity_check_link(const struct verity_params *params, uint64_t index, s
  *
  * A fault of the parameters, VERITY_BAD_ROOT_LENGTH, VERITY_NO_SUCH_BLOCK, VERITY_BAD_LENGTH, VERITY_DIFFERS.
  */
-uint32_t verity_check_top(const struct verity_params *params, uint64_t index, const uint8_t *block,
-                          size_t block_length, const uint8_t *root, size_t root_length);
+VERITY_MUST_CHECK int verity_check_top(const struct verity_params *params, uint64_t index, const uint8_t *block,
+                                       size_t block_length, const uint8_t *root, size_t root_length);
 
 /*
- * The same functions for a file's fs-verity tree. Starts are counted from the beginning of the tree. A file of no bytes
- * has no tree: VERITY_NO_DATA.
+ * The same functions for a file's fs-verity tree. Starts are counted from the beginning of the tree, and its end is its
+ * size: fsverity_tree_size. A file of no bytes has no tree: VERITY_NO_DATA.
  */
-uint32_t fsverity_level_count(const struct fsverity_params *params, size_t *levels);
-uint32_t fsverity_level_start(const struct fsverity_params *params, size_t level, uint64_t *start, uint64_t *blocks);
-uint32_t fsverity_hash_block_start(const struct fsverity_params *params, uint64_t index, size_t level, uint64_t *start);
-uint32_t fsverity_check_block(const struct fsverity_params *params, uint64_t index, const uint8_t *block,
-                              size_t block_length, const uint8_t *path, size_t path_length, const uint8_t *root,
-                              size_t root_length, size_t *level);
-uint32_t fsverity_check_link(const struct fsverity_params *params, uint64_t index, size_t level, const uint8_t *block,
-                             size_t block_length, const uint8_t *above, size_t above_length);
-uint32_t fsverity_check_top(const struct fsverity_params *params, uint64_t index, const uint8_t *block,
-                            size_t block_length, const uint8_t *root, size_t root_length);
+VERITY_MUST_CHECK int fsverity_level_count(const struct fsverity_params *params, size_t *levels);
+VERITY_MUST_CHECK int fsverity_level_start(const struct fsverity_params *params, size_t level, uint64_t *start,
+                                           uint64_t *blocks);
+VERITY_MUST_CHECK int fsverity_tree_size(const struct fsverity_params *params, uint64_t *size);
+VERITY_MUST_CHECK int fsverity_hash_block_start(const struct fsverity_params *params, uint64_t index, size_t level,
+                                                uint64_t *start);
+VERITY_MUST_CHECK int fsverity_check_block(const struct fsverity_params *params, uint64_t index, const uint8_t *block,
+                                           size_t block_length, const uint8_t *path, size_t path_length,
+                                           const uint8_t *root, size_t root_length, size_t *level);
+VERITY_MUST_CHECK int fsverity_check_link(const struct fsverity_params *params, uint64_t index, size_t level,
+                                          const uint8_t *block, size_t block_length, const uint8_t *above,
+                                          size_t above_length);
+VERITY_MUST_CHECK int fsverity_check_top(const struct fsverity_params *params, uint64_t index, const uint8_t *block,
+                                         size_t block_length, const uint8_t *root, size_t root_length);
 
 /*
  * The digest of the file with these parameters and this root hash: the hash of its fs-verity descriptor. Whoever trusts
@@ -279,65 +417,83 @@ uint32_t fsverity_check_top(const struct fsverity_params *params, uint64_t index
  * VERITY_BAD_HASH_ALGORITHM, VERITY_BAD_DATA_BLOCK_SIZE, VERITY_BAD_SALT_SIZE, VERITY_BAD_ROOT_LENGTH,
  * VERITY_BAD_LENGTH.
  */
-uint32_t fsverity_file_digest(const struct fsverity_params *params, const uint8_t *root, size_t root_length,
-                              uint8_t *digest, size_t digest_length);
+VERITY_MUST_CHECK int fsverity_file_digest(const struct fsverity_params *params, const uint8_t *root,
+                                           size_t root_length, uint8_t *digest, size_t digest_length);
 
-/* How far a tree of dm-verity is built. verity_build_begin fills it, and verity_build_feed goes on with it. */
+/*
+ * How far a tree is built: of dm-verity, or of a file whose blocks are handed out. The functions whose names end in
+ * _build_begin fill it, and those in _build_feed go on with it.
+ */
 struct verity_build {
     uint64_t fed;  /* how many bytes were fed */
-    size_t closed; /* of how many levels the hash blocks above the last byte were handed out since it was fed */
+    size_t closed; /* of how many levels the hash blocks above the latest byte were handed out since it was fed */
 };
 
-/* What verity_build_feed has done. */
+/* What verity_build_feed or fsverity_tree_build_feed has done, and what verity_build_last_block has found. */
 struct verity_fed {
     size_t taken;         /* how many bytes of the piece were taken */
-    size_t block_length;  /* of the hash block that has closed; 0 if none has, and the numbers below are 0 then */
-    size_t block_at;      /* the byte of the memory at which it stands until more is fed */
-    uint64_t block_start; /* the byte of the hash device at which it goes */
+    size_t block_length;  /* of the hash block that is handed out, or was last; 0 if there is none, and so all below */
+    size_t block_at;      /* the byte of the memory at which it stands */
+    uint64_t block_start; /* the byte of the hash device at which it goes; of a file 0, since it isn't known yet */
     uint64_t block_index; /* its number in its level, from 0 */
     size_t block_level;   /* its level, from 0 next to the data */
 };
 
 /*
  * The length of the memory in which a tree is built: a hash block for each level, and up to eight data blocks, which
- * are hashed side by side; fewer if they would be more than 524288 bytes, or than a hash block has slots. The memory
- * need not be aligned.
+ * are hashed side by side; fewer if they would be more than 524288 bytes, or than a hash block has slots. It is 2629632
+ * at most. The memory need not be aligned.
  *
  * A fault of the parameters.
  */
-uint32_t verity_build_memory(const struct verity_params *params, size_t *length);
+VERITY_MUST_CHECK int verity_build_memory(const struct verity_params *params, size_t *length);
 
 /*
- * Begins a tree: build and memory are those of no bytes. What stood in them doesn't count, but as everywhere is to be
- * initialised.
+ * Begins a tree: build and memory are those of no bytes. What stood in them doesn't count and needs no value: memory
+ * may come from malloc as it is.
  *
  * A fault of the parameters, VERITY_BAD_LENGTH.
  */
-uint32_t verity_build_begin(const struct verity_params *params, struct verity_build *build, uint8_t *memory,
-                            size_t memory_length);
+VERITY_MUST_CHECK int verity_build_begin(const struct verity_params *params, struct verity_build *build,
+                                         uint8_t *memory, size_t memory_length);
 
 /*
- * Feeds a piece of the data: all of it, or its bytes up to the next hash block that closes, which is handed out. Then
- * the rest of the piece is to be fed, perhaps of no bytes, until no hash block is handed out. So each hash block is
- * handed out once, each after those below it. One that closes with the last byte of a piece is handed out by the next
- * call with more bytes. With the last byte of the data, that call and the next ones hand out all that are left, one a
- * call, and 0 bytes will do. The parameters are those of verity_build_begin.
+ * Feeds a piece of the data: all of it, or its bytes up to the next hash block that closes, which is handed out: it
+ * stands in the memory until bytes are taken or the next one is handed out. Then the rest of the piece is to be fed,
+ * perhaps of no bytes, until no hash block is handed out. So each hash block is handed out once, each after those
+ * below it. One that closes with the last byte of a piece is handed out by the next call with more bytes. With the
+ * last byte of the data, that call and the next ones hand out all that are left, one a call, and 0 bytes will do. The
+ * parameters are those of verity_build_begin.
  *
  * A fault of the parameters, VERITY_BAD_LENGTH (the memory's), VERITY_NO_SUCH_LEVEL (more levels are closed than there
  * are), VERITY_TOO_LONG (with the whole piece there would be more bytes than data_blocks blocks have).
  */
-uint32_t verity_build_feed(const struct verity_params *params, struct verity_build *build, uint8_t *memory,
-                           size_t memory_length, const uint8_t *piece, size_t piece_length, struct verity_fed *fed);
+VERITY_MUST_CHECK int verity_build_feed(const struct verity_params *params, struct verity_build *build, uint8_t *memory,
+                                        size_t memory_length, const uint8_t *piece, size_t piece_length,
+                                        struct verity_fed *fed);
 
 /*
- * The root hash, when all data was fed and all hash blocks were handed out. root_length is exactly that of the hash
- * function's digests. It can be asked for as often as one likes: build and memory stay those of the same bytes.
+ * The hash block that verity_build_feed handed out last, once more: it stands in the memory until bytes are taken or
+ * the next one is handed out. taken becomes 0, and so do the other numbers if none was handed out since the latest
+ * byte was fed. Whoever goes on with what was stored calls this first, since that hash block may not have been
+ * written.
  *
- * A fault of the parameters, VERITY_BAD_LENGTH (the memory's, the root hash's), VERITY_NO_SUCH_LEVEL, VERITY_TOO_LONG,
- * VERITY_TOO_SHORT, VERITY_WAITING.
+ * A fault of the parameters, VERITY_NO_SUCH_LEVEL (more levels are closed than there are), VERITY_TOO_LONG (more bytes
+ * were fed than data_blocks blocks have).
  */
-uint32_t verity_build_end(const struct verity_params *params, const struct verity_build *build, uint8_t *memory,
-                          size_t memory_length, uint8_t *root, size_t root_length);
+VERITY_MUST_CHECK int verity_build_last_block(const struct verity_params *params, const struct verity_build *build,
+                                              struct verity_fed *fed);
+
+/*
+ * The root hash, when all data was fed and all hash blocks were handed out; before that VERITY_TOO_SHORT or
+ * VERITY_WAITING, and nothing has changed. root_length is exactly that of the hash function's digests. It can be asked
+ * for as often as one likes: build and memory stay those of the same bytes.
+ *
+ * A fault of the parameters, VERITY_BAD_LENGTH (the memory's), VERITY_BAD_ROOT_LENGTH, VERITY_NO_SUCH_LEVEL,
+ * VERITY_TOO_LONG, VERITY_TOO_SHORT, VERITY_WAITING.
+ */
+VERITY_MUST_CHECK int verity_build_end(const struct verity_params *params, const struct verity_build *build,
+                                       uint8_t *memory, size_t memory_length, uint8_t *root, size_t root_length);
 
 /*
  * Writes the superblock of the parameters, with their uuid, into 512 bytes, which stand at the hash offset of the hash
@@ -345,7 +501,7 @@ uint32_t verity_build_end(const struct verity_params *params, const struct verit
  *
  * A fault of the parameters, VERITY_BAD_LENGTH (length isn't 512).
  */
-uint32_t verity_write_superblock(const struct verity_params *params, uint8_t *bytes, size_t length);
+VERITY_MUST_CHECK int verity_write_superblock(const struct verity_params *params, uint8_t *bytes, size_t length);
 
 /*
  * The length of the memory in which a file's tree is built: a block for each level of the largest file, and up to eight
@@ -354,15 +510,16 @@ uint32_t verity_write_superblock(const struct verity_params *params, uint8_t *by
  *
  * VERITY_BAD_HASH_ALGORITHM, VERITY_BAD_DATA_BLOCK_SIZE, VERITY_BAD_SALT_SIZE.
  */
-uint32_t fsverity_build_memory(const struct fsverity_params *params, size_t *length);
+VERITY_MUST_CHECK int fsverity_build_memory(const struct fsverity_params *params, size_t *length);
 
 /*
  * Begins a file's tree: the memory is that of no bytes, and the size of the parameters becomes 0. What size and memory
- * were before doesn't count, but as everywhere is to be initialised; some of it stays in the memory until bytes come.
+ * were before doesn't count and needs no value: memory may come from malloc as it is. Some of it stays there until
+ * bytes come.
  *
  * VERITY_BAD_HASH_ALGORITHM, VERITY_BAD_DATA_BLOCK_SIZE, VERITY_BAD_SALT_SIZE, VERITY_BAD_LENGTH.
  */
-uint32_t fsverity_build_begin(struct fsverity_params *params, uint8_t *memory, size_t memory_length);
+VERITY_MUST_CHECK int fsverity_build_begin(struct fsverity_params *params, uint8_t *memory, size_t memory_length);
 
 /*
  * Feeds the next piece of the file, all of it. The size of the parameters counts the bytes that were fed, and the rest
@@ -371,20 +528,68 @@ uint32_t fsverity_build_begin(struct fsverity_params *params, uint8_t *memory, s
  * VERITY_BAD_HASH_ALGORITHM, VERITY_BAD_DATA_BLOCK_SIZE, VERITY_BAD_SALT_SIZE, VERITY_BAD_LENGTH (the memory's),
  * VERITY_TOO_LARGE (with the piece).
  */
-uint32_t fsverity_build_feed(struct fsverity_params *params, uint8_t *memory, size_t memory_length,
-                             const uint8_t *piece, size_t piece_length);
+VERITY_MUST_CHECK int fsverity_build_feed(struct fsverity_params *params, uint8_t *memory, size_t memory_length,
+                                          const uint8_t *piece, size_t piece_length);
 
 /*
- * Root hash and file digest of the bytes that were fed, none too: its root hash is zeros. root_length and digest_length
- * are exactly those of the hash function's digests. With the root hash the parameters are those of the functions above.
- * Both can be asked for at any time, as often as one likes: the memory stays that of the same bytes, and feeding goes
- * on.
+ * Root hash and file digest of the bytes fed so far; with no bytes the root hash is zeros. root_length and
+ * digest_length are exactly those of the hash function's digests. With the root hash the parameters are those of the
+ * functions above. Both can be asked for at any time, as often as one likes: the memory stays that of the same bytes,
+ * and feeding can go on.
  *
- * VERITY_BAD_HASH_ALGORITHM, VERITY_BAD_DATA_BLOCK_SIZE, VERITY_BAD_SALT_SIZE, VERITY_BAD_LENGTH (the memory's, the
- * root hash's, the digest's), VERITY_TOO_LARGE.
+ * VERITY_BAD_HASH_ALGORITHM, VERITY_BAD_DATA_BLOCK_SIZE, VERITY_BAD_SALT_SIZE, VERITY_BAD_LENGTH (the memory's),
+ * VERITY_BAD_ROOT_LENGTH, VERITY_BAD_LENGTH (the digest's), VERITY_TOO_LARGE.
  */
-uint32_t fsverity_build_end(const struct fsverity_params *params, uint8_t *memory, size_t memory_length, uint8_t *root,
-                            size_t root_length, uint8_t *digest, size_t digest_length);
+VERITY_MUST_CHECK int fsverity_build_end(const struct fsverity_params *params, uint8_t *memory, size_t memory_length,
+                                         uint8_t *root, size_t root_length, uint8_t *digest, size_t digest_length);
+
+/*
+ * Begins a file's tree whose blocks are handed out: build and memory are those of no bytes. What stood in them doesn't
+ * count and needs no value. The memory is as long as fsverity_build_memory says. The size of the parameters isn't
+ * looked at and needs no value, here and in the functions below: build->fed counts the bytes.
+ *
+ * VERITY_BAD_HASH_ALGORITHM, VERITY_BAD_DATA_BLOCK_SIZE, VERITY_BAD_SALT_SIZE, VERITY_BAD_LENGTH.
+ */
+VERITY_MUST_CHECK int fsverity_tree_build_begin(const struct fsverity_params *params, struct verity_build *build,
+                                                uint8_t *memory, size_t memory_length);
+
+/*
+ * Feeds the next piece of the file: all of it, or its bytes up to the next block of the tree that closes, which is
+ * handed out: it stands in the memory until the next call. Then the rest of the piece is to be fed, until no block is
+ * handed out. So each block but the last one of each level is handed out once, each after those below it, as soon as
+ * the bytes after it come.
+ *
+ * VERITY_BAD_HASH_ALGORITHM, VERITY_BAD_DATA_BLOCK_SIZE, VERITY_BAD_SALT_SIZE, VERITY_BAD_LENGTH (the memory's),
+ * VERITY_TOO_LARGE (with the piece), VERITY_NO_SUCH_LEVEL (more levels are closed than there are).
+ */
+VERITY_MUST_CHECK int fsverity_tree_build_feed(const struct fsverity_params *params, struct verity_build *build,
+                                               uint8_t *memory, size_t memory_length, const uint8_t *piece,
+                                               size_t piece_length, struct verity_fed *fed);
+
+/*
+ * The last block of a level, as the tree has it of the file that ends here, and its number in the level. With those of
+ * all levels and the blocks that were handed out, the tree is whole. If more is fed then, they aren't final, and come
+ * again: they can be asked for at any time, as often as one likes, and build and memory stay those of the same bytes.
+ * block_length is that of a block.
+ *
+ * VERITY_BAD_HASH_ALGORITHM, VERITY_BAD_DATA_BLOCK_SIZE, VERITY_BAD_SALT_SIZE, VERITY_BAD_LENGTH (the memory's, or the
+ * block's), VERITY_WAITING (the rest of a piece is still to be fed), VERITY_TOO_LARGE, VERITY_NO_SUCH_LEVEL.
+ */
+VERITY_MUST_CHECK int fsverity_tree_build_end_block(const struct fsverity_params *params,
+                                                    const struct verity_build *build, uint8_t *memory,
+                                                    size_t memory_length, size_t level, uint8_t *block,
+                                                    size_t block_length, uint64_t *index);
+
+/*
+ * Root hash and file digest of the bytes fed so far, as fsverity_build_end gives them; build and memory stay those of
+ * the same bytes, and feeding can go on.
+ *
+ * VERITY_BAD_HASH_ALGORITHM, VERITY_BAD_DATA_BLOCK_SIZE, VERITY_BAD_SALT_SIZE, VERITY_BAD_LENGTH (the memory's),
+ * VERITY_BAD_ROOT_LENGTH, VERITY_BAD_LENGTH (the digest's), VERITY_WAITING, VERITY_TOO_LARGE.
+ */
+VERITY_MUST_CHECK int fsverity_tree_build_end(const struct fsverity_params *params, const struct verity_build *build,
+                                              uint8_t *memory, size_t memory_length, uint8_t *root, size_t root_length,
+                                              uint8_t *digest, size_t digest_length);
 
 /*
  * Writes the fs-verity descriptor of the file with these parameters and this root hash into 256 bytes: what the file
@@ -393,8 +598,46 @@ uint32_t fsverity_build_end(const struct fsverity_params *params, uint8_t *memor
  * VERITY_BAD_HASH_ALGORITHM, VERITY_BAD_DATA_BLOCK_SIZE, VERITY_BAD_SALT_SIZE, VERITY_BAD_ROOT_LENGTH,
  * VERITY_BAD_LENGTH (length isn't 256).
  */
-uint32_t fsverity_descriptor(const struct fsverity_params *params, const uint8_t *root, size_t root_length,
-                             uint8_t *descriptor, size_t length);
+VERITY_MUST_CHECK int fsverity_descriptor(const struct fsverity_params *params, const uint8_t *root, size_t root_length,
+                                          uint8_t *descriptor, size_t length);
+
+/*
+ * A file digest in the form that a built-in signature signs, struct fsverity_formatted_digest of the Linux kernel: the
+ * letters FSVerity, the number of the hash function and the digest's length in two bytes each, the lowest first, and
+ * the digest. formatted_length is exactly 12 + digest_length.
+ *
+ * VERITY_BAD_HASH_ALGORITHM (fs-verity doesn't have it), VERITY_BAD_LENGTH (the digest's, or the buffer's).
+ */
+VERITY_MUST_CHECK int fsverity_formatted_digest(uint32_t hash_algorithm, const uint8_t *digest, size_t digest_length,
+                                                uint8_t *formatted, size_t formatted_length);
+
+/* The length of a hash function's digests, in bytes. VERITY_BAD_HASH_ALGORITHM. */
+VERITY_MUST_CHECK int verity_digest_length(uint32_t hash_algorithm, size_t *length);
+
+/*
+ * The name of a hash function, as veritysetup and fsverity take it: sha256, sha512, sha1, sha224 or sha384. A text has
+ * a zero after it, which isn't counted in length; VERITY_MAX_TEXT_SIZE is room enough for each.
+ *
+ * VERITY_BAD_HASH_ALGORITHM, VERITY_BAD_LENGTH (there is no room for name and zero).
+ */
+VERITY_MUST_CHECK int verity_algorithm_name(uint32_t hash_algorithm, char *name, size_t room, size_t *length);
+
+/* The hash function with exactly this name, of so many letters, which are small. VERITY_BAD_HASH_ALGORITHM. */
+VERITY_MUST_CHECK int verity_algorithm_by_name(const char *name, size_t length, uint32_t *hash_algorithm);
+
+/*
+ * What a status says, in English words, as "no such data block"; of a number that is no status, "unknown status". What
+ * stands in the buffer behind the zero stays.
+ *
+ * VERITY_BAD_LENGTH (there is no room for text and zero).
+ */
+VERITY_MUST_CHECK int verity_status_text(int status, char *text, size_t room, size_t *length);
+
+/*
+ * The version of the library that runs, which may be later than this header's: VERITY_VERSION_MAJOR * 10000 +
+ * VERITY_VERSION_MINOR * 100 + VERITY_VERSION_PATCH.
+ */
+uint32_t verity_version(void);
 
 #ifdef __cplusplus
 }

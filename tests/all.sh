@@ -11,17 +11,16 @@ cd "$(dirname "$0")/.."
 builds=(bin/x86-64-v2)
 libraries=(lib)
 
-# with_v3: takes also what was built for x86-64-v3, if that runs here.
-with_v3() {
-    if [ "$(./processor.sh)" = x86-64-v3 ]; then
-        builds+=(bin/x86-64-v3)
-        libraries+=(lib/x86-64-v3)
-    fi
+# runs_v3: whether what was built for x86-64-v3 runs here.
+runs_v3() {
+    [ "$(./processor.sh)" = x86-64-v3 ]
 }
 
 # add_programs: adds the parts that test programs and libraries.
 add_programs() {
-    local script build library feedings=$((1000000 / ${#libraries[@]}))
+    local script build library feedings
+    if runs_v3; then libraries+=(lib/glibc-hwcaps/x86-64-v3); fi
+    feedings=$((1000000 / ${#libraries[@]}))
     # The longest first, so that no processor waits for one at the end.
     parts+=('tests/memory.sh --short' tests/soak.sh tests/search.sh)
     for script in tests/interop/*.sh tests/programs/*.sh tests/processor.sh tests/readme.sh tests/manual.sh; do
@@ -31,11 +30,12 @@ add_programs() {
     done
     # A million random feedings, over all libraries together.
     for library in "${libraries[@]}"; do
-        parts+=("env LIB=$library FEEDINGS=$feedings tests/library/feeding.sh" "env LIB=$library tests/library/debian_images.sh")
+        parts+=("env LIB=$library FEEDINGS=$feedings tests/library/feeding.sh"
+            "env LIB=$library tests/library/debian_images.sh" "env LIB=$library tests/library/header.sh")
     done
     for script in tests/library/*.sh; do
         case $script in
-        */debian_images.sh | */feeding.sh) continue ;;
+        */debian_images.sh | */feeding.sh | */header.sh) continue ;;
         esac
         parts+=("$script")
     done
@@ -52,7 +52,7 @@ case ${1:-} in
     ;;
 '')
     parts+=(tests/built.sh --)
-    with_v3
+    if runs_v3; then builds+=(bin/x86-64-v3); fi
     add_programs
     ;;
 *)

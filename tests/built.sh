@@ -65,33 +65,25 @@ if [ "$cpu" = x86-64-v3 ]; then
 else
     echo "left out: programs for x86-64-v3: this processor doesn't have all of it"
 fi
-# The library for C: for x86-64-v2 and 64-bit ARM, and for x86-64-v3 if that runs here. The gate proves it, but builds
-# none.
-folders=(lib lib/aarch64)
-if [ "$cpu" = x86-64-v3 ]; then folders+=(lib/x86-64-v3); fi
+# The library for C, for both targets. The gate proves it, but builds none.
+targets=(x86_64 aarch64)
+rm -rf lib
 
-# library FOLDER: builds the libraries of a folder. What is said goes to a file named after it, in $scratch.
+# library TARGET: builds the libraries of a target. What is said goes to a file named after it, in $scratch.
 library() {
-    local words=(x86_64)
-    case $1 in
-    lib/aarch64) words=(aarch64) ;;
-    lib/x86-64-v3) words=(x86_64 x86-64-v3 x86-64-v3) ;;
-    esac
-    if [ "${#words[@]}" -gt 1 ]; then export LIB=$1; else unset LIB; fi
-    rm -f "$1"/libverity.*
-    ./library.sh "${words[@]}" >"$scratch/${1//\//-}" 2>&1 && : >"$scratch/${1//\//-}.built"
+    env -u LIB ./library.sh "$1" >"$scratch/$1" 2>&1 && : >"$scratch/$1.built"
 }
 
 if compgen -G 'crates/*/out/rlib/stamp' >/dev/null; then
-    for folder in "${folders[@]}"; do (library "$folder"); done
+    for target in "${targets[@]}"; do library "$target"; done
 else
-    # All at once: each proves the crate for its own processor.
-    for folder in "${folders[@]}"; do (OVER_GATE=yes && export OVER_GATE && library "$folder") & done
+    # Both at once: each proves the crate for its own processors.
+    for target in "${targets[@]}"; do OVER_GATE=yes library "$target" & done
     wait
 fi
-for folder in "${folders[@]}"; do
-    cat "$scratch/${folder//\//-}"
-    if [ -e "$scratch/${folder//\//-}.built" ]; then pass; else fail "$folder" 'its library was not built'; fi
+for target in "${targets[@]}"; do
+    cat "$scratch/$target"
+    if [ -e "$scratch/$target.built" ]; then pass; else fail "the library for $target" 'it was not built'; fi
 done
 for name in fsverity veritysetup; do
     rm -f "bin/$name" "bin/$name.made"

@@ -1,19 +1,16 @@
 #!/bin/bash
 # Runs `make install` into folders, with a space in their names too, and compares the files there, their modes and bytes
 # with what docs/BUILDING.md says; man finds the pages there, and they and the completion speak of the installed names.
-# If the library for C is built, it is installed too, and a program is built by what pkg-config says of it. After
-# `make uninstall` just these files are gone. `make dist` gives the same bytes of the same commit.
+# If the library for C is built, it is installed too; one for 64-bit ARM stays where it is. After `make uninstall` just
+# these files are gone. `make dist` gives the same bytes of the same commit.
 set -u
 cd "$(dirname "$0")/.."
 . tests/lib/checks.sh
+. tests/lib/installing.sh
 has_program fsverity
 has_program veritysetup
 needs make make
-
-# listed FOLDER: the files below a folder with their modes, in order.
-listed() {
-    (cd "$1" && find . -type f -printf '%m %P\n' | sort -k 2)
-}
+if ! is_built x86_64; then echo 'left out: the library for C: it is not built'; fi
 
 # speaks PAGE FILE SUFFIX: an installed page is that of man/ with the names in its headings, its footer, its
 # examples and its references.
@@ -23,10 +20,12 @@ speaks() {
     fsverity) other='veritysetup 8' ;;
     *) other='fsverity 1' ;;
     esac
-    same "$page$suffix: heading" ".Dt $(tr '[:lower:]' '[:upper:]' <<<"$name$suffix") ${page#*.}" "$(grep '^\.Dt' "$file")"
+    same "$page$suffix: heading" ".Dt $(tr '[:lower:]' '[:upper:]' <<<"$name$suffix") ${page#*.}" \
+        "$(grep '^\.Dt' "$file")"
     same "$page$suffix: name" ".Nm $name$suffix" "$(grep '^\.Nm [a-z]' "$file")"
     same "$page$suffix: footer" ".Os $name$suffix $version" "$(grep '^\.Os' "$file")"
-    same "$page$suffix: the other page" ".Xr ${other% *}$suffix ${other#* }" "$(grep "^\.Xr ${other% *}" "$file" | sed 's/ ,$//')"
+    same "$page$suffix: the other page" ".Xr ${other% *}$suffix ${other#* }" \
+        "$(grep "^\.Xr ${other% *}" "$file" | sed 's/ ,$//')"
     same "$page$suffix: examples" "$(grep -c "^\\$ $name " "man/$page")" "$(grep -c "^\\$ $name$suffix " "$file")"
     # Elsewhere a page is as it was.
     same "$page$suffix: other lines" "$(unlike "man/$page")" "$(unlike "$file")"
@@ -40,14 +39,6 @@ unlike() {
 # completes FILE NAME: the completion is for the installed name alone.
 completes() {
     same "completion of $2" "complete -F _complete_${2%%-*} $2" "$(bash -c '. "$1" && complete -p' - "$1")"
-}
-
-# library_files PREFIX: the files of the library with their modes, if it is built.
-library_files() {
-    if [ ! -e lib/libverity.a ] || [ ! -e lib/libverity.so.1 ]; then return; fi
-    printf '%s\n' "644 ${includes:-$1/include}/verity.h" "644 ${libraries:-$1/lib}/libverity.a" \
-        "755 ${libraries:-$1/lib}/libverity.so.1" "644 ${libraries:-$1/lib}/pkgconfig/verity.pc" \
-        "644 ${manuals:-$1/share/man}/man3/verity.3"
 }
 
 # installs FOLDER PREFIX SUFFIX WORD..: `make install` with these words puts the six files there, and those of the
@@ -64,7 +55,7 @@ installs() {
         printf '755 %s\n' "${programs:-$prefix/bin}/fsverity$suffix" "${admin:-$prefix/sbin}/veritysetup$suffix"
         printf '644 %s\n' "$completions/"{fsverity,veritysetup}"$suffix" \
             "$pages/man1/fsverity$suffix.1" "$pages/man8/veritysetup$suffix.8"
-        library_files "$prefix"
+        if is_built x86_64; then library_files x86_64 "$prefix"; fi
     } | sort -k 2)" "$(listed "$folder")"
     if [[ " $* " != *' STRIP=yes '* ]]; then
         same_bytes "$folder: fsverity" bin/fsverity "$folder/${programs:-$prefix/bin}/fsverity$suffix"
@@ -73,19 +64,15 @@ installs() {
     completions=$folder/$completions pages=$folder/$pages
     speaks fsverity.1 "$pages/man1/fsverity$suffix.1" "$suffix"
     speaks veritysetup.8 "$pages/man8/veritysetup$suffix.8" "$suffix"
+    if is_built x86_64; then
+        same "verity.3: the programs' pages$suffix" ".Xr fsverity$suffix 1 .Xr veritysetup$suffix 8" \
+            "$(grep -E '^\.Xr (fsverity|veritysetup)' "$pages/man3/verity.3" | sed 's/ ,$//' | sort -u | paste -sd ' ')"
+    fi
     completes "$completions/fsverity$suffix" "fsverity$suffix"
     completes "$completions/veritysetup$suffix" "veritysetup$suffix"
     if command -v mandoc >/dev/null; then
         same "$folder: mandoc -T lint" '' "$(mandoc -T lint -W warning "$pages"/man[1-8]/* 2>/dev/null)"
     fi
-}
-
-# is_stripped FILE INSTALLED: an installed program or library is that of bin/ or lib/ without its symbols.
-is_stripped() {
-    cp "$1" "$scratch/without_symbols"
-    strip "$scratch/without_symbols"
-    same_bytes "$2: as strip leaves it" "$scratch/without_symbols" "$2"
-    same "$2: symbols" 0 "$(readelf -S "$2" | grep -c '\.symtab')"
 }
 
 # asks_for FILE: of a program, the libraries that it needs and the newest glibc that it asks for.
@@ -95,33 +82,18 @@ asks_for() {
     readelf -V "$1" | grep -o 'GLIBC_[0-9.]*' | sort -uV | tail -n 1
 }
 
-# uninstalls FOLDER WORD..: `make uninstall` removes what was installed, and nothing that stands beside it.
-uninstalls() {
-    local folder=$scratch/$1 installed file beside
-    shift
-    installed=$(listed "$folder")
-    while read -r _ file; do
-        : >"$folder/${file%/*}/other"
-        : >"$folder/$file.other"
-    done <<<"$installed"
-    beside=$(listed "$folder" | grep -vxF "$installed")
-    make -s uninstall DESTDIR="$folder" "$@" >"$scratch/.made" 2>&1 </dev/null
-    is_text "$folder: what make uninstall says" '' "$scratch/.made"
-    same "$folder: what uninstall leaves" "$beside" "$(listed "$folder")"
-}
-
-# links FOLDER PREFIX: a program is built by what pkg-config says of the installed library, against the shared one by its
-# short name, and runs with it.
-links() {
-    local folder=$scratch/$1 words lib=$scratch/$1/${libraries:-$2/lib}
-    printf '%s\n' '#include <verity.h>' 'int main(void) { struct verity_params params;' \
-        'return verity_read_superblock((const uint8_t *)"", 1, 0, &params) != VERITY_SHORT_SUPERBLOCK; }' >"$scratch/user.c"
-    words=$(PKG_CONFIG_PATH=$lib/pkgconfig PKG_CONFIG_SYSROOT_DIR=$folder pkg-config --cflags --libs verity)
-    same "$folder: libverity.so" libverity.so.1 "$(readlink "$lib/libverity.so")"
-    # shellcheck disable=SC2086
-    runs "$folder: a program is built" 0 '' '' cc "$scratch/user.c" $words -o "$scratch/user"
-    runs "$folder: it runs" 0 '' '' env LD_LIBRARY_PATH="$lib" "$scratch/user"
-    same "$folder: version" "$version" "$(PKG_CONFIG_PATH=$lib/pkgconfig pkg-config --modversion verity)"
+# archive_for HEADING: the archive's name, with COMMIT for the commit's number, where the changes begin by this heading
+# and are longer than a pipe holds.
+archive_for() {
+    local clone=$scratch/headed commit
+    if [ ! -e "$clone" ]; then
+        git clone -q . "$clone" 2>/dev/null
+        seq 100000 >>"$clone/CHANGELOG.md"
+    fi
+    sed -i "0,/^## .*/s//## $1/" "$clone/CHANGELOG.md"
+    git -C "$clone" -c user.name=name -c user.email=name@localhost commit -qam "$1" --allow-empty
+    commit=$(git -C "$clone" rev-parse HEAD | cut -c 1-12)
+    make -s -C "$clone" --no-print-directory dist | sed "s/$commit/COMMIT/"
 }
 
 # finds_page FOLDER SECTION NAME: man finds the installed page.
@@ -134,10 +106,10 @@ installs plain usr/local -proved
 installs named usr '' PREFIX=/usr SUFFIX=
 installs 'a space  and "quotes"' 'opt/our programs' -x.y PREFIX='/opt/our programs' SUFFIX=-x.y
 # Folders as packagers set them: one word each, in place of those below PREFIX.
-packaged=(PREFIX=/usr SUFFIX= BINDIR=/usr/tools SBINDIR=/usr/bin 'MANDIR=/usr/man pages' BASHCOMPDIR=/etc/bash_completion.d
-    LIBDIR=/usr/lib/x86_64-linux-gnu INCLUDEDIR=/opt/headers)
-programs=usr/tools admin=usr/bin manuals='usr/man pages' words=etc/bash_completion.d libraries=usr/lib/x86_64-linux-gnu \
-    includes=opt/headers installs packaged usr '' "${packaged[@]}"
+packaged=(PREFIX=/usr SUFFIX= BINDIR=/usr/tools SBINDIR=/usr/bin 'MANDIR=/usr/man pages'
+    BASHCOMPDIR=/etc/bash_completion.d LIBDIR=/usr/lib/x86_64-linux-gnu INCLUDEDIR=/opt/headers)
+programs=usr/tools admin=usr/bin manuals='usr/man pages' words=etc/bash_completion.d \
+    libraries=usr/lib/x86_64-linux-gnu includes=opt/headers installs packaged usr '' "${packaged[@]}"
 # A folder that is there keeps its mode, and one that is made has the usual one.
 mkdir -p "$scratch/kept/usr/local/"{bin,sbin,share/man/man1}
 chmod 2775 "$scratch/kept/usr/local/"{bin,sbin}
@@ -146,11 +118,12 @@ installs kept usr/local -proved
 same 'modes of folders' '2775 2775 700 755' \
     "$(cd "$scratch/kept/usr/local" && stat -c %a bin sbin share/man/man1 share/man/man8 | tr '\n' ' ' | sed 's/ $//')"
 # Up to version 1.3.0 veritysetup was in the other folder.
-: >"$scratch/kept/usr/local/bin/veritysetup-proved"
+older=$scratch/kept/usr/local/bin/veritysetup-proved
+: >"$older"
 runs 'an older veritysetup' 0 '' \
-    "$scratch/kept/usr/local/bin/veritysetup-proved may be of an older version: remove it then, for the new one is in $scratch/kept/usr/local/sbin" \
+    "$older may be of an older version: remove it then, for the new one is in $scratch/kept/usr/local/sbin" \
     make -s --no-print-directory install DESTDIR="$scratch/kept"
-rm "$scratch/kept/usr/local/bin/veritysetup-proved"
+rm "$older"
 # Where one folder has both names, the one that was just installed isn't an older one.
 mkdir -p "$scratch/linked/usr/local/bin"
 ln -s bin "$scratch/linked/usr/local/sbin"
@@ -162,14 +135,13 @@ if command -v strip >/dev/null && command -v readelf >/dev/null; then
     is_stripped bin/fsverity "$scratch/stripped/usr/local/bin/fsverity-proved"
     is_stripped bin/veritysetup "$scratch/stripped/usr/local/sbin/veritysetup-proved"
     printf a >"$scratch/one"
-    runs 'a stripped program' 0 "sha256:bce75948b9e7510293f8f2720412af9697c1479281323f3f220623fb8e94b557 $scratch/one" '' \
+    runs 'a stripped program' 0 \
+        "sha256:bce75948b9e7510293f8f2720412af9697c1479281323f3f220623fb8e94b557 $scratch/one" '' \
         "$scratch/stripped/usr/local/bin/fsverity-proved" digest "$scratch/one"
     for name in fsverity veritysetup; do
         same "$name: what docs/BUILDING.md says that it needs" "libc.so.6 GLIBC_2.34" "$(asks_for "bin/$name")"
     done
-    if [ -e lib/libverity.a ] && [ -e lib/libverity.so.1 ]; then
-        is_stripped lib/libverity.so.1 "$scratch/stripped/usr/local/lib/libverity.so.1"
-    fi
+    if is_built x86_64; then is_stripped lib/libverity.so.2 "$scratch/stripped/usr/local/lib/libverity.so.2"; fi
 else
     echo 'left out: stripped programs: strip or readelf is not installed'
 fi
@@ -179,21 +151,7 @@ if man --version 2>/dev/null | grep -q '^man [0-9]'; then
 else
     echo 'left out: man is not installed'
 fi
-if [ -e lib/libverity.a ] && [ -e lib/libverity.so.1 ]; then
-    if command -v pkg-config >/dev/null && command -v cc >/dev/null; then
-        links plain usr/local
-        links stripped usr/local
-        libraries=usr/lib/x86_64-linux-gnu links packaged usr
-        same 'folders of their own: pkg-config' '-I/opt/headers ' \
-            "$(PKG_CONFIG_PATH="$scratch/packaged/usr/lib/x86_64-linux-gnu/pkgconfig" pkg-config --cflags verity | sed 's/ *$/ /')"
-        same 'a space: pkg-config' "-L/opt/our\\ programs/lib -lverity " \
-            "$(PKG_CONFIG_PATH="$scratch/a space  and \"quotes\"/opt/our programs/lib/pkgconfig" pkg-config --libs verity | sed 's/ *$/ /')"
-    else
-        echo 'left out: what pkg-config says: pkg-config or cc is not installed'
-    fi
-fi
 uninstalls plain
-same 'libverity.so after uninstall' '' "$(find "$scratch/plain" -name libverity.so)"
 uninstalls named PREFIX=/usr SUFFIX=
 uninstalls 'a space  and "quotes"' PREFIX='/opt/our programs' SUFFIX=-x.y
 uninstalls packaged "${packaged[@]}"
@@ -207,29 +165,76 @@ runs "another library's files" 0 '' '' make -s --no-print-directory uninstall DE
 same "another library's files stay" "$others" "$(listed "$scratch/other")"
 echo 'Name: another verity' >"$scratch/other/usr/local/lib/pkgconfig/verity.pc"
 others="$(listed "$scratch/other")"
-runs "another library's files, with its file of pkg-config" 0 '' '' make -s --no-print-directory uninstall DESTDIR="$scratch/other"
+runs "another library's files, with its file of pkg-config" 0 '' '' \
+    make -s --no-print-directory uninstall DESTDIR="$scratch/other"
 same "another library's files stay, with its file of pkg-config" "$others" "$(listed "$scratch/other")"
 if [ -e "$scratch/stripped" ]; then uninstalls stripped STRIP=yes; fi
-runs 'a suffix with a slash' 2 '' any make -s --no-print-directory install DESTDIR="$scratch/none" SUFFIX=/x
-absent 'a suffix with a slash' "$scratch/none"
-runs 'a STRIP that is neither yes nor no' 2 '' any make -s --no-print-directory install DESTDIR="$scratch/none" STRIP=1
-absent 'a STRIP that is neither yes nor no' "$scratch/none"
+refuses 'a suffix with a slash' 'SUFFIX may have letters, digits and . _ + - alone' install SUFFIX=/x
+refuses 'a STRIP that is neither yes nor no' 'STRIP is yes or no' install STRIP=1
 for variable in PREFIX BINDIR SBINDIR MANDIR BASHCOMPDIR LIBDIR INCLUDEDIR; do
-    runs "a $variable that doesn't begin with /" 2 '' any \
-        make -s --no-print-directory install DESTDIR="$scratch/none" "$variable=usr"
-    same "a $variable that doesn't begin with /: why" "install.sh: $variable has to begin with /" "$(head -n 1 "$scratch/.err")"
-    absent "a $variable that doesn't begin with /" "$scratch/none"
+    refuses "a $variable that doesn't begin with /" "$variable has to begin with /" install "$variable=usr"
 done
-# Without programs in bin/ nothing is installed: here, over copies of what makes them.
+# The library goes and comes back without the programs.
+if is_built x86_64; then
+    installed=$(listed "$scratch/linked")
+    runs 'make uninstall-library' 0 '' '' make -s --no-print-directory uninstall-library DESTDIR="$scratch/linked"
+    same 'make uninstall-library: the programs stay' \
+        "$(grep -vxF "$(library_files x86_64 usr/local)" <<<"$installed")" "$(listed "$scratch/linked")"
+    runs 'make install-library' 0 '' '' make -s --no-print-directory install-library DESTDIR="$scratch/linked"
+    same 'make install-library, beside programs' "$installed" "$(listed "$scratch/linked")"
+fi
+# There are no programs for 64-bit ARM: nothing of x86-64 is installed or removed in their place.
+refuses 'make install for 64-bit ARM' "there are no programs for aarch64: use 'make install-library TARGET=aarch64'" \
+    install TARGET=aarch64
+installed=$(listed "$scratch/linked")
+runs 'make uninstall for 64-bit ARM' 2 '' any \
+    make -s --no-print-directory uninstall DESTDIR="$scratch/linked" TARGET=aarch64
+same 'make uninstall for 64-bit ARM: why' \
+    "install.sh: there are no programs for aarch64: use 'make uninstall-library TARGET=aarch64'" \
+    "$(head -n 1 "$scratch/.err")"
+same 'make uninstall for 64-bit ARM: all stays' "$installed" "$(listed "$scratch/linked")"
+# Without programs in bin/ nothing is installed, and without a shared library the programs alone: here, over copies of
+# what makes them.
 mkdir "$scratch/empty"
-cp Makefile install.sh "$scratch/empty"
-runs 'without programs' 2 '' any make -s -C "$scratch/empty" --no-print-directory install DESTDIR="$scratch/none"
-absent 'without programs' "$scratch/none"
+cp -r Makefile install.sh include man completions "$scratch/empty"
+refuses 'without programs' "run 'make programs' first" -C "$scratch/empty" install
+mkdir "$scratch/empty/"{bin,lib}
+cp bin/{fsverity,veritysetup} "$scratch/empty/bin"
+: >"$scratch/empty/lib/libverity.a"
+runs 'without a shared library' 0 '' "libverity.so.2 isn't built, so the library is left out" \
+    make -s -C "$scratch/empty" --no-print-directory install DESTDIR="$scratch/no_library"
+same 'without a shared library: files' \
+    "$(printf '%s\n' {fsverity,veritysetup}-proved{,} fsverity-proved.1 veritysetup-proved.8 | sort)" \
+    "$(find "$scratch/no_library" ! -type d -printf '%f\n' | sort)"
+# Without the one for x86-64-v3 too.
+: >"$scratch/empty/lib/libverity.so.2"
+runs 'without the library for x86-64-v3' 0 '' \
+    "glibc-hwcaps/x86-64-v3/libverity.so.2 isn't built, so the library is left out" \
+    make -s -C "$scratch/empty" --no-print-directory install DESTDIR="$scratch/no_library"
+# The library for 64-bit ARM is neither replaced nor removed: here, over files in its place. The programs are removed.
+mkdir -p "$scratch/empty/lib/"{glibc-hwcaps/x86-64-v3,aarch64}
+: >"$scratch/empty/lib/glibc-hwcaps/x86-64-v3/libverity.so.2"
+for file in libverity.a libverity-strict-align.a libverity.so.2; do : >"$scratch/empty/lib/aarch64/$file"; done
+runs 'the library for 64-bit ARM beside programs' 0 '' '' make -s -C "$scratch/empty" --no-print-directory \
+    install-library TARGET=aarch64 DESTDIR="$scratch/no_library"
+refuses_in no_library 'make install over the library for 64-bit ARM' \
+    "the library in $scratch/no_library/usr/local/lib is for aarch64: give that for x86_64 a LIBDIR of its own" \
+    -C "$scratch/empty" install
+runs 'make uninstall beside the library for 64-bit ARM' 0 '' '' \
+    make -s -C "$scratch/empty" --no-print-directory uninstall DESTDIR="$scratch/no_library"
+same 'make uninstall beside the library for 64-bit ARM: what stays' "$(library_files aarch64 usr/local | sort -k 2)" \
+    "$(listed "$scratch/no_library")"
 
 # The archive of the sources: the same bytes from a clone, later and with other settings, and what was committed.
 if [ -e .git ] && command -v git >/dev/null; then
-    name=verity-$(awk '/^#define VERITY_VERSION_/ { printf "%s%s", dot, $3; dot = "." }' <(git show HEAD:include/verity.h))
-    if git show HEAD:CHANGELOG.md | grep -qx '## Not yet released'; then name+=+$(git rev-parse HEAD | cut -c 1-12); fi
+    name=verity-$(git show HEAD:include/verity.h |
+        awk '/^#define VERITY_VERSION_/ { printf "%s%s", dot, $3; dot = "." }')
+    same 'make dist: a version that is released' "dist/$name.tar.gz" "$(archive_for '2.0.0 (2026-11-30)')"
+    same 'make dist: one that is not' "dist/$name+COMMIT.tar.gz" "$(archive_for '2.0.0 (not yet released)')"
+    same 'make dist: one without a number' "dist/$name+COMMIT.tar.gz" "$(archive_for 'Not yet released')"
+    if git show HEAD:CHANGELOG.md | grep -qi '^## .*not yet released'; then
+        name+=+$(git rev-parse HEAD | cut -c 1-12)
+    fi
     runs 'make dist' 0 "$scratch/dist/$name.tar.gz" '' make -s --no-print-directory dist DIST="$scratch/dist"
     git clone -q . "$scratch/clone" 2>/dev/null
     git -C "$scratch/clone" config tar.umask 0077

@@ -287,14 +287,15 @@ gate_log() {
     ran 'another word' 2 tests/all.sh --gate
 }
 
-# All tests, in name: each script but those that are no part is one, once for each processor if it tests programs.
+# All tests, in name: each script but those that are no part is one, once for each processor if it tests programs, and
+# three of the library.
 all_parts() {
     local script
     mkdir -p tests/{interop,programs,library}
     for script in "$top"/tests/{,interop/,programs/,library/}*.sh; do
         case $script in
         */all.sh | */run.sh) ;;
-        *) part "${script#"$top/"}" 'echo "$0 ${BIN#bin}" >>ran' 'echo "1 passed, 0 failed"' ;;
+        *) part "${script#"$top/"}" 'echo "$0 ${BIN#bin}${LIB:-}" >>ran' 'echo "1 passed, 0 failed"' ;;
         esac
     done
     part processor.sh 'echo x86-64-v3'
@@ -305,6 +306,10 @@ all_parts() {
         "$(comm -13 names scripts | sed 's|.*/||; s|\.sh$||' | tr '\n' ' ')"
     same 'for which processors programs are tested' '/x86-64-v2 /x86-64-v3 ' \
         "$(sed -n 's|^tests/programs/format.sh ||p' ran | sort | tr '\n' ' ')"
+    for script in debian_images feeding header; do
+        same "for which processors $script.sh tests the library" 'lib lib/glibc-hwcaps/x86-64-v3 ' \
+            "$(sed -n "s|^tests/library/$script.sh ||p" ran | sort | tr '\n' ' ')"
+    done
     same 'the first parts' 'tests/gate.sh tests/built.sh ' \
         "$(sed -nE 's/^== [0-9]+ of [0-9]+: (tests\/(gate|built).*)/\1/p' said | tr '\n' ' ')"
     same 'each part has passed' "$(wc -l <ran) passed, 0 failed" "$(tail -n 1 said)"

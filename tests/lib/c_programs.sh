@@ -6,7 +6,7 @@
 LIB=${LIB:-lib}
 SEED=${SEED:-1}
 # Longer than any run takes, on a slow machine too.
-LONGEST=300
+LONGEST=900
 # The block sizes of images of dm-verity.
 verity_sizes=(512 512 1024 2048 4096 8192)
 warnings=(-std=c11 -Wall -Wextra -Wpedantic -Werror)
@@ -17,6 +17,15 @@ has_library() {
         echo "$0: $1 is not there: run 'make library' first" >&2
         exit 1
     fi
+}
+
+# takes_shared: sets `shared` to the words by which a program is built with the shared library of LIB. They name a copy,
+# since where it stands, glibc's loader may take the one of glibc-hwcaps/ in its place.
+takes_shared() {
+    has_library "$LIB/libverity.so.2"
+    mkdir "$scratch/.shared"
+    cp "$LIB/libverity.so.2" "$scratch/.shared"
+    shared=("$scratch/.shared/libverity.so.2" "-Wl,-rpath,$scratch/.shared")
 }
 
 # compiles OUT COMPILER WORD..: builds a program of tests/library. WORD.. are its sources, options and the library.
@@ -96,7 +105,7 @@ fan_out() {
 }
 
 # verity_image MOST-BYTES: makes a dm-verity image by Debian's program at random, with at most so much data. Sets
-# `words` to what debian_images.c is told of it.
+# `words` to what programs are told of it, the data and the file of its tree, and `made` to what it is.
 verity_image() {
     local hash type data_size hash_size area offset root options place
     one_of sha1 sha224 sha256 sha256 sha384 sha512
@@ -134,13 +143,15 @@ verity_image() {
         return 1
     fi
     root=$(sed -n 's/^Root hash:[[:space:]]*//p' "$scratch/report")
-    words=(verity "$area" "$hash" "$type" "$data_size" "$hash_size" "$salt" "$count" "$offset" "$hex" "$scratch/data"
-        "$scratch/hashes" "$root")
+    made="$area $hash $type $data_size $hash_size $salt $count $offset"
+    # shellcheck disable=SC2086
+    tests/lib/tree_files.py verity $made "$hex" "$scratch/data" "$scratch/hashes" "$root" >"$scratch/image"
+    words=("$scratch/data" "$scratch/image")
 }
 
 # fsverity_image MOST-BYTES: the same of fs-verity.
 fsverity_image() {
-    local hash block size root digest options
+    local hash block size
     one_of sha256 sha512
     hash=$chosen
     one_of 1024 1024 2048 4096
@@ -151,6 +162,12 @@ fsverity_image() {
     one_of 0 $((count * block)) $((count * block)) $((count * block - RANDOM % block)) $((count * block - 1)) \
         $(((count - 1) * block + 1))
     size=$chosen
+    fsverity_file "$hash" "$block" "$size"
+}
+
+# fsverity_file HASH BLOCK SIZE: the same of a file of so many bytes, with `salt`.
+fsverity_file() {
+    local hash=$1 block=$2 size=$3 options
     head -c "$size" "$scratch/all" >"$scratch/file"
     rm -f "$scratch/tree" "$scratch/descriptor"
     options=(--hash-alg="$hash" --block-size="$block" --salt="${salt#-}")
@@ -159,9 +176,11 @@ fsverity_image() {
         fail "fsverity digest ${options[*]}, $size bytes" "$(cat "$scratch/report")"
         return 1
     fi
-    digest=$(cat "$scratch/report")
-    root=$(od -An -v -tx1 -j $ROOT_AT -N $((${#digest} / 2)) "$scratch/descriptor" | tr -d ' \n')
-    words=(fsverity "$hash" "$block" "$salt" "$size" "$scratch/file" "$scratch/tree" "$root" "$digest")
+    made="$hash $block $salt $size"
+    # shellcheck disable=SC2086
+    tests/lib/tree_files.py fsverity $made "$scratch/tree" "$scratch/descriptor" "$(cat "$scratch/report")" \
+        >"$scratch/image"
+    words=("$scratch/file" "$scratch/image")
 }
 
 # tries_images PROGRAM VERITY FSVERITY MOST-BYTES [WORD..]: runs a program over so many images of either kind, after
@@ -185,11 +204,18 @@ tries_images() {
     fi
 }
 
+# draws_trees KIND LIMIT..: sets `trees` to the data and the file of many trees by trees.py, of a kind of tree_files.py.
+draws_trees() {
+    trees=("$scratch/all" "$scratch/trees.$1")
+    tests/lib/tree_files.py "$1" "$scratch/all" "$SEED" "${@:2}" >"${trees[1]}" ||
+        fail "tests/lib/tree_files.py $1" "status $?"
+}
+
 # tries_random PROGRAM CALLS [WORD..]: runs a build of fuzz.c for so many calls, after WORD.., an emulator.
 tries_random() {
     local program=$1 calls=$2
     shift 2
-    tests/lib/chains.py "$SEED" 300 >"$scratch/chains"
+    tests/lib/chains.py "$SEED" 300 >"$scratch/chains" || fail 'tests/lib/chains.py' "status $?"
     adds "random calls of seed $SEED" "$@" "$program" "$SEED" "$calls" "$scratch/chains"
     echo "seed $SEED: $(grep ' calls, ' "$scratch/.ran")"
 }

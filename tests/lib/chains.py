@@ -1,20 +1,17 @@
 #!/usr/bin/env python3
 """Data blocks with paths that the definitions accept, for fuzz.c: chains.py SEED COUNT prints so many.
 
-Digests are those of hashlib, chains and shapes those of tests/lib/trees.py. Numbers are little-endian, in the order in
-which fuzz.c reads them.
+Digests are those of hashlib, chains and shapes those of tests/lib/trees.py. A chain is written as tree_files.py writes
+a tree, with the data block and its path in place of the hash blocks.
 """
 
-import hashlib
 import random
-import struct
 import sys
 
 sys.dont_write_bytecode = True
-from layouts import SUPERBLOCK_SIZE, descriptor
+from layouts import SUPERBLOCK_SIZE
+from tree_files import NUMBERS, base_of, file_digest, record
 from trees import FS_VERITY, MOST_BYTES, Settings, Shape, chain
-
-NUMBERS = {"sha256": 1, "sha512": 2, "sha1": 3, "sha224": 4, "sha384": 5}
 
 
 def some_number(numbers, most):
@@ -31,8 +28,7 @@ def device(numbers):
     superblock = numbers.random() < 0.5
     unit = SUPERBLOCK_SIZE if superblock else hash_block
     offset = numbers.choice((0, some_number(numbers, MOST_BYTES))) // unit * unit
-    base = -(-(offset + SUPERBLOCK_SIZE * superblock) // hash_block)
-    return settings, superblock, offset, base
+    return settings, superblock, offset, base_of(hash_block, not superblock, offset)
 
 
 def file(numbers):
@@ -42,11 +38,6 @@ def file(numbers):
     salt = numbers.randbytes(numbers.choice((0, 1, 32, numbers.randint(0, 32))))
     size = some_number(numbers, MOST_BYTES - block)
     return Settings(name, block, block, salt, -(-size // block), FS_VERITY), size
-
-
-def file_digest(settings, size, root):
-    """The hash of the descriptor."""
-    return hashlib.new(settings.name, descriptor(settings, size, root)).digest()
 
 
 def drawn_chain(numbers):
@@ -65,12 +56,8 @@ def drawn_chain(numbers):
     index = numbers.choice((0, last, numbers.randint(0, last)))
     blocks, root = chain(shape, index, numbers)
     digest = file_digest(settings, size, root) if is_file else b""
-    hash_type = 0 if is_file else settings.hash_type
-    yield struct.pack("<IIIIIII", is_file, NUMBERS[settings.name], hash_type, settings.data_block, settings.hash_block,
-                      not superblock, len(settings.salt))
-    yield struct.pack("<QQQQ", size, offset, index, len(shape.sizes))
-    yield settings.salt.ljust(256, b"\0") + root.ljust(64, b"\0") + digest.ljust(64, b"\0")
-    yield b"".join(blocks)
+    yield from record(settings, size, b"".join(blocks), root, bare=not superblock, offset=offset, digest=digest,
+                      index=index)
 
 
 def main():

@@ -127,6 +127,19 @@ little_endian() {
     bytes "$digits"
 }
 
+# path_without NAME: makes a folder with all programs of the PATH but those of this name, or pattern, and prints it.
+path_without() {
+    local to folder folders
+    to=$(mktemp -d "$scratch/.path.XXXXXX")
+    IFS=: read -ra folders <<<"$PATH"
+    for folder in "${folders[@]}"; do
+        if [ -d "$folder" ]; then
+            find -L "$folder" -maxdepth 1 -type f ! -name "$1" -exec ln -s -t "$to" {} + 2>/dev/null
+        fi
+    done
+    echo "$to"
+}
+
 # scarce COMMAND..: runs a command in an address space of 3500 KiB, which has no room for blocks of 524288 bytes.
 scarce() {
     (ulimit -v 3500 && exec "$@")

@@ -1,21 +1,10 @@
-# What tests/library/feeding.sh and arm.sh share: how the programs that feed data are built and run. Sourced after tests/lib/c_programs.sh.
+# What tests/library/feeding.sh, arm.sh and processors.sh share: how the programs that feed data are built and run.
+# Sourced after tests/lib/c_programs.sh.
 
 # The sources of each program, beside its own.
-feeding_sources=(tests/library/feeding_calls.c tests/library/support.c)
-
-# tries_hashes PROGRAM [WORD..]: the hash functions that expected trees are made by are those of coreutils, over lengths
-# about those at which a message has a block more.
-tries_hashes() {
-    local program=$1 bits length
-    shift
-    for bits in 1 224 256 384 512; do
-        for length in 0 1 55 56 63 64 65 111 112 119 120 127 128 129 1000; do
-            sample "$length" >"$scratch/message"
-            adds "sha$bits of $length bytes" "$@" "$program" "$SEED" hash "sha$bits" "$scratch/message" \
-                "$("sha${bits}sum" <"$scratch/message" | cut -d' ' -f1)"
-        done
-    done
-}
+feeding_sources=(tests/library/{feeding_calls,images,support}.c)
+# The block sizes of images that are fed.
+fed_sizes=(512 512 1024 2048 4096 8192 16384 32768 65536)
 
 # file_size BLOCK FAN-OUT MOST: sets `size` to a size at which a block or a level is full, or beside it, or to any.
 file_size() {
@@ -26,54 +15,121 @@ file_size() {
     if [ "$size" -gt 1 ]; then size=$((size - 1 + RANDOM % 3)); fi
 }
 
-# fed_file PROGRAM MOST [WORD..]: feeds a file of so many bytes at most, and compares with what `fsverity` says of it.
+# fed_file MOST: makes a file of so many bytes at most, with blocks of all sizes, as fsverity_image does.
 fed_file() {
-    local program=$1 most=$2 hash block size salt fan options
-    shift 2
+    local hash block size fan
     one_of 256 256 512
     hash=$chosen
     block=$(((hash / 4) << (RANDOM % (hash == 256 ? 11 : 10))))
     random_salt 32
     fan_out "sha$hash" "$block"
-    file_size "$block" "$fan" "$most"
-    head -c "$size" "$scratch/all" >"$scratch/file"
-    options=(--hash-alg="sha$hash" --block-size="$block" --salt="${salt#-}")
-    rm -f "$scratch/descriptor"
-    if fsverity digest --compact "${options[@]}" --out-descriptor="$scratch/descriptor" "$scratch/file" \
-        >"$scratch/report" 2>&1; then
-        adds "fsverity digest ${options[*]}, $size bytes" "$@" "$program" "$SEED" fsverity "sha$hash" "$block" "$salt" \
-            "$size" "$scratch/file" "$scratch/descriptor" "$(cat "$scratch/report")"
-    else
-        fail "fsverity digest ${options[*]}, $size bytes" "$(cat "$scratch/report")"
-    fi
+    file_size "$block" "$fan" "$1"
+    fsverity_file "sha$hash" "$block" "$size"
+}
+
+# feeds_settings NAME PROGRAM MOST-BYTES MOST-EACH-WAY [WORD..]: feeds trees over all settings; and feeds_large those of
+# blocks from 131072 bytes to LARGEST.
+feeds_settings() {
+    local name=$1 program=$2 most=$3
+    draws_trees settings "$most" "$4"
+    adds "$name" "${@:5}" "$program" "$SEED" "${trees[@]}" 512 $((most < 65536 ? most : 65536))
+}
+
+feeds_large() {
+    local name=$1 program=$2 largest=$3 size
+    # One after another, each of which ends in time on a slow machine too.
+    for ((size = 131072; size <= largest; size *= 2)); do
+        draws_trees large "$size"
+        adds "$name of $size bytes" "${@:4}" "$program" "$SEED" "${trees[@]}" "$size" "$size"
+    done
 }
 
 # feeds_images PROGRAM VERITY FSVERITY MOST-BYTES [WORD..]: feeds so many images and files, after WORD.., an emulator,
 # and compares with what `veritysetup` and `fsverity` make of them. What one is missing for is left out.
 feeds_images() {
-    local program=$1 verity=$2 fsverity=$3 most=$4 i
+    local program=$1 verity=$2 fsverity=$3 most=$4 i verity_sizes=("${fed_sizes[@]}")
     shift 4
-    verity_sizes=(512 512 1024 2048 4096 8192 16384 32768 65536)
     if command -v veritysetup >/dev/null; then
         for ((i = 0; i < verity; i++)); do
             if verity_image "$most"; then
-                adds "feeding, image $i: ${words[*]:1:8}" "$@" "$program" "$SEED" "${words[@]}"
+                adds "feeding, image $i: $made" "$@" "$program" "$SEED" "${words[@]}"
             fi
         done
     else
         echo 'left out: feeding of images: veritysetup is not installed'
     fi
     if command -v fsverity >/dev/null; then
-        for ((i = 0; i < fsverity; i++)); do fed_file "$program" "$most" "$@"; done
+        for ((i = 0; i < fsverity; i++)); do
+            if fed_file "$most"; then adds "feeding, file $i: $made" "$@" "$program" "$SEED" "${words[@]}"; fi
+        done
     else
         echo 'left out: feeding of files: fsverity is not installed'
     fi
 }
 
-# tries_feedings PROGRAM COUNT [WORD..]: runs a build of feeding_fuzz.c for so many feedings.
+# tries_stored PROGRAM MOST-BYTES [WORD..]: stores trees of up to so many bytes after each of their calls.
+tries_stored() {
+    local program=$1 most=$2
+    shift 2
+    draws_trees stored "$most"
+    adds 'stored after each call' "$@" "$program" "$SEED" "${trees[@]}"
+    grep '^stored ' "$scratch/.ran"
+}
+
+# tries_refused NAME PROGRAM [WORD..]: runs a build of feeding_refused.c.
+tries_refused() {
+    local name=$1 program=$2
+    draws_trees refused
+    adds "$name" "${@:3}" "$program" "${trees[@]}"
+}
+
+# one_call_each NAME PROGRAM: builds the tree of `words` by a process for each call. What is kept between two calls
+# stands in a file, and hash blocks go to $scratch/device.
+one_call_each() {
+    local name=$1 program=$2 call before=$failed
+    rm -f "$scratch/state"
+    for ((call = 0; call < 2000; call++)); do
+        adds "$name, process $call" "$program" $((SEED + call)) "${words[@]}" "$scratch/state" "$scratch/device"
+        if [ "$failed" -gt "$before" ] || grep -qx ended "$scratch/.ran"; then return; fi
+    done
+    fail "$name" 'its end was never asked for'
+}
+
+# stores_images PROGRAM VERITY FSVERITY MOST-BYTES: the same for so many images and files, beside Debian's programs: the
+# hash device, root hash and file digest are theirs. What one is missing for is left out.
+stores_images() {
+    local program=$1 verity=$2 fsverity=$3 most=$4 i verity_sizes=("${fed_sizes[@]}")
+    if command -v veritysetup >/dev/null; then
+        for ((i = 0; i < verity; i++)); do
+            if verity_image "$most"; then
+                head -c "${made##* }" "$scratch/hashes" >"$scratch/device"
+                one_call_each "one call a process, image $i: $made" "$program"
+                # A superblock alone has zeros behind it.
+                truncate -s ">$(stat -c %s "$scratch/hashes")" "$scratch/device"
+                same_bytes "one call a process, image $i: hash device" "$scratch/hashes" "$scratch/device"
+            fi
+        done
+    else
+        echo 'left out: images with one call a process: veritysetup is not installed'
+    fi
+    if command -v fsverity >/dev/null; then
+        : >"$scratch/device"
+        for ((i = 0; i < fsverity; i++)); do
+            if fsverity_image "$most"; then
+                one_call_each "one call a process, file $i: $made" "$program"
+            fi
+        done
+    else
+        echo 'left out: files with one call a process: fsverity is not installed'
+    fi
+}
+
+# tries_feedings PROGRAM COUNT [WORD..]: runs a build of feeding_fuzz.c for so many feedings, of some thousand trees.
 tries_feedings() {
     local program=$1 count=$2
     shift 2
-    adds "feedings of seed $SEED" "$@" "$program" "$SEED" "$count"
+    draws_trees fuzz 5000
+    adds "feedings of seed $SEED" "$@" "$program" "$SEED" "$count" "${trees[@]}"
     echo "seed $SEED: $(grep ' feedings, ' "$scratch/.ran")"
+    grep ', disturbed [0-9]*$' "$scratch/.ran" | sed 's/^/    /'
 }

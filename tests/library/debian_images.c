@@ -1,150 +1,38 @@
 /*
  * Runs the library over an image that another program made.
  *
- *   debian_images verity superblock|bare HASH TYPE DATA-BLOCK HASH-BLOCK SALT BLOCKS OFFSET UUID DATA-FILE HASH-FILE
- *       ROOT
- *   debian_images fsverity HASH BLOCK SALT SIZE FILE TREE-FILE ROOT FILE-DIGEST
+ *   debian_images DATA TREE
  *
- * SALT, UUID, ROOT and FILE-DIGEST are in hexadecimal, `-` for no salt. What doesn't hold is printed in lines that
- * begin with FAILED; the last line is 'N passed, M failed'.
+ * TREE is a file of tree_files.py with the tree of the bytes of the file DATA. What doesn't hold is printed in lines
+ * that begin with FAILED; the last line is 'N passed, M failed'.
  */
 #include <inttypes.h>
 #include <stdio.h>
 #include <stdlib.h>
 #include <string.h>
 
+#include "chains.h"
+#include "images.h"
 #include "support.h"
-#include "words.h"
 
 /* As many data blocks are tried, and as many of them with each change. */
 #define MOST_TRIED 200
 #define MOST_CHANGED 24
 
-struct image {
-    struct tree tree;
-    struct shape shape;
-    uint8_t *data;
-    uint8_t *hashes;
-    size_t data_length;
-    size_t hashes_length;
-    uint8_t root[VERITY_MAX_DIGEST_SIZE];
-    uint8_t uuid[16];
-};
-
-/* A data block and its path, as one run of bytes. */
-struct chain {
-    const struct image *image;
-    uint64_t index;
-    uint8_t *bytes;
-    uint8_t root[VERITY_MAX_DIGEST_SIZE + 1];
-    size_t root_length;
-};
-
-/* Block 0 of a chain is the data block, and block l + 1 the hash block of level l. */
-static size_t start_in_chain(const struct shape *shape, size_t block)
-{
-    return block == 0 ? 0 : shape->data_block_size + (block - 1) * shape->hash_block_size;
-}
-
-static struct bytes block_of(const struct chain *chain, size_t block)
-{
-    const struct shape *shape = &chain->image->shape;
-
-    return bytes_of(chain->bytes + start_in_chain(shape, block),
-                    block == 0 ? shape->data_block_size : shape->hash_block_size);
-}
-
-static struct bytes path_of(const struct chain *chain)
-{
-    const struct shape *shape = &chain->image->shape;
-
-    return bytes_of(chain->bytes + shape->data_block_size, shape->levels * shape->hash_block_size);
-}
-
-static struct bytes root_of(const struct chain *chain)
-{
-    return bytes_of(chain->root, chain->root_length);
-}
-
-static uint32_t check_chain(const struct chain *chain, size_t *level)
-{
-    *level = PAINT;
-    return call_check_block(&chain->image->tree, chain->index, block_of(chain, 0), path_of(chain), root_of(chain),
-                            level);
-}
-
-static uint32_t check_one_link(const struct chain *chain, size_t level)
-{
-    return call_check_link(&chain->image->tree, chain->index, level, block_of(chain, level),
-                           block_of(chain, level + 1));
-}
-
-static uint32_t check_top_block(const struct chain *chain)
-{
-    return call_check_top(&chain->image->tree, chain->index, block_of(chain, chain->image->shape.levels),
-                          root_of(chain));
-}
-
-/* The chain is accepted, in one call and one by one. */
-static void accepts(const struct chain *chain)
-{
-    size_t level, found;
-    uint32_t status = check_chain(chain, &found);
-
-    check(status == VERITY_OK && found == PAINT, "block %" PRIu64 ": status %" PRIu32 ", level %zu", chain->index,
-          status, found);
-    for (level = 0; level < chain->image->shape.levels; level++)
-        check(check_one_link(chain, level) == VERITY_OK, "block %" PRIu64 ", link to level %zu", chain->index, level);
-    check(check_top_block(chain) == VERITY_OK, "block %" PRIu64 ", top", chain->index);
-}
-
-/*
- * The chain is refused at the lowest level that differs. differs has a bit for each level, and the one after them for
- * the root hash: just these links differ.
- */
-static void refuses(const struct chain *chain, uint64_t differs, const char *change)
-{
-    size_t levels = chain->image->shape.levels, lowest = 0, level, found;
-    uint32_t status = check_chain(chain, &found), expected;
-
-    while (!(differs >> lowest & 1))
-        lowest++;
-    check(status == VERITY_DIFFERS && found == lowest,
-          "block %" PRIu64 ", %s: status %" PRIu32 ", level %zu, expected level %zu", chain->index, change, status,
-          found, lowest);
-    for (level = 0; level < levels; level++) {
-        expected = differs >> level & 1 ? VERITY_DIFFERS : VERITY_OK;
-        status = check_one_link(chain, level);
-        check(status == expected, "block %" PRIu64 ", %s, link to level %zu: status %" PRIu32, chain->index, change,
-              level, status);
-    }
-    expected = differs >> levels & 1 ? VERITY_DIFFERS : VERITY_OK;
-    status = check_top_block(chain);
-    check(status == expected, "block %" PRIu64 ", %s, top: status %" PRIu32, chain->index, change, status);
-}
-
-/* Turns a bit of a byte of block `block` of the chain, and back. */
+/* Turns a bit of a byte of block `block` of the chain, and puts it back. */
 static void refuses_flipped(struct chain *chain, size_t block, size_t offset, const char *change)
 {
-    const struct shape *shape = &chain->image->shape;
-    uint8_t *byte = chain->bytes + start_in_chain(shape, block) + offset, bit = (uint8_t)(1 << random_below(8));
-    uint64_t differs = (uint64_t)1 << block;
-    size_t slot;
+    uint8_t *byte = chain->bytes + start_in_chain(&chain->shape, block) + offset, kept = *byte;
 
-    /* A digest in the own slot is that of the block below. */
-    if (block > 0) {
-        slot = slot_number(shape, chain->index, block - 1) * shape->slot_width;
-        if (offset >= slot && offset < slot + shape->digest_size)
-            differs |= (uint64_t)1 << (block - 1);
-    }
-    *byte ^= bit;
-    refuses(chain, differs, change);
-    *byte ^= bit;
+    flip_in_chain(chain, block, offset);
+    judge_chain(chain, 1, change);
+    *byte = kept;
+    chain->differs = 0;
 }
 
 static void changed_blocks(struct chain *chain)
 {
-    const struct shape *shape = &chain->image->shape;
+    const struct shape *shape = &chain->shape;
     size_t level, slot, other, used = (size_t)shape->fan_out * shape->slot_width;
 
     refuses_flipped(chain, 0, 0, "first byte of the data block");
@@ -169,20 +57,21 @@ static void changed_blocks(struct chain *chain)
 
 static void changed_root(struct chain *chain)
 {
-    const struct shape *shape = &chain->image->shape;
+    const struct shape *shape = &chain->shape;
     size_t lengths[] = {0, shape->digest_size - 1, shape->digest_size + 1}, found, i;
-    uint64_t differs = (uint64_t)1 << shape->levels;
-    uint32_t status;
+    int status;
 
+    chain->differs = (uint64_t)1 << shape->levels;
     for (i = 0; i < shape->digest_size; i += shape->digest_size - 1) {
         chain->root[i] ^= 1;
-        refuses(chain, differs, "another root hash");
+        judge_chain(chain, 1, "another root hash");
         chain->root[i] ^= 1;
     }
+    chain->differs = 0;
     for (i = 0; i < sizeof lengths / sizeof *lengths; i++) {
         chain->root_length = lengths[i];
         status = check_chain(chain, &found);
-        check(status == VERITY_BAD_ROOT_LENGTH && found == PAINT, "root hash of %zu bytes: status %" PRIu32, lengths[i],
+        check(status == VERITY_BAD_ROOT_LENGTH && found == PAINT, "root hash of %zu bytes: status %d", lengths[i],
               status);
         check(check_top_block(chain) == VERITY_BAD_ROOT_LENGTH, "top, root hash of %zu bytes", lengths[i]);
     }
@@ -192,8 +81,8 @@ static void changed_root(struct chain *chain)
 /* Lengths that are off, each alone. There is room behind the chain for a byte or a block more. */
 static void changed_lengths(struct chain *chain)
 {
-    const struct tree *tree = &chain->image->tree;
-    const struct shape *shape = &chain->image->shape;
+    const struct tree *tree = &chain->tree;
+    const struct shape *shape = &chain->shape;
     struct bytes block = block_of(chain, 0), path = path_of(chain), root = root_of(chain);
     struct bytes top = block_of(chain, shape->levels), below, above;
     size_t blocks[] = {0, block.length - 1, block.length + 1, 2 * block.length};
@@ -225,8 +114,8 @@ static void changed_lengths(struct chain *chain)
 
 static void changed_numbers(struct chain *chain)
 {
-    const struct shape *shape = &chain->image->shape;
-    uint64_t own = chain->index, others[] = {shape->data_blocks, shape->data_blocks + 1, UINT64_MAX}, differs = 0;
+    const struct shape *shape = &chain->shape;
+    uint64_t own = chain->index, others[] = {shape->data_blocks, shape->data_blocks + 1, UINT64_MAX};
     size_t levels[] = {shape->levels, shape->levels + 1, SIZE_MAX}, found, level, i;
     struct bytes block = block_of(chain, 0), above = bytes_of(chain->bytes, shape->hash_block_size);
 
@@ -239,40 +128,37 @@ static void changed_numbers(struct chain *chain)
     }
     chain->index = own;
     for (i = 0; i < 3; i++)
-        check(call_check_link(&chain->image->tree, own, levels[i], block, above) == VERITY_NO_SUCH_LEVEL,
+        check(call_check_link(&chain->tree, own, levels[i], block, above) == VERITY_NO_SUCH_LEVEL,
               "link to level %zu", levels[i]);
-    /* The path of another data block: the lowest level in which that has another slot. */
     if (shape->data_blocks > 1) {
-        chain->index = (own + 1 + random_below(shape->data_blocks - 1)) % shape->data_blocks;
-        for (level = 0; level < shape->levels; level++)
-            if (slot_number(shape, chain->index, level) != slot_number(shape, own, level))
-                differs |= (uint64_t)1 << level;
-        refuses(chain, differs, "number of another data block");
+        change_index(chain, (own + 1 + random_below(shape->data_blocks - 1)) % shape->data_blocks);
+        judge_chain(chain, 1, "number of another data block");
         chain->index = own;
+        chain->differs = 0;
     }
 }
 
 static void try_block(const struct image *image, uint64_t index, bool changed)
 {
     const struct shape *shape = &image->shape;
-    struct chain chain = {.image = image, .index = index, .root_length = shape->digest_size};
+    struct chain chain = {.tree = image->tree, .shape = *shape, .index = index, .root_length = shape->digest_size};
     size_t room = 2 * (size_t)shape->data_block_size + (shape->levels + 1) * shape->hash_block_size + 1, level;
-    uint64_t start;
+    uint64_t start, at = index * shape->data_block_size, left = image->size - at;
 
-    chain.bytes = calloc(1, room);
-    if (chain.bytes == NULL)
-        give_up("no memory");
+    chain.bytes = memory_of(room);
     memcpy(chain.root, image->root, shape->digest_size);
-    memcpy(chain.bytes, image->data + index * shape->data_block_size, shape->data_block_size);
+    memcpy(chain.bytes, image->data + at, left < shape->data_block_size ? left : shape->data_block_size);
     for (level = 0; level < shape->levels; level++) {
         start = PAINT;
-        check(call_hash_block_start(&image->tree, index, level, &start) == VERITY_OK &&
-                      start <= image->hashes_length - shape->hash_block_size,
-              "block %" PRIu64 ", level %zu: start %" PRIu64, index, level, start);
+        check(call_hash_block_start(&image->tree, index, level, &start) == VERITY_OK, "block %" PRIu64 ", level %zu",
+              index, level);
+        start -= image->first;
+        check(start <= image->hashes_length - shape->hash_block_size, "block %" PRIu64 ", level %zu: start %" PRIu64,
+              index, level, start);
         if (start <= image->hashes_length - shape->hash_block_size)
             memcpy(chain.bytes + start_in_chain(shape, level + 1), image->hashes + start, shape->hash_block_size);
     }
-    accepts(&chain);
+    judge_chain(&chain, 1, "unchanged");
     if (changed) {
         changed_blocks(&chain);
         changed_root(&chain);
@@ -308,9 +194,7 @@ static void check_places(const struct image *image)
                   "level %zu above block %" PRIu64, level, numbers[i]);
     }
     /* The tree ends where the other program's file does. */
-    if (shape->levels > 0)
-        check(shape->starts[0] + shape->blocks[0] * shape->hash_block_size == image->hashes_length,
-              "the hash file has %zu bytes", image->hashes_length);
+    check(has_place(image), "the tree has %" PRIu64 " bytes", image->hashes_length);
     for (i = 0; i < 3; i++) {
         check(call_level_start(&image->tree, none[i], &start, &blocks) == VERITY_NO_SUCH_LEVEL, "level %zu", none[i]);
         check(call_hash_block_start(&image->tree, 0, none[i], &start) == VERITY_NO_SUCH_LEVEL, "block of level %zu",
@@ -318,13 +202,14 @@ static void check_places(const struct image *image)
     }
 }
 
-static void check_image(struct image *image)
+static void check_image(const struct image *image)
 {
     uint64_t count, step, index, tried = 0;
 
-    image->shape = shape_of(&image->tree);
-    check(image->shape.status == VERITY_OK, "the settings are refused: %" PRIu32, image->shape.status);
     count = image->shape.data_blocks;
+    check(image->shape.status == VERITY_OK, "the settings are refused: %d", image->shape.status);
+    check(image->size == (image->tree.is_file ? image->tree.file.size : count * image->shape.data_block_size),
+          "the data has %" PRIu64 " bytes", image->size);
     check_places(image);
     step = count / MOST_TRIED + 1;
     for (index = 0; index < count; index += 1 + random_below(2 * step - 1))
@@ -337,28 +222,22 @@ static void check_superblock(const struct image *image)
 {
     const struct verity_params *expected = &image->tree.device;
     struct verity_params found, before;
-    struct bytes all = bytes_of(image->hashes + expected->hash_offset, image->hashes_length - expected->hash_offset);
-    struct bytes superblock = bytes_of(all.at, SUPERBLOCK_SIZE);
+    struct bytes superblock = bytes_of(image->about, SUPERBLOCK_SIZE);
+    uint8_t longer[2 * SUPERBLOCK_SIZE];
     size_t lengths[] = {0, 1, 511}, i;
     uint64_t offset = random_number();
 
     memset(&found, 0xa5, sizeof found);
     before = found;
     check(call_read_superblock(superblock, expected->hash_offset, &found) == VERITY_OK, "the superblock is refused");
-    check(found.hash_algorithm == expected->hash_algorithm, "hash algorithm %" PRIu32, found.hash_algorithm);
-    check(found.hash_type == expected->hash_type, "hash type %" PRIu32, found.hash_type);
-    check(found.data_block_size == expected->data_block_size, "data block size %" PRIu32, found.data_block_size);
-    check(found.hash_block_size == expected->hash_block_size, "hash block size %" PRIu32, found.hash_block_size);
-    check(found.data_blocks == expected->data_blocks, "data blocks %" PRIu64, found.data_blocks);
-    check(found.hash_offset == expected->hash_offset, "hash offset %" PRIu64, found.hash_offset);
-    check(found.no_superblock == 0, "no superblock %" PRIu32, found.no_superblock);
-    check(found.salt_size == expected->salt_size, "salt size %" PRIu32, found.salt_size);
-    check(memcmp(found.salt, expected->salt, sizeof found.salt) == 0, "the salt, and zeros behind it");
-    check(memcmp(found.uuid, image->uuid, sizeof found.uuid) == 0, "the UUID");
+    /* The salt has zeros behind it, in the image too. */
+    check(memcmp(&found, expected, sizeof found) == 0, "another field of the superblock");
     /* More bytes change nothing, and any hash offset goes into the parameters. */
-    if (all.length <= MOST_BUFFER)
-        check(call_read_superblock(all, offset, &found) == VERITY_OK && found.hash_offset == offset &&
-                      found.data_blocks == expected->data_blocks, "a superblock with bytes behind it");
+    random_bytes(longer, sizeof longer);
+    memcpy(longer, image->about, SUPERBLOCK_SIZE);
+    check(call_read_superblock(bytes_of(longer, SUPERBLOCK_SIZE + 1 + random_below(SUPERBLOCK_SIZE)), offset, &found) ==
+                  VERITY_OK && found.hash_offset == offset && found.data_blocks == expected->data_blocks,
+          "a superblock with bytes behind it");
     for (i = 0; i < 3; i++) {
         found = before;
         check(call_read_superblock(bytes_of(superblock.at, lengths[i]), 0, &found) == VERITY_SHORT_SUPERBLOCK &&
@@ -366,37 +245,25 @@ static void check_superblock(const struct image *image)
     }
 }
 
-static void check_verity(char **words)
+static void check_verity(struct image *image)
 {
-    struct image image = {.tree.is_file = false};
-    struct verity_params *params = &image.tree.device;
-    bool superblock = strcmp(words[0], "superblock") == 0;
+    struct verity_params *params = &image->tree.device;
 
-    params->hash_algorithm = function_of(words[1]);
-    params->hash_type = (uint32_t)number_of(words[2]);
-    params->data_block_size = (uint32_t)number_of(words[3]);
-    params->hash_block_size = (uint32_t)number_of(words[4]);
-    params->salt_size = (uint32_t)bytes_of_text(words[5], params->salt, sizeof params->salt);
-    params->data_blocks = number_of(words[6]);
-    params->hash_offset = number_of(words[7]);
-    /* Any number but 0 says that there is no superblock. */
-    params->no_superblock = superblock ? 0 : 1 + (uint32_t)random_below(UINT32_MAX);
-    bytes_of_text(words[8], image.uuid, sizeof image.uuid);
-    image.data = content_of(words[9], 0, &image.data_length);
-    image.hashes = content_of(words[10], 0, &image.hashes_length);
-    check(bytes_of_text(words[11], image.root, sizeof image.root) == digest_size_of(params->hash_algorithm),
-          "the length of the root hash");
-    if (superblock)
-        check_superblock(&image);
-    check_image(&image);
+    if (params->no_superblock == 0)
+        check_superblock(image);
+    else
+        /* Any number but 0 says that there is no superblock. */
+        params->no_superblock = 1 + (uint32_t)random_below(UINT32_MAX);
+    check_image(image);
     /* What doesn't count may be anything. */
     memset(params->salt + params->salt_size, 0x5a, sizeof params->salt - params->salt_size);
     memset(params->uuid, 0x5a, sizeof params->uuid);
-    try_block(&image, random_below(params->data_blocks), false);
+    try_block(image, random_below(params->data_blocks), false);
 }
 
-static void check_file_digest(const struct image *image, const uint8_t *expected)
+static void check_file_digest(const struct image *image)
 {
+    const uint8_t *expected = image->digest;
     const struct fsverity_params *params = &image->tree.file;
     struct fsverity_params other = *params;
     size_t length = digest_size_of(params->hash_algorithm), lengths[] = {0, length - 1, length + 1}, i;
@@ -433,48 +300,39 @@ static void check_file_digest(const struct image *image, const uint8_t *expected
     }
 }
 
-static void check_fsverity(char **words)
+static void check_fsverity(struct image *image)
 {
-    struct image image = {.tree.is_file = true};
-    struct fsverity_params *params = &image.tree.file;
-    uint8_t digest[VERITY_MAX_DIGEST_SIZE];
+    struct fsverity_params *params = &image->tree.file;
     size_t levels = PAINT;
     uint64_t start = PAINT, blocks = PAINT;
-    struct bytes none = {(const uint8_t *)"", 0}, root;
+    struct bytes none = {(const uint8_t *)"", 0}, root = {image->root, digest_size_of(params->hash_algorithm)};
 
-    params->hash_algorithm = function_of(words[0]);
-    params->block_size = (uint32_t)number_of(words[1]);
-    params->salt_size = (uint32_t)bytes_of_text(words[2], params->salt, sizeof params->salt);
-    params->size = number_of(words[3]);
-    image.data = content_of(words[4], params->block_size, &image.data_length);
-    image.hashes = content_of(words[5], 0, &image.hashes_length);
-    root = bytes_of(image.root, bytes_of_text(words[6], image.root, sizeof image.root));
-    check(root.length == digest_size_of(params->hash_algorithm), "the length of the root hash");
-    check(bytes_of_text(words[7], digest, sizeof digest) == root.length, "the length of the file digest");
-    check(image.data_length == params->size, "the size of the file");
-    check_file_digest(&image, digest);
+    check_file_digest(image);
     if (params->size > 0) {
-        check_image(&image);
+        check_image(image);
         memset(params->salt + params->salt_size, 0x5a, sizeof params->salt - params->salt_size);
-        check_file_digest(&image, digest);
+        check_file_digest(image);
         return;
     }
-    check(call_level_count(&image.tree, &levels) == VERITY_NO_DATA, "levels of an empty file");
-    check(call_level_start(&image.tree, 0, &start, &blocks) == VERITY_NO_DATA, "level 0 of an empty file");
-    check(call_hash_block_start(&image.tree, 0, 0, &start) == VERITY_NO_DATA, "a block of an empty file");
-    check(call_check_block(&image.tree, 0, none, none, root, &levels) == VERITY_NO_DATA, "check of an empty file");
-    check(call_check_link(&image.tree, 0, 0, none, none) == VERITY_NO_DATA, "a link of an empty file");
-    check(call_check_top(&image.tree, 0, none, root) == VERITY_NO_DATA, "the top of an empty file");
+    check(call_level_count(&image->tree, &levels) == VERITY_NO_DATA, "levels of an empty file");
+    check(call_level_start(&image->tree, 0, &start, &blocks) == VERITY_NO_DATA, "level 0 of an empty file");
+    check(call_hash_block_start(&image->tree, 0, 0, &start) == VERITY_NO_DATA, "a block of an empty file");
+    check(call_check_block(&image->tree, 0, none, none, root, &levels) == VERITY_NO_DATA, "check of an empty file");
+    check(call_check_link(&image->tree, 0, 0, none, none) == VERITY_NO_DATA, "a link of an empty file");
+    check(call_check_top(&image->tree, 0, none, root) == VERITY_NO_DATA, "the top of an empty file");
 }
 
 int main(int count, char **words)
 {
+    struct images images;
+    struct image image;
+
+    if (count != 3)
+        give_up("usage: debian_images DATA TREE");
     seed_random(1);
-    if (count == 14 && strcmp(words[1], "verity") == 0)
-        check_verity(words + 2);
-    else if (count == 10 && strcmp(words[1], "fsverity") == 0)
-        check_fsverity(words + 2);
-    else
-        give_up("usage: images verity|fsverity ..");
+    images = open_images(words[2], words[1]);
+    if (!next_image(&images, &image))
+        give_up("there is no tree");
+    (image.tree.is_file ? check_fsverity : check_verity)(&image);
     return finish();
 }

@@ -1,9 +1,8 @@
 #!/bin/bash
 # The library from C, over images that Debian's veritysetup and fsverity make by random settings: superblock, levels,
 # places, and each data block by its path and link by link; and that each change is refused, with the status and the
-# level that follow. Then refused parameters and superblocks, with the status of each, and the order of the faults. With
-# the static library and with the shared one. SEED=N draws other settings, LIB=FOLDER takes the library of another
-# folder.
+# level that follow. Then each function with each of its faults: the status of each, and their order. With the static
+# library and with the shared one. SEED=N draws other settings, LIB=FOLDER takes the library of another folder.
 set -u
 cd "$(dirname "$0")/../.."
 . tests/lib/checks.sh
@@ -11,13 +10,12 @@ cd "$(dirname "$0")/../.."
 needs gcc gcc
 needs python3 python3
 has_library "$LIB/libverity.a"
-has_library "$LIB/libverity.so.1"
 
 static=("$LIB/libverity.a")
-shared=("$LIB/libverity.so.1" -Wl,-rpath,"$(realpath "$LIB")")
+takes_shared
 draws_data
 for program in refused debian_images; do
-    sources=(tests/library/"$program".c tests/library/{support,words}.c)
+    sources=(tests/library/"$program".c tests/library/{chains,images,feeding_calls,support}.c)
     compiles "$scratch/$program.static" gcc -O2 "${sources[@]}" "${static[@]}"
     compiles "$scratch/$program.shared" gcc -O2 "${sources[@]}" "${shared[@]}"
 done

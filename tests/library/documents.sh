@@ -8,7 +8,7 @@ cd "$(dirname "$0")/../.."
 . tests/lib/c_programs.sh
 LIB=$(realpath "$LIB")
 has_library "$LIB/libverity.a"
-has_library "$LIB/libverity.so.1"
+has_library "$LIB/libverity.so.2"
 needs cc gcc
 needs_other veritysetup cryptsetup-bin
 root=$PWD
@@ -25,8 +25,8 @@ sed -nE '/^ \*     #include <stdio.h>/,/^ \*\//s/^ \*( {5})?//p' include/verity.
 same_bytes "the header's example and the page's" "$scratch/run/check.c" "$scratch/header.c"
 
 # It is built against the library as it is installed, and run over an image with a changed block.
-cp "$LIB/libverity.a" "$LIB/libverity.so.1" "$scratch/installed/lib"
-ln -s libverity.so.1 "$scratch/installed/lib/libverity.so"
+cp "$LIB/libverity.a" "$LIB/libverity.so.2" "$scratch/installed/lib"
+ln -s libverity.so.2 "$scratch/installed/lib/libverity.so"
 cp include/verity.h "$scratch/installed/include"
 sample $((300 * 4096)) >"$scratch/run/image.ext4"
 report=$(veritysetup format "$scratch/run/image.ext4" "$scratch/run/image.hash")
@@ -76,8 +76,38 @@ same 'docs/LIBRARY.md: the right block' 0 "$?"
 flip input 600 1
 ./block <input
 same 'docs/LIBRARY.md: a changed block' 1 "$?"
+flip input 600 1
+head -c -1 input | ./block
+same 'docs/LIBRARY.md: a root hash that ends early' 2 "$?"
+flip input 0 1
+./block <input
+same 'docs/LIBRARY.md: a changed superblock' 1 "$?"
+flip input 0 1
+# By the commands that stand there, with the folders of this run.
+ln -s "$root/include" include
+ln -s "$LIB" lib
+commands=0
+while IFS= read -r command; do
+    commands=$((commands + 1))
+    if [[ $command == *pkg-config* && -z ${PKG_CONFIG_PATH:-} ]]; then continue; fi
+    rm -f block
+    runs "docs/LIBRARY.md: $command" 0 '' '' bash -c "$command"
+    ./block <input
+    same "docs/LIBRARY.md: $command: the right block" 0 "$?"
+done < <(sed -nE 's/^[^`]*`(cc [^`]*)`.*/\1/p' "$root/docs/LIBRARY.md")
+same 'docs/LIBRARY.md: how many commands build it' 2 "$commands"
 
-# The header's loop, in a program that feeds standard input in pieces of 10000 bytes and writes the hash device.
+# header_lines FIRST LAST: the header's lines from one that begins so up to one that does, perhaps the same.
+header_lines() {
+    awk -v first=" *     $1" -v last=" *     $2" 'index($0, first) == 1 { shown = 1 }
+        shown { print substr($0, 4) }
+        index($0, last) == 1 { shown = 0 }' "$root/include/verity.h"
+}
+
+# The header's lines, in a program that feeds standard input in pieces of 10000 bytes and writes the hash device:
+#     feed DEVICE [STATE [STOP]]
+# If the file STATE is there, it goes on from what stands there. If there is a word STOP, it ends with status 3 when a
+# hash block is handed out, which isn't written; what is kept between calls is stored in STATE.
 {
     cat <<'EOC'
 #define _XOPEN_SOURCE 700
@@ -85,30 +115,72 @@ same 'docs/LIBRARY.md: a changed block' 1 "$?"
 #include <unistd.h>
 #include "verity.h"
 
+static struct verity_params params = {.hash_algorithm = VERITY_SHA256, .hash_type = 1, .data_block_size = 4096,
+                                      .hash_block_size = 4096, .data_blocks = 300,
+                                      .uuid = {1, 1, 1, 1, 1, 1, 1, 1, 1, 1, 1, 1, 1, 1, 1, 1}};
+static struct verity_build build;
+static uint8_t memory[10 * 4096], root[32];
+static const size_t memory_length = sizeof memory, root_length = sizeof root;
+static struct verity_fed fed;
+static int device, state = -1, stops;
+
+static ssize_t writes(int file, const void *bytes, size_t length, off_t start)
+{
+    if (!stops)
+        return pwrite(file, bytes, length, start);
+    _exit(pwrite(state, &build, sizeof build, 0) == sizeof build &&
+          pwrite(state, memory, sizeof memory, sizeof build) == sizeof memory ? 3 : 4);
+}
+#define pwrite writes
+
+static int begins(void)
+{
+    int status;
+EOC
+    header_lines 'status = verity_build_begin' 'status = verity_build_begin'
+    printf '%s\n' '    return status;' '}' 'static int feeds(const uint8_t *piece, size_t length)' '{' '    int status;'
+    header_lines 'for (;;) {' '}'
+    printf '%s\n' '    return 0;' '}' '#undef pwrite' 'static int writes_last_block(void)' '{' '    int status;'
+    header_lines 'status = verity_build_last_block' '    return 1;'
+    printf '%s\n' '    return 0;' '}' 'static int ends(void)' '{' '    int status;'
+    header_lines 'status = verity_build_end' 'status = verity_build_end'
+    cat <<'EOC'
+    return status;
+}
+
+/* A status becomes a number above 100. */
+static void gives_up_with(int status)
+{
+    if (status != 0)
+        _exit(status < 0 ? 100 - status : status);
+}
+
 int main(int count, char **words)
 {
-    static uint8_t memory[10 * 4096], bytes[10000], superblock[512], root[32];
-    struct verity_params params = {.hash_algorithm = VERITY_SHA256, .hash_type = 1, .data_block_size = 4096,
-                                   .hash_block_size = 4096, .data_blocks = 300,
-                                   .uuid = {1, 1, 1, 1, 1, 1, 1, 1, 1, 1, 1, 1, 1, 1, 1, 1}};
-    struct verity_build build = {0};
-    struct verity_fed fed;
-    size_t memory_length = sizeof memory, root_length = sizeof root, length;
-    int device = open(words[count - 1], O_RDWR | O_CREAT, 0644), status;
-    const uint8_t *piece;
+    static uint8_t bytes[10000], superblock[512];
     ssize_t found;
 
-    status = (int)verity_build_begin(&params, &build, memory, memory_length);
-    while (status == VERITY_OK && (found = read(0, bytes, sizeof bytes)) > 0) {
-        piece = bytes;
-        length = (size_t)found;
-EOC
-    sed -n '/^ \*     for (;;) {/,/^ \*     }/s/^ \*     //p' "$root/include/verity.h"
-    echo '    }'
-    sed -n 's/^ \*     \(status = verity_build_end\)/\1/p' "$root/include/verity.h"
-    cat <<'EOC'
-    if (status != VERITY_OK || verity_write_superblock(&params, superblock, 512) != VERITY_OK)
-        return 100 + status;
+    device = open(words[1], O_RDWR | O_CREAT, 0644);
+    if (count > 2)
+        state = open(words[2], O_RDWR | O_CREAT, 0644);
+    stops = count > 3;
+    if (state >= 0 && pread(state, &build, sizeof build, 0) == sizeof build &&
+        pread(state, memory, sizeof memory, sizeof build) == sizeof memory) {
+        gives_up_with(writes_last_block());
+        if (lseek(0, (off_t)build.fed, SEEK_SET) < 0)
+            return 4;
+    } else {
+        gives_up_with(begins());
+    }
+    /* No bytes are a piece too: after the last byte hash blocks may be left. */
+    do {
+        found = read(0, bytes, sizeof bytes);
+        if (found < 0)
+            return 4;
+        gives_up_with(feeds(bytes, (size_t)found));
+    } while (found > 0);
+    gives_up_with(ends());
+    gives_up_with(verity_write_superblock(&params, superblock, 512));
     return pwrite(device, superblock, 512, 0) != 512 || write(1, root, 32) != 32;
 }
 EOC
@@ -116,29 +188,73 @@ EOC
 rm -f fed.hash image.hash
 uuid=01010101-0101-0101-0101-010101010101
 report=$(veritysetup format --salt=- --uuid=$uuid image.ext4 image.hash)
-runs "the header's loop: it is built" 0 '' '' cc -Wall -I"$root/include" feed.c "$LIB/libverity.a" -o feed
+hash=$(awk '/^Root hash:/ { print $3 }' <<<"$report")
+runs "the header's lines: they are built" 0 '' '' cc -Wall -Wextra -I"$root/include" feed.c "$LIB/libverity.a" -o feed
+
+# is_image NAME: the root hash in `root` and the hash device fed.hash are those of the other program.
+is_image() {
+    same "$1: root hash" "$hash" "$(od -An -v -tx1 root | tr -d ' \n')"
+    same_bytes "$1: hash device" image.hash fed.hash
+}
+
 ./feed fed.hash <image.ext4 >root
 same "the header's loop: status" 0 "$?"
-same "the header's loop: root hash" "$(awk '/^Root hash:/ { print $3 }' <<<"$report")" "$(od -An -v -tx1 root | tr -d ' \n')"
-same_bytes "the header's loop: hash device" image.hash fed.hash
+is_image "the header's loop"
 head -c 4096 image.ext4 | ./feed fed.hash >root
 same "the header's loop: too few bytes" 118 "$?"
+# Four hash blocks are handed out. At each a process is stopped, and the next one goes on from what it has stored.
+rm fed.hash root
+for block in 1 2 3 4; do
+    ./feed fed.hash state stop <image.ext4 >root
+    same "stopped at hash block $block: status" 3 "$?"
+done
+same 'stopped: the top block, not written' "$(zeros 4096 | sha256sum)" \
+    "$(tail -c +4097 fed.hash | head -c 4096 | sha256sum)"
+./feed fed.hash state stop <image.ext4 >root
+same 'the last process: status' 0 "$?"
+is_image 'stopped at each hash block'
+# And at the first one alone.
+rm fed.hash root state
+./feed fed.hash state stop <image.ext4 >root
+same 'stopped: status' 3 "$?"
+./feed fed.hash state <image.ext4 >root
+same 'stopped once: status' 0 "$?"
+is_image 'stopped once'
 
-# docs/LIBRARY.md's lines for a file, in a program that reads it from standard input.
+# docs/LIBRARY.md's function for a file, in a program that reads it from standard input. It ends with the answer, or
+# with 100 and more for a status: with a word, the reading is that of a file that can't be read.
 {
-    printf '%s\n' '#include <unistd.h>' '#include "verity.h"' 'int main(void)' '{' \
-        '    static uint8_t memory[65536], piece[10000], root[32], digest[32];' '    ssize_t length;' '    int file = 0;' \
-        '    struct fsverity_params params = {.hash_algorithm = VERITY_SHA256, .block_size = 4096};'
-    sed -n '/^    fsverity_build_begin(/,/^ *fsverity_build_end(/p' "$root/docs/LIBRARY.md"
-    printf '%s\n' '    return write(1, digest, 32) != 32;' '}'
+    printf '%s\n' '#include <unistd.h>' '#include "verity.h"'
+    sed -n '/^    int digest_of_file(/,/^    }/s/^    //p' "$root/docs/LIBRARY.md"
+    cat <<'EOC'
+int main(int count, char **words)
+{
+    static uint8_t root[32], digest[32];
+    struct fsverity_params params;
+    int ret = digest_of_file(count > 1 ? 99 : 0, &params, root, digest);
+
+    (void)words;
+    if (ret != 0)
+        return ret < 0 ? 100 - ret : ret;
+    return write(1, digest, 32) != 32 || write(1, &params.size, 8) != 8;
+}
+EOC
 } >file.c
-runs 'docs/LIBRARY.md: the lines for a file are built' 0 '' '' cc -Wall -I"$root/include" file.c "$LIB/libverity.a" -o file
+runs 'docs/LIBRARY.md: the function for a file is built' 0 '' '' cc -Wall -Wextra -I"$root/include" file.c \
+    "$LIB/libverity.a" -o file
 if command -v fsverity >/dev/null; then
-    same 'docs/LIBRARY.md: the digest of a file' "$(fsverity digest --compact image.ext4)" \
+    same 'docs/LIBRARY.md: the digest of a file' \
+        "$(fsverity digest --compact image.ext4)$(little_endian 8 $((300 * 4096)) | od -An -v -tx1 | tr -d ' \n')" \
         "$(./file <image.ext4 | od -An -v -tx1 | tr -d ' \n')"
 else
     echo 'left out: the digest of a file: fsverity is not installed'
 fi
+runs 'docs/LIBRARY.md: a file that cannot be read' 1 '' '' ./file none
+# A status is handed on: that of 512 bytes of memory in place of 65536, VERITY_BAD_LENGTH.
+sed 's/sizeof memory/512/' file.c >wrong.c
+runs 'docs/LIBRARY.md: with too little memory, it is built' 0 '' '' cc -I"$root/include" wrong.c "$LIB/libverity.a" \
+    -o wrong
+runs 'docs/LIBRARY.md: with too little memory' 104 '' '' ./wrong
 cd "$root" || exit 1
 
 # Header and page have the same functions, statuses and version.

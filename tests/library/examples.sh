@@ -6,8 +6,9 @@
 set -u
 cd "$(dirname "$0")/../.."
 . tests/lib/checks.sh
+. tests/lib/examples.sh
 LIB=$(realpath "${LIB:-lib}")
-for file in libverity.a libverity.so.1; do
+for file in libverity.a libverity.so.2; do
     if [ ! -e "$LIB/$file" ]; then
         echo "$0: $LIB/$file is not there: build the library first" >&2
         exit 1
@@ -16,57 +17,8 @@ done
 needs gcc gcc
 needs veritysetup cryptsetup-bin
 
-UUID=12345678-1234-4234-8234-123456789abc
-SALT=$(printf 'ab%.0s' {1..32})
 # Longer than any of these takes, on a slow machine too.
 seconds=120
-
-# has TOOL PACKAGE WHAT: whether a tool is there. Otherwise says that something is left out.
-has() {
-    command -v "$1" >/dev/null || {
-        echo "left out: $3: $1 is not installed (Debian: $2)"
-        return 1
-    }
-}
-
-# build FILE COMPILER OPTION..: builds an example by the command in its comment that begins with this compiler, and by
-# further options, with the library in LIB. What it makes goes to the scratch folder.
-build() {
-    local file=$1 compiler=$2 command
-    shift 2
-    command=$(sed -n "/^ \*     $compiler /,/[^\\\\]\$/s/^ \*//p" "$file" | sed 's/\\$//' | tr '\n' ' ')
-    command=$(sed -E 's| lib/| "$LIB"/|g; s| -o +| -o "$scratch"/|' <<<"${command#"${command%%[! ]*}"}")
-    if [[ $command != "$compiler "* ]]; then
-        fail "$file: build" "its comment has no command that begins with $compiler"
-        return 1
-    fi
-    if eval "$command -Wall -Wextra -Wpedantic -Werror $*" >"$scratch/built" 2>&1; then
-        pass
-    else
-        fail "$file: build" "$(cat "$scratch/built")"
-        return 1
-    fi
-}
-
-# image NAME BLOCKS BLOCK_SIZE OPTION..: makes NAME.data and NAME.hash by Debian's veritysetup. Sets root.
-image() {
-    local name=$scratch/$1 blocks=$2 size=$3
-    shift 3
-    sample $((blocks * size)) >"$name.data"
-    veritysetup format --uuid $UUID --salt "$SALT" --data-block-size "$size" "$@" "$name.data" "$name.hash" >"$name.txt" \
-        2>&1 || fail "$name" "$(cat "$name.txt")"
-    root=$(sed -n 's/^Root hash:[[:space:]]*//p' "$name.txt")
-}
-
-# another ROOT: a root hash that differs in its last digit.
-another() {
-    tr 0123456789abcdef 123456789abcdef0 <<<"${1: -1}" | sed "s/^/${1%?}/"
-}
-
-# block_of FILE SIZE INDEX: one block.
-block_of() {
-    dd if="$1" bs="$2" skip="$3" count=1 status=none
-}
 
 # ------------------------------------------------ boot_check ------------------------------------------------
 
@@ -97,12 +49,12 @@ boot_image() {
     for index in 0 $((blocks / 2)) $((blocks - 1)); do
         reads boot "$size" "$index" "${words[@]}" "$root" "$index" "$offset"
     done
-    refuses "$*: another root hash" "status 1, level $levels" "${words[@]}" "$(another "$root")" 0 "$offset"
-    refuses "$*: a root hash that is too short" 'status 5' "${words[@]}" "${root%??}" 0 "$offset"
-    refuses "$*: past the end" 'status 2' "${words[@]}" "$root" "$blocks" "$offset"
-    refuses "$*: the largest index" 'status 2' "${words[@]}" "$root" 18446744073709551615 "$offset"
+    refuses "$*: another root hash" "status -1, level $levels" "${words[@]}" "$(another "$root")" 0 "$offset"
+    refuses "$*: a root hash that is too short" 'status -5' "${words[@]}" "${root%??}" 0 "$offset"
+    refuses "$*: past the end" 'status -2' "${words[@]}" "$root" "$blocks" "$offset"
+    refuses "$*: the largest index" 'status -2' "${words[@]}" "$root" 18446744073709551615 "$offset"
     flip "$scratch/boot.data" $((size - 1)) 128
-    refuses "$*: a changed data block" 'status 1, level 0' "${words[@]}" "$root" 0 "$offset"
+    refuses "$*: a changed data block" 'status -1, level 0' "${words[@]}" "$root" 0 "$offset"
     if [ "$blocks" -gt 1 ]; then reads boot "$size" 1 "${words[@]}" "$root" 1 "$offset"; fi
 }
 
@@ -112,22 +64,43 @@ boot_tree() {
     image tree 300 4096
     words+=("$root")
     flip "$scratch/tree.hash" 8192 1
-    refuses 'a changed digest of level 0' 'status 1, level 0' "${words[@]}" 0
-    refuses 'another digest of its hash block' 'status 1, level 1' "${words[@]}" 1
+    refuses 'a changed digest of level 0' 'status -1, level 1' "${words[@]}" 0
+    refuses 'another digest of its hash block' 'status -1, level 1' "${words[@]}" 1
     reads tree 4096 128 "${words[@]}" 128
     flip "$scratch/tree.hash" 8192 1
     flip "$scratch/tree.hash" 4096 1
-    refuses 'a changed digest of level 1' 'status 1, level 1' "${words[@]}" 127
-    refuses 'another digest of its hash block' 'status 1, level 2' "${words[@]}" 128
+    refuses 'a changed digest of level 1' 'status -1, level 2' "${words[@]}" 127
+    refuses 'another digest of its hash block' 'status -1, level 2' "${words[@]}" 128
     flip "$scratch/tree.hash" 4096 1
     reads tree 4096 127 "${words[@]}" 127
     flip "$scratch/tree.hash" 0 1
-    refuses 'a changed superblock' 'status 15' "${words[@]}" 0
+    refuses 'a changed superblock' 'status -15' "${words[@]}" 0
     flip "$scratch/tree.hash" 0 1
     truncate -s 16384 "$scratch/tree.hash"
-    refuses 'a missing hash block' 'status 100' "${words[@]}" 299
+    refuses 'a missing hash block' 'status -100' "${words[@]}" 299
     truncate -s 4096 "$scratch/tree.data"
-    refuses 'a missing data block' 'status 100' "${words[@]}" 1
+    refuses 'a missing data block' 'status -100' "${words[@]}" 1
+}
+
+# boot_room: blocks that have room, and larger ones.
+boot_room() {
+    local words=("$scratch/boot.data" "$scratch/boot.hash")
+    rm -f "$scratch"/boot.*
+    image boot 9 65536 --hash-block-size 131072
+    reads boot 65536 8 "${words[@]}" "$root" 8
+    rm -f "$scratch"/boot.*
+    image boot 9 4096 --hash-block-size 262144
+    reads boot 4096 8 "${words[@]}" "$root" 8
+    rm -f "$scratch"/boot.*
+    image boot 9 4096 --hash-block-size 524288
+    refuses 'larger hash blocks' 'status -101' "${words[@]}" "$root" 8
+    # Without levels there are no hash blocks to keep.
+    rm -f "$scratch"/boot.*
+    image boot 1 4096 --hash-block-size 524288
+    reads boot 4096 0 "${words[@]}" "$root" 0
+    rm -f "$scratch"/boot.*
+    image boot 9 131072
+    refuses 'larger data blocks' 'status -101' "${words[@]}" "$root" 8
 }
 
 boot_all() {
@@ -140,6 +113,7 @@ boot_all() {
         done
         boot_image 300 512 3 1024 --hash $algorithm --format 1 --hash-block-size 512
     done
+    boot_room
     boot_tree
 }
 
@@ -176,7 +150,7 @@ copies() {
     same "nbdkit: $name: status" 0 $?
     same_bytes "nbdkit: $name" "$scratch/$name.data" "$scratch/copy"
     same "nbdkit: $name: hash blocks read" "$hash_blocks" \
-        "$(grep -c 'debug: a hash block of level [0-9]* is read at byte [0-9]*$' "$scratch/said")"
+        "$(grep -c 'debug: a hash block is read at byte [0-9]*$' "$scratch/said")"
     rm -f "$scratch/copy"
     served "${words[@]}" "nbdcopy \"\$uri\" '$scratch/copy'"
     same_bytes "nbdkit: $name, by several connections" "$scratch/$name.data" "$scratch/copy"
@@ -250,7 +224,7 @@ nbdkit_checks() {
 
 # ----------------------------------------------- check_blocks.py ----------------------------------------------
 
-python=(env VERITY_LIBRARY="$LIB/libverity.so.1" python3 examples/check_blocks.py)
+python=(env VERITY_LIBRARY="$LIB/libverity.so.2" python3 examples/check_blocks.py)
 
 # fsverity_file NAME LENGTH OPTION..: a file with its tree. Sets digest.
 fsverity_file() {
@@ -279,7 +253,7 @@ python_checks() {
         "${words[@]}" "$root"
     runs 'check_blocks.py: a block that is right' 0 '1 blocks are right' '' "${words[@]}" "$root" 5
     truncate -s $((299 * 1024 + 1000)) "$scratch/tree.data"
-    runs 'check_blocks.py: short data' 1 'block 299: status 4' '' "${words[@]}" "$root" 0 299
+    runs 'check_blocks.py: short data' 1 'block 299: status -4' '' "${words[@]}" "$root" 0 299
 
     has fsverity fsverity 'check_blocks.py: files' || return
     for algorithm in sha256 sha512; do
@@ -325,7 +299,7 @@ copies_files() {
 copy_checks() {
     local copy=(python3 examples/copy_and_digest.py) to=$scratch/to
     has python3 python3 copy_and_digest.py && has fsverity fsverity copy_and_digest.py || return
-    export VERITY_LIBRARY=$LIB/libverity.so.1
+    export VERITY_LIBRARY=$LIB/libverity.so.2
     copies_files
     copies_files --hash-alg=sha512 --block-size=1024
     copies_files --block-size=64 --salt="$SALT"
@@ -338,10 +312,10 @@ copy_checks() {
     runs 'copy_and_digest.py: no such file' 1 '' any "${copy[@]}" "$scratch/from/none" "$to"
     absent 'copy_and_digest.py: no such file' "$to/none"
     rm "$to/1023"
-    runs 'copy_and_digest.py: a block size of 63' 1 '' 'copy_and_digest.py: fsverity_build_memory: status 8' \
+    runs 'copy_and_digest.py: a block size of 63' 1 '' 'copy_and_digest.py: fsverity_build_memory: status -8' \
         "${copy[@]}" --block-size=63 "$scratch/from/1023" "$to"
     absent 'copy_and_digest.py: a block size of 63' "$to/1023"
-    runs 'copy_and_digest.py: a salt of 33 bytes' 1 '' 'copy_and_digest.py: fsverity_build_memory: status 10' \
+    runs 'copy_and_digest.py: a salt of 33 bytes' 1 '' 'copy_and_digest.py: fsverity_build_memory: status -10' \
         "${copy[@]}" --salt="${SALT}00" "$scratch/from/1023" "$to"
     unset VERITY_LIBRARY
 }
@@ -376,10 +350,11 @@ for name, salt_size, size in itertools.product(['sha256', 'sha512'], [0, 1, 32],
 END
 }
 
-# stack_of NAME LIBRARY RUNNER COMPILER..: measures the stack and compares it with what the header states.
+# stack_of NAME LIBRARY FEEDING RUNNER COMPILER..: measures the stack and compares it with what the header states:
+# FEEDING bytes for a call that feeds.
 stack_of() {
-    local name=$1 library=$2 runner=$3 function taken most
-    shift 3
+    local name=$1 library=$2 feeding=$3 runner=$4 functions function taken most
+    shift 4
     if ! "$@" -std=c11 -O2 -static -Wall -Wextra -Wpedantic -Werror -Iinclude -o "$scratch/stack" \
         tests/library/stack.c "$library" >"$scratch/built" 2>&1; then
         fail "stack.c for $name" "$(cat "$scratch/built")"
@@ -393,13 +368,14 @@ stack_of() {
         fail "stack for $name" "tests/library/stack.c ends with $?: $(cat "$scratch/.err")"
         return
     fi
-    same "stack for $name: the functions" \
-        "$(sed -nE 's/^uint32_t ([a-z_]+)\(.*/\1/p' include/verity.h | sort)" "$(cut -d' ' -f1 "$scratch/taken" | sort)"
+    functions=$(sed -nE 's/^(VERITY_MUST_CHECK int|uint32_t) ([a-z_]+)\(.*/\2/p' include/verity.h | sort)
+    same "stack for $name: the functions" "$functions" "$(cut -d' ' -f1 "$scratch/taken" | sort)"
     echo "bytes of stack for $name:"
     while read -r function taken; do
         printf '    %-24s %5d\n' "$function" "$taken"
         case $function in
-        *_build_feed | *_build_end) most=$stated_of_building ;;
+        *_build_feed) most=$feeding ;;
+        *_build_end | *_build_end_block) most=$stated_of_building ;;
         *) most=$stated ;;
         esac
         if [ "$taken" -gt 0 ] && [ "$taken" -le "$most" ]; then
@@ -411,16 +387,39 @@ stack_of() {
 }
 
 stack_checks() {
+    local words strict for_v3=$LIB/glibc-hwcaps/x86-64-v3/libverity.a
+    local arm=(qemu-aarch64 aarch64-linux-gnu-gcc)
     has python3 python3 'the stack' || return
-    stated=$(($(sed -n 's/.*takes up to \([0-9]*\) KiB of stack.*/\1/p' include/verity.h) * 1024))
-    stated_of_building=$(($(sed -n 's/.*feeds or ends up to \([0-9]*\) KiB.*/\1/p' include/verity.h) * 1024))
+    # A sentence of the header goes on in the next line.
+    words=$(sed 's/^ \*//' include/verity.h | tr -s ' \n' ' ')
+    stated=$(sed -n 's/.* takes up to \([0-9]*\) KiB of stack .*/\1/p' <<<"$words")
+    stated_of_building=$(sed -n 's/.* feeds or ends up to \([0-9]*\) KiB.*/\1/p' <<<"$words")
+    strict=$(sed -n 's/.* With libverity-strict-align\.a a call that feeds takes up to \([0-9]*\) KiB.*/\1/p' \
+        <<<"$words")
+    if [ -z "$stated" ] || [ -z "$stated_of_building" ] || [ -z "$strict" ]; then
+        fail 'the stack' 'include/verity.h states no bytes' "in all: $stated KiB" \
+            "what feeds or ends: $stated_of_building KiB" "what feeds with libverity-strict-align.a: $strict KiB"
+        return
+    fi
+    stated=$((stated * 1024)) stated_of_building=$((stated_of_building * 1024))
     deep_paths
-    if [ "$(uname -m)" = x86_64 ]; then stack_of x86-64 "$LIB/libverity.a" '' gcc; fi
+    if [ "$(uname -m)" = x86_64 ]; then
+        stack_of x86-64 "$LIB/libverity.a" $stated_of_building '' gcc
+        if [ ! -e "$for_v3" ]; then
+            echo "left out: the stack for x86-64-v3: $for_v3 is not there"
+        elif [ "$(./processor.sh)" != x86-64-v3 ]; then
+            echo "left out: the stack for x86-64-v3: this processor doesn't have all of it"
+        else
+            stack_of x86-64-v3 "$for_v3" $stated_of_building '' gcc
+        fi
+    fi
     if [ ! -e "$LIB/aarch64/libverity.a" ]; then
         echo "left out: the stack for 64-bit ARM: $LIB/aarch64/libverity.a is not there"
     elif has aarch64-linux-gnu-gcc gcc-aarch64-linux-gnu 'the stack for 64-bit ARM' &&
         has qemu-aarch64 qemu-user 'the stack for 64-bit ARM'; then
-        stack_of '64-bit ARM' "$LIB/aarch64/libverity.a" qemu-aarch64 aarch64-linux-gnu-gcc
+        stack_of '64-bit ARM' "$LIB/aarch64/libverity.a" $stated_of_building "${arm[@]}"
+        stack_of '64-bit ARM, libverity-strict-align.a' "$LIB/aarch64/libverity-strict-align.a" $((strict * 1024)) \
+            "${arm[@]}"
     fi
 }
 

@@ -1,10 +1,11 @@
 #!/bin/bash
-# Trees that the library builds of data in pieces: over all settings beside a computation of their own, and over images
+# Trees that the library builds of data in pieces: over all settings beside trees by tests/lib/trees.py, and over images
 # and files beside Debian's veritysetup and fsverity and this project's in BIN, if they are there. Pieces have 0, 1, 7,
 # 4095, 4096 and 4097 bytes, any length, and all at once: small trees are built in each of these ways, and of the larger
-# ones each in the next way. Every hash block is handed out once, at its place. Then what is refused, and a million
-# random feedings under AddressSanitizer and UndefinedBehaviorSanitizer, in some of which struct and memory are
-# disturbed. SEED=N draws other settings, FEEDINGS=N makes so many feedings, LIB=FOLDER takes the library of another
+# ones each in the next way. Every hash block is handed out once, at its place. Trees that are stored after any call go
+# on in other memory, and in other processes. Then what is refused, and a million random feedings under AddressSanitizer
+# and UndefinedBehaviorSanitizer, in random order with ends and stored states, and in some of which struct and memory
+# are disturbed. SEED=N draws other settings, FEEDINGS=N makes so many feedings, LIB=FOLDER takes the library of another
 # folder.
 set -u
 cd "$(dirname "$0")/../.."
@@ -14,25 +15,26 @@ cd "$(dirname "$0")/../.."
 needs gcc gcc
 needs python3 python3
 has_library "$LIB/libverity.a"
-has_library "$LIB/libverity.so.1"
 
 static=("${feeding_sources[@]}" "$LIB/libverity.a")
-shared=("${feeding_sources[@]}" "$LIB/libverity.so.1" -Wl,-rpath,"$(realpath "$LIB")")
-compares=(tests/library/feeding.c tests/library/reference.c tests/library/words.c)
-refusals=(tests/library/feeding_refused.c tests/library/reference.c)
+takes_shared
+shared=("${feeding_sources[@]}" "${shared[@]}")
 draws_data
-if compiles "$scratch/refused" gcc -O2 "${refusals[@]}" "${static[@]}"; then
-    adds 'what is refused' "$scratch/refused"
+if compiles "$scratch/refused" gcc -O2 tests/library/feeding_refused.c "${static[@]}"; then
+    tries_refused 'what is refused' "$scratch/refused"
 fi
-if compiles "$scratch/static" gcc -O2 "${compares[@]}" "${static[@]}"; then
-    tries_hashes "$scratch/static"
-    adds 'all settings' "$scratch/static" "$SEED" settings $((1 << 19)) $((1 << 16))
-    adds 'large blocks' "$scratch/static" "$SEED" large
+if compiles "$scratch/static" gcc -O2 tests/library/feeding.c "${static[@]}"; then
+    feeds_settings 'all settings' "$scratch/static" $((1 << 19)) $((1 << 16))
+    feeds_large 'large blocks' "$scratch/static" $((1 << 19))
     feeds_images "$scratch/static" 30 30 $((1 << 21))
 fi
-if compiles "$scratch/shared" gcc -O2 "${compares[@]}" "${shared[@]}"; then
-    adds 'all settings, shared' "$scratch/shared" "$SEED" settings $((1 << 15)) $((1 << 16))
-    adds 'large blocks, shared' "$scratch/shared" "$SEED" large
+if compiles "$scratch/stored" gcc -O2 tests/library/stored.c "${static[@]}"; then
+    tries_stored "$scratch/stored" $((1 << 15))
+    stores_images "$scratch/stored" 5 5 $((1 << 17))
+fi
+if compiles "$scratch/shared" gcc -O2 tests/library/feeding.c "${shared[@]}"; then
+    feeds_settings 'all settings, shared' "$scratch/shared" $((1 << 15)) $((1 << 16))
+    feeds_large 'large blocks, shared' "$scratch/shared" $((1 << 19))
     feeds_images "$scratch/shared" 5 5 $((1 << 20))
 fi
 
@@ -53,13 +55,10 @@ if ! gcc "${sanitizers[@]}" -x c -o "$scratch/empty" - <<<'int main(void) { retu
     exit
 fi
 export ASAN_OPTIONS=detect_leaks=0 UBSAN_OPTIONS=print_stacktrace=1
-if compiles "$scratch/refused" gcc "${sanitizers[@]}" "${refusals[@]}" "${static[@]}"; then
-    adds 'what is refused, watched' "$scratch/refused"
+if compiles "$scratch/refused" gcc "${sanitizers[@]}" tests/library/feeding_refused.c "${static[@]}"; then
+    tries_refused 'what is refused, watched' "$scratch/refused"
 fi
-# The computation of its own is not watched, since it only takes time.
-if compiles "$scratch/reference.o" gcc -O2 -c tests/library/reference.c &&
-    compiles "$scratch/fuzz" gcc "${sanitizers[@]}" tests/library/feeding_fuzz.c "$scratch/reference.o" \
-        "${static[@]}"; then
+if compiles "$scratch/fuzz" gcc "${sanitizers[@]}" tests/library/feeding_fuzz.c "${static[@]}"; then
     # In four parts, each of which ends in time on a slow machine too.
     for ((part = 0; part < 4; part++)); do
         tries_feedings "$scratch/fuzz" $((${FEEDINGS:-1000000} / 4))

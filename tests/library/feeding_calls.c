@@ -3,84 +3,7 @@
 
 #include <string.h>
 
-/* A building as it is handed in: each of its parts stands where memory ends. */
-struct placed {
-    struct fsverity_params *file;
-    struct verity_params *device;
-    struct verity_build *build;
-    uint8_t *memory;
-};
-
-static struct placed place_building(const struct building *building)
-{
-    struct placed placed = {.memory = place(MEMORY, building->memory, building->memory_length)};
-
-    if (building->tree.is_file) {
-        placed.file = place(PARAMS, &building->tree.file, sizeof building->tree.file);
-    } else {
-        placed.device = place(PARAMS, &building->tree.device, sizeof building->tree.device);
-        placed.build = place(BLOCK, &building->build, sizeof building->build);
-    }
-    return placed;
-}
-
-/* The parameters of a file may differ in the size, where this says so. */
-static void check_params(const struct building *building, const struct placed *placed, bool may_count,
-                         const char *call)
-{
-    struct fsverity_params file;
-
-    if (!building->tree.is_file) {
-        check_same(&building->tree.device, placed->device, sizeof *placed->device, call, "the parameters");
-        return;
-    }
-    memcpy(&file, placed->file, sizeof file);
-    if (may_count)
-        file.size = building->tree.file.size;
-    check_same(&building->tree.file, &file, sizeof file, call, "the parameters");
-}
-
-static void check_building(const struct building *building, const struct placed *placed, const char *call)
-{
-    check_params(building, placed, false, call);
-    if (!building->tree.is_file)
-        check_same(&building->build, placed->build, sizeof *placed->build, call, "the struct");
-    check_same(building->memory, placed->memory, building->memory_length, call, "the memory");
-}
-
-/* What a call has left becomes the building. */
-static void take_over(struct building *building, const struct placed *placed)
-{
-    if (building->tree.is_file)
-        building->tree.file.size = placed->file->size;
-    else
-        building->build = *placed->build;
-    memcpy(building->memory, placed->memory, building->memory_length);
-}
-
-/* What is filled starts as this in one round, and as its opposite in the other. */
-static void *painted(enum buffer buffer, size_t length, int round)
-{
-    static uint8_t paint[1024];
-
-    if (length > sizeof paint)
-        give_up("too much is filled");
-    memset(paint, round == 0 ? 0xa5 : 0x5a, sizeof paint);
-    return place(buffer, paint, length);
-}
-
-static void check_painted(const void *filled, size_t length, int round, const char *call)
-{
-    const uint8_t *bytes = filled;
-    size_t i;
-
-    for (i = 0; i < length; i++)
-        if (bytes[i] != (round == 0 ? 0xa5 : 0x5a))
-            break;
-    check(i == length, "%s fills with a fault", call);
-}
-
-/* Up to eight data blocks, but no more bytes than the largest block has, nor more blocks than a hash block has slots. */
+/* Up to eight data blocks, but no more bytes than the largest block has, nor blocks than a hash block has slots. */
 static size_t window_length(size_t data_block_size, uint64_t fan_out)
 {
     size_t blocks = 8;
@@ -90,17 +13,18 @@ static size_t window_length(size_t data_block_size, uint64_t fan_out)
     return blocks * data_block_size;
 }
 
-/* The memory has a hash block for each level, and then the window. */
+/* The memory has a hash block for each level, and then the window. With a fault of the parameters there is none. */
 static size_t open_length_of(const struct tree *tree)
 {
+    struct tree known = *tree;
     struct shape shape;
     uint64_t blocks, fan_out, power;
     size_t levels = 0, size = tree->file.block_size;
 
-    if (!tree->is_file) {
-        shape = shape_of(tree);
+    known.file.size = 1;
+    shape = shape_of(&known);
+    if (!tree->is_file || shape.status != VERITY_OK)
         return shape.levels * shape.hash_block_size;
-    }
     blocks = LARGEST / size;
     fan_out = size / digest_size_of(tree->file.hash_algorithm);
     for (power = 1; power < blocks; power *= fan_out)
@@ -119,232 +43,211 @@ size_t memory_length_of(const struct tree *tree)
     return open_length_of(tree) + window_length(shape.data_block_size, shape.fan_out);
 }
 
-uint32_t call_build_memory(const struct tree *tree, size_t *length)
+int call_build_memory(const struct tree *tree, size_t *length)
 {
-    const char *call = tree->is_file ? "fsverity_build_memory" : "verity_build_memory";
-    struct building building = {.memory = (uint8_t *)"", .memory_length = 0};
-    struct placed placed;
-    size_t *filled;
-    uint32_t status = 0;
-    int round;
+    struct call call = {.parts = {params_of(tree), FILLS(FIRST_FILLED, "the length", length, sizeof *length)}};
 
-    memcpy(&building.tree, tree, sizeof *tree);
-    for (round = 0; round < 2; round++) {
-        placed = place_building(&building);
-        filled = painted(FIRST_FILLED, sizeof *filled, round);
-        status = answered(call, round, status, tree->is_file ? fsverity_build_memory(placed.file, filled)
-                                                             : verity_build_memory(placed.device, filled));
-        check_params(&building, &placed, false, call);
-        if (status != VERITY_OK)
-            check_painted(filled, sizeof *filled, round, call);
-        else if (round == 0)
-            *length = *filled;
-        else
-            check_same(length, filled, sizeof *filled, call, "its answer");
-    }
-    return status;
+    MAKES_EITHER(call, tree->is_file, build_memory, (call.at[0], call.at[1]));
+    return call.status;
 }
 
-uint32_t call_build_begin(struct building *building)
+/* What a call may change of a building: the memory, and the struct or a file's parameters. */
+static void put_building(struct call *call, struct building *building, enum use use)
 {
-    const char *call = building->tree.is_file ? "fsverity_build_begin" : "verity_build_begin";
-    static uint8_t memory[MOST_BUFFER];
-    struct building other;
-    struct placed placed;
-    uint32_t status = 0;
-    int round;
-
-    if (building->memory_length > sizeof memory)
-        give_up("the memory is too long");
-    /* In the second round something else stands in all that is begun. */
-    memcpy(&other, building, sizeof other);
-    random_bytes(memory, building->memory_length);
-    other.memory = memory;
-    other.tree.file.size = random_number();
-    other.build = (struct verity_build){random_number(), (size_t)random_number()};
-    for (round = 0; round < 2; round++) {
-        placed = place_building(round == 0 ? building : &other);
-        status = answered(call, round, status,
-                          building->tree.is_file
-                                  ? fsverity_build_begin(placed.file, placed.memory, building->memory_length)
-                                  : verity_build_begin(placed.device, placed.build, placed.memory,
-                                                       building->memory_length));
-        if (status != VERITY_OK) {
-            check_building(round == 0 ? building : &other, &placed, call);
-            continue;
-        }
-        if (round == 0)
-            take_over(building, &placed);
-        /* What it begins with doesn't depend on what stood there, but for the window, whose bytes don't count yet. */
-        check_params(building, &placed, false, call);
-        check_same(building->memory, placed.memory, open_length_of(&building->tree), call, "the open blocks");
-        if (building->tree.is_file)
-            check(placed.file->size == 0, "%s: size", call);
-        else
-            check(placed.build->fed == 0 && placed.build->closed == 0, "%s: struct", call);
-    }
-    return status;
-}
-
-/* Feeds over what was placed. */
-static uint32_t feed(const struct placed *placed, size_t memory_length, const uint8_t *piece, size_t length,
-                     struct verity_fed *fed)
-{
-    uint32_t status;
-
-    if (placed->file == NULL)
-        return verity_build_feed(placed->device, placed->build, placed->memory, memory_length, piece, length, fed);
-    status = fsverity_build_feed(placed->file, placed->memory, memory_length, piece, length);
-    if (status == VERITY_OK)
-        *fed = (struct verity_fed){.taken = length};
-    return status;
-}
-
-uint32_t call_build_feed(struct building *building, struct bytes piece, struct verity_fed *fed)
-{
-    const char *call = building->tree.is_file ? "fsverity_build_feed" : "verity_build_feed";
-    struct building before;
-    static uint8_t memory[MOST_BUFFER];
-    struct placed placed;
-    const uint8_t *placed_piece;
-    struct verity_fed *filled, first = {0};
-    uint32_t status = 0;
-    int round;
-
-    memcpy(&before, building, sizeof before);
-    memcpy(memory, building->memory, building->memory_length);
-    before.memory = memory;
-    for (round = 0; round < 2; round++) {
-        placed = place_building(&before);
-        placed_piece = place(PIECE, piece.at, piece.length);
-        filled = painted(FIRST_FILLED, sizeof *filled, round);
-        status = answered(call, round, status,
-                          feed(&placed, before.memory_length, placed_piece, piece.length, filled));
-        check_same(piece.at, placed_piece, piece.length, call, "the piece");
-        if (status != VERITY_OK) {
-            check_building(&before, &placed, call);
-            check_painted(filled, sizeof *filled, round, call);
-        } else if (round == 0) {
-            check_params(&before, &placed, true, call);
-            take_over(building, &placed);
-            *fed = first = *filled;
-        } else {
-            check_building(building, &placed, call);
-            check(filled->taken == first.taken && filled->block_length == first.block_length &&
-                          filled->block_at == first.block_at && filled->block_start == first.block_start &&
-                          filled->block_index == first.block_index && filled->block_level == first.block_level,
-                  "%s: another answer", call);
-        }
-    }
-    return status;
-}
-
-uint32_t feed_once(struct building *building, struct bytes piece, struct verity_fed *fed)
-{
-    struct placed placed = {.memory = building->memory};
-
+    call->parts[0] = (struct part){MEMORY, use, "the memory", building->memory, building->memory_length, NULL, 0};
     if (building->tree.is_file) {
-        placed.file = &building->tree.file;
+        call->parts[1] = (struct part){PARAMS, use, "the parameters", &building->tree.file, sizeof building->tree.file,
+                                       NULL, sizeof building->tree.file};
     } else {
-        placed.device = &building->tree.device;
-        placed.build = &building->build;
+        call->parts[1] = (struct part){BLOCK, use, "the struct", &building->build, sizeof building->build, NULL,
+                                       sizeof building->build};
+        call->parts[2] = params_of(&building->tree);
     }
-    calls_made++;
-    return feed(&placed, building->memory_length, place(PIECE, piece.at, piece.length), piece.length, fed);
 }
 
-uint32_t call_build_end(struct building *building, uint8_t *root, size_t root_length, uint8_t *digest,
+/* In the second call something else stands in all that is begun. Of the memory the window's bytes don't count yet. */
+int call_build_begin(struct building *building)
+{
+    static uint8_t memory[MOST_BUFFER];
+    struct verity_build build = {random_number(), (size_t)random_number()};
+    struct fsverity_params file;
+    struct call call = {.name = building->tree.is_file ? "fsverity_build_begin" : "verity_build_begin"};
+
+    put_building(&call, building, BEGUN);
+    random_bytes(memory, building->memory_length);
+    call.parts[0].other = memory;
+    call.parts[0].same = open_length_of(&building->tree);
+    memcpy(&file, &building->tree.file, sizeof file);
+    file.size = random_number();
+    call.parts[1].other = building->tree.is_file ? (const void *)&file : &build;
+    if (building->tree.is_file) {
+        MAKES(call, fsverity_build_begin(call.at[1], call.at[0], building->memory_length));
+        file.size = 0;
+        check(call.status != VERITY_OK || memcmp(&file, &building->tree.file, sizeof file) == 0,
+              "the parameters of a beginning");
+    } else {
+        MAKES(call, verity_build_begin(call.at[2], call.at[1], call.at[0], building->memory_length));
+        check(call.status != VERITY_OK || (building->build.fed == 0 && building->build.closed == 0),
+              "the struct of a beginning");
+    }
+    return call.status;
+}
+
+int call_build_feed(struct building *building, struct bytes piece, struct verity_fed *fed)
+{
+    struct call call = {.name = building->tree.is_file ? "fsverity_build_feed" : "verity_build_feed"};
+    struct fsverity_params before;
+
+    put_building(&call, building, CHANGED);
+    call.parts[3] = READS(PIECE, "the piece", piece.at, piece.length);
+    call.parts[4] = FILLS(FIRST_FILLED, "what it has done", fed, sizeof *fed);
+    if (!building->tree.is_file) {
+        MAKES(call, verity_build_feed(call.at[2], call.at[1], call.at[0], building->memory_length, call.at[3],
+                                      piece.length, call.at[4]));
+        return call.status;
+    }
+    memcpy(&before, &building->tree.file, sizeof before);
+    call.parts[2] = call.parts[3];
+    call.parts[3] = (struct part){.what = NULL};
+    MAKES(call, fsverity_build_feed(call.at[1], call.at[0], building->memory_length, call.at[2], piece.length));
+    if (call.status == VERITY_OK)
+        *fed = (struct verity_fed){.taken = piece.length};
+    /* Only the size has changed. */
+    before.size = building->tree.file.size;
+    check(memcmp(&before, &building->tree.file, sizeof before) == 0, "%s changes the parameters", call.name);
+    return call.status;
+}
+
+int feed_once(struct building *building, struct bytes piece, struct verity_fed *fed)
+{
+    const uint8_t *at = place(PIECE, piece.at, piece.length);
+    int status;
+    bool is_kept;
+
+    calls_made++;
+    PUT_POINTER();
+    status = building->tree.is_file ? fsverity_build_feed(&building->tree.file, building->memory,
+                                                          building->memory_length, at, piece.length)
+                                    : verity_build_feed(&building->tree.device, &building->build, building->memory,
+                                                        building->memory_length, at, piece.length, fed);
+    is_kept = IS_POINTER_KEPT();
+    check(is_kept, "a call that feeds doesn't keep x18");
+    if (building->tree.is_file && status == VERITY_OK)
+        *fed = (struct verity_fed){.taken = piece.length};
+    return status;
+}
+
+int call_build_last_block(const struct building *building, struct verity_fed *fed)
+{
+    struct call call = {.name = "verity_build_last_block",
+                        .parts = {params_of(&building->tree),
+                                  READS(BLOCK, "the struct", &building->build, sizeof building->build),
+                                  FILLS(FIRST_FILLED, "what it has found", fed, sizeof *fed)}};
+
+    MAKES(call, verity_build_last_block(call.at[0], call.at[1], call.at[2]));
+    return call.status;
+}
+
+int call_build_end(struct building *building, uint8_t *root, size_t root_length, uint8_t *digest, size_t digest_length)
+{
+    const struct tree *tree = &building->tree;
+    struct call call = {.parts = {params_of(tree),
+                                  {MEMORY, building->is_disturbed ? CHANGED : GOES_ON, "the memory", building->memory,
+                                   building->memory_length, NULL, 0},
+                                  FILLS(FIRST_FILLED, "the root hash", root, root_length)}};
+
+    if (tree->is_file) {
+        call.name = "fsverity_build_end";
+        call.parts[3] = FILLS(SECOND_FILLED, "the digest", digest, digest_length);
+        MAKES(call, fsverity_build_end(call.at[0], call.at[1], building->memory_length, call.at[2], root_length,
+                                       call.at[3], digest_length));
+    } else {
+        call.name = "verity_build_end";
+        call.parts[3] = READS(BLOCK, "the struct", &building->build, sizeof building->build);
+        MAKES(call, verity_build_end(call.at[0], call.at[3], call.at[1], building->memory_length, call.at[2],
+                                     root_length));
+    }
+    return call.status;
+}
+
+int call_write_superblock(const struct verity_params *params, uint8_t *bytes, size_t length)
+{
+    struct call call = {.name = "verity_write_superblock",
+                        .parts = {READS(PARAMS, "the parameters", params, sizeof *params),
+                                  FILLS(FIRST_FILLED, "the superblock", bytes, length)}};
+
+    MAKES(call, verity_write_superblock(call.at[0], call.at[1], length));
+    return call.status;
+}
+
+int call_descriptor(const struct fsverity_params *params, struct bytes root, uint8_t *descriptor, size_t length)
+{
+    struct call call = {.name = "fsverity_descriptor",
+                        .parts = {READS(PARAMS, "the parameters", params, sizeof *params),
+                                  READS(ROOT, "the root hash", root.at, root.length),
+                                  FILLS(FIRST_FILLED, "the descriptor", descriptor, length)}};
+
+    MAKES(call, fsverity_descriptor(call.at[0], call.at[1], root.length, call.at[2], length));
+    return call.status;
+}
+
+/* A file's tree whose blocks are handed out has its numbers in the struct; the size in the parameters doesn't count. */
+int call_tree_build_begin(struct building *building)
+{
+    static uint8_t memory[MOST_BUFFER];
+    struct verity_build build = {random_number(), (size_t)random_number()};
+    struct call call = {.name = "fsverity_tree_build_begin",
+                        .parts = {{MEMORY, BEGUN, "the memory", building->memory, building->memory_length, memory,
+                                   open_length_of(&building->tree)},
+                                  {BLOCK, BEGUN, "the struct", &building->build, sizeof building->build, &build,
+                                   sizeof build},
+                                  params_of(&building->tree)}};
+
+    random_bytes(memory, building->memory_length);
+    MAKES(call, fsverity_tree_build_begin(call.at[2], call.at[1], call.at[0], building->memory_length));
+    check(call.status != VERITY_OK || (building->build.fed == 0 && building->build.closed == 0),
+          "the struct of a beginning");
+    return call.status;
+}
+
+int call_tree_build_feed(struct building *building, struct bytes piece, struct verity_fed *fed)
+{
+    struct call call = {.name = "fsverity_tree_build_feed",
+                        .parts = {{MEMORY, CHANGED, "the memory", building->memory, building->memory_length, NULL, 0},
+                                  {BLOCK, CHANGED, "the struct", &building->build, sizeof building->build, NULL, 0},
+                                  params_of(&building->tree), READS(PIECE, "the piece", piece.at, piece.length),
+                                  FILLS(FIRST_FILLED, "what it has done", fed, sizeof *fed)}};
+
+    MAKES(call, fsverity_tree_build_feed(call.at[2], call.at[1], call.at[0], building->memory_length, call.at[3],
+                                         piece.length, call.at[4]));
+    return call.status;
+}
+
+int call_tree_build_end_block(struct building *building, size_t level, uint8_t *block, size_t length, uint64_t *index)
+{
+    struct call call = {.name = "fsverity_tree_build_end_block",
+                        .parts = {params_of(&building->tree),
+                                  {MEMORY, GOES_ON, "the memory", building->memory, building->memory_length, NULL, 0},
+                                  READS(BLOCK, "the struct", &building->build, sizeof building->build),
+                                  FILLS(FIRST_FILLED, "the block", block, length),
+                                  FILLS(SECOND_FILLED, "the number", index, sizeof *index)}};
+
+    MAKES(call, fsverity_tree_build_end_block(call.at[0], call.at[2], call.at[1], building->memory_length, level,
+                                              call.at[3], length, call.at[4]));
+    return call.status;
+}
+
+int call_tree_build_end(struct building *building, uint8_t *root, size_t root_length, uint8_t *digest,
                         size_t digest_length)
 {
-    bool is_file = building->tree.is_file;
-    const char *call = is_file ? "fsverity_build_end" : "verity_build_end";
-    static uint8_t memory[MOST_BUFFER];
-    struct building before;
-    struct placed placed;
-    uint8_t *roots, *digests;
-    uint32_t status = 0;
-    int round;
+    struct call call = {.name = "fsverity_tree_build_end",
+                        .parts = {params_of(&building->tree),
+                                  {MEMORY, GOES_ON, "the memory", building->memory, building->memory_length, NULL, 0},
+                                  READS(BLOCK, "the struct", &building->build, sizeof building->build),
+                                  FILLS(FIRST_FILLED, "the root hash", root, root_length),
+                                  FILLS(SECOND_FILLED, "the digest", digest, digest_length)}};
 
-    memcpy(&before, building, sizeof before);
-    if (building->is_disturbed) {
-        memcpy(memory, building->memory, building->memory_length);
-        before.memory = memory;
-    }
-    for (round = 0; round < 2; round++) {
-        placed = place_building(&before);
-        roots = painted(FIRST_FILLED, root_length, round);
-        digests = painted(SECOND_FILLED, digest_length, round);
-        status = answered(call, round, status,
-                          is_file ? fsverity_build_end(placed.file, placed.memory, building->memory_length, roots,
-                                                       root_length, digests, digest_length)
-                                  : verity_build_end(placed.device, placed.build, placed.memory,
-                                                     building->memory_length, roots, root_length));
-        check_params(building, &placed, false, call);
-        if (!is_file)
-            check_same(&building->build, placed.build, sizeof *placed.build, call, "the struct");
-        if (status != VERITY_OK) {
-            check_building(building, &placed, call);
-            check_painted(roots, root_length, round, call);
-            check_painted(digests, digest_length, round, call);
-        } else if (round == 0) {
-            memcpy(root, roots, root_length);
-            memcpy(digest, digests, digest_length);
-            take_over(building, &placed);
-        } else {
-            check_same(root, roots, root_length, call, "its root hash");
-            if (is_file)
-                check_same(digest, digests, digest_length, call, "its digest");
-            check_same(building->memory, placed.memory, building->memory_length, call, "the memory, once more");
-        }
-    }
-    return status;
-}
-
-uint32_t call_write_superblock(const struct verity_params *params, uint8_t *bytes, size_t length)
-{
-    const char *call = "verity_write_superblock";
-    struct verity_params *placed;
-    uint8_t *filled;
-    uint32_t status = 0;
-    int round;
-
-    for (round = 0; round < 2; round++) {
-        placed = place(PARAMS, params, sizeof *params);
-        filled = painted(FIRST_FILLED, length, round);
-        status = answered(call, round, status, verity_write_superblock(placed, filled, length));
-        check_same(params, placed, sizeof *params, call, "the parameters");
-        if (status != VERITY_OK)
-            check_painted(filled, length, round, call);
-        else if (round == 0)
-            memcpy(bytes, filled, length);
-        else
-            check_same(bytes, filled, length, call, "its answer");
-    }
-    return status;
-}
-
-uint32_t call_descriptor(const struct fsverity_params *params, struct bytes root, uint8_t *descriptor, size_t length)
-{
-    const char *call = "fsverity_descriptor";
-    struct fsverity_params *placed;
-    const uint8_t *placed_root;
-    uint8_t *filled;
-    uint32_t status = 0;
-    int round;
-
-    for (round = 0; round < 2; round++) {
-        placed = place(PARAMS, params, sizeof *params);
-        placed_root = place(ROOT, root.at, root.length);
-        filled = painted(FIRST_FILLED, length, round);
-        status = answered(call, round, status, fsverity_descriptor(placed, placed_root, root.length, filled, length));
-        check_same(params, placed, sizeof *params, call, "the parameters");
-        check_same(root.at, placed_root, root.length, call, "the root hash");
-        if (status != VERITY_OK)
-            check_painted(filled, length, round, call);
-        else if (round == 0)
-            memcpy(descriptor, filled, length);
-        else
-            check_same(descriptor, filled, length, call, "its answer");
-    }
-    return status;
+    MAKES(call, fsverity_tree_build_end(call.at[0], call.at[2], call.at[1], building->memory_length, call.at[3],
+                                        root_length, call.at[4], digest_length));
+    return call.status;
 }

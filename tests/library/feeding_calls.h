@@ -17,8 +17,8 @@ struct building {
 };
 
 /*
- * The length of the memory that verity.h says of parameters without a fault: a hash block for each level and a data
- * block. A file has the levels of the largest one, whose blocks are all full.
+ * The length of the memory that verity.h says of parameters without a fault: a hash block for each level and up to
+ * eight data blocks. A file has the levels of the largest one, whose blocks are all full.
  */
 size_t memory_length_of(const struct tree *tree);
 
@@ -26,21 +26,30 @@ size_t memory_length_of(const struct tree *tree);
  * Each call is made twice, over copies that end where memory ends, and then the building has what they left. A fault
  * leaves it as it was, and what would be filled. Of a file, fed says with VERITY_OK that the whole piece is taken.
  */
-uint32_t call_build_memory(const struct tree *tree, size_t *length);
-uint32_t call_build_begin(struct building *building);
-uint32_t call_build_feed(struct building *building, struct bytes piece, struct verity_fed *fed);
+int call_build_memory(const struct tree *tree, size_t *length);
+int call_build_begin(struct building *building);
+int call_build_feed(struct building *building, struct bytes piece, struct verity_fed *fed);
+
+/* The hash block of a tree of dm-verity that was handed out last. Nothing of the building changes. */
+int call_build_last_block(const struct building *building, struct verity_fed *fed);
 
 /*
  * The same of the end: the second call is made over what the first one left, or, of a building that was disturbed, over
  * the same as the first. digest is a file's alone.
  */
-uint32_t call_build_end(struct building *building, uint8_t *root, size_t root_length, uint8_t *digest,
-                        size_t digest_length);
+int call_build_end(struct building *building, uint8_t *root, size_t root_length, uint8_t *digest, size_t digest_length);
 
 /* The same once, over the building itself: only the piece ends where memory ends. */
-uint32_t feed_once(struct building *building, struct bytes piece, struct verity_fed *fed);
+int feed_once(struct building *building, struct bytes piece, struct verity_fed *fed);
 
-uint32_t call_write_superblock(const struct verity_params *params, uint8_t *bytes, size_t length);
-uint32_t call_descriptor(const struct fsverity_params *params, struct bytes root, uint8_t *descriptor, size_t length);
+/* The same of a file's tree whose blocks are handed out. The ends are made over what the first call left. */
+int call_tree_build_begin(struct building *building);
+int call_tree_build_feed(struct building *building, struct bytes piece, struct verity_fed *fed);
+int call_tree_build_end_block(struct building *building, size_t level, uint8_t *block, size_t length, uint64_t *index);
+int call_tree_build_end(struct building *building, uint8_t *root, size_t root_length, uint8_t *digest,
+                        size_t digest_length);
+
+int call_write_superblock(const struct verity_params *params, uint8_t *bytes, size_t length);
+int call_descriptor(const struct fsverity_params *params, struct bytes root, uint8_t *descriptor, size_t length);
 
 #endif

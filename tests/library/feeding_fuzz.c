@@ -1,12 +1,15 @@
 /*
- * Feeds random data to trees of small blocks, in random pieces, the same for the same seed.
+ * Feeds data to trees of small blocks, in random pieces and with random calls between them, the same for the same seed.
  *
- *   feeding_fuzz SEED FEEDINGS
+ *   feeding_fuzz SEED FEEDINGS DATA TREES
  *
- * In some feedings struct, memory and parameters are disturbed on the way: then statuses, and how much is taken, are
- * still those of verity.h, and nothing else is read or written than what is handed in. In all others what comes of it
- * is compared with a computation of its own, and checked by the library's functions that check blocks. At the end the
- * program says how many feedings there were, and 'N passed, M failed'.
+ * TREES is a file of tree_files.py, whose trees are of the bytes of the file DATA: each feeding is of any of them.
+ * Between any two calls the end may be asked for, and the last hash block; pieces of no bytes come, and such as are too
+ * long; a building is begun anew, or stored, and an older state is put back, from which feeding goes on. In some
+ * feedings struct, memory and parameters are disturbed on the way: then statuses, how much is taken and which hash
+ * block is named are still those of verity.h, and nothing else is read or written than what is handed in. In all others
+ * what comes of it is compared with what the file says, and checked by the library's functions that check blocks.
+ * At the end the program says how many of each there were, none of which may be 0, and 'N passed, M failed'.
  */
 #include <inttypes.h>
 #include <stdio.h>
@@ -14,72 +17,109 @@
 #include <string.h>
 
 #include "feeding_calls.h"
-#include "reference.h"
+#include "images.h"
 #include "support.h"
 
 #define MOST_DATA ((size_t)1 << 18)
+#define MOST_MEMORY ((size_t)1 << 16)
 
-static uint8_t source[2 * MOST_DATA], data[MOST_DATA], expected[MOST_DATA], hashes[MOST_DATA];
-static uint64_t feedings, disturbed;
+/* A feeding takes fewer calls, and is begun anew or put back as often at most. */
+#define MOST_STEPS 20000
+#define MOST_TURNS 3
+
+/* All trees, and the data that they are of. */
+static struct image *all_images;
+static size_t image_count;
+static struct bytes source;
+
+/* What the hash blocks that were handed out make of the tree's. */
+static uint8_t hashes[MOST_DATA];
+
+/* What is done beside feeding the next piece, and how often, undisturbed and disturbed. */
+enum act {
+    END_TOO_SHORT,
+    END_WAITING,
+    END_OF_TREE,
+    END_OF_FILE,
+    END_KNOWN,
+    END_AGAIN,
+    LAST_BLOCK,
+    NO_LAST_BLOCK,
+    NO_BYTES,
+    TOO_LONG,
+    AFTER_END,
+    BEGUN_ANEW,
+    STORED,
+    STORED_UNWRITTEN,
+    PUT_BACK,
+    GONE_ON,
+    ACTS
+};
+static const char *const acts[] = {[END_TOO_SHORT] = "ends before all is fed",
+                                   [END_WAITING] = "ends while a hash block waits",
+                                   [END_OF_TREE] = "ends of trees",
+                                   [END_OF_FILE] = "ends of files",
+                                   [END_KNOWN] = "ends of files that are known",
+                                   [END_AGAIN] = "ends once more",
+                                   [LAST_BLOCK] = "last hash blocks",
+                                   [NO_LAST_BLOCK] = "last hash blocks where there is none",
+                                   [NO_BYTES] = "pieces of no bytes",
+                                   [TOO_LONG] = "pieces that are too long",
+                                   [AFTER_END] = "pieces after the end of a tree",
+                                   [BEGUN_ANEW] = "beginnings anew",
+                                   [STORED] = "stored states",
+                                   [STORED_UNWRITTEN] = "stored states, a hash block not written",
+                                   [PUT_BACK] = "states put back",
+                                   [GONE_ON] = "files that go on after their end"};
+static uint64_t made[2][ACTS], feedings, disturbed;
 
 /* One feeding. */
 struct run {
     struct building building;
+    /* The undisturbed tree. A file may become longer. */
+    const struct image *image;
     struct shape shape;
     uint64_t size;
-    /* How many bytes were handed in, and hash blocks out. */
+    /* How many bytes were taken, how many of the present piece are left, and how many hash blocks were handed out. */
     uint64_t at;
+    size_t left;
     uint64_t blocks;
+    /* A hash block was handed out, so that perhaps more are, even for no bytes. */
+    bool is_waiting;
+    /* Nothing was fed since the end was answered. */
+    bool has_ended;
     bool is_disturbed;
+    bool are_params_disturbed;
 };
 
-static bool once_in(uint64_t times)
+/* A state that can be put back, with the hash blocks that were written before it was stored. */
+static struct {
+    bool is_there;
+    struct run run;
+    uint8_t memory[MOST_MEMORY];
+    uint8_t hashes[MOST_DATA];
+} stored;
+
+static void count(const struct run *run, enum act act)
 {
-    return random_below(times) == 0;
+    made[run->is_disturbed][act]++;
 }
 
-static uint64_t some_count(void)
+static void draw(struct run *run)
 {
-    switch (random_below(16)) {
-    case 0:
-        return random_below(once_in(4) ? 100 : 40);
-    case 1:
-    case 2:
-        return random_below(18);
-    default:
-        return random_below(5);
-    }
+    memset(run, 0, sizeof *run);
+    run->image = &all_images[random_below(image_count)];
+    memcpy(&run->building.tree, &run->image->tree, sizeof run->building.tree);
+    run->shape = run->image->shape;
+    run->size = run->image->size;
 }
 
-static void draw_file(struct run *run)
+/* The state of no bytes. No hash block is on the hash device. */
+static void forget(struct run *run)
 {
-    struct fsverity_params *params = &run->building.tree.file;
-    uint64_t count = some_count();
-
-    params->hash_algorithm = 1 + (uint32_t)random_below(2);
-    params->block_size = (uint32_t)(64 * params->hash_algorithm) << random_below(5 - params->hash_algorithm);
-    params->salt_size = once_in(2) ? 0 : (uint32_t)random_below(33);
-    random_bytes(params->salt, sizeof params->salt);
-    run->size = count * params->block_size;
-    if (run->size > 0 && once_in(2))
-        run->size -= random_below(params->block_size);
-    params->size = run->size;
-}
-
-static void draw_device(struct run *run)
-{
-    struct verity_params *params = &run->building.tree.device;
-
-    params->hash_algorithm = 1 + (uint32_t)random_below(5);
-    params->hash_type = (uint32_t)random_below(2);
-    params->data_block_size = once_in(8) ? 1024 : 512;
-    params->hash_block_size = once_in(8) ? 1024 : 512;
-    params->salt_size = once_in(2) ? 0 : (uint32_t)random_below(257);
-    random_bytes(params->salt, sizeof params->salt);
-    params->data_blocks = 1 + some_count();
-    params->no_superblock = (uint32_t)random_below(2);
-    params->hash_offset = random_below(1000) * params->hash_block_size;
-    run->size = params->data_blocks * params->data_block_size;
+    run->at = run->left = run->blocks = 0;
+    run->is_waiting = run->has_ended = false;
+    memset(hashes, 0x5a, tree_length(&run->shape));
 }
 
 /* Begins in memory that stands where memory ends; some calls are watched, and most are not. */
@@ -90,12 +130,13 @@ static void begin(struct run *run)
 
     check(call_build_memory(&building->tree, &length) == VERITY_OK && length == memory_length_of(&building->tree),
           "memory of %zu bytes", length);
-    if (length > MOST_DATA)
+    if (length > MOST_MEMORY)
         give_up("the memory is too long");
     building->memory_length = length;
-    building->memory = place(KEPT, source + start, length);
+    building->memory = place(KEPT, source.at + start, length);
     building->build = (struct verity_build){random_number(), random_number()};
     check(call_build_begin(building) == VERITY_OK, "the beginning");
+    forget(run);
 }
 
 /* About a limit, below it, or any. */
@@ -118,7 +159,7 @@ static void disturb(struct run *run)
     struct verity_params *device = &building->tree.device;
     struct fsverity_params *file = &building->tree.file;
 
-    run->is_disturbed = run->building.is_disturbed = true;
+    run->is_disturbed = building->is_disturbed = true;
     switch (random_below(6)) {
     case 0:
         building->build.closed = (size_t)some_number(run->shape.levels);
@@ -132,11 +173,13 @@ static void disturb(struct run *run)
         random_bytes(building->memory, building->memory_length);
         break;
     case 3:
+        run->are_params_disturbed = true;
         device->hash_type ^= 1;
         device->salt_size = (uint32_t)random_below(258);
         file->salt_size = (uint32_t)random_below(34);
         break;
     case 4:
+        run->are_params_disturbed = true;
         device->hash_algorithm = file->hash_algorithm = (uint32_t)random_below(7);
         device->data_blocks = some_number(device->data_blocks);
         break;
@@ -147,23 +190,30 @@ static void disturb(struct run *run)
     }
 }
 
-/* The fault of parameters and memory, and whether the first ones say how the tree is. */
-static uint32_t first_fault(const struct building *building, struct shape *shape)
-{
-    struct tree tree;
-    size_t length = 0, expected_length;
-    uint32_t status;
+/* What verity.h says of each call. */
 
-    memcpy(&tree, &building->tree, sizeof tree);
-    *shape = shape_of(&tree);
-    if (tree.is_file && shape->status >= VERITY_NO_DATA)
+/* The fault of the parameters, and without one how the tree is. */
+static int params_say(const struct building *building, struct shape *shape)
+{
+    *shape = shape_of(&building->tree);
+    if (building->tree.is_file && (shape->status == VERITY_NO_DATA || shape->status == VERITY_TOO_LARGE))
         shape->status = VERITY_OK;
-    if (shape->status != VERITY_OK)
-        return shape->status;
-    status = tree.is_file ? fsverity_build_memory(&tree.file, &length) : verity_build_memory(&tree.device, &length);
-    expected_length = memory_length_of(&tree);
-    check(status == VERITY_OK && length == expected_length, "the length of the memory: status %" PRIu32 ", %zu bytes",
-          status, length);
+    return shape->status;
+}
+
+/* The fault of parameters and memory, which is that of the beginning. */
+static int begin_says(const struct building *building, struct shape *shape)
+{
+    const struct tree *tree = &building->tree;
+    size_t length = 0, expected_length;
+    int status = params_say(building, shape);
+
+    if (status != VERITY_OK)
+        return status;
+    status = tree->is_file ? fsverity_build_memory(&tree->file, &length) : verity_build_memory(&tree->device, &length);
+    expected_length = memory_length_of(tree);
+    check(status == VERITY_OK && length == expected_length, "the length of the memory: status %d, %zu bytes", status,
+          length);
     return expected_length != building->memory_length ? VERITY_BAD_LENGTH : VERITY_OK;
 }
 
@@ -177,257 +227,465 @@ static bool is_too_large(const struct building *building, uint64_t more)
     return tree.file.size < more || shape_of(&tree).status == VERITY_TOO_LARGE;
 }
 
+/* How many bytes a device without a fault has. */
+static uint64_t bytes_of_device(const struct building *building)
+{
+    return building->tree.device.data_blocks * building->tree.device.data_block_size;
+}
+
+/* The fault of the struct of a device, with so many bytes more. */
+static int build_says(const struct building *building, const struct shape *shape, uint64_t more)
+{
+    uint64_t wanted = bytes_of_device(building);
+
+    if (building->build.closed > shape->levels)
+        return VERITY_NO_SUCH_LEVEL;
+    return building->build.fed > wanted || more > wanted - building->build.fed ? VERITY_TOO_LONG : VERITY_OK;
+}
+
 /* The status that a piece has to have. */
-static uint32_t feeding_says(const struct building *building, uint64_t length)
+static int feeding_says(const struct building *building, uint64_t length)
 {
     struct shape shape;
-    uint32_t status = first_fault(building, &shape);
-    uint64_t wanted = building->tree.device.data_blocks * building->tree.device.data_block_size;
+    int status = begin_says(building, &shape);
 
     if (status != VERITY_OK)
         return status;
     if (building->tree.is_file)
         return is_too_large(building, length) ? VERITY_TOO_LARGE : VERITY_OK;
-    if (building->build.closed > shape.levels)
-        return VERITY_NO_SUCH_LEVEL;
-    return building->build.fed > wanted || length > wanted - building->build.fed ? VERITY_TOO_LONG : VERITY_OK;
+    return build_says(building, &shape, length);
 }
 
 /* The status that the end has to have. */
-static uint32_t end_says(const struct building *building, size_t root_length, size_t digest_length)
+static int end_says(const struct building *building, size_t root_length, size_t digest_length)
 {
     struct shape shape;
-    uint32_t status = first_fault(building, &shape);
-    uint64_t wanted = building->tree.device.data_blocks * building->tree.device.data_block_size;
+    int status = begin_says(building, &shape);
     size_t right = digest_size_of(building->tree.is_file ? building->tree.file.hash_algorithm
                                                          : building->tree.device.hash_algorithm);
 
     if (status != VERITY_OK)
         return status;
-    if (root_length != right || (building->tree.is_file && digest_length != right))
+    if (root_length != right)
+        return VERITY_BAD_ROOT_LENGTH;
+    if (building->tree.is_file && digest_length != right)
         return VERITY_BAD_LENGTH;
     if (building->tree.is_file)
         return is_too_large(building, 0) ? VERITY_TOO_LARGE : VERITY_OK;
-    if (building->build.closed > shape.levels)
-        return VERITY_NO_SUCH_LEVEL;
-    if (building->build.fed != wanted)
-        return building->build.fed > wanted ? VERITY_TOO_LONG : VERITY_TOO_SHORT;
+    status = build_says(building, &shape, 0);
+    if (status != VERITY_OK)
+        return status;
+    if (building->build.fed < bytes_of_device(building))
+        return VERITY_TOO_SHORT;
     return building->build.closed < shape.levels ? VERITY_WAITING : VERITY_OK;
 }
 
 /*
- * Whatever stands in the struct: a hash block that is handed out is the open one of the level that was closed last, and
- * is above the last byte that was fed.
+ * The hash block that was handed out last by what the struct says: that of the level that was closed last, above the
+ * last byte that was fed. All is 0 if there is none.
  */
-static void check_place(const struct building *building, const struct verity_fed *fed)
+static struct verity_fed last_block(const struct verity_build *build, const struct shape *shape)
+{
+    struct verity_fed fed = {0};
+    size_t level;
+
+    if (build->fed == 0 || build->closed == 0)
+        return fed;
+    fed.block_length = shape->hash_block_size;
+    fed.block_level = build->closed - 1;
+    fed.block_at = fed.block_level * fed.block_length;
+    fed.block_index = (build->fed - 1) / shape->data_block_size;
+    for (level = 0; level <= fed.block_level; level++)
+        fed.block_index /= shape->fan_out;
+    fed.block_start = shape->starts[fed.block_level] + fed.block_index * fed.block_length;
+    return fed;
+}
+
+/* The status that the question for the last hash block has to have, and its answer. */
+static int last_block_says(const struct building *building, struct verity_fed *fed)
+{
+    struct shape shape;
+    int status = params_say(building, &shape);
+
+    if (status == VERITY_OK)
+        status = build_says(building, &shape, 0);
+    if (status == VERITY_OK)
+        *fed = last_block(&building->build, &shape);
+    return status;
+}
+
+/*
+ * Whatever stands in the struct: a hash block that is handed out, or named once more, is the last one that it says, and
+ * stands in memory of the right length. The function that says where the hash blocks above a data block stand agrees.
+ */
+static void check_block(const struct building *building, const struct verity_fed *fed)
 {
     const struct verity_build *build = &building->build;
     struct shape shape = shape_of(&building->tree);
-    uint64_t data_index, index, start = 0;
-    size_t width = shape.hash_block_size, level;
-    uint32_t status;
+    struct verity_fed last;
+    uint64_t start = 0;
+    int status;
 
-    if (shape.status != VERITY_OK || build->fed == 0 || fed->block_level >= shape.levels) {
-        check(false, "a block of level %zu after %" PRIu64 " bytes", fed->block_level, build->fed);
+    if (shape.status != VERITY_OK || build->closed > shape.levels) {
+        check(false, "a block of level %zu of no tree", fed->block_level);
         return;
     }
-    check(fed->block_length == width && fed->block_at == fed->block_level * width &&
-                  fed->block_level + 1 == build->closed,
-          "%zu bytes at %zu of level %zu, with %zu levels closed", fed->block_length, fed->block_at, fed->block_level,
-          build->closed);
-    data_index = index = (build->fed - 1) / shape.data_block_size;
-    for (level = 0; level <= fed->block_level; level++)
-        index /= shape.fan_out;
-    status = verity_hash_block_start(&building->tree.device, data_index, fed->block_level, &start);
-    check(fed->block_index == index && status == VERITY_OK && fed->block_start == start &&
-                  start == shape.starts[fed->block_level] + index * width,
-          "block %" PRIu64 " of level %zu at %" PRIu64 ", after %" PRIu64 " bytes", fed->block_index, fed->block_level,
-          fed->block_start, build->fed);
+    last = last_block(build, &shape);
+    last.taken = fed->taken;
+    check(memcmp(&last, fed, sizeof last) == 0 && last.block_length > 0 &&
+                  last.block_at + last.block_length <= memory_length_of(&building->tree),
+          "block %" PRIu64 " of level %zu at %" PRIu64 ", after %" PRIu64 " bytes with %zu levels closed",
+          fed->block_index, fed->block_level, fed->block_start, build->fed, build->closed);
+    status = verity_hash_block_start(&building->tree.device, (build->fed - 1) / shape.data_block_size,
+                                     fed->block_level, &start);
+    check(status == VERITY_OK && start == fed->block_start, "a block at %" PRIu64 ", by its number at %" PRIu64,
+          fed->block_start, start);
 }
 
-/* A hash block that is handed out stands in the memory, and undisturbed it is the tree's at its place. */
-static void take_block(struct run *run, const struct verity_fed *fed)
+/* Writes a hash block to the hash device. Undisturbed it is the tree's at its place. */
+static void write_block(const struct run *run, const struct verity_fed *fed)
 {
-    const struct shape *shape = &run->shape;
-    uint64_t first = shape->levels > 0 ? shape->starts[shape->levels - 1] : 0;
-    size_t width = fed->block_length;
+    uint64_t first = run->image->first, at = fed->block_start - first;
 
-    check(width <= run->building.memory_length && fed->block_at <= run->building.memory_length - width,
-          "%zu bytes at %zu", width, fed->block_at);
-    check_place(&run->building, fed);
+    check_block(&run->building, fed);
     if (run->is_disturbed)
         return;
-    check(width == shape->hash_block_size && fed->block_level < shape->levels &&
-                  fed->block_index < shape->blocks[fed->block_level] &&
-                  fed->block_start == shape->starts[fed->block_level] + fed->block_index * width &&
-                  memcmp(run->building.memory + fed->block_at, expected + (fed->block_start - first), width) == 0,
-          "block %" PRIu64 " of level %zu", fed->block_index, fed->block_level);
-    if (fed->block_start >= first && fed->block_start - first <= MOST_DATA - width)
-        memcpy(hashes + (fed->block_start - first), run->building.memory + fed->block_at, width);
-    run->blocks++;
+    if (fed->block_start < first || at > run->image->hashes_length - fed->block_length ||
+        memcmp(run->building.memory + fed->block_at, run->image->hashes + at, fed->block_length) != 0) {
+        check(false, "block %" PRIu64 " of level %zu isn't the tree's", fed->block_index, fed->block_level);
+        return;
+    }
+    memcpy(hashes + at, run->building.memory + fed->block_at, fed->block_length);
 }
 
-/* Feeds a piece until no hash block is handed out: whether it was taken. */
-static bool feed_piece(struct run *run, const uint8_t *piece, size_t length)
+static void store(const struct run *run)
+{
+    stored.is_there = true;
+    memcpy(&stored.run, run, sizeof stored.run);
+    memcpy(stored.memory, run->building.memory, run->building.memory_length);
+    memcpy(stored.hashes, hashes, tree_length(&run->shape));
+}
+
+/* The hash block that was handed out last, once more, which is written again. Undisturbed it is really that. */
+static void ask_last_block(struct run *run)
+{
+    struct verity_fed fed, says = {0};
+    int status, expected_status = last_block_says(&run->building, &says);
+
+    status = call_build_last_block(&run->building, &fed);
+    check(status == expected_status, "the last block: status %d, expected %d", status, expected_status);
+    if (status != VERITY_OK)
+        return;
+    check(memcmp(&fed, &says, sizeof fed) == 0, "the last block: %zu bytes, block %" PRIu64 " of level %zu",
+          fed.block_length, fed.block_index, fed.block_level);
+    count(run, fed.block_length > 0 ? LAST_BLOCK : NO_LAST_BLOCK);
+    if (fed.block_length > 0)
+        write_block(run, &fed);
+}
+
+/*
+ * All that came after the state was stored is lost. The last hash block is written, since it might not have been, and
+ * feeding goes on after the bytes that the state says.
+ */
+static void put_back(struct run *run)
+{
+    uint8_t *memory = run->building.memory;
+
+    memcpy(run, &stored.run, sizeof *run);
+    run->building.memory = memory;
+    memcpy(memory, stored.memory, run->building.memory_length);
+    memcpy(hashes, stored.hashes, tree_length(&run->shape));
+    count(run, PUT_BACK);
+    if (!run->building.tree.is_file)
+        ask_last_block(run);
+    run->left = 0;
+    run->is_waiting = true;
+    if (!run->is_disturbed)
+        run->at = run->building.tree.is_file ? run->building.tree.file.size : run->building.build.fed;
+}
+
+/* What was disturbed in struct and memory alone is mended by it. */
+static void begin_anew(struct run *run)
+{
+    struct shape shape;
+    int says = begin_says(&run->building, &shape), status = call_build_begin(&run->building);
+
+    check(status == says, "a beginning anew: status %d, expected %d", status, says);
+    if (status != VERITY_OK)
+        return;
+    count(run, BEGUN_ANEW);
+    if (!run->are_params_disturbed)
+        run->is_disturbed = run->building.is_disturbed = false;
+    forget(run);
+}
+
+/* One call that feeds. Undisturbed all is taken up to the next hash block that closes, and nothing is refused. */
+static void feed(struct run *run)
 {
     struct building *building = &run->building;
+    struct bytes piece = bytes_of(run->image->data + run->at, run->left);
+    int says = feeding_says(building, run->left), status;
+    uint64_t before = building->tree.is_file ? building->tree.file.size : building->build.fed, after;
     struct verity_fed fed;
-    uint64_t before;
-    uint32_t status, says;
-    int times;
 
-    for (times = 0; times < 2000; times++) {
-        says = feeding_says(building, length);
-        before = building->tree.is_file ? building->tree.file.size : building->build.fed;
-        memset(&fed, 0xa5, sizeof fed);
-        status = once_in(16) ? call_build_feed(building, bytes_of(piece, length), &fed)
-                             : feed_once(building, bytes_of(piece, length), &fed);
-        if (status != says)
-            check(false, "feeding: status %" PRIu32 ", expected %" PRIu32, status, says);
-        if (status != VERITY_OK)
-            return false;
-        if (fed.taken > length || (fed.block_length == 0 && fed.taken < length) ||
-            (building->tree.is_file ? building->tree.file.size : building->build.fed) != before + fed.taken) {
-            check(false, "%zu bytes of %zu are taken", fed.taken, length);
-            return false;
+    memset(&fed, 0xa5, sizeof fed);
+    status = once_in(16) ? call_build_feed(building, piece, &fed) : feed_once(building, piece, &fed);
+    check(status == says && (status == VERITY_OK || run->is_disturbed), "feeding: status %d, expected %d", status,
+          says);
+    if (run->left == 0)
+        count(run, NO_BYTES);
+    run->is_waiting = run->has_ended = false;
+    if (status == VERITY_OK) {
+        after = building->tree.is_file ? building->tree.file.size : building->build.fed;
+        if (fed.taken > run->left || (fed.block_length == 0 && fed.taken < run->left) || after != before + fed.taken) {
+            check(false, "%zu bytes of %zu are taken", fed.taken, run->left);
+        } else if (fed.block_length > 0) {
+            run->at += fed.taken;
+            run->left -= fed.taken;
+            run->blocks++;
+            run->is_waiting = true;
+            if (once_in(16)) {
+                store(run);
+                count(run, STORED_UNWRITTEN);
+            }
+            write_block(run, &fed);
+            return;
         }
-        piece += fed.taken;
-        length -= fed.taken;
-        if (fed.block_length == 0)
-            return true;
-        take_block(run, &fed);
-        if (run->is_disturbed && once_in(8))
-            disturb(run);
     }
-    check(false, "hash blocks without end");
-    return false;
+    run->at += run->left;
+    run->left = 0;
 }
 
-/* The library's own functions accept a data block with the hash blocks that were handed out, or those expected. */
-static void accepts(const struct run *run, const uint8_t *root)
+/* More bytes than a device has. Nothing comes of it. */
+static void feed_too_much(struct run *run)
 {
-    static uint8_t path[64 * 1024];
-    const struct shape *shape = &run->shape;
-    uint64_t index = random_below(shape->data_blocks), above = index;
-    const uint8_t *from = run->building.tree.is_file ? expected : hashes;
-    size_t level, found = 0, size = shape->hash_block_size;
-    uint32_t status;
+    struct building *building = &run->building;
+    uint64_t wanted = bytes_of_device(building), most = building->build.fed > wanted ? 0 : wanted - building->build.fed;
+    struct verity_fed fed;
+    size_t length;
+    int says, status;
 
-    for (level = 0; level < shape->levels; level++) {
-        above /= shape->fan_out;
-        memcpy(path + level * size,
-               from + (shape->starts[level] - shape->starts[shape->levels - 1]) + above * size, size);
-    }
-    status = call_check_block(&run->building.tree, index, bytes_of(data + index * shape->data_block_size,
-                                                                   shape->data_block_size),
-                              bytes_of(path, shape->levels * size), bytes_of(root, shape->digest_size), &found);
-    check(status == VERITY_OK, "block %" PRIu64 " isn't accepted: status %" PRIu32, index, status);
+    if (building->tree.is_file || most >= MOST_DATA)
+        return;
+    length = most + 1 + random_below(MOST_DATA - most < 600 ? MOST_DATA - most : 600);
+    says = feeding_says(building, length);
+    status = call_build_feed(building, bytes_of(source.at, length), &fed);
+    check(status == says && status != VERITY_OK, "too many bytes: status %d, expected %d", status, says);
+    if (status == VERITY_TOO_LONG)
+        count(run, run->has_ended ? AFTER_END : TOO_LONG);
 }
 
-/* The end, whose status is known; and what it gives, if nothing was disturbed. */
-static void end(struct run *run, const uint8_t *right)
+/*
+ * The end, whose status is known; and what it gives, if nothing was disturbed. Feeding goes on as if it hadn't been
+ * asked for. Answers the status.
+ */
+static int end(struct run *run, bool has_right_lengths)
 {
     struct building *building = &run->building;
     bool is_file = building->tree.is_file;
     size_t size = digest_size_of(is_file ? building->tree.file.hash_algorithm : building->tree.device.hash_algorithm);
-    size_t root_length = run->is_disturbed && once_in(8) ? random_below(65) : size;
-    size_t digest_length = !is_file ? 0 : run->is_disturbed && once_in(8) ? random_below(65) : size;
-    uint8_t root[65] = {0}, digest[65] = {0}, descriptor[DESCRIPTOR_SIZE], digests[VERITY_MAX_DIGEST_SIZE] = {0};
-    uint32_t says = end_says(building, root_length, digest_length);
-    uint32_t status = call_build_end(building, root, root_length, digest, digest_length);
+    size_t root_length = has_right_lengths ? size : random_below(65);
+    size_t digest_length = !is_file ? 0 : has_right_lengths ? size : random_below(65);
+    uint8_t root[65] = {0}, digest[65] = {0};
+    const struct end *known;
+    int says = end_says(building, root_length, digest_length);
+    int status = call_build_end(building, root, root_length, digest, digest_length);
+
+    check(status == says, "the end: status %d, expected %d", status, says);
+    if (status == VERITY_TOO_SHORT)
+        count(run, END_TOO_SHORT);
+    else if (status == VERITY_WAITING)
+        count(run, END_WAITING);
+    else if (status == VERITY_OK)
+        count(run, run->has_ended ? END_AGAIN : is_file ? END_OF_FILE : END_OF_TREE);
+    run->has_ended = run->has_ended || status == VERITY_OK;
+    if (status != VERITY_OK || run->is_disturbed)
+        return status;
+    if (!is_file) {
+        check(memcmp(root, run->image->root, size) == 0, "the root hash");
+        return status;
+    }
+    check(building->tree.file.size == run->at, "the size");
+    known = end_at(run->image, run->at);
+    if (known != NULL) {
+        check(memcmp(root, known->root, size) == 0 && memcmp(digest, known->digest, size) == 0,
+              "root hash and digest of %" PRIu64 " bytes", run->at);
+        count(run, END_KNOWN);
+    }
+    return status;
+}
+
+/* The library's own functions accept a data block with the hash blocks that were handed out, or a file's. */
+static void accepts(const struct run *run)
+{
+    static uint8_t path[64 * 1024], block[1024];
+    const struct shape *shape = &run->shape;
+    uint64_t index = random_below(shape->data_blocks), above = index, at = index * shape->data_block_size;
+    const uint8_t *from = run->building.tree.is_file ? run->image->hashes : hashes;
+    size_t level, found = 0, size = shape->hash_block_size;
+    int status;
+
+    for (level = 0; level < shape->levels; level++) {
+        above /= shape->fan_out;
+        memcpy(path + level * size, from + (shape->starts[level] - run->image->first) + above * size, size);
+    }
+    memset(block, 0, sizeof block);
+    memcpy(block, run->image->data + at,
+           run->size - at < shape->data_block_size ? run->size - at : shape->data_block_size);
+    status = call_check_block(&run->building.tree, index, bytes_of(block, shape->data_block_size),
+                              bytes_of(path, shape->levels * size), bytes_of(run->image->root, shape->digest_size),
+                              &found);
+    check(status == VERITY_OK, "block %" PRIu64 " isn't accepted: status %d", index, status);
+}
+
+/* All was fed. Undisturbed each hash block was handed out once, and all of them are on the hash device. */
+static void end_all(struct run *run)
+{
     uint64_t blocks = 0;
     size_t level;
+    int status = end(run, true);
 
-    check(status == says, "the end: status %" PRIu32 ", expected %" PRIu32, status, says);
     if (run->is_disturbed)
         return;
-    check(status == VERITY_OK && memcmp(root, right, size) == 0, "the root hash");
-    if (is_file) {
-        reference_descriptor(&building->tree.file, root, descriptor);
-        hash_of(building->tree.file.hash_algorithm, descriptor, DESCRIPTOR_SIZE, digests);
-        check(building->tree.file.size == run->size && memcmp(digest, digests, size) == 0, "the file digest");
-    } else {
+    check(status == VERITY_OK, "the end of all: status %d", status);
+    if (!run->building.tree.is_file) {
         for (level = 0; level < run->shape.levels; level++)
             blocks += run->shape.blocks[level];
         check(run->blocks == blocks, "%" PRIu64 " hash blocks of %" PRIu64, run->blocks, blocks);
+        check(memcmp(hashes, run->image->hashes, tree_length(&run->shape)) == 0, "the hash blocks on the hash device");
     }
-    if (run->size > 0 && once_in(4))
-        accepts(run, root);
+    if (run->size > 0 && run->size == run->image->size && once_in(4))
+        accepts(run);
 }
 
-/* The same of a file in between, whatever it gives: feeding goes on as if it hadn't been asked for. */
-static void ask(struct run *run)
+/* A call, or two, between those that feed. turns counts those after which feeding has to be done again. */
+static void act(struct run *run, int *turns)
 {
-    struct building *building = &run->building;
-    size_t size = digest_size_of(building->tree.file.hash_algorithm);
-    uint8_t root[VERITY_MAX_DIGEST_SIZE], digest[VERITY_MAX_DIGEST_SIZE];
-    uint32_t says = end_says(building, size, size), status = call_build_end(building, root, size, digest, size);
-
-    check(status == says, "an end between pieces: status %" PRIu32 ", expected %" PRIu32, status, says);
-}
-
-static void draw(struct run *run)
-{
-    memset(run, 0, sizeof *run);
-    run->building.tree.is_file = once_in(2);
-    if (run->building.tree.is_file)
-        draw_file(run);
-    else
-        draw_device(run);
-    run->shape = shape_of(&run->building.tree);
-    memset(data, 0, run->shape.data_blocks * run->shape.data_block_size);
-    memcpy(data, source + random_below(MOST_DATA), run->size);
+    switch (random_below(8)) {
+    case 0:
+    case 1:
+        end(run, !once_in(8));
+        break;
+    case 2:
+    case 3:
+        if (!run->building.tree.is_file)
+            ask_last_block(run);
+        break;
+    case 4:
+        feed_too_much(run);
+        break;
+    case 5:
+        store(run);
+        count(run, STORED);
+        break;
+    case 6:
+        if (stored.is_there && *turns < MOST_TURNS) {
+            put_back(run);
+            ++*turns;
+        }
+        break;
+    default:
+        if (*turns < MOST_TURNS && once_in(4)) {
+            begin_anew(run);
+            ++*turns;
+        }
+        break;
+    }
 }
 
 static size_t some_length(const struct run *run)
 {
     size_t length = once_in(4) ? random_below(4) : once_in(4) ? random_below(70) : random_below(5000);
 
-    return length > run->size - run->at && !(run->is_disturbed && once_in(4)) ? run->size - run->at : length;
+    /* Most pieces end where the end is known, if they would go beyond. */
+    if (length > next_end(run->image, run->at) - run->at && !once_in(4))
+        length = (size_t)(next_end(run->image, run->at) - run->at);
+    return length > run->size - run->at ? run->size - run->at : length;
+}
+
+/* A file may go on after its end, and is longer then: up to where the end is known, if there is such. */
+static bool goes_on(struct run *run)
+{
+    uint64_t next = next_end(run->image, run->size);
+
+    if (!run->building.tree.is_file || run->size > MOST_DATA / 2 || !once_in(4))
+        return false;
+    run->size = next == UINT64_MAX || once_in(4) ? run->size + 1 + random_below(600) : next;
+    count(run, GONE_ON);
+    return true;
+}
+
+static bool is_all_fed(const struct run *run)
+{
+    return run->at == run->size && run->left == 0 && !run->is_waiting;
 }
 
 static void try_feeding(void)
 {
     struct run run;
-    uint8_t right[VERITY_MAX_DIGEST_SIZE] = {0};
-    bool is_to_be_disturbed = once_in(4);
-    uint64_t pieces, disturbed_at = random_below(8);
-    size_t length;
+    bool is_to_be_disturbed = once_in(4), was_disturbed = false;
+    uint64_t acts_left, steps;
+    int turns = 0;
 
     draw(&run);
-    if (run.size > 0)
-        reference_tree(&run.building.tree, &run.shape, data, expected, right);
     begin(&run);
-    for (pieces = 0; run.at < run.size; pieces++) {
-        if (is_to_be_disturbed && pieces == disturbed_at)
+    stored.is_there = false;
+    for (steps = 0; steps < MOST_STEPS; steps++) {
+        if (once_in(run.is_waiting ? 2 : 4))
+            act(&run, &turns);
+        if (is_to_be_disturbed && once_in(was_disturbed ? 16 : is_all_fed(&run) ? 1 : 4)) {
             disturb(&run);
-        length = some_length(&run);
-        if (!feed_piece(&run, data + run.at, length) && !run.is_disturbed)
-            break;
-        run.at += length;
-        if (run.building.tree.is_file && once_in(8))
-            ask(&run);
+            was_disturbed = true;
+        }
+        if (is_all_fed(&run)) {
+            end_all(&run);
+            for (acts_left = random_below(4); acts_left > 0 && is_all_fed(&run); acts_left--)
+                act(&run, &turns);
+            if (is_all_fed(&run) && !goes_on(&run))
+                break;
+        }
+        if (run.left == 0 && !(run.is_waiting && once_in(2)))
+            run.left = some_length(&run);
+        feed(&run);
     }
-    if (is_to_be_disturbed && (!run.is_disturbed || once_in(4)))
-        disturb(&run);
-    if (run.is_disturbed && once_in(2))
-        feed_piece(&run, data, random_below(3));
-    end(&run, right);
+    check(steps < MOST_STEPS, "hash blocks without end");
     feedings++;
-    disturbed += run.is_disturbed;
+    disturbed += was_disturbed;
 }
 
-int main(int count, char **words)
+static void read_images(const char *trees, const char *data)
+{
+    struct images images = open_images(trees, data);
+    struct image image;
+
+    source = images.data;
+    while (next_image(&images, &image)) {
+        all_images = realloc(all_images, (image_count + 1) * sizeof *all_images);
+        if (all_images == NULL || image.size > MOST_DATA || image.hashes_length > MOST_DATA)
+            give_up("a tree is too large");
+        check(has_place(&image), "the place of the tree");
+        all_images[image_count++] = image;
+    }
+    if (image_count == 0 || source.length < 3 * MOST_DATA)
+        give_up("there is no tree, or too few data");
+}
+
+int main(int words_count, char **words)
 {
     uint64_t wanted;
+    int i;
 
-    if (count != 3)
-        give_up("usage: feeding_fuzz SEED FEEDINGS");
-    seed_random(strtoull(words[1], NULL, 10));
-    wanted = strtoull(words[2], NULL, 10);
-    random_bytes(source, sizeof source);
+    if (words_count != 5)
+        give_up("usage: feeding_fuzz SEED FEEDINGS DATA TREES");
+    seed_random(number_of(words[1]));
+    wanted = number_of(words[2]);
+    read_images(words[4], words[3]);
     while (feedings < wanted)
         try_feeding();
+    for (i = 0; i < ACTS; i++) {
+        printf("%s: %" PRIu64 ", disturbed %" PRIu64 "\n", acts[i], made[0][i], made[1][i]);
+        check(made[0][i] > 0 && (made[1][i] > 0 || i == END_KNOWN), "%s: none", acts[i]);
+    }
     printf("%" PRIu64 " feedings, %" PRIu64 " of them disturbed, %" PRIu64 " calls\n", feedings, disturbed, calls_made);
     return finish();
 }

@@ -1,17 +1,24 @@
 /*
- * What the functions that build trees refuse: each with its status, the faults in their order, and nothing changed. And
- * when a hash block is handed out, and that feeding goes on after what was refused, and after an end. What doesn't hold
- * is printed in lines that begin with FAILED; the last line is 'N passed, M failed'.
+ * What the functions that build trees refuse while they build, beside what refused.c calls; when a hash block is handed
+ * out; and that feeding goes on after what was refused, and after an end, which is asked for after every byte.
+ *
+ *   feeding_refused DATA TREES
+ *
+ * TREES is tree_files.py's file for this, of the bytes of the file DATA. What doesn't hold is printed in lines that
+ * begin with FAILED; the last line is 'N passed, M failed'.
  */
 #include <inttypes.h>
 #include <stdio.h>
 #include <string.h>
 
 #include "feeding_calls.h"
-#include "reference.h"
+#include "images.h"
 #include "support.h"
 
-static uint8_t some[1 << 20];
+/* The bytes that are fed, and their trees: of 17 data blocks, and of files of blocks of 64, 128 and 512 bytes. */
+static const uint8_t *some;
+static struct image tree_of_17, files[3];
+
 static uint8_t memory[1 << 20];
 static uint8_t root[VERITY_MAX_DIGEST_SIZE + 1], digest[VERITY_MAX_DIGEST_SIZE + 1];
 
@@ -28,6 +35,13 @@ static struct building right(bool is_file)
     if (call_build_memory(&building.tree, &building.memory_length) != VERITY_OK)
         give_up("the right parameters are refused");
     return building;
+}
+
+/* All numbers of an answer are 0. */
+static bool is_no_block(const struct verity_fed *fed)
+{
+    return fed->taken == 0 && fed->block_length == 0 && fed->block_at == 0 && fed->block_start == 0 &&
+           fed->block_index == 0 && fed->block_level == 0;
 }
 
 /* Feeds the next bytes and takes what is handed out, but at most so many hash blocks: how many. */
@@ -47,116 +61,14 @@ static uint64_t fed_on(struct building *building, size_t length, uint64_t most)
     return blocks;
 }
 
-/* All functions with memory answer this fault; the length of the memory, and of all else, is wrong too. */
-static void each_refuses(struct building building, uint32_t expected, bool has_memory_fault, const char *what)
+/* What a struct says is refused by all functions that look at it. */
+static void all_refuse(struct building *building, size_t length, int expected, const char *what)
 {
     struct verity_fed fed;
-    size_t length = 0;
-    uint32_t status;
 
-    building.memory_length = 1;
-    building.build = (struct verity_build){UINT64_MAX, SIZE_MAX};
-    status = has_memory_fault ? call_build_memory(&building.tree, &length) : expected;
-    check(status == expected, "%s: length of the memory, status %" PRIu32, what, status);
-    status = call_build_begin(&building);
-    check(status == expected, "%s: beginning, status %" PRIu32, what, status);
-    status = call_build_feed(&building, bytes_of(some, 10), &fed);
-    check(status == expected, "%s: feeding, status %" PRIu32, what, status);
-    status = call_build_end(&building, root, 31, digest, 31);
-    check(status == expected, "%s: end, status %" PRIu32, what, status);
-}
-
-static void faults_of_devices(void)
-{
-    struct building building = right(false);
-    struct verity_params *params = &building.tree.device, good = *params;
-    uint8_t superblock[513];
-
-#define REFUSES(status, what) \
-    each_refuses(building, status, true, what); \
-    check(call_write_superblock(params, superblock, 511) == status, "superblock: %s", what)
-    *params = (struct verity_params){.hash_algorithm = 6, .hash_type = 2, .data_block_size = 513,
-                                     .hash_block_size = 256, .hash_offset = 1, .salt_size = 257};
-    REFUSES(VERITY_BAD_HASH_ALGORITHM, "all is wrong");
-    params->hash_algorithm = VERITY_SHA256;
-    REFUSES(VERITY_BAD_HASH_TYPE, "all but the algorithm");
-    params->hash_type = 1;
-    REFUSES(VERITY_BAD_DATA_BLOCK_SIZE, "from the data block size on");
-    params->data_block_size = 512;
-    REFUSES(VERITY_BAD_HASH_BLOCK_SIZE, "from the hash block size on");
-    params->hash_block_size = 512;
-    REFUSES(VERITY_BAD_SALT_SIZE, "from the salt size on");
-    params->salt_size = 1;
-    REFUSES(VERITY_BAD_HASH_OFFSET, "from the hash offset on");
-    params->hash_offset = 0;
-    REFUSES(VERITY_NO_DATA, "without data");
-    params->data_blocks = LARGEST / 512 + 1;
-    REFUSES(VERITY_TOO_LARGE, "too much data");
-    *params = good;
-    each_refuses(building, VERITY_BAD_LENGTH, false, "the memory, before the struct");
-    check(call_write_superblock(params, superblock, 511) == VERITY_BAD_LENGTH, "a superblock of 511 bytes");
-    check(call_write_superblock(params, superblock, 513) == VERITY_BAD_LENGTH, "a superblock of 513 bytes");
-    check(call_write_superblock(params, superblock, 0) == VERITY_BAD_LENGTH, "a superblock of no bytes");
-    check(call_write_superblock(params, superblock, SUPERBLOCK_SIZE) == VERITY_OK, "a superblock");
-}
-
-static void faults_of_files(void)
-{
-    struct building building = right(true);
-    struct fsverity_params *params = &building.tree.file;
-    uint8_t descriptor[257];
-    struct bytes right_root = bytes_of(some, 32), short_root = bytes_of(some, 31);
-
-#define REFUSES_FILE(status, what) \
-    each_refuses(building, status, true, what); \
-    check(call_descriptor(params, short_root, descriptor, 255) == status, "descriptor: %s", what)
-    *params = (struct fsverity_params){.hash_algorithm = VERITY_SHA1, .block_size = 32, .salt_size = 33,
-                                       .size = UINT64_MAX};
-    REFUSES_FILE(VERITY_BAD_HASH_ALGORITHM, "all is wrong");
-    params->hash_algorithm = VERITY_SHA256;
-    REFUSES_FILE(VERITY_BAD_DATA_BLOCK_SIZE, "from the block size on");
-    params->block_size = 512;
-    REFUSES_FILE(VERITY_BAD_SALT_SIZE, "from the salt size on");
-    params->salt_size = 1;
-    each_refuses(building, VERITY_BAD_LENGTH, false, "the memory, before the size");
-    check(call_descriptor(params, short_root, descriptor, 255) == VERITY_BAD_ROOT_LENGTH, "a root hash of 31 bytes");
-    check(call_descriptor(params, bytes_of(some, 33), descriptor, DESCRIPTOR_SIZE) == VERITY_BAD_ROOT_LENGTH,
-          "one of 33");
-    check(call_descriptor(params, right_root, descriptor, 255) == VERITY_BAD_LENGTH, "a descriptor of 255 bytes");
-    check(call_descriptor(params, right_root, descriptor, 257) == VERITY_BAD_LENGTH, "a descriptor of 257 bytes");
-    check(call_descriptor(params, right_root, descriptor, DESCRIPTOR_SIZE) == VERITY_OK, "a descriptor of any size");
-}
-
-/* Memory that is a byte too short or too long, and lengths of root hash and digest beside the right ones. */
-static void faults_of_lengths(bool is_file)
-{
-    static const size_t others[] = {0, 31, 33, 64};
-    struct building building = right(is_file);
-    size_t length = building.memory_length, i;
-    struct verity_fed fed;
-
-    check(call_build_begin(&building) == VERITY_OK, "the beginning");
-    for (i = 0; i < 3; i++) {
-        building.memory_length = i == 0 ? 0 : i == 1 ? length - 1 : length + 1;
-        check(call_build_begin(&building) == VERITY_BAD_LENGTH, "beginning, memory of another length");
-        check(call_build_feed(&building, bytes_of(some, 0), &fed) == VERITY_BAD_LENGTH, "memory of another length");
-        check(call_build_end(&building, root, 32, digest, 32) == VERITY_BAD_LENGTH, "the end, another length");
-    }
-    building.memory_length = length;
-    if (!is_file) {
-        fed_on(&building, 300 * 512, UINT64_MAX);
-        building.build.closed = 4;
-    }
-    for (i = 0; i < sizeof others / sizeof *others; i++) {
-        check(call_build_end(&building, root, others[i], digest, 32) == VERITY_BAD_LENGTH, "a root hash of %zu bytes",
-              others[i]);
-        if (is_file)
-            check(call_build_end(&building, root, 32, digest, others[i]) == VERITY_BAD_LENGTH, "a digest of %zu bytes",
-                  others[i]);
-    }
-    if (!is_file)
-        building.build.closed = 3;
-    check(call_build_end(&building, root, 32, digest, 32) == VERITY_OK, "the end");
+    check(call_build_feed(building, bytes_of(some, length), &fed) == expected, "%s: feeding", what);
+    check(call_build_last_block(building, &fed) == expected, "%s: the last block", what);
+    check(call_build_end(building, root, 32, digest, 0) == expected, "%s: the end", what);
 }
 
 /* Too many bytes, too few, and a hash block that waits; the answer is right after each refusal. */
@@ -176,19 +88,17 @@ static void faults_of_devices_that_are_fed(void)
     check(call_build_end(&building, root, 32, digest, 0) == VERITY_TOO_SHORT, "a byte too few");
     kept = *build;
     build->fed = UINT64_MAX;
-    check(call_build_feed(&building, bytes_of(some, 0), &fed) == VERITY_TOO_LONG, "far too many bytes, and none more");
-    check(call_build_feed(&building, bytes_of(some, 2), &fed) == VERITY_TOO_LONG, "more than 2^64 bytes");
-    check(call_build_end(&building, root, 32, digest, 0) == VERITY_TOO_LONG, "the end of far too many bytes");
+    all_refuse(&building, 0, VERITY_TOO_LONG, "far too many bytes, and none more");
+    all_refuse(&building, 2, VERITY_TOO_LONG, "more than 2^64 bytes");
     build->fed = 300 * 512 + 1;
-    check(call_build_feed(&building, bytes_of(some, 0), &fed) == VERITY_TOO_LONG, "a byte too much, and none more");
-    check(call_build_end(&building, root, 32, digest, 0) == VERITY_TOO_LONG, "the end of a byte too much");
+    all_refuse(&building, 0, VERITY_TOO_LONG, "a byte too much, and none more");
     build->closed = 4;
-    check(call_build_feed(&building, bytes_of(some, 10), &fed) == VERITY_NO_SUCH_LEVEL, "4 levels, then the bytes");
-    check(call_build_end(&building, root, 32, digest, 0) == VERITY_NO_SUCH_LEVEL, "the end of 4 levels");
+    all_refuse(&building, 10, VERITY_NO_SUCH_LEVEL, "4 levels, then the bytes");
     build->closed = SIZE_MAX;
     build->fed = 0;
-    check(call_build_feed(&building, bytes_of(some, 0), &fed) == VERITY_NO_SUCH_LEVEL, "any number of levels");
-    check(call_build_end(&building, root, 32, digest, 0) == VERITY_NO_SUCH_LEVEL, "the end of any number of levels");
+    all_refuse(&building, 0, VERITY_NO_SUCH_LEVEL, "any number of levels");
+    build->closed = 3;
+    check(call_build_last_block(&building, &fed) == VERITY_OK && is_no_block(&fed), "3 levels are closed of no bytes");
     *build = kept;
     check(fed_on(&building, 1, 1) == 1 && build->closed == 1 && build->fed == 300 * 512, "the last byte");
     check(call_build_end(&building, root, 32, digest, 0) == VERITY_WAITING, "two hash blocks wait");
@@ -228,13 +138,17 @@ static void faults_of_files_that_are_fed(void)
                   building.tree.file.size == LARGEST - 511, "up to the largest size");
 }
 
-/* Feeds so many bytes from here on, of which this many are taken, and this hash block is handed out, or none. */
+/*
+ * Feeds so many bytes from here on, of which this many are taken, and this hash block is handed out, or none. It is the
+ * last one then, until a byte is taken.
+ */
 static void hands_out(struct building *building, size_t length, size_t taken, size_t block_length, size_t level,
                       uint64_t index, const uint8_t *block)
 {
     uint64_t at = building->build.fed;
-    struct verity_fed fed = {0};
-    uint32_t status = call_build_feed(building, bytes_of(some + at, length), &fed);
+    struct verity_fed fed = {0}, before = {0}, after = {0};
+    bool has_last = call_build_last_block(building, &before) == VERITY_OK;
+    int status = call_build_feed(building, bytes_of(some + at, length), &fed);
 
     check(status == VERITY_OK && fed.taken == taken && fed.block_length == block_length && fed.block_level == level &&
                   fed.block_index == index && building->build.fed == at + taken,
@@ -244,6 +158,10 @@ static void hands_out(struct building *building, size_t length, size_t taken, si
         check(fed.block_at == 0 && fed.block_start == 0, "no block, at %zu", fed.block_at);
     else
         check(fed.block_at == level * 512 && memcmp(memory + fed.block_at, block, 512) == 0, "the block's bytes");
+    has_last = has_last && call_build_last_block(building, &after) == VERITY_OK;
+    fed.taken = 0;
+    check(has_last && memcmp(&after, block_length == 0 && taken == 0 ? &before : &fed, sizeof fed) == 0,
+          "the last hash block after %" PRIu64 " bytes", building->build.fed);
 }
 
 /*
@@ -253,13 +171,10 @@ static void hands_out(struct building *building, size_t length, size_t taken, si
 static void times_of_hash_blocks(void)
 {
     struct building building = right(false);
-    struct shape shape;
     /* The top block stands first, and then the two of level 0. */
-    uint8_t blocks[3 * 512], expected[VERITY_MAX_DIGEST_SIZE];
+    const uint8_t *blocks = tree_of_17.hashes, *expected = tree_of_17.root;
 
-    building.tree.device.data_blocks = 17;
-    shape = shape_of(&building.tree);
-    reference_tree(&building.tree, &shape, some, blocks, expected);
+    building.tree = tree_of_17.tree;
     check(call_build_memory(&building.tree, &building.memory_length) == VERITY_OK && building.memory_length == 10 * 512,
           "memory of %zu bytes", building.memory_length);
     check(call_build_begin(&building) == VERITY_OK, "the beginning");
@@ -287,22 +202,69 @@ static void times_of_hash_blocks(void)
     check(call_build_end(&building, root, 32, digest, 0) == VERITY_OK && memcmp(root, expected, 32) == 0, "once more");
 }
 
-/* The end of what was fed of a file so far: root hash and digest are those of a computation of its own. */
-static void ends_so_far(struct building *building)
+/* The end of what was fed of a file so far. */
+static void ends_so_far(struct building *building, const struct image *image)
 {
-    static uint8_t padded[40 * 512], hashes[8 * 512];
-    const struct fsverity_params *params = &building->tree.file;
-    uint8_t expected[VERITY_MAX_DIGEST_SIZE], expected_digest[VERITY_MAX_DIGEST_SIZE], descriptor[DESCRIPTOR_SIZE];
-    struct shape shape = shape_of(&building->tree);
+    const struct end *expected = end_at(image, building->tree.file.size);
+    size_t size = digest_size_of(image->tree.file.hash_algorithm);
 
-    memset(padded, 0, sizeof padded);
-    memcpy(padded, some, params->size);
-    reference_tree(&building->tree, &shape, padded, hashes, expected);
-    reference_descriptor(params, expected, descriptor);
-    hash_of(VERITY_SHA256, descriptor, DESCRIPTOR_SIZE, expected_digest);
-    check(call_build_end(building, root, 32, digest, 32) == VERITY_OK && memcmp(root, expected, 32) == 0 &&
-                  memcmp(digest, expected_digest, 32) == 0,
-          "the digest of %" PRIu64 " bytes", params->size);
+    check(expected != NULL && call_build_end(building, root, size, digest, size) == VERITY_OK &&
+                  memcmp(root, expected->root, size) == 0 && memcmp(digest, expected->digest, size) == 0,
+          "the digest of %" PRIu64 " bytes", building->tree.file.size);
+}
+
+/* The end of a file after each of its bytes, up to 9 blocks, and each time feeding goes on. */
+static void ends_of_files(const struct image *image)
+{
+    struct building building = right(true);
+    struct fsverity_params *params = &building.tree.file;
+    struct verity_fed fed;
+    uint64_t at;
+
+    building.tree = image->tree;
+    check(call_build_memory(&building.tree, &building.memory_length) == VERITY_OK, "the length of the memory");
+    check(call_build_begin(&building) == VERITY_OK, "the beginning");
+    ends_so_far(&building, image);
+    for (at = 0; at < image->size; at++) {
+        check(feed_once(&building, bytes_of(some + at, 1), &fed) == VERITY_OK && params->size == at + 1,
+              "byte %" PRIu64, at);
+        ends_so_far(&building, image);
+    }
+}
+
+/*
+ * The end of a tree after each of its bytes, and after each hash block that is handed out: it is refused up to the last
+ * one, and the root hash is right all the same. Then it can be asked for again and again, also after what is refused.
+ */
+static void ends_of_trees(void)
+{
+    struct building building = right(false);
+    const struct verity_build *build = &building.build;
+    struct verity_fed fed = {0};
+    const uint8_t *expected = tree_of_17.root;
+    uint64_t size = 17 * 512;
+    int status = VERITY_TOO_SHORT, waited = 0, times;
+
+    building.tree = tree_of_17.tree;
+    check(call_build_memory(&building.tree, &building.memory_length) == VERITY_OK, "the length of the memory");
+    check(call_build_begin(&building) == VERITY_OK, "the beginning");
+    check(call_build_end(&building, root, 32, digest, 0) == VERITY_TOO_SHORT, "the end of no bytes");
+    /* One call for each byte, one for the hash block that closes before byte 8192, and one for the top block. */
+    for (times = 0; times < 17 * 512 + 2; times++) {
+        check(feed_once(&building, bytes_of(some + build->fed, build->fed < size), &fed) == VERITY_OK, "call %d",
+              times);
+        status = call_build_end(&building, root, 32, digest, 0);
+        waited += status == VERITY_WAITING;
+        check(status == (build->fed < size ? VERITY_TOO_SHORT : build->closed < 2 ? VERITY_WAITING : VERITY_OK),
+              "the end after %" PRIu64 " bytes: status %d", build->fed, status);
+    }
+    check(status == VERITY_OK && waited == 1, "the end of all: status %d, waiting %d times", status, waited);
+    for (times = 0; times < 3; times++) {
+        check(call_build_end(&building, root, 32, digest, 0) == VERITY_OK && memcmp(root, expected, 32) == 0,
+              "the end, once more");
+        check(call_build_feed(&building, bytes_of(some, 1), &fed) == VERITY_TOO_LONG, "a byte after the end");
+        check(call_build_feed(&building, bytes_of(some, 0), &fed) == VERITY_OK && is_no_block(&fed), "none after it");
+    }
 }
 
 /*
@@ -313,9 +275,10 @@ static void files_go_on(void)
 {
     struct building building = right(true);
     struct fsverity_params *params = &building.tree.file;
-    size_t length = building.memory_length, size = 39 * 512 + 100, at, piece;
+    size_t length = building.memory_length, size = (size_t)files[2].size, at, piece;
     struct verity_fed fed;
 
+    building.tree = files[2].tree;
     check(call_build_begin(&building) == VERITY_OK, "the beginning");
     for (at = 0; at < size; at += piece) {
         piece = size - at < 700 ? size - at : 700;
@@ -325,10 +288,10 @@ static void files_go_on(void)
         params->salt_size = 33;
         check(call_build_feed(&building, bytes_of(some + at, piece), &fed) == VERITY_BAD_SALT_SIZE, "a long salt");
         params->salt_size = 1;
-        check(call_build_end(&building, root, 31, digest, 32) == VERITY_BAD_LENGTH, "a root hash of 31 bytes");
+        check(call_build_end(&building, root, 31, digest, 32) == VERITY_BAD_ROOT_LENGTH, "a root hash of 31 bytes");
         check(call_build_feed(&building, bytes_of(some + at, piece), &fed) == VERITY_OK && params->size == at + piece,
               "%zu bytes after %zu", piece, at);
-        ends_so_far(&building);
+        ends_so_far(&building, &files[2]);
     }
 }
 
@@ -352,22 +315,28 @@ static void lengths(void)
     }
 }
 
-int main(void)
+int main(int count, char **words)
 {
-    uint32_t status;
+    struct images images;
+    int status;
 
+    if (count != 3)
+        give_up("usage: feeding_refused DATA TREES");
     seed_random(1);
-    random_bytes(some, sizeof some);
-    faults_of_devices();
-    faults_of_files();
-    faults_of_lengths(false);
-    faults_of_lengths(true);
+    images = open_images(words[2], words[1]);
+    if (images.data.length < 1 << 20 || !next_image(&images, &tree_of_17) || !next_image(&images, &files[0]) ||
+        !next_image(&images, &files[1]) || !next_image(&images, &files[2]))
+        give_up("there are too few data or trees");
+    some = images.data.at;
     faults_of_devices_that_are_fed();
     faults_of_files_that_are_fed();
     times_of_hash_blocks();
     files_go_on();
+    ends_of_files(&files[0]);
+    ends_of_files(&files[1]);
+    ends_of_trees();
     lengths();
-    for (status = VERITY_TOO_LONG; status <= VERITY_WAITING; status++)
-        check(status_seen[status], "status %" PRIu32 " wasn't answered", status);
+    for (status = VERITY_TOO_LONG; status >= VERITY_WAITING; status--)
+        check(status_seen[-status], "status %d wasn't answered", status);
     return finish();
 }

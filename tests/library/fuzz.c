@@ -11,31 +11,17 @@
 #include <stdlib.h>
 #include <string.h>
 
+#include "chains.h"
+#include "images.h"
 #include "support.h"
 
 #define LARGEST (((uint64_t)1 << 63) - 1)
-#define PAINT ((size_t)0xa5a5a5a5)
 
 /* Longer blocks and paths are not tried, so that a run ends soon. */
 #define MOST_TRIED ((size_t)1 << 20)
 
-struct chain {
-    struct tree tree;
-    uint64_t index;
-    uint64_t levels;
-    uint8_t root[VERITY_MAX_DIGEST_SIZE];
-    uint8_t digest[VERITY_MAX_DIGEST_SIZE];
-    uint8_t *bytes;
-    size_t length;
-};
-
-static struct chain *chains;
+static struct image *chains;
 static size_t chain_count;
-
-static bool once_in(uint64_t times)
-{
-    return random_below(times) == 0;
-}
 
 /* Any length of number is as likely as another. */
 static uint64_t some_number(void)
@@ -137,19 +123,19 @@ static void try_places(void)
     struct shape shape;
     size_t levels = PAINT, level, count;
     uint64_t start = PAINT, blocks = PAINT, index, above = PAINT, below, next;
-    uint32_t status, expected;
+    int status, expected;
 
     draw_tree(&tree);
     shape = shape_of(&tree);
     status = call_level_count(&tree, &levels);
-    check(status == shape.status, "levels: status %" PRIu32 ", expected %" PRIu32, status, shape.status);
+    check(status == shape.status, "levels: status %d, expected %d", status, shape.status);
     check(status == VERITY_OK ? levels == shape.levels && levels <= 63 : levels == PAINT, "levels: %zu", levels);
     count = status == VERITY_OK ? levels : 3;
 
     level = (size_t)number_about(count);
     expected = shape.status != VERITY_OK ? shape.status : level >= shape.levels ? VERITY_NO_SUCH_LEVEL : VERITY_OK;
     status = call_level_start(&tree, level, &start, &blocks);
-    check(status == expected, "level %zu: status %" PRIu32 ", expected %" PRIu32, level, status, expected);
+    check(status == expected, "level %zu: status %d, expected %d", level, status, expected);
     if (status == VERITY_OK) {
         check(start == shape.starts[level] && blocks == shape.blocks[level], "level %zu: wrong place", level);
         check(start <= LARGEST - shape.hash_block_size, "level %zu ends too late", level);
@@ -163,7 +149,7 @@ static void try_places(void)
                : level >= shape.levels        ? VERITY_NO_SUCH_LEVEL
                                               : VERITY_OK;
     status = call_hash_block_start(&tree, index, level, &above);
-    check(status == expected, "block above: status %" PRIu32 ", expected %" PRIu32, status, expected);
+    check(status == expected, "block above: status %d, expected %d", status, expected);
     if (status == VERITY_OK) {
         for (below = index, next = 0; next <= level; next++)
             below /= shape.fan_out;
@@ -192,6 +178,158 @@ static void try_places(void)
                       next == start + blocks * shape.hash_block_size, "levels that don't follow one another");
 }
 
+/* Where the hash area ends: after the blocks of level 0, or where the tree would begin. */
+static void try_end(void)
+{
+    struct tree tree;
+    struct shape shape;
+    uint64_t end = PAINT, start;
+    int status;
+
+    draw_tree(&tree);
+    shape = shape_of(&tree);
+    status = call_area_end(&tree, &end);
+    check(status == shape.status, "the end: status %d, expected %d", status, shape.status);
+    if (shape.status != VERITY_OK) {
+        check(end == PAINT, "the end: filled");
+    } else if (shape.levels > 0) {
+        check(end == shape.starts[0] + shape.blocks[0] * shape.hash_block_size, "the end: %" PRIu64, end);
+    } else {
+        start = tree.is_file ? 0 : tree.device.hash_offset + (tree.device.no_superblock ? 0 : SUPERBLOCK_SIZE);
+        check(end >= start && end - start < shape.hash_block_size && end % shape.hash_block_size == 0,
+              "the end without levels: %" PRIu64, end);
+    }
+}
+
+/* Parameters and others, with no change or with one or two. */
+static void try_same_params(void)
+{
+    struct tree tree, other;
+    struct shape shape, other_shape;
+    int changes, status, expected;
+    size_t bytes;
+
+    draw_tree(&tree);
+    tree.is_file = false;
+    other = tree;
+    for (changes = (int)random_below(3); changes > 0; changes--) {
+        struct tree drawn;
+
+        draw_tree(&drawn);
+        switch (random_below(8)) {
+        case 0:
+            other.device.hash_algorithm = drawn.device.hash_algorithm;
+            break;
+        case 1:
+            other.device.hash_type = drawn.device.hash_type;
+            break;
+        case 2:
+            other.device.data_block_size = drawn.device.data_block_size;
+            break;
+        case 3:
+            other.device.hash_block_size = drawn.device.hash_block_size;
+            break;
+        case 4:
+            other.device.data_blocks = once_in(2) ? tree.device.data_blocks + 1 : drawn.device.data_blocks;
+            break;
+        case 5:
+            other.device.salt_size = once_in(2) ? tree.device.salt_size + 1 : drawn.device.salt_size;
+            break;
+        case 6:
+            other.device.salt[random_below(sizeof other.device.salt)] ^= 1;
+            break;
+        default:
+            random_bytes(other.device.uuid, sizeof other.device.uuid);
+            other.device.hash_offset = drawn.device.hash_offset;
+            other.device.no_superblock = drawn.device.no_superblock;
+            break;
+        }
+    }
+    shape = shape_of(&tree);
+    other_shape = shape_of(&other);
+    bytes = tree.device.salt_size;
+    expected = shape.status != VERITY_OK                                              ? shape.status
+               : other_shape.status != VERITY_OK                                      ? other_shape.status
+               : tree.device.hash_algorithm != other.device.hash_algorithm ||
+                         tree.device.hash_type != other.device.hash_type ||
+                         tree.device.data_block_size != other.device.data_block_size ||
+                         tree.device.hash_block_size != other.device.hash_block_size ||
+                         tree.device.data_blocks != other.device.data_blocks ||
+                         tree.device.salt_size != other.device.salt_size ||
+                         memcmp(tree.device.salt, other.device.salt, bytes) != 0      ? VERITY_DIFFERS
+                                                                                      : VERITY_OK;
+    status = call_same_params(&tree.device, &other.device);
+    check(status == expected, "parameters that may be the same: status %d, expected %d", status, expected);
+}
+
+/* Texts of any numbers in any room: nothing else than text and zero is written. Names lead back to their numbers. */
+static void try_texts(void)
+{
+    uint8_t painted[2 * VERITY_MAX_TEXT_SIZE];
+    size_t room = random_below(sizeof painted), length = PAINT, digest_length = PAINT;
+    uint32_t number = once_in(2) ? (uint32_t)random_below(8) : (uint32_t)edge(), found = PAINT & 0xff;
+    char text[sizeof painted];
+    int is_name = once_in(2), status, other;
+    bool ends;
+
+    random_bytes(painted, sizeof painted);
+    memcpy(text, painted, sizeof text);
+    status = is_name ? call_text(NAME, (int)number, text, room, &length)
+                     : call_text(STATUS, -(int)(number & INT32_MAX), text, room, &length);
+    if (is_name) {
+        other = call_digest_length(number, &digest_length);
+        check((name_of(number) == NULL) == (status == VERITY_BAD_HASH_ALGORITHM) &&
+                  other == (name_of(number) == NULL ? VERITY_BAD_HASH_ALGORITHM : VERITY_OK) &&
+                  digest_length == (name_of(number) == NULL ? PAINT : digest_size_of(number)),
+              "function %" PRIu32 ": statuses %d and %d", number, status, other);
+    }
+    if (status == VERITY_OK) {
+        ends = length < room && length < VERITY_MAX_TEXT_SIZE && memchr(text, 0, length + 1) == text + length;
+        check(ends, "a text of %zu bytes", length);
+        if (!ends)
+            return;
+        check(memcmp(text + length + 1, painted + length + 1, room - length - 1) == 0, "more is written than a text");
+    } else {
+        check(length == PAINT && memcmp(text, painted, room) == 0, "a refused text is written");
+        check(status == VERITY_BAD_HASH_ALGORITHM ? is_name : room < VERITY_MAX_TEXT_SIZE, "a text: status %d", status);
+    }
+    if (status == VERITY_OK && is_name) {
+        check(strcmp(text, name_of(number)) == 0, "function %" PRIu32 " is named %s", number, text);
+        /* With its zero, or without its last letter, it is no name. */
+        check(call_algorithm_by_name(bytes_of((uint8_t *)text, length), &found) == VERITY_OK && found == number &&
+                  call_algorithm_by_name(bytes_of((uint8_t *)text, length + 1), &found) < 0 &&
+                  call_algorithm_by_name(bytes_of((uint8_t *)text, length - 1), &found) < 0,
+              "function %" PRIu32 " by its name", number);
+    }
+}
+
+/* A formatted digest of any function in any room. */
+static void try_formatted(void)
+{
+    uint32_t number = once_in(2) ? 1 + (uint32_t)random_below(2) : (uint32_t)edge();
+    uint8_t digest[100], painted[120], formatted[sizeof painted];
+    size_t right = number == VERITY_SHA256 ? 32 : number == VERITY_SHA512 ? 64 : 0;
+    size_t length = once_in(4) ? random_below(sizeof digest) : right;
+    size_t room = once_in(4) ? random_below(sizeof painted) : 12 + length;
+    int status, expected = right == 0                                  ? VERITY_BAD_HASH_ALGORITHM
+                           : length != right || room != 12 + right     ? VERITY_BAD_LENGTH
+                                                                       : VERITY_OK;
+
+    random_bytes(digest, sizeof digest);
+    random_bytes(painted, sizeof painted);
+    memcpy(formatted, painted, sizeof formatted);
+    status = call_formatted_digest(number, bytes_of(digest, length), formatted, room);
+    check(status == expected, "a formatted digest: status %d, expected %d", status, expected);
+    if (status == VERITY_OK) {
+        memcpy(painted, "FSVerity", 8);
+        painted[8] = (uint8_t)number;
+        painted[10] = (uint8_t)right;
+        painted[9] = painted[11] = 0;
+        memcpy(painted + 12, digest, right);
+    }
+    check(memcmp(formatted, painted, room) == 0, "a formatted digest: other bytes");
+}
+
 /* Random blocks and root hashes, which are never accepted. */
 static void try_random_blocks(void)
 {
@@ -200,7 +338,7 @@ static void try_random_blocks(void)
     struct shape shape;
     size_t block_length, path_length, root_length, level, found = PAINT;
     uint64_t index;
-    uint32_t status, expected;
+    int status, expected;
 
     draw_tree(&tree);
     shape = shape_of(&tree);
@@ -219,7 +357,7 @@ static void try_random_blocks(void)
                                                                                  : VERITY_DIFFERS;
     status = call_check_block(&tree, index, bytes_of(block, block_length), bytes_of(path, path_length),
                               bytes_of(root, root_length), &found);
-    check(status == expected, "check block: status %" PRIu32 ", expected %" PRIu32, status, expected);
+    check(status == expected, "check block: status %d, expected %d", status, expected);
     check(found == (status == VERITY_DIFFERS ? 0 : PAINT), "check block: level %zu", found);
 
     level = (size_t)number_about(shape.levels);
@@ -232,7 +370,7 @@ static void try_random_blocks(void)
                            path_length != shape.hash_block_size                  ? VERITY_BAD_LENGTH
                                                                                  : VERITY_DIFFERS;
     status = call_check_link(&tree, index, level, bytes_of(block, block_length), bytes_of(path, path_length));
-    check(status == expected, "check link: status %" PRIu32 ", expected %" PRIu32, status, expected);
+    check(status == expected, "check link: status %d, expected %d", status, expected);
 
     block_length = length_about(shape.levels == 0 ? shape.data_block_size : shape.hash_block_size);
     expected = shape.status != VERITY_OK                                         ? shape.status
@@ -242,7 +380,7 @@ static void try_random_blocks(void)
                                                                                  ? VERITY_BAD_LENGTH
                                                                                  : VERITY_DIFFERS;
     status = call_check_top(&tree, index, bytes_of(block, block_length), bytes_of(root, root_length));
-    check(status == expected, "check top: status %" PRIu32 ", expected %" PRIu32, status, expected);
+    check(status == expected, "check top: status %d, expected %d", status, expected);
 }
 
 static void try_superblock(void)
@@ -252,7 +390,7 @@ static void try_superblock(void)
     uint8_t superblock[600];
     size_t length = SUPERBLOCK_SIZE + (once_in(4) ? random_below(sizeof superblock - SUPERBLOCK_SIZE) : 0), changes;
     uint64_t offset = once_in(4) ? random_number() : 0;
-    uint32_t status, expected;
+    int status, expected;
 
     random_bytes(superblock, sizeof superblock);
     if (!once_in(32)) {
@@ -272,7 +410,7 @@ static void try_superblock(void)
     found = said = before;
     expected = superblock_says(bytes_of(superblock, length), offset, &said);
     status = call_read_superblock(bytes_of(superblock, length), offset, &found);
-    check(status == expected, "superblock: status %" PRIu32 ", expected %" PRIu32, status, expected);
+    check(status == expected, "superblock: status %d, expected %d", status, expected);
     check(memcmp(&found, &said, sizeof found) == 0, "superblock: other parameters");
 }
 
@@ -281,7 +419,7 @@ static void try_file_digest(void)
     struct tree tree = {.is_file = true};
     uint8_t root[100], digest[100], before[100];
     size_t root_length, digest_length, right;
-    uint32_t status, expected;
+    int status, expected;
 
     draw_file(&tree.file);
     tree.file.size = once_in(4) ? tree.file.size : 1;
@@ -299,216 +437,108 @@ static void try_file_digest(void)
         expected = VERITY_BAD_ROOT_LENGTH;
     else if (expected == VERITY_OK && digest_length != right)
         expected = VERITY_BAD_LENGTH;
-    check(status == expected, "file digest: status %" PRIu32 ", expected %" PRIu32, status, expected);
+    check(status == expected, "file digest: status %d, expected %d", status, expected);
     check((memcmp(digest, before, digest_length) != 0) == (status == VERITY_OK), "file digest: filled");
     check(memcmp(digest + digest_length, before + digest_length, sizeof digest - digest_length) == 0,
           "file digest: more is filled");
 }
 
-/* A chain with one thing changed: what check_block, each link and the top answer. */
-struct changed {
-    const struct chain *chain;
-    struct tree tree;
-    struct shape shape;
-    uint64_t index;
-    uint8_t *bytes;
-    uint8_t root[VERITY_MAX_DIGEST_SIZE];
-    /* A bit for each level that has to differ, and one for the root hash. */
-    uint64_t differs;
-};
-
-static size_t start_in_chain(const struct shape *shape, size_t block)
+/* A bit of any byte, or of a digest in the own slot. */
+static void flip_any(struct chain *chain)
 {
-    return block == 0 ? 0 : shape->data_block_size + (block - 1) * shape->hash_block_size;
-}
+    const struct shape *shape = &chain->shape;
+    size_t block = random_below(shape->levels + 1), offset = random_below(block_of(chain, block).length);
 
-static void flip_in_chain(struct changed *changed)
-{
-    const struct shape *shape = &changed->shape;
-    size_t block = random_below(shape->levels + 1), slot;
-    size_t length = block == 0 ? shape->data_block_size : shape->hash_block_size, offset = random_below(length);
-
-    if (block > 0) {
-        slot = slot_number(shape, changed->index, block - 1) * shape->slot_width;
-        if (once_in(2))
-            offset = slot + random_below(shape->digest_size);
-        if (offset >= slot && offset < slot + shape->digest_size)
-            changed->differs |= (uint64_t)1 << (block - 1);
-    }
-    changed->differs |= (uint64_t)1 << block;
-    changed->bytes[start_in_chain(shape, block) + offset] ^= (uint8_t)(1 << random_below(8));
-}
-
-static void change_index(struct changed *changed)
-{
-    const struct shape *shape = &changed->shape;
-    uint64_t own = changed->index;
-    size_t level;
-
-    changed->index = once_in(2) ? random_below(shape->data_blocks) : (own + 1) % shape->data_blocks;
-    for (level = 0; level < shape->levels; level++)
-        if (slot_number(shape, changed->index, level) != slot_number(shape, own, level))
-            changed->differs |= (uint64_t)1 << level;
+    if (block > 0 && once_in(2))
+        offset = slot_number(shape, chain->index, block - 1) * shape->slot_width + random_below(shape->digest_size);
+    flip_in_chain(chain, block, offset);
 }
 
 /* A bit of the salt, in the bytes that count or behind them. */
-static void change_salt(struct changed *changed)
+static void change_salt(struct chain *chain)
 {
-    uint32_t size = changed->tree.is_file ? changed->tree.file.salt_size : changed->tree.device.salt_size;
-    uint8_t *salt = changed->tree.is_file ? changed->tree.file.salt : changed->tree.device.salt;
-    uint32_t offset = (uint32_t)random_below(changed->tree.is_file ? 32 : 256);
+    uint32_t size = chain->tree.is_file ? chain->tree.file.salt_size : chain->tree.device.salt_size;
+    uint8_t *salt = chain->tree.is_file ? chain->tree.file.salt : chain->tree.device.salt;
+    uint32_t offset = (uint32_t)random_below(chain->tree.is_file ? 32 : 256);
 
     salt[offset] ^= (uint8_t)(1 << random_below(8));
     if (offset < size)
-        changed->differs = ((uint64_t)2 << changed->shape.levels) - 1;
+        chain->differs = ((uint64_t)2 << chain->shape.levels) - 1;
 }
 
 /* What has no part in a check: the hash offset, the superblock, the UUID, and the number of data blocks or the size as
    long as there are as many levels. */
-static void change_what_has_no_part(struct changed *changed)
+static void change_what_has_no_part(struct chain *chain)
 {
-    struct verity_params *device = &changed->tree.device;
-    struct tree other = changed->tree;
+    struct verity_params *device = &chain->tree.device;
+    struct tree before = chain->tree, other;
     struct shape shape;
 
     random_bytes(device->uuid, sizeof device->uuid);
     device->no_superblock = once_in(2) ? 0 : 1;
     device->hash_offset = some_number() / 524288 / 4 * 524288;
-    other = changed->tree;
-    other.device.data_blocks = changed->index + 1 + some_number() / 4096;
+    other = chain->tree;
+    other.device.data_blocks = chain->index + 1 + some_number() / 4096;
     other.file.size = other.file.size / other.file.block_size * other.file.block_size + 1 +
                       random_below(other.file.block_size);
     shape = shape_of(&other);
-    if (shape.status == VERITY_OK && shape.levels == changed->shape.levels && shape.data_blocks > changed->index)
-        changed->tree = other;
-    if (shape_of(&changed->tree).status != VERITY_OK)
-        changed->tree = changed->chain->tree;
+    if (shape.status == VERITY_OK && shape.levels == chain->shape.levels && shape.data_blocks > chain->index)
+        chain->tree = other;
+    if (shape_of(&chain->tree).status != VERITY_OK)
+        chain->tree = before;
 }
 
 static void try_chain(void)
 {
-    const struct chain *chain = &chains[random_below(chain_count)];
-    struct changed changed = {.chain = chain, .tree = chain->tree, .index = chain->index};
-    size_t level, found = PAINT, lowest = 0;
-    struct bytes block, above, root;
-    uint32_t status, expected;
-    uint8_t digest[VERITY_MAX_DIGEST_SIZE];
+    const struct image *right = &chains[random_below(chain_count)];
+    struct chain chain = {.tree = right->tree, .shape = right->shape, .index = right->index,
+                          .bytes = memory_of(right->hashes_length), .root_length = right->shape.digest_size};
+    uint8_t digest[VERITY_MAX_DIGEST_SIZE] = {0};
 
-    changed.shape = shape_of(&chain->tree);
-    changed.bytes = malloc(chain->length);
-    if (changed.bytes == NULL)
-        give_up("no memory");
-    memcpy(changed.bytes, chain->bytes, chain->length);
-    memcpy(changed.root, chain->root, sizeof changed.root);
+    memcpy(chain.bytes, right->hashes, right->hashes_length);
+    memcpy(chain.root, right->root, sizeof right->root);
     switch (random_below(8)) {
     case 0:
         break;
     case 1:
-        changed.root[random_below(changed.shape.digest_size)] ^= (uint8_t)(1 << random_below(8));
-        changed.differs = (uint64_t)1 << changed.shape.levels;
+        chain.root[random_below(chain.root_length)] ^= (uint8_t)(1 << random_below(8));
+        chain.differs = (uint64_t)1 << chain.shape.levels;
         break;
     case 2:
-        change_index(&changed);
+        change_index(&chain, once_in(2) ? random_below(chain.shape.data_blocks)
+                                        : (chain.index + 1) % chain.shape.data_blocks);
         break;
     case 3:
-        change_salt(&changed);
+        change_salt(&chain);
         break;
     case 4:
-        change_what_has_no_part(&changed);
+        change_what_has_no_part(&chain);
         break;
     default:
-        flip_in_chain(&changed);
+        flip_any(&chain);
         break;
     }
-    root = bytes_of(changed.root, changed.shape.digest_size);
-    block = bytes_of(changed.bytes, changed.shape.data_block_size);
-    above = bytes_of(changed.bytes + block.length, chain->length - block.length);
-    status = call_check_block(&changed.tree, changed.index, block, above, root, &found);
-    expected = changed.differs ? VERITY_DIFFERS : VERITY_OK;
-    while (lowest < 63 && !(changed.differs >> lowest & 1))
-        lowest++;
-    check(status == expected, "chain: status %" PRIu32 ", expected %" PRIu32, status, expected);
-    check(found == (changed.differs ? lowest : PAINT), "chain: level %zu, expected %zu", found, lowest);
-    for (level = 0; level < changed.shape.levels; level++) {
-        above = bytes_of(changed.bytes + start_in_chain(&changed.shape, level + 1), changed.shape.hash_block_size);
-        expected = changed.differs >> level & 1 ? VERITY_DIFFERS : VERITY_OK;
-        /* Links far above cost much in the deepest trees. */
-        if (level <= lowest || once_in(8)) {
-            status = call_check_link(&changed.tree, changed.index, level, block, above);
-            check(status == expected, "chain, link to level %zu: status %" PRIu32 ", expected %" PRIu32, level, status,
-                  expected);
-        }
-        block = above;
-    }
-    expected = changed.differs >> level & 1 ? VERITY_DIFFERS : VERITY_OK;
-    status = call_check_top(&changed.tree, changed.index, block, root);
-    check(status == expected, "chain, top: status %" PRIu32 ", expected %" PRIu32, status, expected);
-    free(changed.bytes);
-
-    if (chain->tree.is_file) {
-        memset(digest, 0, sizeof digest);
-        check(call_file_digest(&chain->tree.file, bytes_of(chain->root, changed.shape.digest_size), digest,
-                               changed.shape.digest_size) == VERITY_OK &&
-                      memcmp(digest, chain->digest, sizeof digest) == 0, "the digest of a file");
-    }
-}
-
-/* Chains are read in the order in which chains.py writes them. */
-static bool read_words(FILE *file, void *words, size_t length)
-{
-    return fread(words, 1, length, file) == length;
-}
-
-static bool read_chain(FILE *file, struct chain *chain)
-{
-    struct verity_params *device = &chain->tree.device;
-    uint32_t words[7];
-    uint64_t numbers[4];
-
-    memset(chain, 0, sizeof *chain);
-    if (!read_words(file, words, sizeof words))
-        return false;
-    chain->tree.is_file = words[0];
-    device->hash_algorithm = words[1];
-    device->hash_type = words[2];
-    device->data_block_size = words[3];
-    device->hash_block_size = words[4];
-    device->no_superblock = words[5];
-    device->salt_size = words[6];
-    if (!read_words(file, numbers, sizeof numbers) || !read_words(file, device->salt, sizeof device->salt) ||
-        !read_words(file, chain->root, sizeof chain->root) || !read_words(file, chain->digest, sizeof chain->digest))
-        give_up("a chain ends early");
-    device->data_blocks = numbers[0];
-    device->hash_offset = numbers[1];
-    chain->index = numbers[2];
-    chain->levels = numbers[3];
-    chain->tree.file = (struct fsverity_params){.hash_algorithm = words[1], .block_size = words[3],
-                                                .size = numbers[0], .salt_size = words[6]};
-    memcpy(chain->tree.file.salt, device->salt, sizeof chain->tree.file.salt);
-    chain->length = words[3] + (size_t)numbers[3] * words[4];
-    chain->bytes = malloc(chain->length);
-    if (chain->bytes == NULL || !read_words(file, chain->bytes, chain->length))
-        give_up("a chain ends early");
-    return true;
+    judge_chain(&chain, 8, "a chain");
+    free(chain.bytes);
+    if (right->tree.is_file)
+        check(call_file_digest(&right->tree.file, bytes_of(right->root, right->shape.digest_size), digest,
+                               right->shape.digest_size) == VERITY_OK &&
+                      memcmp(digest, right->digest, sizeof digest) == 0, "the digest of a file");
 }
 
 static void read_chains(const char *name)
 {
-    FILE *file = fopen(name, "rb");
-    struct chain chain;
-    struct shape shape;
+    struct images images = open_images(name, NULL);
+    struct image chain;
 
-    if (file == NULL)
-        give_up("the chains can't be read");
-    while (read_chain(file, &chain)) {
+    while (next_image(&images, &chain)) {
         chains = realloc(chains, (chain_count + 1) * sizeof *chains);
         if (chains == NULL)
             give_up("no memory");
         chains[chain_count++] = chain;
-        shape = shape_of(&chain.tree);
-        check(shape.status == VERITY_OK && shape.levels == chain.levels, "the levels of a chain");
+        check(chain.shape.status == VERITY_OK && chain.hashes_length == chain.shape.data_block_size +
+                      chain.shape.levels * chain.shape.hash_block_size, "the levels of a chain");
     }
-    fclose(file);
     if (chain_count == 0)
         give_up("there is no chain");
 }
@@ -516,15 +546,27 @@ static void read_chains(const char *name)
 int main(int count, char **words)
 {
     uint64_t wanted;
-    uint32_t status;
+    int status;
 
     if (count != 4)
         give_up("usage: fuzz SEED CALLS CHAINS");
-    seed_random(strtoull(words[1], NULL, 10));
-    wanted = strtoull(words[2], NULL, 10);
+    seed_random(number_of(words[1]));
+    wanted = number_of(words[2]);
     read_chains(words[3]);
     while (calls_made < wanted) {
-        switch (random_below(8)) {
+        switch (random_below(12)) {
+        case 8:
+            try_end();
+            break;
+        case 9:
+            try_same_params();
+            break;
+        case 10:
+            try_texts();
+            break;
+        case 11:
+            try_formatted();
+            break;
         case 0:
         case 1:
             try_superblock();
@@ -545,8 +587,8 @@ int main(int count, char **words)
             break;
         }
     }
-    for (status = VERITY_OK; status <= VERITY_BAD_VERSION; status++)
-        check(status_seen[status], "status %" PRIu32 " wasn't answered", status);
+    for (status = VERITY_OK; status >= VERITY_BAD_VERSION; status--)
+        check(status_seen[-status], "status %d wasn't answered", status);
     printf("%" PRIu64 " calls, %zu chains\n", calls_made, chain_count);
     return finish();
 }

@@ -10,7 +10,7 @@ needs gcc gcc
 needs python3 python3
 has_library "$LIB/libverity.a"
 
-if compiles "$scratch/fuzz" gcc -O2 tests/library/fuzz.c tests/library/support.c "$LIB/libverity.a"; then
+if compiles "$scratch/fuzz" gcc -O2 tests/library/{fuzz,chains,images,support}.c "$LIB/libverity.a"; then
     tries_random "$scratch/fuzz" "${CALLS:-2000000}"
 fi
 finish

@@ -1,7 +1,8 @@
 #!/bin/bash
-# The header in C99, C11 and C++, in two files of one program; the structs as the compiled library reads and fills them;
-# and the names of the library: the header's functions alone are shown, and nothing is needed but memcpy, memmove and
-# memset. LIB=FOLDER takes the library of another folder.
+# The header in C99, C11 and C++, in two files of one program; calls whose status is dropped, of which a compiler warns;
+# the structs as the compiled library reads and fills them; and the names of the library: the header's functions alone
+# are shown, in the shared library with their version, and nothing is needed but memcpy, memmove and memset. LIB=FOLDER
+# takes the library of another folder.
 set -u
 cd "$(dirname "$0")/../.."
 . tests/lib/checks.sh
@@ -10,11 +11,12 @@ needs gcc gcc
 needs nm binutils
 needs readelf binutils
 has_library "$LIB/libverity.a"
-has_library "$LIB/libverity.so.1"
+takes_shared
 strict=(-Wall -Wextra -Wpedantic -Werror -Iinclude)
 
-# The functions that the header names, without its comments.
+# The functions that the header names, without its comments; and those of them that answer a status.
 functions=$(sed 's|/\*.*\*/||; /\/\*/,/\*\//d' include/verity.h | grep -oE '\b(fs)?verity_[a-z_]+\(' | tr -d '(' | sort)
+with_status=$(grep -vx verity_version <<<"$functions")
 
 # in_language NAME COMPILER WORD..: two files that include the header, twice, make one program with each library.
 in_language() {
@@ -33,10 +35,10 @@ in_language() {
             '    params.data_block_size = params.hash_block_size = 512;' '    params.data_blocks = 17;' \
             '    return levels_of(&params) == 2 && all[0] != 0 ? 0 : 1;' '}'
     } >"$scratch/two.$suffix"
-    for library in libverity.a libverity.so.1; do
-        runs "$name, $library" 0 '' '' "$@" "${strict[@]}" -Wno-cast-function-type "$scratch/one.$suffix" \
-            "$scratch/two.$suffix" "$LIB/$library" -Wl,-rpath,"$(realpath "$LIB")" -o "$scratch/two"
-        runs "$name, $library: the program" 0 '' '' "$scratch/two"
+    for library in "$LIB/libverity.a" "${shared[0]}"; do
+        runs "$name, ${library##*/}" 0 '' '' "$@" "${strict[@]}" -Wno-cast-function-type "$scratch/one.$suffix" \
+            "$scratch/two.$suffix" "$library" "${shared[1]}" -o "$scratch/two"
+        runs "$name, ${library##*/}: the program" 0 '' '' "$scratch/two"
     done
 }
 
@@ -47,6 +49,42 @@ if command -v g++ >/dev/null; then
 else
     echo 'left out: the header in C++: g++ is not installed'
 fi
+
+# dropped KIND FILE: the functions whose dropped status has a warning, or an error, in what a compiler said.
+dropped() {
+    sed -nE "/-W(error=)?unused-result/s/.* $1: ignoring return value of '(int )?((fs)?verity_[a-z_]+)\b.*/\2/p" "$2" |
+        sort
+}
+
+# drops NAME COMPILER WORD..: calls each of the header's functions and drops its status. The compiler warns of each, and
+# of no call whose status is looked at. Where the warning is an error, each call is one. A compiler that doesn't say
+# that it is gcc, or like it, isn't asked to warn; -ffreestanding takes stdint.h from gcc, since the system's would then
+# take all attributes away.
+drops() {
+    local name=$1 suffix=c function arguments names
+    shift
+    case $1 in *++) suffix=cc ;; esac
+    echo '#include "verity.h"' | tee "$scratch/used.$suffix" >"$scratch/dropped.$suffix"
+    while IFS='(' read -r function arguments; do
+        names=$(sed -E 's/[^,]*[ *]([a-z_]+)(,|$)/\1\2 /g' <<<"$arguments")
+        printf '%s\n' "int call_$function($arguments);" "int call_$function($arguments)" '{' \
+            "    return $function($names);" '}' >"$scratch/call"
+        cat "$scratch/call" >>"$scratch/used.$suffix"
+        sed 's/^    return /    /; s/^int /void /' "$scratch/call" >>"$scratch/dropped.$suffix"
+    done < <(sed 's|/\*.*\*/||; /\/\*/,/\*\//d' include/verity.h | tr -s ' \n' '  ' |
+        grep -oE '\bint (fs)?verity_[a-z_]+\([^)]*\)' | sed 's/^int //' | tr -d ')')
+    set -- "$@" -Iinclude -c -o "$scratch/call.o"
+    runs "$name: statuses that are used" 0 '' '' "$@" "${strict[@]}" "$scratch/used.$suffix"
+    runs "$name: statuses that are dropped" 0 '' any "$@" -Wall "$scratch/dropped.$suffix"
+    same "$name: warnings of those that are dropped" "$with_status" "$(dropped warning "$scratch/.err")"
+    runs "$name: dropped, which is an error" 1 '' any "$@" -Werror=unused-result "$scratch/dropped.$suffix"
+    same "$name: errors of those that are dropped" "$with_status" "$(dropped error "$scratch/.err")"
+    runs "$name: dropped, by another compiler" 0 '' '' "$@" -U__GNUC__ -ffreestanding -Wall -Werror \
+        "$scratch/dropped.$suffix"
+}
+
+drops C99 gcc -std=c99
+if command -v g++ >/dev/null; then drops C++17 g++ -std=c++17; fi
 
 # The places of the fields, and what the library fills there by a superblock in which each field differs.
 cat >"$scratch/layout.c" <<'EOC'
@@ -111,13 +149,13 @@ int main(void)
     if (fread(superblock, 1, 512, stdin) != 512)
         return 2;
     memset(filled, 0xa5, sizeof filled);
-    printf("%u\n", verity_read_superblock(superblock, 512, 0x1122334455667788, &filled[1].params));
+    printf("%d\n", verity_read_superblock(superblock, 512, 0x1122334455667788, &filled[1].params));
     for (i = 0; i < 3; i++)
         show(i == 1 ? "read" : "beside", filled[i].bytes, sizeof filled[i]);
     /* Algorithm 2, blocks of 2048 bytes, size 0x0807060504030201, 3 bytes of salt. */
     memset(file.bytes, 0xa5, sizeof file);
     memcpy(file.bytes, "\2\0\0\0\0\10\0\0\1\2\3\4\5\6\7\10\3\0\0\0abc", 23);
-    printf("%u\n", fsverity_file_digest(&file.params, root, 64, digest, 64));
+    printf("%d\n", fsverity_file_digest(&file.params, root, 64, digest, 64));
     show("digest", digest, 64);
     return 0;
 }
@@ -140,14 +178,16 @@ beside $paint
 digest $(sha512 "$scratch/descriptor")" "$(cat "$scratch/layout.txt")"
 fi
 
-same 'functions of the header' 24 "$(wc -l <<<"$functions")"
-same 'functions that the shared library shows' "$functions" \
-    "$(nm -D --defined-only "$LIB/libverity.so.1" | awk '{ print $3 }' | sort)"
+same 'functions of the header' 38 "$(wc -l <<<"$functions")"
+same 'functions that refused.c calls' "$with_status" \
+    "$(sed -nE 's/^    \{"((fs)?verity_[a-z_]+)", .*/\1/p' tests/library/refused.c | sort)"
+same 'functions that the shared library shows' "$(sed 's/$/@@VERITY_2.0/' <<<"$functions" | sort)" \
+    "$(nm -D --defined-only "$LIB/libverity.so.2" | awk '$3 != "VERITY_2.0" { print $3 }' | sort)"
 same 'functions that the static library shows' "$functions" \
     "$(nm -g --defined-only "$LIB/libverity.a" | awk 'NF == 3 { print $3 }' | sort)"
-same 'the soname' libverity.so.1 "$(readelf -d "$LIB/libverity.so.1" | sed -n 's/.*soname: \[\(.*\)\]/\1/p')"
+same 'the soname' libverity.so.2 "$(readelf -d "$LIB/libverity.so.2" | sed -n 's/.*soname: \[\(.*\)\]/\1/p')"
 same 'what the static library needs' 'memcpy memmove memset' \
     "$(nm -u "$LIB/libverity.a" | awk '$1 == "U" { print $2 }' | sort -u | tr '\n' ' ' | sed 's/ $//')"
 same 'what the shared library needs' 'memcpy memmove memset' \
-    "$(nm -D -u "$LIB/libverity.so.1" | awk '{ sub("@.*", "", $2); print $2 }' | sort -u | tr '\n' ' ' | sed 's/ $//')"
+    "$(nm -D -u "$LIB/libverity.so.2" | awk '{ sub("@.*", "", $2); print $2 }' | sort -u | tr '\n' ' ' | sed 's/ $//')"
 finish

@@ -1,204 +1,363 @@
 /*
- * Runs the library over parameters and superblocks that are refused: each with its status, and the faults in their
- * order. What doesn't hold is printed in lines that begin with FAILED; the last line is 'N passed, M failed'.
+ * Calls every function of the library with each fault that verity.h says of it. Alone it has its status, and so it has
+ * with all faults that come after it there: so the order of the faults is the header's. Numbers at the limits of what
+ * is taken are refused by each function that looks at them, or accepted. Then the bytes of superblocks. Each status but
+ * VERITY_OK is below 0, and so a caller that asks for no more than that sees each fault. What doesn't hold is printed
+ * in lines that begin with FAILED; the last line is 'N passed, M failed'.
  */
 #include <inttypes.h>
 #include <stdio.h>
 #include <stdlib.h>
 #include <string.h>
 
+#include "feeding_calls.h"
 #include "support.h"
 
-static const uint8_t some[2 * 4096];
+/* 300 data blocks of 512 bytes, three levels of 16 digests each; and the same bytes as a file. */
+enum { BLOCK_SIZE = 512, DATA_BLOCKS = 300, LEVELS = 3, INDEX = 299, DEVICE = 0, FILES = 1, TREES = 2, BUILDINGS = 3 };
 
-/* Each function but that of file digests answers a fault of the parameters, whatever else is wrong. */
-static void each_refuses(const struct tree *tree, uint32_t expected, const char *what)
+/* What calls are handed, right, and with faults. In each building all was fed; TREES has a file's blocks handed out. */
+struct arguments {
+    struct building buildings[BUILDINGS];
+    uint64_t index;
+    size_t level;
+    uint8_t block[BLOCK_SIZE], path[LEVELS * BLOCK_SIZE], root[64], superblock[SUPERBLOCK_SIZE];
+    size_t block_length, path_length, above_length, top_length, root_length, superblock_length, room, piece_length,
+        digest_length, descriptor_length, formatted_length, last_length, text_room, name_length;
+};
+
+static struct arguments right, now;
+static uint8_t data[DATA_BLOCKS * BLOCK_SIZE], memories[BUILDINGS][1 << 16], kept[BUILDINGS][1 << 16];
+
+/* The functions, each of either kind of tree, and what they fill. */
+static uint8_t root[64], digest[64], out[SUPERBLOCK_SIZE + 1];
+static struct verity_params found;
+static uint64_t start, blocks;
+static size_t number;
+static struct verity_fed fed;
+static char text[VERITY_MAX_TEXT_SIZE];
+static uint32_t function;
+
+#define CALL(name, ...) \
+    static int name(struct building *building) \
+    { \
+        const struct tree *tree = &building->tree; \
+ \
+        (void)tree; \
+        return __VA_ARGS__; \
+    }
+
+CALL(read_superblock, call_read_superblock(bytes_of(now.superblock, now.superblock_length), 0, &found))
+CALL(level_count, call_level_count(tree, &number))
+CALL(level_start, call_level_start(tree, now.level, &start, &blocks))
+CALL(hash_block_start, call_hash_block_start(tree, now.index, now.level, &start))
+CALL(check_block, call_check_block(tree, now.index, bytes_of(now.block, now.block_length),
+                                   bytes_of(now.path, now.path_length), bytes_of(now.root, now.root_length), &number))
+CALL(check_link, call_check_link(tree, now.index, now.level, bytes_of(now.block, now.block_length),
+                                 bytes_of(now.path, now.above_length)))
+CALL(check_top, call_check_top(tree, now.index, bytes_of(now.path + 2 * BLOCK_SIZE, now.top_length),
+                               bytes_of(now.root, now.root_length)))
+CALL(file_digest, call_file_digest(&tree->file, bytes_of(now.root, now.root_length), digest, now.digest_length))
+CALL(build_memory, call_build_memory(tree, &number))
+CALL(build_begin, call_build_begin(building))
+CALL(build_feed, call_build_feed(building, bytes_of(data, now.piece_length), &fed))
+CALL(build_last_block, call_build_last_block(building, &fed))
+CALL(build_end, call_build_end(building, root, now.root_length, digest, now.digest_length))
+CALL(write_superblock_out, call_write_superblock(&tree->device, out, now.room))
+CALL(tree_build_begin, call_tree_build_begin(building))
+CALL(tree_build_feed, call_tree_build_feed(building, bytes_of(data, now.piece_length + 1), &fed))
+CALL(tree_build_end_block, call_tree_build_end_block(building, now.level, out, now.last_length, &start))
+CALL(tree_build_end, call_tree_build_end(building, root, now.root_length, digest, now.digest_length))
+CALL(same_params, call_same_params(&tree->device, &right.buildings[DEVICE].tree.device))
+CALL(area_end, call_area_end(tree, &start))
+CALL(formatted_digest, call_formatted_digest(tree->file.hash_algorithm, bytes_of(now.root, now.digest_length), out,
+                                             now.formatted_length))
+CALL(digest_length_of, call_digest_length(tree->device.hash_algorithm, &number))
+CALL(algorithm_name, call_text(NAME, (int)tree->device.hash_algorithm, text, now.text_room, &number))
+CALL(algorithm_by_name, call_algorithm_by_name(bytes_of((const uint8_t *)"sha224", now.name_length), &function))
+CALL(status_text, call_text(STATUS, VERITY_DIFFERS, text, now.text_room, &number))
+CALL(descriptor, call_descriptor(&tree->file, bytes_of(now.root, now.root_length), out, now.descriptor_length))
+
+/* The memories have no bytes, or so many more than are right. */
+static void changes_memories(int more)
 {
-    size_t levels = PAINT, level = PAINT;
-    uint64_t start = PAINT, blocks = PAINT, above = PAINT;
-    struct bytes none = bytes_of(some, 0);
-    uint32_t found[] = {call_level_count(tree, &levels),
-                        call_level_start(tree, SIZE_MAX, &start, &blocks),
-                        call_hash_block_start(tree, UINT64_MAX, SIZE_MAX, &above),
-                        call_check_block(tree, UINT64_MAX, none, none, none, &level),
-                        call_check_link(tree, UINT64_MAX, SIZE_MAX, none, none),
-                        call_check_top(tree, UINT64_MAX, none, none)};
     size_t i;
 
-    for (i = 0; i < sizeof found / sizeof *found; i++)
-        check(found[i] == expected, "%s: status %" PRIu32 " of function %zu, expected %" PRIu32, what, found[i], i,
-              expected);
-    check(levels == PAINT && level == PAINT && start == PAINT && blocks == PAINT && above == PAINT,
-          "%s: something is filled", what);
+    for (i = 0; i < BUILDINGS; i++)
+        now.buildings[i].memory_length = more == 0 ? 0 : right.buildings[i].memory_length + (size_t)more;
 }
 
-/* Right parameters of 300 data blocks of 512 bytes: three levels of 16 digests of SHA-256 each. */
+/* Faults, each with its status. They are made anew over one another. */
+struct fault {
+    const char *name;
+    int status;
+    void (*make)(void);
+};
+
+#define FAULT(name, status, ...) \
+    static void makes_##name(void) \
+    { \
+        struct verity_params *device = &now.buildings[DEVICE].tree.device; \
+        struct fsverity_params *file = &now.buildings[FILES].tree.file; \
+        struct fsverity_params *tree_file = &now.buildings[TREES].tree.file; \
+        struct verity_build *build = &now.buildings[DEVICE].build, *tree_build = &now.buildings[TREES].build; \
+ \
+        (void)device, (void)file, (void)tree_file, (void)build, (void)tree_build; \
+        __VA_ARGS__; \
+    } \
+    static const struct fault name = {#name, status, makes_##name};
+
+FAULT(algorithm, VERITY_BAD_HASH_ALGORITHM,
+      device->hash_algorithm = file->hash_algorithm = tree_file->hash_algorithm = 6)
+FAULT(type, VERITY_BAD_HASH_TYPE, device->hash_type = 2)
+FAULT(data_size, VERITY_BAD_DATA_BLOCK_SIZE, device->data_block_size = file->block_size = tree_file->block_size = 513)
+FAULT(hash_size, VERITY_BAD_HASH_BLOCK_SIZE, device->hash_block_size = 256)
+FAULT(salt, VERITY_BAD_SALT_SIZE, device->salt_size = file->salt_size = tree_file->salt_size = 257)
+FAULT(offset, VERITY_BAD_HASH_OFFSET, device->hash_offset = 1)
+FAULT(no_data, VERITY_NO_DATA, device->data_blocks = file->size = 0)
+FAULT(too_large, VERITY_TOO_LARGE, device->data_blocks = file->size = UINT64_MAX)
+FAULT(no_block, VERITY_NO_SUCH_BLOCK, now.index = DATA_BLOCKS)
+FAULT(no_level, VERITY_NO_SUCH_LEVEL, now.level = LEVELS)
+FAULT(changed_block, VERITY_DIFFERS, now.block[511] = right.block[511] ^ 1)
+FAULT(changed_path, VERITY_DIFFERS, now.path[LEVELS * BLOCK_SIZE - 1] = right.path[LEVELS * BLOCK_SIZE - 1] ^ 1)
+FAULT(changed_above, VERITY_DIFFERS, now.path[INDEX % 16 * 32] = right.path[INDEX % 16 * 32] ^ 1)
+FAULT(changed_root, VERITY_DIFFERS, now.root[31] = right.root[31] ^ 1)
+FAULT(short_block, VERITY_BAD_LENGTH, now.block_length = BLOCK_SIZE - 1)
+FAULT(short_path, VERITY_BAD_LENGTH, now.path_length = LEVELS * BLOCK_SIZE - 1)
+FAULT(short_above, VERITY_BAD_LENGTH, now.above_length = BLOCK_SIZE - 1)
+FAULT(short_top, VERITY_BAD_LENGTH, now.top_length = BLOCK_SIZE - 1)
+FAULT(short_root, VERITY_BAD_ROOT_LENGTH, now.root_length = 31)
+FAULT(long_root, VERITY_BAD_ROOT_LENGTH, now.root_length = 33)
+FAULT(no_root, VERITY_BAD_ROOT_LENGTH, now.root_length = 0)
+FAULT(longest_root, VERITY_BAD_ROOT_LENGTH, now.root_length = 64)
+FAULT(short_digest, VERITY_BAD_LENGTH, now.digest_length = 31)
+FAULT(long_digest, VERITY_BAD_LENGTH, now.digest_length = 33)
+FAULT(no_digest, VERITY_BAD_LENGTH, now.digest_length = 0)
+FAULT(longest_digest, VERITY_BAD_LENGTH, now.digest_length = 64)
+FAULT(short_descriptor, VERITY_BAD_LENGTH, now.descriptor_length = DESCRIPTOR_SIZE - 1)
+FAULT(long_descriptor, VERITY_BAD_LENGTH, now.descriptor_length = DESCRIPTOR_SIZE + 1)
+FAULT(no_memory, VERITY_BAD_LENGTH, changes_memories(0))
+FAULT(short_memory, VERITY_BAD_LENGTH, changes_memories(-1))
+FAULT(long_memory, VERITY_BAD_LENGTH, changes_memories(1))
+FAULT(no_room, VERITY_BAD_LENGTH, now.room = 0)
+FAULT(short_room, VERITY_BAD_LENGTH, now.room = SUPERBLOCK_SIZE - 1)
+FAULT(long_room, VERITY_BAD_LENGTH, now.room = SUPERBLOCK_SIZE + 1)
+FAULT(short_superblock, VERITY_SHORT_SUPERBLOCK, now.superblock_length = SUPERBLOCK_SIZE - 1)
+FAULT(signature, VERITY_BAD_SIGNATURE, now.superblock[SIGNATURE_AT] = 'V')
+FAULT(version, VERITY_BAD_VERSION, now.superblock[VERSION_AT] = 2)
+FAULT(closed, VERITY_NO_SUCH_LEVEL, build->closed = LEVELS + 1)
+FAULT(fed_too_much, VERITY_TOO_LONG, build->fed = sizeof data + 1)
+FAULT(long_piece, VERITY_TOO_LONG, now.piece_length = 1)
+FAULT(too_short, VERITY_TOO_SHORT, build->fed = sizeof data - 1)
+FAULT(waiting, VERITY_WAITING, build->closed = LEVELS - 1)
+FAULT(fed_too_large, VERITY_TOO_LARGE, file->size = UINT64_MAX)
+FAULT(tree_closed, VERITY_NO_SUCH_LEVEL, tree_build->closed = 70)
+FAULT(tree_waiting, VERITY_WAITING, tree_build->closed = 1)
+FAULT(tree_too_large, VERITY_TOO_LARGE, tree_build->fed = UINT64_MAX - 1)
+FAULT(short_last, VERITY_BAD_LENGTH, now.last_length = BLOCK_SIZE - 1)
+FAULT(long_last, VERITY_BAD_LENGTH, now.last_length = BLOCK_SIZE + 1)
+FAULT(other_blocks, VERITY_DIFFERS, device->data_blocks = DATA_BLOCKS - 1)
+FAULT(other_salt, VERITY_DIFFERS, device->salt_size = 1)
+FAULT(short_formatted, VERITY_BAD_LENGTH, now.formatted_length = 43)
+FAULT(long_formatted, VERITY_BAD_LENGTH, now.formatted_length = 45)
+FAULT(short_text, VERITY_BAD_LENGTH, now.text_room = 6)
+FAULT(short_name, VERITY_BAD_HASH_ALGORITHM, now.name_length = 5)
+
+#define PARAMS_OF_DEVICE &algorithm, &type, &data_size, &hash_size, &salt, &offset, &no_data, &too_large
+#define PARAMS_OF_BUILD &algorithm, &data_size, &salt
+#define PARAMS_OF_FILE PARAMS_OF_BUILD, &no_data, &too_large
+#define ROOT_FAULTS &short_root, &long_root, &no_root, &longest_root
+#define DIGEST_FAULTS &short_digest, &long_digest, &no_digest, &longest_digest
+#define MEMORY_FAULTS &no_memory, &short_memory, &long_memory
+#define BLOCK_FAULTS ROOT_FAULTS, &no_block, &short_block, &short_path, &changed_block, &changed_path, &changed_root
+#define LINK_FAULTS &no_block, &no_level, &short_block, &short_above, &changed_block, &changed_above
+#define TOP_FAULTS ROOT_FAULTS, &no_block, &short_top, &changed_path, &changed_root
+
+/* The functions with their faults, in the order of the header. */
+static const struct row {
+    const char *name;
+    int (*call)(struct building *building);
+    int kind;
+    const struct fault *faults[24];
+} rows[] = {
+    {"verity_read_superblock", read_superblock, DEVICE,
+     {&short_superblock, &signature, &version, &type, &data_size, &hash_size, &algorithm, &salt, &no_data, &too_large}},
+    {"verity_level_count", level_count, DEVICE, {PARAMS_OF_DEVICE}},
+    {"verity_level_start", level_start, DEVICE, {PARAMS_OF_DEVICE, &no_level}},
+    {"verity_hash_block_start", hash_block_start, DEVICE, {PARAMS_OF_DEVICE, &no_block, &no_level}},
+    {"verity_check_block", check_block, DEVICE, {PARAMS_OF_DEVICE, BLOCK_FAULTS}},
+    {"verity_check_link", check_link, DEVICE, {PARAMS_OF_DEVICE, LINK_FAULTS}},
+    {"verity_check_top", check_top, DEVICE, {PARAMS_OF_DEVICE, TOP_FAULTS}},
+    {"fsverity_level_count", level_count, FILES, {PARAMS_OF_FILE}},
+    {"fsverity_level_start", level_start, FILES, {PARAMS_OF_FILE, &no_level}},
+    {"fsverity_hash_block_start", hash_block_start, FILES, {PARAMS_OF_FILE, &no_block, &no_level}},
+    {"fsverity_check_block", check_block, FILES, {PARAMS_OF_FILE, BLOCK_FAULTS}},
+    {"fsverity_check_link", check_link, FILES, {PARAMS_OF_FILE, LINK_FAULTS}},
+    {"fsverity_check_top", check_top, FILES, {PARAMS_OF_FILE, TOP_FAULTS}},
+    {"fsverity_file_digest", file_digest, FILES, {PARAMS_OF_BUILD, ROOT_FAULTS, DIGEST_FAULTS}},
+    {"verity_build_memory", build_memory, DEVICE, {PARAMS_OF_DEVICE}},
+    {"verity_build_begin", build_begin, DEVICE, {PARAMS_OF_DEVICE, MEMORY_FAULTS}},
+    {"verity_build_feed", build_feed, DEVICE, {PARAMS_OF_DEVICE, MEMORY_FAULTS, &closed, &fed_too_much, &long_piece}},
+    {"verity_build_last_block", build_last_block, DEVICE, {PARAMS_OF_DEVICE, &closed, &fed_too_much}},
+    {"verity_build_end", build_end, DEVICE,
+     {PARAMS_OF_DEVICE, MEMORY_FAULTS, ROOT_FAULTS, &closed, &fed_too_much, &too_short, &waiting}},
+    {"verity_write_superblock", write_superblock_out, DEVICE, {PARAMS_OF_DEVICE, &no_room, &short_room, &long_room}},
+    {"fsverity_build_memory", build_memory, FILES, {PARAMS_OF_BUILD}},
+    {"fsverity_build_begin", build_begin, FILES, {PARAMS_OF_BUILD, MEMORY_FAULTS}},
+    {"fsverity_build_feed", build_feed, FILES, {PARAMS_OF_BUILD, MEMORY_FAULTS, &fed_too_large}},
+    {"fsverity_build_end", build_end, FILES,
+     {PARAMS_OF_BUILD, MEMORY_FAULTS, ROOT_FAULTS, DIGEST_FAULTS, &fed_too_large}},
+    {"fsverity_tree_build_begin", tree_build_begin, TREES, {PARAMS_OF_BUILD, MEMORY_FAULTS}},
+    {"fsverity_tree_build_feed", tree_build_feed, TREES,
+     {PARAMS_OF_BUILD, MEMORY_FAULTS, &tree_too_large, &tree_closed}},
+    {"fsverity_tree_build_end_block", tree_build_end_block, TREES,
+     {PARAMS_OF_BUILD, MEMORY_FAULTS, &short_last, &long_last, &tree_waiting, &tree_too_large, &no_level}},
+    {"fsverity_tree_build_end", tree_build_end, TREES,
+     {PARAMS_OF_BUILD, MEMORY_FAULTS, ROOT_FAULTS, DIGEST_FAULTS, &tree_waiting, &tree_too_large}},
+    {"fsverity_descriptor", descriptor, FILES, {PARAMS_OF_BUILD, ROOT_FAULTS, &short_descriptor, &long_descriptor}},
+    {"verity_same_params", same_params, DEVICE, {PARAMS_OF_DEVICE, &other_blocks, &other_salt}},
+    {"verity_hash_area_end", area_end, DEVICE, {PARAMS_OF_DEVICE}},
+    {"fsverity_tree_size", area_end, FILES, {PARAMS_OF_FILE}},
+    {"fsverity_formatted_digest", formatted_digest, FILES,
+     {&algorithm, DIGEST_FAULTS, &short_formatted, &long_formatted}},
+    {"verity_digest_length", digest_length_of, DEVICE, {&algorithm}},
+    {"verity_algorithm_name", algorithm_name, DEVICE, {&algorithm, &short_text}},
+    {"verity_algorithm_by_name", algorithm_by_name, TREES, {&short_name}},
+    {"verity_status_text", status_text, DEVICE, {&short_text}},
+};
+
+enum { FUNCTIONS = sizeof rows / sizeof *rows };
+
+/* Calls a function with some of its faults, from one of this number to before another: its status. */
+static int calls(const struct row *row, size_t first, size_t end)
+{
+    size_t i, round;
+
+    now = right;
+    /* The superblock is that of the parameters; what else is wrong in it is so after that. */
+    for (round = 0; round < 2; round++) {
+        for (i = end; i > first; i--)
+            row->faults[i - 1]->make();
+        if (round == 0)
+            write_superblock(now.superblock, &now.buildings[DEVICE].tree.device,
+                             now.buildings[DEVICE].tree.device.hash_algorithm == 6 ? "sha" : "sha256");
+    }
+    memcpy(memories, kept, sizeof memories);
+    return row->call(&now.buildings[row->kind]);
+}
+
+static void refuses_each_fault(const struct row *row)
+{
+    size_t count = 0, i;
+    int status = calls(row, 0, 0), expected;
+
+    check(status == VERITY_OK, "%s, right: status %d", row->name, status);
+    while (row->faults[count] != NULL)
+        count++;
+    check(count > 0, "%s has no fault", row->name);
+    for (i = 0; i < count; i++) {
+        expected = row->faults[i]->status;
+        status = calls(row, i, i + 1);
+        check(status == expected && status < 0, "%s, %s: status %d", row->name, row->faults[i]->name, status);
+        status = calls(row, i, count);
+        check(status == expected && status < 0, "%s, %s and all after it: status %d", row->name, row->faults[i]->name,
+              status);
+    }
+}
+
 static struct tree right_tree(bool is_file)
 {
     struct tree tree = {.is_file = is_file,
                         .device = {.hash_algorithm = VERITY_SHA256, .hash_type = 1, .data_block_size = 512,
-                                   .hash_block_size = 512, .data_blocks = 300, .salt_size = 1},
-                        .file = {.hash_algorithm = VERITY_SHA256, .block_size = 512, .size = 299 * 512 + 1,
-                                 .salt_size = 1}};
+                                   .hash_block_size = 512, .data_blocks = 300},
+                        .file = {.hash_algorithm = VERITY_SHA256, .block_size = 512, .size = 300 * 512}};
 
     return tree;
 }
 
-/* Everything is wrong, and one thing after another is mended. What is wrong in a call comes after the parameters. */
-static void faults_in_order(bool is_file)
+/* Builds the tree, whose hash blocks stand behind one another: the top one, 2 of level 1 and 19 of level 0. */
+static void build_right(void)
 {
-    struct tree tree = {.is_file = is_file,
-                        .device = {.hash_algorithm = 6, .hash_type = 2, .data_block_size = 513, .hash_block_size = 256,
-                                   .hash_offset = 1, .salt_size = 257},
-                        .file = {.hash_algorithm = VERITY_SHA1, .block_size = 32, .salt_size = 33}};
-    size_t level = PAINT, levels = PAINT;
-    uint64_t start = PAINT, blocks = PAINT;
-    struct bytes block = bytes_of(some, 512), path = bytes_of(some, 3 * 512), root = bytes_of(some, 32);
-    struct bytes shorter = bytes_of(some, 511), none = bytes_of(some, 0), short_root = bytes_of(some, 31);
+    static uint8_t hashes[22 * BLOCK_SIZE];
+    struct building *device = &right.buildings[DEVICE], *file = &right.buildings[FILES];
+    struct building *tree = &right.buildings[TREES];
+    size_t taken = 0;
 
-    each_refuses(&tree, VERITY_BAD_HASH_ALGORITHM, "all is wrong");
-    tree.device.hash_algorithm = tree.file.hash_algorithm = VERITY_SHA256;
-    if (!is_file) {
-        each_refuses(&tree, VERITY_BAD_HASH_TYPE, "all but the algorithm");
-        tree.device.hash_type = 1;
-    }
-    each_refuses(&tree, VERITY_BAD_DATA_BLOCK_SIZE, "from the data block size on");
-    tree.device.data_block_size = tree.file.block_size = 512;
-    if (!is_file) {
-        each_refuses(&tree, VERITY_BAD_HASH_BLOCK_SIZE, "from the hash block size on");
-        tree.device.hash_block_size = 512;
-    }
-    each_refuses(&tree, VERITY_BAD_SALT_SIZE, "from the salt size on");
-    tree.device.salt_size = tree.file.salt_size = 1;
-    if (!is_file) {
-        each_refuses(&tree, VERITY_BAD_HASH_OFFSET, "from the hash offset on");
-        tree.device.hash_offset = 0;
-    }
-    each_refuses(&tree, VERITY_NO_DATA, "from the data on");
-    tree.device.data_blocks = tree.file.size = UINT64_MAX;
-    each_refuses(&tree, VERITY_TOO_LARGE, "too large");
-    tree = right_tree(is_file);
-
-    check(call_level_count(&tree, &levels) == VERITY_OK && levels == 3, "three levels");
-    check(call_level_start(&tree, 3, &start, &blocks) == VERITY_NO_SUCH_LEVEL, "level 3");
-    check(call_hash_block_start(&tree, 300, 3, &start) == VERITY_NO_SUCH_BLOCK, "block 300 before level 3");
-    check(call_hash_block_start(&tree, 299, 3, &start) == VERITY_NO_SUCH_LEVEL, "level 3 above block 299");
-    check(call_hash_block_start(&tree, 299, 2, &start) == VERITY_OK, "level 2 above block 299");
-
-    check(call_check_block(&tree, 300, shorter, none, short_root, &level) == VERITY_BAD_ROOT_LENGTH, "root, first");
-    check(call_check_block(&tree, 300, shorter, none, root, &level) == VERITY_NO_SUCH_BLOCK, "index, second");
-    check(call_check_block(&tree, 299, shorter, path, root, &level) == VERITY_BAD_LENGTH, "block, third");
-    check(call_check_block(&tree, 299, block, none, root, &level) == VERITY_BAD_LENGTH, "path, third");
-    check(level == PAINT, "a level that isn't filled");
-    check(call_check_block(&tree, 299, block, path, root, &level) == VERITY_DIFFERS && level == 0, "differs, last");
-
-    check(call_check_link(&tree, 300, 3, shorter, none) == VERITY_NO_SUCH_BLOCK, "link: index, first");
-    check(call_check_link(&tree, 299, 3, shorter, none) == VERITY_NO_SUCH_LEVEL, "link: level, second");
-    check(call_check_link(&tree, 299, 2, shorter, block) == VERITY_BAD_LENGTH, "link: block, third");
-    check(call_check_link(&tree, 299, 2, block, shorter) == VERITY_BAD_LENGTH, "link: block above, third");
-    check(call_check_link(&tree, 299, 2, block, block) == VERITY_DIFFERS, "link: differs, last");
-
-    check(call_check_top(&tree, 300, shorter, short_root) == VERITY_BAD_ROOT_LENGTH, "top: root, first");
-    check(call_check_top(&tree, 300, shorter, root) == VERITY_NO_SUCH_BLOCK, "top: index, second");
-    check(call_check_top(&tree, 299, shorter, root) == VERITY_BAD_LENGTH, "top: block, third");
-    check(call_check_top(&tree, 299, block, root) == VERITY_DIFFERS, "top: differs, last");
+    right = (struct arguments){
+        .index = INDEX, .block_length = BLOCK_SIZE, .path_length = LEVELS * BLOCK_SIZE, .above_length = BLOCK_SIZE,
+        .top_length = BLOCK_SIZE, .root_length = 32, .superblock_length = SUPERBLOCK_SIZE, .room = SUPERBLOCK_SIZE,
+        .digest_length = 32, .descriptor_length = DESCRIPTOR_SIZE, .formatted_length = 44, .last_length = BLOCK_SIZE,
+        .text_room = VERITY_MAX_TEXT_SIZE, .name_length = 6};
+    *device = (struct building){.tree = right_tree(false), .memory = memories[DEVICE]};
+    *file = (struct building){.tree = right_tree(true), .memory = memories[FILES]};
+    *tree = (struct building){.tree = right_tree(true), .memory = memories[TREES]};
+    if (call_build_memory(&device->tree, &device->memory_length) != VERITY_OK ||
+        call_build_memory(&file->tree, &file->memory_length) != VERITY_OK ||
+        device->memory_length >= sizeof memories[0] || file->memory_length >= sizeof memories[1] ||
+        call_build_begin(device) != VERITY_OK || call_build_begin(file) != VERITY_OK)
+        give_up("the trees aren't begun");
+    do {
+        if (call_build_feed(device, bytes_of(data + taken, sizeof data - taken), &fed) != VERITY_OK)
+            give_up("the tree isn't fed");
+        taken += fed.taken;
+        if (fed.block_length > 0)
+            memcpy(hashes + (fed.block_start - BLOCK_SIZE), device->memory + fed.block_at, fed.block_length);
+    } while (fed.block_length > 0);
+    if (call_build_end(device, right.root, 32, digest, 0) != VERITY_OK ||
+        call_build_feed(file, bytes_of(data, sizeof data), &fed) != VERITY_OK)
+        give_up("the trees aren't ended");
+    if (call_build_memory(&tree->tree, &tree->memory_length) != VERITY_OK || call_tree_build_begin(tree) != VERITY_OK)
+        give_up("the file's tree isn't begun");
+    for (taken = 0; taken < sizeof data; taken += fed.taken)
+        if (call_tree_build_feed(tree, bytes_of(data + taken, sizeof data - taken), &fed) != VERITY_OK)
+            give_up("the file's tree isn't fed");
+    memcpy(right.block, data + INDEX * BLOCK_SIZE, BLOCK_SIZE);
+    memcpy(right.path, hashes + (3 + INDEX / 16) * BLOCK_SIZE, BLOCK_SIZE);
+    memcpy(right.path + BLOCK_SIZE, hashes + (1 + INDEX / 256) * BLOCK_SIZE, BLOCK_SIZE);
+    memcpy(right.path + 2 * BLOCK_SIZE, hashes, BLOCK_SIZE);
+    memcpy(kept, memories, sizeof kept);
 }
 
-/* A field of the parameters with a number that is refused, or with VERITY_OK one at the limit that isn't. */
+/* A field of the parameters with numbers that are refused, or with VERITY_OK such at the limit that aren't. */
 enum field { ALGORITHM, TYPE, DATA_BLOCK, HASH_BLOCK, BLOCKS, OFFSET, BARE_OFFSET, SALT };
 
-struct row {
+static const struct limit {
+    int kind;
     enum field field;
-    uint64_t number;
-    uint32_t status;
-};
-
-#define LARGEST (((uint64_t)1 << 63) - 1)
-
-static const struct row device_rows[] = {
-    {ALGORITHM, 0, VERITY_BAD_HASH_ALGORITHM},
-    {ALGORITHM, 6, VERITY_BAD_HASH_ALGORITHM},
-    {ALGORITHM, 257, VERITY_BAD_HASH_ALGORITHM},
-    {ALGORITHM, UINT32_MAX, VERITY_BAD_HASH_ALGORITHM},
-    {ALGORITHM, VERITY_SHA1, VERITY_OK},
-    {ALGORITHM, VERITY_SHA224, VERITY_OK},
-    {ALGORITHM, VERITY_SHA384, VERITY_OK},
-    {TYPE, 2, VERITY_BAD_HASH_TYPE},
-    {TYPE, 256, VERITY_BAD_HASH_TYPE},
-    {TYPE, UINT32_MAX, VERITY_BAD_HASH_TYPE},
-    {TYPE, 0, VERITY_OK},
-    {DATA_BLOCK, 0, VERITY_BAD_DATA_BLOCK_SIZE},
-    {DATA_BLOCK, 1, VERITY_BAD_DATA_BLOCK_SIZE},
-    {DATA_BLOCK, 256, VERITY_BAD_DATA_BLOCK_SIZE},
-    {DATA_BLOCK, 511, VERITY_BAD_DATA_BLOCK_SIZE},
-    {DATA_BLOCK, 1536, VERITY_BAD_DATA_BLOCK_SIZE},
-    {DATA_BLOCK, 524287, VERITY_BAD_DATA_BLOCK_SIZE},
-    {DATA_BLOCK, 1048576, VERITY_BAD_DATA_BLOCK_SIZE},
-    {DATA_BLOCK, (uint64_t)1 << 31, VERITY_BAD_DATA_BLOCK_SIZE},
-    {DATA_BLOCK, UINT32_MAX, VERITY_BAD_DATA_BLOCK_SIZE},
-    {DATA_BLOCK, 524288, VERITY_OK},
-    {HASH_BLOCK, 0, VERITY_BAD_HASH_BLOCK_SIZE},
-    {HASH_BLOCK, 64, VERITY_BAD_HASH_BLOCK_SIZE},
-    {HASH_BLOCK, 256, VERITY_BAD_HASH_BLOCK_SIZE},
-    {HASH_BLOCK, 513, VERITY_BAD_HASH_BLOCK_SIZE},
-    {HASH_BLOCK, 524289, VERITY_BAD_HASH_BLOCK_SIZE},
-    {HASH_BLOCK, 1048576, VERITY_BAD_HASH_BLOCK_SIZE},
-    {HASH_BLOCK, UINT32_MAX, VERITY_BAD_HASH_BLOCK_SIZE},
-    {HASH_BLOCK, 524288, VERITY_OK},
-    {SALT, 257, VERITY_BAD_SALT_SIZE},
-    {SALT, 65536, VERITY_BAD_SALT_SIZE},
-    {SALT, UINT32_MAX, VERITY_BAD_SALT_SIZE},
-    {SALT, 0, VERITY_OK},
-    {SALT, 256, VERITY_OK},
-    {OFFSET, 1, VERITY_BAD_HASH_OFFSET},
-    {OFFSET, 511, VERITY_BAD_HASH_OFFSET},
-    {OFFSET, 513, VERITY_BAD_HASH_OFFSET},
-    {OFFSET, UINT64_MAX, VERITY_BAD_HASH_OFFSET},
-    {OFFSET, 512, VERITY_OK},
-    {OFFSET, 1536, VERITY_OK},
+    int status;
+    size_t count;
+    uint64_t numbers[9];
+} limits[] = {
+    {DEVICE, ALGORITHM, VERITY_BAD_HASH_ALGORITHM, 4, {0, 6, 257, UINT32_MAX}},
+    {DEVICE, ALGORITHM, VERITY_OK, 3, {VERITY_SHA1, VERITY_SHA224, VERITY_SHA384}},
+    {DEVICE, TYPE, VERITY_BAD_HASH_TYPE, 3, {2, 256, UINT32_MAX}},
+    {DEVICE, TYPE, VERITY_OK, 1, {0}},
+    {DEVICE, DATA_BLOCK, VERITY_BAD_DATA_BLOCK_SIZE, 9,
+     {0, 1, 256, 511, 1536, 524287, 1048576, (uint64_t)1 << 31, UINT32_MAX}},
+    {DEVICE, DATA_BLOCK, VERITY_OK, 1, {524288}},
+    {DEVICE, HASH_BLOCK, VERITY_BAD_HASH_BLOCK_SIZE, 7, {0, 64, 256, 513, 524289, 1048576, UINT32_MAX}},
+    {DEVICE, HASH_BLOCK, VERITY_OK, 1, {524288}},
+    {DEVICE, SALT, VERITY_BAD_SALT_SIZE, 3, {257, 65536, UINT32_MAX}},
+    {DEVICE, SALT, VERITY_OK, 2, {0, 256}},
+    {DEVICE, OFFSET, VERITY_BAD_HASH_OFFSET, 4, {1, 511, 513, UINT64_MAX}},
     /* 19 + 2 + 1 hash blocks, and 512 bytes of superblock before them, up to 2^63 - 512. */
-    {OFFSET, LARGEST - 511 - 23 * 512, VERITY_OK},
-    {OFFSET, LARGEST - 511 - 22 * 512, VERITY_TOO_LARGE},
-    {OFFSET, UINT64_MAX - 511, VERITY_TOO_LARGE},
-    {BARE_OFFSET, 511, VERITY_BAD_HASH_OFFSET},
-    {BARE_OFFSET, 4096, VERITY_OK},
-    {BARE_OFFSET, LARGEST - 511 - 22 * 512, VERITY_OK},
-    {BARE_OFFSET, LARGEST - 511 - 21 * 512, VERITY_TOO_LARGE},
-    {BLOCKS, 0, VERITY_NO_DATA},
-    {BLOCKS, 1, VERITY_OK},
-    {BLOCKS, LARGEST / 512, VERITY_OK},
-    {BLOCKS, LARGEST / 512 + 1, VERITY_TOO_LARGE},
-    {BLOCKS, UINT64_MAX, VERITY_TOO_LARGE},
-};
-
-static const struct row file_rows[] = {
-    {ALGORITHM, 0, VERITY_BAD_HASH_ALGORITHM},
-    {ALGORITHM, VERITY_SHA1, VERITY_BAD_HASH_ALGORITHM},
-    {ALGORITHM, VERITY_SHA224, VERITY_BAD_HASH_ALGORITHM},
-    {ALGORITHM, VERITY_SHA384, VERITY_BAD_HASH_ALGORITHM},
-    {ALGORITHM, 6, VERITY_BAD_HASH_ALGORITHM},
-    {ALGORITHM, UINT32_MAX, VERITY_BAD_HASH_ALGORITHM},
-    {ALGORITHM, VERITY_SHA512, VERITY_OK},
-    {DATA_BLOCK, 0, VERITY_BAD_DATA_BLOCK_SIZE},
-    {DATA_BLOCK, 32, VERITY_BAD_DATA_BLOCK_SIZE},
-    {DATA_BLOCK, 63, VERITY_BAD_DATA_BLOCK_SIZE},
-    {DATA_BLOCK, 96, VERITY_BAD_DATA_BLOCK_SIZE},
-    {DATA_BLOCK, 1048576, VERITY_BAD_DATA_BLOCK_SIZE},
-    {DATA_BLOCK, UINT32_MAX, VERITY_BAD_DATA_BLOCK_SIZE},
-    {DATA_BLOCK, 64, VERITY_OK},
-    {DATA_BLOCK, 524288, VERITY_OK},
-    {SALT, 33, VERITY_BAD_SALT_SIZE},
-    {SALT, 288, VERITY_BAD_SALT_SIZE},
-    {SALT, UINT32_MAX, VERITY_BAD_SALT_SIZE},
-    {SALT, 0, VERITY_OK},
-    {SALT, 32, VERITY_OK},
-    {BLOCKS, 0, VERITY_NO_DATA},
-    {BLOCKS, 1, VERITY_OK},
-    {BLOCKS, LARGEST - 511, VERITY_OK},
-    {BLOCKS, LARGEST - 510, VERITY_TOO_LARGE},
-    {BLOCKS, LARGEST, VERITY_TOO_LARGE},
-    {BLOCKS, LARGEST + 1, VERITY_TOO_LARGE},
-    {BLOCKS, UINT64_MAX, VERITY_TOO_LARGE},
+    {DEVICE, OFFSET, VERITY_OK, 3, {512, 1536, LARGEST - 511 - 23 * 512}},
+    {DEVICE, OFFSET, VERITY_TOO_LARGE, 2, {LARGEST - 511 - 22 * 512, UINT64_MAX - 511}},
+    {DEVICE, BARE_OFFSET, VERITY_BAD_HASH_OFFSET, 1, {511}},
+    {DEVICE, BARE_OFFSET, VERITY_OK, 2, {4096, LARGEST - 511 - 22 * 512}},
+    {DEVICE, BARE_OFFSET, VERITY_TOO_LARGE, 1, {LARGEST - 511 - 21 * 512}},
+    {DEVICE, BLOCKS, VERITY_NO_DATA, 1, {0}},
+    {DEVICE, BLOCKS, VERITY_OK, 2, {1, LARGEST / 512}},
+    {DEVICE, BLOCKS, VERITY_TOO_LARGE, 2, {LARGEST / 512 + 1, UINT64_MAX}},
+    {FILES, ALGORITHM, VERITY_BAD_HASH_ALGORITHM, 6, {0, VERITY_SHA1, VERITY_SHA224, VERITY_SHA384, 6, UINT32_MAX}},
+    {FILES, ALGORITHM, VERITY_OK, 1, {VERITY_SHA512}},
+    {FILES, DATA_BLOCK, VERITY_BAD_DATA_BLOCK_SIZE, 6, {0, 32, 63, 96, 1048576, UINT32_MAX}},
+    {FILES, DATA_BLOCK, VERITY_OK, 2, {64, 524288}},
+    {FILES, SALT, VERITY_BAD_SALT_SIZE, 3, {33, 288, UINT32_MAX}},
+    {FILES, SALT, VERITY_OK, 2, {0, 32}},
+    {FILES, BLOCKS, VERITY_NO_DATA, 1, {0}},
+    {FILES, BLOCKS, VERITY_OK, 2, {1, LARGEST - 511}},
+    {FILES, BLOCKS, VERITY_TOO_LARGE, 4, {LARGEST - 510, LARGEST, LARGEST + 1, UINT64_MAX}},
 };
 
 static void put_field(struct tree *tree, enum field field, uint64_t number)
@@ -222,41 +381,60 @@ static void put_field(struct tree *tree, enum field field, uint64_t number)
         tree->device.no_superblock = 1;
 }
 
-static void faults_one_by_one(bool is_file, const struct row *rows, size_t count)
+/* Whether a function has a fault with this status. */
+static bool has_fault(const struct row *row, int status)
 {
-    struct tree tree;
-    size_t levels, i;
-    char what[80];
+    size_t i;
 
-    for (i = 0; i < count; i++) {
-        tree = right_tree(is_file);
-        put_field(&tree, rows[i].field, rows[i].number);
-        snprintf(what, sizeof what, "%s, row %zu, number %" PRIu64, is_file ? "fs-verity" : "dm-verity", i,
-                 rows[i].number);
-        if (rows[i].status != VERITY_OK)
-            each_refuses(&tree, rows[i].status, what);
-        else
-            check(call_level_count(&tree, &levels) == VERITY_OK, "%s is refused", what);
+    for (i = 0; row->faults[i] != NULL; i++)
+        if (row->faults[i]->status == status)
+            return true;
+    return false;
+}
+
+/* A number is refused by each function that looks at it, or accepted. Superblocks have tests of their own. */
+static void try_limit(const struct limit *limit, uint64_t number_in_field)
+{
+    struct building *building;
+    const struct row *row;
+    bool is_tree;
+    int status;
+
+    for (row = rows; row < rows + FUNCTIONS; row++) {
+        now = right;
+        /* Building a file's tree doesn't look at the size. */
+        is_tree = row->kind == TREES && limit->kind == FILES && limit->field != BLOCKS &&
+                  row->call != algorithm_by_name;
+        building = &now.buildings[is_tree ? TREES : limit->kind];
+        put_field(&building->tree, limit->field, number_in_field);
         /* The computation that other expected values rest on says the same. */
-        check(shape_of(&tree).status == rows[i].status, "%s: expected otherwise", what);
+        check(shape_of(&building->tree).status == limit->status, "%" PRIu64 ": expected otherwise", number_in_field);
+        if ((row->kind != limit->kind && !is_tree) || row->call == read_superblock ||
+            !(limit->status == VERITY_OK ? row->call == level_count : has_fault(row, limit->status)))
+            continue;
+        memcpy(memories, kept, sizeof memories);
+        status = row->call(building);
+        check(status == limit->status, "%s, field %d, number %" PRIu64 ": status %d", row->name, (int)limit->field,
+              number_in_field, status);
     }
 }
 
-static void refuses_superblock(const uint8_t *superblock, size_t length, uint32_t expected, const char *what)
+static void refuses_superblock(const uint8_t *superblock, size_t length, int expected, const char *what)
 {
     struct verity_params params, before;
-    uint32_t status;
+    int status;
 
     memset(&params, 0xa5, sizeof params);
     before = params;
     status = call_read_superblock(bytes_of(superblock, length), 0, &params);
-    check(status == expected, "superblock, %s: status %" PRIu32 ", expected %" PRIu32, what, status, expected);
+    check(status == expected, "superblock, %s: status %d, expected %d", what, status, expected);
     check((memcmp(&params, &before, sizeof params) != 0) == (expected == VERITY_OK), "superblock, %s: filled", what);
 }
 
-static void superblock_faults(void)
+static void superblock_bytes(void)
 {
-    struct verity_params params = {.hash_type = 2, .data_block_size = 513, .hash_block_size = 256, .salt_size = 257};
+    struct verity_params params = {.hash_type = 0, .data_block_size = 1024, .hash_block_size = 4096, .salt_size = 256,
+                                   .data_blocks = LARGEST / 1024 + 1};
     static const char *const wrong[] = {"",       "sha", "sha25",  "sha2567", "SHA256", " sha256", "sha256 ",
                                         "sha-256", "md5", "sha3-256", "sha512/256", "sha384sha384sha384sha384sha384sh"};
     static const uint64_t offsets[] = {1, 511, LARGEST, UINT64_MAX};
@@ -264,35 +442,11 @@ static void superblock_faults(void)
     uint8_t superblock[SUPERBLOCK_SIZE];
     size_t i, levels = PAINT;
 
-    write_superblock(superblock, &params, "sha");
-    superblock[SIGNATURE_AT] = 'V';
-    superblock[VERSION_AT] = 2;
-    refuses_superblock(superblock, SUPERBLOCK_SIZE - 1, VERITY_SHORT_SUPERBLOCK, "all is wrong");
-    refuses_superblock(superblock, SUPERBLOCK_SIZE, VERITY_BAD_SIGNATURE, "all but the length");
-    superblock[SIGNATURE_AT] = 'v';
-    refuses_superblock(superblock, SUPERBLOCK_SIZE, VERITY_BAD_VERSION, "from the version on");
-    superblock[VERSION_AT] = 1;
-    refuses_superblock(superblock, SUPERBLOCK_SIZE, VERITY_BAD_HASH_TYPE, "from the hash type on");
-    params.hash_type = 0;
-    write_superblock(superblock, &params, "sha");
-    refuses_superblock(superblock, SUPERBLOCK_SIZE, VERITY_BAD_DATA_BLOCK_SIZE, "from the data block size on");
-    params.data_block_size = 1024;
-    write_superblock(superblock, &params, "sha");
-    refuses_superblock(superblock, SUPERBLOCK_SIZE, VERITY_BAD_HASH_BLOCK_SIZE, "from the hash block size on");
-    params.hash_block_size = 4096;
-    write_superblock(superblock, &params, "sha");
-    refuses_superblock(superblock, SUPERBLOCK_SIZE, VERITY_BAD_HASH_ALGORITHM, "from the hash algorithm on");
-    write_superblock(superblock, &params, "sha384");
-    refuses_superblock(superblock, SUPERBLOCK_SIZE, VERITY_BAD_SALT_SIZE, "from the salt size on");
-    params.salt_size = 256;
-    write_superblock(superblock, &params, "sha384");
-    refuses_superblock(superblock, SUPERBLOCK_SIZE, VERITY_NO_DATA, "without data");
-    params.data_blocks = LARGEST / 1024 + 1;
     write_superblock(superblock, &params, "sha384");
     refuses_superblock(superblock, SUPERBLOCK_SIZE, VERITY_TOO_LARGE, "too much data");
     params.data_blocks = LARGEST / 1024;
     write_superblock(superblock, &params, "sha384");
-    refuses_superblock(superblock, SUPERBLOCK_SIZE, VERITY_OK, "all is mended");
+    refuses_superblock(superblock, SUPERBLOCK_SIZE, VERITY_OK, "the most data");
 
     for (i = 0; i < sizeof wrong / sizeof *wrong; i++) {
         write_superblock(superblock, &params, wrong[i]);
@@ -325,43 +479,42 @@ static void superblock_faults(void)
     }
 }
 
-static void file_digest_faults(void)
+/* A size that is too large for a tree has digest and descriptor all the same, and blocks of two digests are least. */
+static void file_sizes(void)
 {
-    struct fsverity_params params = {.hash_algorithm = VERITY_SHA224, .block_size = 100, .salt_size = 33};
-    uint8_t digest[VERITY_MAX_DIGEST_SIZE] = {0};
+    struct fsverity_params params = {.hash_algorithm = VERITY_SHA512, .block_size = 64};
     static const uint64_t sizes[] = {0, LARGEST, LARGEST + 1, UINT64_MAX};
+    struct bytes some = bytes_of(data, 64);
     size_t i;
 
-    check(call_file_digest(&params, bytes_of(some, 31), digest, 31) == VERITY_BAD_HASH_ALGORITHM, "digest: algorithm");
-    params.hash_algorithm = VERITY_SHA512;
-    check(call_file_digest(&params, bytes_of(some, 31), digest, 31) == VERITY_BAD_DATA_BLOCK_SIZE, "digest: block");
-    params.block_size = 64;
-    check(call_file_digest(&params, bytes_of(some, 31), digest, 31) == VERITY_BAD_DATA_BLOCK_SIZE, "digest: 64");
+    check(call_file_digest(&params, some, digest, 64) == VERITY_BAD_DATA_BLOCK_SIZE, "SHA-512 with blocks of 64 bytes");
     params.block_size = 128;
-    check(call_file_digest(&params, bytes_of(some, 31), digest, 31) == VERITY_BAD_SALT_SIZE, "digest: salt");
-    params.salt_size = 32;
-    check(call_file_digest(&params, bytes_of(some, 32), digest, 31) == VERITY_BAD_ROOT_LENGTH, "digest: root hash");
-    check(call_file_digest(&params, bytes_of(some, 64), digest, 32) == VERITY_BAD_LENGTH, "digest: length");
-    check(memcmp(digest, some, sizeof digest) == 0, "digest: filled");
     for (i = 0; i < sizeof sizes / sizeof *sizes; i++) {
         params.size = sizes[i];
-        check(call_file_digest(&params, bytes_of(some, 64), digest, 64) == VERITY_OK, "digest of size %" PRIu64,
+        check(call_file_digest(&params, some, digest, 64) == VERITY_OK, "digest of size %" PRIu64, sizes[i]);
+        check(call_descriptor(&params, some, out, DESCRIPTOR_SIZE) == VERITY_OK, "descriptor of size %" PRIu64,
               sizes[i]);
     }
 }
 
 int main(void)
 {
-    uint32_t status;
+    size_t i, j;
+    int status;
 
     seed_random(1);
-    faults_in_order(false);
-    faults_in_order(true);
-    faults_one_by_one(false, device_rows, sizeof device_rows / sizeof *device_rows);
-    faults_one_by_one(true, file_rows, sizeof file_rows / sizeof *file_rows);
-    superblock_faults();
-    file_digest_faults();
-    for (status = VERITY_OK; status <= VERITY_BAD_VERSION; status++)
-        check(status_seen[status], "status %" PRIu32 " wasn't answered", status);
+    random_bytes(data, sizeof data);
+    build_right();
+    for (i = 0; i < FUNCTIONS; i++)
+        refuses_each_fault(&rows[i]);
+    for (i = 0; i < sizeof limits / sizeof *limits; i++)
+        for (j = 0; j < limits[i].count; j++)
+            try_limit(&limits[i], limits[i].numbers[j]);
+    superblock_bytes();
+    file_sizes();
+    check(call_version() == VERITY_VERSION_MAJOR * 10000 + VERITY_VERSION_MINOR * 100 + VERITY_VERSION_PATCH,
+          "version %" PRIu32, call_version());
+    for (status = VERITY_OK; status >= VERITY_WAITING; status--)
+        check(status_seen[-status], "status %d wasn't answered", status);
     return finish();
 }

@@ -52,9 +52,9 @@ if compiles "$scratch/overrun" gcc "${sanitizers[@]}" "$scratch/overrun.c" "$LIB
     done
 fi
 
-watched=("${sanitizers[@]}" tests/library/support.c "$LIB/libverity.a")
+watched=("${sanitizers[@]}" tests/library/{chains,images,feeding_calls,support}.c "$LIB/libverity.a")
 if compiles "$scratch/refused" gcc tests/library/refused.c "${watched[@]}"; then adds 'refused' "$scratch/refused"; fi
-if compiles "$scratch/images" gcc tests/library/debian_images.c tests/library/words.c "${watched[@]}"; then
+if compiles "$scratch/images" gcc tests/library/debian_images.c "${watched[@]}"; then
     draws_data
     tries_images "$scratch/images" 10 6 $((1 << 21))
 fi

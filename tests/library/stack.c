@@ -32,7 +32,7 @@ static struct fsverity_params file_params;
 static uint8_t superblock[SUPERBLOCK_SIZE], *block, *path, *root, digest[2 * VERITY_MAX_DIGEST_SIZE];
 static size_t block_size, hash_block_size, levels, at_level, root_length, found_levels, found_level;
 static uint64_t index_of_block, found_start, found_blocks;
-static uint32_t status;
+static int status;
 
 /* What is fed: so many data blocks and a byte, up to the end of a tree, or across the middle of a large file's. */
 static struct verity_build build;
@@ -40,6 +40,10 @@ static struct verity_fed fed;
 static uint8_t memory[1 << 17], piece[(MOST_BLOCKS + 1) * 4096], bytes_out[SUPERBLOCK_SIZE];
 static size_t memory_length, found_length, piece_length;
 static size_t superblock_length = SUPERBLOCK_SIZE, descriptor_length = DESCRIPTOR_SIZE;
+static uint8_t formatted[12 + VERITY_MAX_DIGEST_SIZE + 1];
+static char text[VERITY_MAX_TEXT_SIZE];
+static uint8_t last_block[4096];
+static uint32_t found_number;
 static uint64_t all_bytes;
 
 /* The block that is checked at a level. */
@@ -63,6 +67,73 @@ static void file_digest_call(void) {
     status = fsverity_file_digest(&file_params, root, root_length, digest, root_length);
 }
 
+static void fsverity_tree_build_begin_call(void) {
+    status = fsverity_tree_build_begin(&file_params, &build, memory, memory_length);
+}
+
+static void fsverity_tree_build_feed_call(void) {
+    size_t taken = 0;
+
+    build.fed = (UINT64_C(1) << 59) - 9 * block_size;
+    build.closed = 0;
+    do {
+        fed.block_length = 0;
+        status = fsverity_tree_build_feed(&file_params, &build, memory, memory_length, piece + taken,
+                                          piece_length - taken, &fed);
+        taken += fed.taken;
+    } while (status == VERITY_OK && fed.block_length > 0);
+}
+
+static void fsverity_tree_build_end_block_call(void) {
+    build.fed = file_params.size;
+    build.closed = 0;
+    status = fsverity_tree_build_end_block(&file_params, &build, memory, memory_length, at_level, last_block,
+                                           file_params.block_size, &found_start);
+}
+
+static void fsverity_tree_build_end_call(void) {
+    build.fed = file_params.size;
+    build.closed = 0;
+    status = fsverity_tree_build_end(&file_params, &build, memory, memory_length, digest, root_length,
+                                     digest + VERITY_MAX_DIGEST_SIZE, root_length);
+}
+
+static void verity_same_params_call(void) {
+    status = verity_same_params(&params, &params);
+}
+
+static void verity_hash_area_end_call(void) {
+    status = verity_hash_area_end(&params, &found_start);
+}
+
+static void fsverity_tree_size_call(void) {
+    status = fsverity_tree_size(&file_params, &found_start);
+}
+
+static void fsverity_formatted_digest_call(void) {
+    status = fsverity_formatted_digest(file_params.hash_algorithm, digest, root_length, formatted, 12 + root_length);
+}
+
+static void verity_digest_length_call(void) {
+    status = verity_digest_length(params.hash_algorithm, &found_length);
+}
+
+static void verity_algorithm_name_call(void) {
+    status = verity_algorithm_name(params.hash_algorithm, text, sizeof text, &found_length);
+}
+
+static void verity_algorithm_by_name_call(void) {
+    status = verity_algorithm_by_name("sha384", 6, &found_number);
+}
+
+static void verity_status_text_call(void) {
+    status = verity_status_text(VERITY_WAITING, text, sizeof text, &found_length);
+}
+
+static void verity_version_call(void) {
+    status = verity_version() > 0 ? VERITY_OK : VERITY_DIFFERS;
+}
+
 static void verity_build_memory_call(void) {
     status = verity_build_memory(&params, &found_length);
 }
@@ -81,6 +152,13 @@ static void verity_build_feed_call(void) {
         status = verity_build_feed(&params, &build, memory, memory_length, piece + taken, piece_length - taken, &fed);
         taken += fed.taken;
     } while (status == VERITY_OK && fed.block_length > 0);
+}
+
+/* The hash block that stands above the last byte, of the level that was closed last. */
+static void verity_build_last_block_call(void) {
+    build.fed = all_bytes;
+    build.closed = levels;
+    status = verity_build_last_block(&params, &build, &fed);
 }
 
 static void verity_build_end_call(void) {
@@ -173,6 +251,7 @@ static struct function {
     {"verity_build_memory", verity_build_memory_call, 0, ONCE, 0},
     {"verity_build_begin", verity_build_begin_call, 0, ONCE, 0},
     {"verity_build_feed", verity_build_feed_call, 0, ONCE, 0},
+    {"verity_build_last_block", verity_build_last_block_call, 0, ONCE, 0},
     {"verity_build_end", verity_build_end_call, 0, ONCE, 0},
     {"verity_write_superblock", verity_write_superblock_call, 0, ONCE, 0},
     {"fsverity_build_memory", fsverity_build_memory_call, 1, ONCE, 0},
@@ -180,6 +259,19 @@ static struct function {
     {"fsverity_build_feed", fsverity_build_feed_call, 1, ONCE, 0},
     {"fsverity_build_end", fsverity_build_end_call, 1, ONCE, 0},
     {"fsverity_descriptor", fsverity_descriptor_call, 1, ONCE, 0},
+    {"fsverity_tree_build_begin", fsverity_tree_build_begin_call, 1, ONCE, 0},
+    {"fsverity_tree_build_feed", fsverity_tree_build_feed_call, 1, ONCE, 0},
+    {"fsverity_tree_build_end_block", fsverity_tree_build_end_block_call, 1, EACH_LEVEL, 0},
+    {"fsverity_tree_build_end", fsverity_tree_build_end_call, 1, ONCE, 0},
+    {"verity_same_params", verity_same_params_call, 0, ONCE, 0},
+    {"verity_hash_area_end", verity_hash_area_end_call, 0, ONCE, 0},
+    {"fsverity_tree_size", fsverity_tree_size_call, 1, ONCE, 0},
+    {"fsverity_formatted_digest", fsverity_formatted_digest_call, 1, ONCE, 0},
+    {"verity_digest_length", verity_digest_length_call, 0, ONCE, 0},
+    {"verity_algorithm_name", verity_algorithm_name_call, 0, ONCE, 0},
+    {"verity_algorithm_by_name", verity_algorithm_by_name_call, 0, ONCE, 0},
+    {"verity_status_text", verity_status_text_call, 0, ONCE, 0},
+    {"verity_version", verity_version_call, 0, ONCE, 0},
 };
 
 enum { FUNCTIONS = sizeof functions / sizeof functions[0] };
@@ -204,7 +296,7 @@ static void measure(struct function *function, int must_be_right) {
     size_t found = measured(function->call);
 
     if (must_be_right && status != VERITY_OK) {
-        fprintf(stderr, "%s: status %u\n", function->name, (unsigned)status);
+        fprintf(stderr, "%s: status %d\n", function->name, status);
         exit(1);
     }
     if (found > empty && found - empty > function->most)
@@ -258,7 +350,7 @@ static void measure_file(uint8_t *bytes, size_t length) {
     }
     if (status != VERITY_OK || levels == 0 ||
         length < INDEX_SIZE + sizeof superblock + block_size + levels * hash_block_size) {
-        fprintf(stderr, "the file has other parameters: status %u\n", (unsigned)status);
+        fprintf(stderr, "the file has other parameters: status %d\n", status);
         exit(1);
     }
     block = bytes + INDEX_SIZE + sizeof superblock;
@@ -269,7 +361,7 @@ static void measure_file(uint8_t *bytes, size_t length) {
     status = of_files ? fsverity_build_memory(&file_params, &memory_length)
                       : verity_build_memory(&params, &memory_length);
     if (status != VERITY_OK || memory_length > sizeof memory) {
-        fprintf(stderr, "memory of %zu bytes: status %u\n", memory_length, (unsigned)status);
+        fprintf(stderr, "memory of %zu bytes: status %d\n", memory_length, status);
         exit(1);
     }
     all_bytes = params.data_blocks * params.data_block_size;

@@ -14,7 +14,7 @@ __extension__ typedef unsigned __int128 wide;
 #define MOST_BYTES (((uint64_t)1 << 63) - 1)
 
 uint64_t calls_made;
-bool status_seen[VERITY_WAITING + 1];
+bool status_seen[1 - VERITY_WAITING];
 
 static uint64_t passed;
 static uint64_t failed;
@@ -78,6 +78,11 @@ uint64_t random_number(void)
 uint64_t random_below(uint64_t bound)
 {
     return random_number() % bound;
+}
+
+bool once_in(uint64_t times)
+{
+    return random_below(times) == 0;
 }
 
 void random_bytes(uint8_t *bytes, size_t length)
@@ -156,7 +161,7 @@ static void put_slots(struct shape *shape, bool wide_slots)
     }
 }
 
-static uint32_t device_fault(const struct verity_params *params)
+static int device_fault(const struct verity_params *params)
 {
     uint32_t unit = params->no_superblock ? params->hash_block_size : SUPERBLOCK_SIZE;
 
@@ -177,7 +182,7 @@ static uint32_t device_fault(const struct verity_params *params)
     return VERITY_OK;
 }
 
-static uint32_t file_fault(const struct fsverity_params *params, bool needs_data)
+static int file_fault(const struct fsverity_params *params, bool needs_data)
 {
     if (params->hash_algorithm != VERITY_SHA256 && params->hash_algorithm != VERITY_SHA512)
         return VERITY_BAD_HASH_ALGORITHM;
@@ -224,6 +229,15 @@ struct shape shape_of(const struct tree *tree)
     return shape;
 }
 
+size_t tree_length(const struct shape *shape)
+{
+    size_t level, blocks = 0;
+
+    for (level = 0; level < shape->levels; level++)
+        blocks += shape->blocks[level];
+    return blocks * shape->hash_block_size;
+}
+
 uint64_t slot_number(const struct shape *shape, uint64_t index, size_t level)
 {
     while (level-- > 0)
@@ -260,7 +274,7 @@ static uint32_t named(const uint8_t field[ALGORITHM_SIZE])
     return algorithm;
 }
 
-uint32_t superblock_says(struct bytes bytes, uint64_t hash_offset, struct verity_params *params)
+int superblock_says(struct bytes bytes, uint64_t hash_offset, struct verity_params *params)
 {
     struct verity_params said = {.hash_offset = hash_offset};
     const uint8_t *at = bytes.at;
@@ -355,257 +369,237 @@ void check_same(const void *before, const void *after, size_t length, const char
     check(length == 0 || memcmp(before, after, length) == 0, "%s changes %s", call, what);
 }
 
-static void check_bytes(struct bytes before, const uint8_t *after, const char *call, const char *what)
+/* What a part of a call starts as in this round. */
+static const void *start_of(const struct call *call, size_t i)
 {
-    check_same(before.at, after, before.length, call, what);
+    static uint8_t paints[2][MOST_FILLED];
+    const struct part *part = &call->parts[i];
+
+    switch (part->use) {
+    case FILLED:
+        if (part->length > MOST_FILLED)
+            give_up("too much is filled");
+        memset(paints[0], 0xa5, MOST_FILLED);
+        memset(paints[1], 0x5a, MOST_FILLED);
+        return paints[call->round];
+    case BEGUN:
+        return call->round == 0 ? part->bytes : part->other;
+    case GOES_ON:
+        return call->left[i] == NULL ? part->bytes : call->left[i];
+    default:
+        return part->bytes;
+    }
 }
 
-/* Counts a call. The second answer to the same is the first. */
-uint32_t answered(const char *call, int round, uint32_t first, uint32_t status)
-{
-    calls_made++;
-    check(status <= VERITY_WAITING, "%s: status %u", call, status);
-    if (status <= VERITY_WAITING)
-        status_seen[status] = true;
-    check(round == 0 || status == first, "%s: status %u, and again %u", call, first, status);
-    return status;
-}
-
-/* What is filled by two rounds: it starts as it was in one, and turned over in the other. */
-struct filled {
-    enum buffer buffer;
-    void *bytes;
-    size_t length;
-    uint8_t before[312];
-    uint8_t first[312];
-    void *at;
-};
-
-static struct filled filled_by(enum buffer buffer, void *bytes, size_t length)
-{
-    struct filled filled = {.buffer = buffer, .bytes = bytes, .length = length};
-
-    if (length > sizeof filled.before)
-        give_up("too much is filled");
-    if (length > 0)
-        memcpy(filled.before, bytes, length);
-    return filled;
-}
-
-static void start_round(struct filled *filled, int round)
+bool begins_round(struct call *call)
 {
     size_t i;
 
-    if (round == 1)
-        for (i = 0; i < filled->length; i++)
-            filled->before[i] = (uint8_t)~filled->before[i];
-    filled->at = place(filled->buffer, filled->before, filled->length);
+    for (i = 0; call->round < 2 && call->parts[i].what != NULL; i++)
+        call->at[i] = place(call->parts[i].buffer, start_of(call, i), call->parts[i].length);
+    return call->round < 2;
 }
 
-static void end_round(struct filled *filled, int round, bool may_change, const char *call)
+int answered(const char *call, int round, int first, int status)
 {
-    if (filled->length == 0)
-        return;
-    if (!may_change) {
-        check_same(filled->before, filled->at, filled->length, call, "what it doesn't fill");
-        return;
-    }
-    if (round == 0) {
-        memcpy(filled->first, filled->at, filled->length);
-        memcpy(filled->bytes, filled->at, filled->length);
-    } else {
-        check_same(filled->first, filled->at, filled->length, call, "its answer");
-    }
-}
-
-static void *place_params(const struct tree *tree)
-{
-    return tree->is_file ? place(PARAMS, &tree->file, sizeof tree->file)
-                         : place(PARAMS, &tree->device, sizeof tree->device);
-}
-
-static void check_params(const struct tree *tree, const void *params, const char *call)
-{
-    if (tree->is_file)
-        check_same(&tree->file, params, sizeof tree->file, call, "the parameters");
-    else
-        check_same(&tree->device, params, sizeof tree->device, call, "the parameters");
-}
-
-uint32_t call_read_superblock(struct bytes bytes, uint64_t hash_offset, struct verity_params *params)
-{
-    const char *call = "verity_read_superblock";
-    struct filled filled = filled_by(FIRST_FILLED, params, sizeof *params);
-    const uint8_t *placed_bytes;
-    uint32_t status = 0;
-    int round;
-
-    for (round = 0; round < 2; round++) {
-        start_round(&filled, round);
-        placed_bytes = place(BLOCK, bytes.at, bytes.length);
-        status = answered(call, round, status,
-                          verity_read_superblock(placed_bytes, bytes.length, hash_offset, filled.at));
-        check_bytes(bytes, placed_bytes, call, "the bytes");
-        end_round(&filled, round, status == VERITY_OK, call);
-    }
+    calls_made++;
+    check(status <= VERITY_OK && status >= VERITY_WAITING, "%s: status %d", call, status);
+    if (status <= VERITY_OK && status >= VERITY_WAITING)
+        status_seen[-status] = true;
+    check(round == 0 || status == first, "%s: status %d, and again %d", call, first, status);
     return status;
 }
 
-uint32_t call_level_count(const struct tree *tree, size_t *levels)
+/* Room for what a call leaves of a part, until the next call of any kind. */
+static uint8_t *room_for(size_t i, size_t length)
 {
-    const char *call = tree->is_file ? "fsverity_level_count" : "verity_level_count";
-    struct filled filled = filled_by(FIRST_FILLED, levels, sizeof *levels);
-    uint32_t status = 0;
-    void *params;
-    int round;
+    static uint8_t *rooms[PARTS];
+    static size_t lengths[PARTS];
 
-    for (round = 0; round < 2; round++) {
-        start_round(&filled, round);
-        params = place_params(tree);
-        status = answered(call, round, status, tree->is_file ? fsverity_level_count(params, filled.at)
-                                                             : verity_level_count(params, filled.at));
-        check_params(tree, params, call);
-        end_round(&filled, round, status == VERITY_OK, call);
+    if (rooms[i] == NULL || lengths[i] < length) {
+        rooms[i] = realloc(rooms[i], length + 1);
+        lengths[i] = length;
+        if (rooms[i] == NULL)
+            give_up("no memory");
     }
-    return status;
+    return rooms[i];
 }
 
-uint32_t call_level_start(const struct tree *tree, size_t level, uint64_t *start, uint64_t *blocks)
+void ends_round(struct call *call, int status, bool is_register_kept)
 {
-    const char *call = tree->is_file ? "fsverity_level_start" : "verity_level_start";
-    struct filled filled = filled_by(FIRST_FILLED, start, sizeof *start);
-    struct filled second = filled_by(SECOND_FILLED, blocks, sizeof *blocks);
-    uint32_t status = 0;
-    void *params;
-    int round;
+    struct part *part;
+    size_t i;
 
-    for (round = 0; round < 2; round++) {
-        start_round(&filled, round);
-        start_round(&second, round);
-        params = place_params(tree);
-        status = answered(call, round, status, tree->is_file ? fsverity_level_start(params, level, filled.at, second.at)
-                                                             : verity_level_start(params, level, filled.at, second.at));
-        check_params(tree, params, call);
-        end_round(&filled, round, status == VERITY_OK, call);
-        end_round(&second, round, status == VERITY_OK, call);
+    call->status = answered(call->name, call->round, call->status, status);
+    check(is_register_kept, "%s doesn't keep x18", call->name);
+    for (i = 0; call->parts[i].what != NULL; i++) {
+        part = &call->parts[i];
+        if (part->use == READ || status != call->fills) {
+            check_same(start_of(call, i), call->at[i], part->length, call->name, part->what);
+        } else if (call->round == 0) {
+            call->left[i] = room_for(i, part->length);
+            memcpy(call->left[i], call->at[i], part->length);
+        } else if (call->left[i] != NULL) {
+            check(memcmp(call->left[i], call->at[i], part->use == BEGUN ? part->same : part->length) == 0,
+                  "%s has another answer: %s", call->name, part->what);
+            memcpy(part->bytes, call->left[i], part->length);
+        }
     }
-    return status;
+    call->round++;
 }
 
-uint32_t call_hash_block_start(const struct tree *tree, uint64_t index, size_t level, uint64_t *start)
+struct part params_of(const struct tree *tree)
 {
-    const char *call = tree->is_file ? "fsverity_hash_block_start" : "verity_hash_block_start";
-    struct filled filled = filled_by(FIRST_FILLED, start, sizeof *start);
-    uint32_t status = 0;
-    void *params;
-    int round;
-
-    for (round = 0; round < 2; round++) {
-        start_round(&filled, round);
-        params = place_params(tree);
-        status = answered(call, round, status,
-                          tree->is_file ? fsverity_hash_block_start(params, index, level, filled.at)
-                                        : verity_hash_block_start(params, index, level, filled.at));
-        check_params(tree, params, call);
-        end_round(&filled, round, status == VERITY_OK, call);
-    }
-    return status;
+    return tree->is_file ? READS(PARAMS, "the parameters", &tree->file, sizeof tree->file)
+                         : READS(PARAMS, "the parameters", &tree->device, sizeof tree->device);
 }
 
-uint32_t call_check_block(const struct tree *tree, uint64_t index, struct bytes block, struct bytes path,
-                          struct bytes root, size_t *level)
+int call_read_superblock(struct bytes bytes, uint64_t hash_offset, struct verity_params *params)
 {
-    const char *call = tree->is_file ? "fsverity_check_block" : "verity_check_block";
-    struct filled filled = filled_by(FIRST_FILLED, level, sizeof *level);
-    const uint8_t *b, *p, *r;
-    uint32_t status = 0;
-    void *params;
-    int round;
+    struct call call = {.name = "verity_read_superblock",
+                        .parts = {BYTES(BLOCK, "the superblock", bytes),
+                                  FILLS(FIRST_FILLED, "the parameters", params, sizeof *params)}};
 
-    for (round = 0; round < 2; round++) {
-        start_round(&filled, round);
-        params = place_params(tree);
-        b = place(BLOCK, block.at, block.length);
-        p = place(PATH, path.at, path.length);
-        r = place(ROOT, root.at, root.length);
-        status = answered(call, round, status,
-                          tree->is_file ? fsverity_check_block(params, index, b, block.length, p, path.length, r,
-                                                               root.length, filled.at)
-                                        : verity_check_block(params, index, b, block.length, p, path.length, r,
-                                                             root.length, filled.at));
-        check_params(tree, params, call);
-        check_bytes(block, b, call, "the block");
-        check_bytes(path, p, call, "the path");
-        check_bytes(root, r, call, "the root hash");
-        end_round(&filled, round, status == VERITY_DIFFERS, call);
-    }
-    return status;
+    MAKES(call, verity_read_superblock(call.at[0], bytes.length, hash_offset, call.at[1]));
+    return call.status;
 }
 
-uint32_t call_check_link(const struct tree *tree, uint64_t index, size_t level, struct bytes block, struct bytes above)
+int call_level_count(const struct tree *tree, size_t *levels)
 {
-    const char *call = tree->is_file ? "fsverity_check_link" : "verity_check_link";
-    const uint8_t *b, *a;
-    uint32_t status = 0;
-    void *params;
-    int round;
+    struct call call = {.parts = {params_of(tree), FILLS(FIRST_FILLED, "the levels", levels, sizeof *levels)}};
 
-    for (round = 0; round < 2; round++) {
-        params = place_params(tree);
-        b = place(BLOCK, block.at, block.length);
-        a = place(PATH, above.at, above.length);
-        status = answered(call, round, status,
-                          tree->is_file ? fsverity_check_link(params, index, level, b, block.length, a, above.length)
-                                        : verity_check_link(params, index, level, b, block.length, a, above.length));
-        check_params(tree, params, call);
-        check_bytes(block, b, call, "the block");
-        check_bytes(above, a, call, "the block above");
-    }
-    return status;
+    MAKES_EITHER(call, tree->is_file, level_count, (call.at[0], call.at[1]));
+    return call.status;
 }
 
-uint32_t call_check_top(const struct tree *tree, uint64_t index, struct bytes block, struct bytes root)
+int call_level_start(const struct tree *tree, size_t level, uint64_t *start, uint64_t *blocks)
 {
-    const char *call = tree->is_file ? "fsverity_check_top" : "verity_check_top";
-    const uint8_t *b, *r;
-    uint32_t status = 0;
-    void *params;
-    int round;
+    struct call call = {.parts = {params_of(tree), FILLS(FIRST_FILLED, "the start", start, sizeof *start),
+                                  FILLS(SECOND_FILLED, "the blocks", blocks, sizeof *blocks)}};
 
-    for (round = 0; round < 2; round++) {
-        params = place_params(tree);
-        b = place(BLOCK, block.at, block.length);
-        r = place(ROOT, root.at, root.length);
-        status = answered(call, round, status,
-                          tree->is_file ? fsverity_check_top(params, index, b, block.length, r, root.length)
-                                        : verity_check_top(params, index, b, block.length, r, root.length));
-        check_params(tree, params, call);
-        check_bytes(block, b, call, "the block");
-        check_bytes(root, r, call, "the root hash");
-    }
-    return status;
+    MAKES_EITHER(call, tree->is_file, level_start, (call.at[0], level, call.at[1], call.at[2]));
+    return call.status;
 }
 
-uint32_t call_file_digest(const struct fsverity_params *params, struct bytes root, uint8_t *digest,
-                          size_t digest_length)
+int call_hash_block_start(const struct tree *tree, uint64_t index, size_t level, uint64_t *start)
 {
-    const char *call = "fsverity_file_digest";
-    struct filled filled = filled_by(FIRST_FILLED, digest, digest_length);
-    struct tree tree = {.is_file = true, .file = *params};
-    const uint8_t *r;
-    uint32_t status = 0;
-    void *p;
-    int round;
+    struct call call = {.parts = {params_of(tree), FILLS(FIRST_FILLED, "the start", start, sizeof *start)}};
 
-    memcpy(&tree.file, params, sizeof *params);
-    for (round = 0; round < 2; round++) {
-        start_round(&filled, round);
-        p = place_params(&tree);
-        r = place(ROOT, root.at, root.length);
-        status = answered(call, round, status, fsverity_file_digest(p, r, root.length, filled.at, digest_length));
-        check_params(&tree, p, call);
-        check_bytes(root, r, call, "the root hash");
-        end_round(&filled, round, status == VERITY_OK, call);
-    }
-    return status;
+    MAKES_EITHER(call, tree->is_file, hash_block_start, (call.at[0], index, level, call.at[1]));
+    return call.status;
+}
+
+int call_check_block(const struct tree *tree, uint64_t index, struct bytes block, struct bytes path, struct bytes root,
+                     size_t *level)
+{
+    struct call call = {.fills = VERITY_DIFFERS,
+                        .parts = {params_of(tree), BYTES(BLOCK, "the block", block), BYTES(PATH, "the path", path),
+                                  BYTES(ROOT, "the root hash", root),
+                                  FILLS(FIRST_FILLED, "the level", level, sizeof *level)}};
+
+    MAKES_EITHER(call, tree->is_file, check_block,
+                 (call.at[0], index, call.at[1], block.length, call.at[2], path.length, call.at[3], root.length,
+                  call.at[4]));
+    return call.status;
+}
+
+int call_check_link(const struct tree *tree, uint64_t index, size_t level, struct bytes block, struct bytes above)
+{
+    struct call call = {.parts = {params_of(tree), BYTES(BLOCK, "the block", block),
+                                  BYTES(PATH, "the block above", above)}};
+
+    MAKES_EITHER(call, tree->is_file, check_link,
+                 (call.at[0], index, level, call.at[1], block.length, call.at[2], above.length));
+    return call.status;
+}
+
+int call_check_top(const struct tree *tree, uint64_t index, struct bytes block, struct bytes root)
+{
+    struct call call = {.parts = {params_of(tree), BYTES(BLOCK, "the block", block),
+                                  BYTES(ROOT, "the root hash", root)}};
+
+    MAKES_EITHER(call, tree->is_file, check_top,
+                 (call.at[0], index, call.at[1], block.length, call.at[2], root.length));
+    return call.status;
+}
+
+int call_file_digest(const struct fsverity_params *params, struct bytes root, uint8_t *digest, size_t digest_length)
+{
+    struct call call = {.name = "fsverity_file_digest",
+                        .parts = {READS(PARAMS, "the parameters", params, sizeof *params),
+                                  BYTES(ROOT, "the root hash", root),
+                                  FILLS(FIRST_FILLED, "the digest", digest, digest_length)}};
+
+    MAKES(call, fsverity_file_digest(call.at[0], call.at[1], root.length, call.at[2], digest_length));
+    return call.status;
+}
+
+int call_same_params(const struct verity_params *params, const struct verity_params *trusted)
+{
+    struct call call = {.name = "verity_same_params",
+                        .parts = {READS(PARAMS, "the parameters", params, sizeof *params),
+                                  READS(BLOCK, "the trusted parameters", trusted, sizeof *trusted)}};
+
+    MAKES(call, verity_same_params(call.at[0], call.at[1]));
+    return call.status;
+}
+
+int call_area_end(const struct tree *tree, uint64_t *end)
+{
+    struct call call = {.name = tree->is_file ? "fsverity_tree_size" : "verity_hash_area_end",
+                        .parts = {params_of(tree), FILLS(FIRST_FILLED, "the end", end, sizeof *end)}};
+
+    MAKES(call, tree->is_file ? fsverity_tree_size(call.at[0], call.at[1])
+                              : verity_hash_area_end(call.at[0], call.at[1]));
+    return call.status;
+}
+
+int call_formatted_digest(uint32_t hash_algorithm, struct bytes digest, uint8_t *formatted, size_t length)
+{
+    struct call call = {.name = "fsverity_formatted_digest",
+                        .parts = {BYTES(BLOCK, "the digest", digest),
+                                  FILLS(FIRST_FILLED, "the formatted digest", formatted, length)}};
+
+    MAKES(call, fsverity_formatted_digest(hash_algorithm, call.at[0], digest.length, call.at[1], length));
+    return call.status;
+}
+
+int call_digest_length(uint32_t hash_algorithm, size_t *length)
+{
+    struct call call = {.name = "verity_digest_length",
+                        .parts = {FILLS(FIRST_FILLED, "the length", length, sizeof *length)}};
+
+    MAKES(call, verity_digest_length(hash_algorithm, call.at[0]));
+    return call.status;
+}
+
+int call_algorithm_by_name(struct bytes name, uint32_t *hash_algorithm)
+{
+    struct call call = {.name = "verity_algorithm_by_name",
+                        .parts = {BYTES(BLOCK, "the name", name),
+                                  FILLS(FIRST_FILLED, "the number", hash_algorithm, sizeof *hash_algorithm)}};
+
+    MAKES(call, verity_algorithm_by_name(call.at[0], name.length, call.at[1]));
+    return call.status;
+}
+
+/* Of a text only its own bytes and the zero are written: what stands behind stays. */
+int call_text(enum text text, int number, char *bytes, size_t room, size_t *length)
+{
+    struct call call = {.name = text == NAME ? "verity_algorithm_name" : "verity_status_text",
+                        .parts = {{FIRST_FILLED, CHANGED, "the text", bytes, room, NULL, 0},
+                                  FILLS(SECOND_FILLED, "the length", length, sizeof *length)}};
+
+    MAKES(call, text == NAME ? verity_algorithm_name((uint32_t)number, call.at[0], room, call.at[1])
+                             : verity_status_text(number, call.at[0], room, call.at[1]));
+    return call.status;
+}
+
+uint32_t call_version(void)
+{
+    struct call call = {.name = "verity_version"};
+    uint32_t version = 0;
+
+    MAKES(call, (version = verity_version(), VERITY_OK));
+    return version;
 }

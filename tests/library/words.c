@@ -1,4 +1,4 @@
-/* The words of debian_images.c and feeding.c; see words.h. */
+/* The words of parameters.c and file_trees.c; see words.h. */
 #include "words.h"
 
 #include <stdio.h>
@@ -6,16 +6,6 @@
 #include <string.h>
 
 #include "support.h"
-
-uint64_t number_of(const char *text)
-{
-    char *end;
-    uint64_t number = strtoull(text, &end, 10);
-
-    if (*text == '\0' || *end != '\0')
-        give_up("a number is expected");
-    return number;
-}
 
 size_t bytes_of_text(const char *text, uint8_t *bytes, size_t room)
 {
@@ -40,21 +30,4 @@ uint32_t function_of(const char *name)
         if (strcmp(name, name_of(function)) == 0)
             return function;
     give_up("a hash function is expected");
-}
-
-uint8_t *content_of(const char *name, size_t unit, size_t *length)
-{
-    FILE *file = fopen(name, "rb");
-    uint8_t *bytes;
-    long end;
-
-    if (file == NULL || fseek(file, 0, SEEK_END) != 0 || (end = ftell(file)) < 0)
-        give_up("a file can't be read");
-    *length = (size_t)end;
-    bytes = calloc(1, *length + unit);
-    rewind(file);
-    if (bytes == NULL || fread(bytes, 1, *length, file) != *length)
-        give_up("a file can't be read");
-    fclose(file);
-    return bytes;
 }

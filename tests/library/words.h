@@ -1,19 +1,14 @@
-/* How debian_images.c and feeding.c read the words that they are handed. What can't be read ends the program. */
+/* How parameters.c and file_trees.c read the words that they are handed. What can't be read ends the program. */
 #ifndef WORDS_H
 #define WORDS_H
 
 #include <stddef.h>
 #include <stdint.h>
 
-uint64_t number_of(const char *text);
-
 /* The bytes of hexadecimal digits, and how many they are; `-` for none. */
 size_t bytes_of_text(const char *text, uint8_t *bytes, size_t room);
 
 /* The number of a hash function that verity.h has. */
 uint32_t function_of(const char *name);
-
-/* The bytes of a file, and behind them as many zeros as a unit has bytes. length is the file's. */
-uint8_t *content_of(const char *name, size_t unit, size_t *length);
 
 #endif

@@ -10,7 +10,7 @@ use verity_tree::{FileBuilder, HashBlock, Plan, TreeBuilder};
 
 /// Files that grow from each size to the next: about the ends of blocks and of windows, and where the tree has a level
 /// more. Of each size the number of levels is stated.
-const GROWING: [(Row, &[(usize, usize)]); 4] = [
+pub const GROWING: [(Row, &[(usize, usize)]); 4] = [
     (
         (FILE, SHA256, b"", (64, 64), (2, 32), (1, 0)),
         &[

@@ -11,7 +11,7 @@ use verity_tree::{
 
 /// Powers of the fan-out, a block more and less, a single block, and a last block that isn't full; plain and salted, and
 /// hashed alone and side by side.
-const SHAPES: [Row; 11] = [
+pub const SHAPES: [Row; 11] = [
     (CURRENT, SHA256, b"", (512, 512), (16, 32), (512, 0)),
     (CURRENT, SHA256, b"", (512, 512), (16, 32), (8192, 1)),
     (CURRENT, SHA256, b"salt", (512, 512), (16, 32), (8704, 2)),
@@ -59,7 +59,7 @@ const LENGTHS: [usize; 13] = [
 ];
 
 /// The length of the next piece: this one, or for 0 one below 5000, another at each step, and 0 at every fourth.
-fn next_length(piece: usize, step: usize) -> usize {
+pub fn next_length(piece: usize, step: usize) -> usize {
     if piece > 0 {
         return piece;
     }
@@ -70,7 +70,7 @@ fn next_length(piece: usize, step: usize) -> usize {
 }
 
 /// Writes a hash block that was handed out at its place.
-fn write(
+pub fn write(
     device: &mut MemoryDevice,
     memory: &[u8],
     block: &HashBlock,
@@ -122,7 +122,7 @@ pub fn feed_file(builder: &mut FileBuilder, memory: &mut [u8], piece: &[u8]) -> 
 }
 
 /// The hash block that was handed out last after an answer, if it was `last` before.
-fn last_after(fed: &Fed, last: Option<HashBlock>) -> Option<HashBlock> {
+pub fn last_after(fed: &Fed, last: Option<HashBlock>) -> Option<HashBlock> {
     if fed.hash_block.is_some() || fed.taken > 0 {
         return fed.hash_block;
     }

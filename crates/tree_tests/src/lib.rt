@@ -18,9 +18,13 @@ mod faults_in_turn;
 #[cfg(test)]
 mod feeding;
 #[cfg(test)]
+mod file_trees;
+#[cfg(test)]
 mod largest_plans;
 #[cfg(test)]
 mod one_message;
+#[cfg(test)]
+mod parts;
 #[cfg(test)]
 mod paths;
 #[cfg(test)]

@@ -3,7 +3,7 @@ use Rattle.std.proofs.Common.{◌≡◌, ◌<◌, ◌≤◌, ◌+◌, ℕ, Bool,
 use Rattle.std.proofs.Common.{Some, None, Result, Ok, IfOk, if◌then◌else◌, arith, ap, inl, inr, refl, subst, sym, ◌∙◌}
 use Rattle.std.proofs.lemmas.Bool.Decides.{nat_tests}
 use Rattle.std.proofs.lemmas.List.{length-replicate}
-use Rattle.std.specs.Prelude.{◌==◌}
+use Rattle.std.specs.Prelude.{◌==◌, MatchOption}
 use Rattle.verity_format.specs.Descriptors.{digest_of_file}
 use Rattle.verity_hash.specs.declared.algorithm.Algorithm.{Algorithm as HashFunction}
 use Rattle.verity_plan.specs.Plans.{PlanFields}
@@ -11,14 +11,14 @@ use Rattle.verity_plan.specs.PlanCounts.{level_count_of}
 use Rattle.verity_plan.proofs.CountLemmas.{mul_le}
 use Rattle.verity_plan.specs.Settings.{TreeSettingsFields, digest_len}
 use Rattle.verity_tree.proofs.OpenBlockLemmas.{length-hash}
-use Rattle.verity_tree.specs.Feeding.{Feeds, IsFed, IsFedFile, Takes}
+use Rattle.verity_tree.specs.Feeding.{Feeds, IsFed, IsFedFile, IsHandedOut, Takes}
 use Rattle.verity_tree.specs.Levels.{root, root_of_file}
 use Rattle.verity_tree.specs.declared.file_builder.FileBuilder.{FileBuilder}
 use Rattle.verity_tree.specs.declared.tree_builder.Fed.{Fed}
 use Rattle.verity_tree.specs.declared.tree_builder.HashBlock.{HashBlock}
 use Rattle.verity_tree.specs.declared.tree_builder.TreeBuilder.{TreeBuilder}
 use Rattle.verity_c.specs.Answers.{file_digest_in}
-use Rattle.verity_c.specs.Building.{HandsOut, IsFedFileTo, IsFedTo, TakesPiece, builder_of, fed_by, fed_of}
+use Rattle.verity_c.specs.Building.{HandsOut, IsFedFileTo, IsFedTo, StandsLast, TakesPiece, builder_of, fed_by, fed_of}
 use Rattle.verity_c.specs.Building.{file_builder_of}
 use Rattle.verity_c.specs.Parameters.{algorithm_of, fsverity_tree_by, fsverity_tree_of, plan_of}
 use Rattle.verity_c.specs.declared.build.VerityBuild.{VerityBuild}
@@ -63,7 +63,7 @@ IsFedFileTo-at params s memory fed made h =
     subst (λ (t : TreeSettingsFields). IsFedFile (file_builder_of t params.size) memory fed) same h.is_fed
 
 -- a file's settings don't go by its size
-tree-sized : (function : Option HashFunction) (params : FsverityParams) (size : ℕ)
+pub tree-sized : (function : Option HashFunction) (params : FsverityParams) (size : ℕ)
     → fsverity_tree_by function (record params { size = size }) ≡ fsverity_tree_by function params
 tree-sized None params size = refl
 tree-sized (Some function) params size = refl
@@ -162,6 +162,29 @@ HandsOut-at params p before after bytes piece memory answer fed made is some h =
     let all : List ℕ = bytes ++ take fed.taken piece in
     subst (λ (r : Result PlanFields Fault). IfOk r (λ q. HandsOut q before last all memory fed)) (sym made)
     (subst (λ (f : VerityFed). HandsOut p before last (bytes ++ take f.taken piece) memory f) (sym is) there)
+
+-- the hash block that was handed out last, in the numbers of the struct
+StandsLast-by : (p : PlanFields) (build : VerityBuild) (bytes memory : List ℕ) (last : Option HashBlock)
+    → 0 < p.settings.hash_block → MatchOption last (build.closed ≡ 0) (λ block. IsHandedOut p bytes memory block)
+    → StandsLast p build bytes memory (fed_by p.settings.hash_block 0 last)
+StandsLast-by p build bytes memory None some h = record {
+  none = λ _. h;
+  block = λ some_block. absurd (some_block refl);
+}
+StandsLast-by p build bytes memory (Some block) some h = record {
+  none = λ zero. absurd (omega (arith, some, zero));
+  block = λ _. h;
+}
+
+-- it stands in the memory, by the plan that parameters make
+pub StandsLast-at : (params : VerityParams) (p : PlanFields) (build : VerityBuild) (bytes memory : List ℕ)
+    (last : Option HashBlock) (fed : VerityFed) → plan_of params ≡ Ok p → fed ≡ fed_by p.settings.hash_block 0 last
+    → 0 < p.settings.hash_block → MatchOption last (build.closed ≡ 0) (λ block. IsHandedOut p bytes memory block)
+    → IfOk (plan_of params) (λ q. StandsLast q build bytes memory fed)
+StandsLast-at params p build bytes memory last fed made is some h =
+    subst (λ (r : Result PlanFields Fault). IfOk r (λ q. StandsLast q build bytes memory fed)) (sym made)
+    (subst (λ (f : VerityFed). StandsLast p build bytes memory f) (sym is)
+    (StandsLast-by p build bytes memory last some h))
 
 -- a root hash is as long as its digests, and so is that of an empty file
 pub length-root : (s : TreeSettingsFields) (blocks : List (List ℕ)) → length (root s blocks) ≡ digest_len s

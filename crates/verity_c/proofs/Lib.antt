@@ -1,4 +1,12 @@
 pub mod BuildingLemmas
+pub mod FileTreeLemmas
+pub mod BuildingLoopLemmas
 pub mod LevelLemmas
+pub mod LoopEndLemmas
+pub mod MadeLemmas
+pub mod PathLengthLemmas
+pub mod PathLengthRows
+pub mod ReadBackLemmas
 pub mod ReadLemmas
 pub mod SuperblockLemmas
+pub mod TrustedBlockLemmas

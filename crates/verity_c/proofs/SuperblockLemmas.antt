@@ -28,7 +28,7 @@ use Rattle.verity_c.specs.declared.fault.Fault.TheVariants as fault
 use Rattle.verity_c.specs.declared.parameters.VerityParams.{VerityParams}
 
 -- settings that pass their tests are those that were asked for
-settings_are : (asked tree : TreeSettingsFields) → checked_settings asked ≡ Ok tree → tree ≡ asked
+pub settings_are : (asked tree : TreeSettingsFields) → checked_settings asked ≡ Ok tree → tree ≡ asked
 settings_are asked tree made =
     by_tests (not (is_block_size (least_block asked.rule (digest_len_of asked.algorithm)) asked.data_block))
     (not (is_block_size (least_block asked.rule (digest_len_of asked.algorithm)) asked.hash_block))
@@ -45,11 +45,11 @@ settings_are asked tree made =
     by_tests false false true e = absurd cc
     by_tests false false false e = cc
 
-abbrev checked : TreeSettingsFields → Result TreeSettingsFields SettingFault
+abbrev pub checked : TreeSettingsFields → Result TreeSettingsFields SettingFault
 checked tree = Ok tree
 
 -- and so are those whose salt fits
-if_salt_fits-ok : (made : Result TreeSettingsFields SettingFault) (size most : ℕ) (tree : TreeSettingsFields)
+pub if_salt_fits-ok : (made : Result TreeSettingsFields SettingFault) (size most : ℕ) (tree : TreeSettingsFields)
     → if_salt_fits made size most ≡ Ok tree → made ≡ Ok tree
 if_salt_fits-ok (Err fault) size most tree e = absurd cc
 if_salt_fits-ok (Ok asked) size most tree e = ap checked (by_test (nat_le size most) e)
@@ -79,7 +79,7 @@ plan_from-parts tree blocks None p made = by_test (blocks == 0) made
     by_test true e = absurd cc
     by_test false e = absurd cc
 
-planned-ok : (made : Result PlanFields PlanFault) (p : PlanFields) → planned made ≡ Ok p → made ≡ Ok p
+pub planned-ok : (made : Result PlanFields PlanFault) (p : PlanFields) → planned made ≡ Ok p → made ≡ Ok p
 planned-ok (Ok q) p e = cc
 planned-ok (Err fault) p e = absurd cc
 
@@ -90,7 +90,7 @@ plan_if-parts (Some offset) tree params p made =
     plan_from-parts tree params.data_blocks (base_of offset (params.no_superblock == 0) tree.hash_block) p
     (planned-ok (plan_at tree params.data_blocks offset (params.no_superblock == 0)) p made)
 
-plan_by-parts : (tree : Result TreeSettingsFields Fault) (params : VerityParams) (p : PlanFields) → plan_by tree params ≡ Ok p
+pub plan_by-parts : (tree : Result TreeSettingsFields Fault) (params : VerityParams) (p : PlanFields) → plan_by tree params ≡ Ok p
     → (tree ≡ Ok p.settings) × (p.blocks ≡ params.data_blocks)
 plan_by-parts (Err fault) params p made = absurd cc
 plan_by-parts (Ok tree) params p made =
@@ -113,7 +113,7 @@ own_type : (hash_type : HashType) → hash_type_of (rule_of hash_type) ≡ Some 
 own_type Original = refl
 own_type Current = refl
 
-superblock_of-own : (v : SuperblockFields) → IsValidSuperblock v → superblock_of v.tree v.uuid v.blocks ≡ Some v
+pub superblock_of-own : (v : SuperblockFields) → IsValidSuperblock v → superblock_of v.tree v.uuid v.blocks ≡ Some v
 superblock_of-own v valid =
     let some : nat_lt 0 v.blocks ≡ true = grind (arith, nat_tests, valid.some) in
     let within : nat_le (v.blocks * v.tree.data_block) 9223372036854775807 ≡ true =

@@ -1,12 +1,12 @@
 -- What each call of the library for C answers: its status, and what it leaves in what it was handed to fill. A fault leaves
 -- that as it was.
-use Rattle.std.specs.Prelude.{◌≡◌, ℕ, ◌+◌, ◌/◌, ◌^◌, ◌==◌, List, [], length, nat_le, not, Option, Some, None, Result}
+use Rattle.std.specs.Prelude.{◌≡◌, ℕ, ℤ, ◌+◌, ◌*◌, ◌/◌, ◌^◌, ◌==◌, List, [], length, nat_le, not, Option, Some, None, Result}
 use Rattle.std.specs.Prelude.{Ok, Err, if◌then◌else◌}
 use Rattle.verity_format.specs.Descriptors.{DescriptorFields, descriptor_bytes, digest_of_file}
 use Rattle.verity_format.specs.Superblocks.{IsSuperblock, SuperblockFields, superblock_bytes}
 use Rattle.verity_format.specs.CheckedSuperblocks.{superblock_of}
 use Rattle.verity_format.specs.declared.super_fault.SuperFault.{SuperFault}
-use Rattle.verity_plan.specs.Plans.{PlanFields, start_byte_of, superblock_size}
+use Rattle.verity_plan.specs.Plans.{PlanFields, end_place_of, start_byte_of, superblock_size}
 use Rattle.verity_plan.specs.PlanCounts.{level_count_of, level_size_of}
 use Rattle.verity_plan.specs.Settings.{TreeSettingsFields, digest_len, fan}
 use Rattle.verity_tree.specs.Links.{checked_link, checked_top}
@@ -43,6 +43,10 @@ with_block (Ok p) i level = if nat_le p.blocks i then Err Index else with_level 
 abbrev pub level_count_in : Result PlanFields Fault → Result ℕ Fault
 level_count_in plan = number_in plan level_count_of
 
+-- the byte at which a plan's hash area ends, after all hash blocks
+abbrev pub hash_area_end_in : Result PlanFields Fault → Result ℕ Fault
+hash_area_end_in plan = number_in plan (λ p. end_place_of p * p.settings.hash_block)
+
 -- where a level begins, in bytes, and how many hash blocks it has
 abbrev pub level_start_in : Result PlanFields Fault → ℕ → Result ℕ Fault
 level_start_in plan level = number_in (with_level plan level) (λ p. start_byte_of p level 0)
@@ -56,7 +60,7 @@ hash_block_start_in plan i level =
     number_in (with_block plan i level) (λ p. start_byte_of p level (i / fan p.settings ^ (level + 1)))
 
 -- the status of a block that is checked by the hash block above it
-abbrev pub link_status_in : Result PlanFields Fault → ℕ → ℕ → List ℕ → List ℕ → ℕ
+abbrev pub link_status_in : Result PlanFields Fault → ℕ → ℕ → List ℕ → List ℕ → ℤ
 link_status_in (Err fault) i level block above = code_of fault
 link_status_in (Ok p) i level block above = link_status (checked_link p i level block above)
 
@@ -66,7 +70,7 @@ with_root (Err fault) root = Err fault
 with_root (Ok p) root = if length root == digest_len p.settings then Ok p else Err Root
 
 -- the status of a top block that is checked by the root hash
-abbrev pub top_status_in : Result PlanFields Fault → ℕ → List ℕ → List ℕ → ℕ
+abbrev pub top_status_in : Result PlanFields Fault → ℕ → List ℕ → List ℕ → ℤ
 top_status_in (Err fault) i block root = code_of fault
 top_status_in (Ok p) i block root = link_status (checked_top p i block root)
 
@@ -76,22 +80,22 @@ level_or before (Err (DiffersAt level)) = level
 level_or before _ = before
 
 -- the status of a data block that is checked by its path, and what the level becomes
-pub record AnswersPath (p : PlanFields) (i : ℕ) (block path root : List ℕ) (status before after : ℕ) : Type 0 where
+pub record AnswersPath (p : PlanFields) (i : ℕ) (block path root : List ℕ) (status : ℤ) (before after : ℕ) : Type 0 where
   pub answer : Result Unit PathFault
   pub checked : ChecksBlock p i block path root answer
   pub status_is : status ≡ path_status answer
   pub level_is : after ≡ level_or before answer
 
-pub record AnswersFault (fault : Fault) (status before after : ℕ) : Type 0 where
+pub record AnswersFault (fault : Fault) (status : ℤ) (before after : ℕ) : Type 0 where
   pub status_is : status ≡ code_of fault
   pub level_is : after ≡ before
 
-abbrev pub AnswersBlock : Result PlanFields Fault → ℕ → List ℕ → List ℕ → List ℕ → ℕ → ℕ → ℕ → Type 0
+abbrev pub AnswersBlock : Result PlanFields Fault → ℕ → List ℕ → List ℕ → List ℕ → ℤ → ℕ → ℕ → Type 0
 AnswersBlock (Err fault) i block path root status before after = AnswersFault fault status before after
 AnswersBlock (Ok p) i block path root status before after = AnswersPath p i block path root status before after
 
 -- the status of bytes that are read as a superblock
-abbrev pub superblock_status : Option SuperFault → ℕ
+abbrev pub superblock_status : Option SuperFault → ℤ
 superblock_status None = done
 superblock_status (Some fault) = code_of (fault_of_superblock fault)
 

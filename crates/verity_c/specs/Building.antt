@@ -1,15 +1,15 @@
 -- What the calls of the library for C answer that build a tree as pieces of its data come. Whoever reads a contract
 -- need not know how memory holds what was fed: it holds no bytes at the beginning, those before and those of the piece
 -- after feeding, and the answer at the end is of all. A fault leaves everything as it was.
-use Rattle.std.specs.Prelude.{◌≡◌, ◌≢◌, ◌<◌, ◌≤◌, ◌⊎◌, ℕ, ◌+◌, ◌==◌, ◌&&◌, List, [], ◌∷◌, ◌++◌, length, Option, Some}
-use Rattle.std.specs.Prelude.{None, Result, Ok, Err, if◌then◌else◌}
+use Rattle.std.specs.Prelude.{◌≡◌, ◌≢◌, ◌<◌, ◌≤◌, ◌⊎◌, ℕ, ◌+◌, ◌-◌, ◌*◌, ◌/◌, ◌^◌, ◌==◌, ◌||◌, List, [], ◌∷◌, ◌++◌}
+use Rattle.std.specs.Prelude.{length, not, Option, Some, None, Result, Ok, Err, if◌then◌else◌}
 use Rattle.verity_format.specs.Descriptors.{digest_of_file}
-use Rattle.verity_plan.specs.Plans.{PlanFields}
+use Rattle.verity_plan.specs.Plans.{PlanFields, start_byte_of}
 use Rattle.verity_plan.specs.PlanCounts.{level_count_of, most_level_count}
-use Rattle.verity_plan.specs.Settings.{TreeSettingsFields, digest_len}
-use Rattle.verity_tree.specs.ClosingOrder.{BlockIndex, block_index, handed_out}
-use Rattle.verity_tree.specs.Feeding.{IsFed, IsFedFile, IsHandedOut, IsPlaced, end_fault, feed_fault, feeding_length}
-use Rattle.verity_tree.specs.Feeding.{file_fault}
+use Rattle.verity_plan.specs.Settings.{TreeSettingsFields, digest_len, fan}
+use Rattle.verity_tree.specs.ClosingOrder.{BlockIndex, block_index, blocks_before, handed_out}
+use Rattle.verity_tree.specs.Feeding.{IsFed, IsFedFile, IsHandedOut, IsPlaced, end_fault, feed_fault}
+use Rattle.verity_tree.specs.Feeding.{feeding_length, file_fault}
 use Rattle.verity_tree.specs.Levels.{data_blocks, root, root_of_file}
 use Rattle.verity_tree.specs.declared.feed_fault.FeedFault.{FeedFault}
 use Rattle.verity_tree.specs.declared.file_builder.FileBuilder.{FileBuilder}
@@ -22,7 +22,7 @@ use Rattle.verity_c.specs.Statuses.{fault_of_feed}
 use Rattle.verity_c.specs.declared.build.VerityBuild.{VerityBuild}
 use Rattle.verity_c.specs.declared.build.VerityFed.{VerityFed}
 use Rattle.verity_c.specs.declared.fault.Fault.{Fault}
-use Rattle.verity_c.specs.declared.fault.Fault.TheVariants.{Length}
+use Rattle.verity_c.specs.declared.fault.Fault.TheVariants.{Length, Root}
 use Rattle.verity_c.specs.declared.parameters.FsverityParams.{FsverityParams}
 use Rattle.verity_c.specs.declared.parameters.VerityParams.{VerityParams}
 
@@ -71,7 +71,7 @@ with_piece (Ok p) build count = unless (feed_fault (builder_of p build) count) p
 abbrev pub with_all_fed : Result PlanFields Fault → VerityBuild → ℕ → Result PlanFields Fault
 with_all_fed (Err fault) build room = Err fault
 with_all_fed (Ok p) build room =
-    if room == digest_len p.settings then unless (end_fault (builder_of p build)) p else Err Length
+    if not (room == digest_len p.settings) then Err Root else unless (end_fault (builder_of p build)) p
 
 -- so many bytes were taken and no hash block is handed out: the other numbers are 0
 abbrev pub without_block : ℕ → VerityFed
@@ -113,6 +113,31 @@ pub record HandsOut (p : PlanFields) (before after : VerityBuild) (bytes memory 
   pub order : handed_out p after.fed after.closed ≡ handed_out p before.fed before.closed ++ given_by fed
   pub block : fed.block_length ≢ 0 → IsHandedOut p bytes memory (block_of fed)
 
+-- the hash block that was handed out last, by what a struct counts; all numbers are 0 if it counts none since the latest
+-- byte was fed
+abbrev pub last_index : PlanFields → VerityBuild → ℕ
+last_index p build = blocks_before p.settings build.fed / fan p.settings ^ build.closed
+
+abbrev pub last_of : PlanFields → VerityBuild → VerityFed
+last_of p build = if (build.fed == 0) || (build.closed == 0) then without_block 0 else record {
+  taken = 0;
+  block_length = p.settings.hash_block;
+  block_at = (build.closed - 1) * p.settings.hash_block;
+  block_start = start_byte_of p (build.closed - 1) (last_index p build);
+  block_index = last_index p build;
+  block_level = build.closed - 1;
+}
+
+abbrev pub last_in : Result PlanFields Fault → VerityBuild → Result VerityFed Fault
+last_in (Err fault) build = Err fault
+last_in (Ok p) build = Ok (last_of p build)
+
+-- with these bytes fed, the hash block that is named stands in the memory and is the tree's; if none is named, none was
+-- handed out since the latest byte was fed
+pub record StandsLast (p : PlanFields) (build : VerityBuild) (bytes memory : List ℕ) (fed : VerityFed) : Type 0 where
+  pub none : fed.block_length ≡ 0 → build.closed ≡ 0
+  pub block : fed.block_length ≢ 0 → IsHandedOut p bytes memory (block_of fed)
+
 -- the root hash of a plan's tree above these bytes
 abbrev pub root_in : Result PlanFields Fault → List ℕ → Result (List ℕ) Fault
 root_in (Err fault) bytes = Err fault
@@ -139,9 +164,9 @@ with_file_piece (Ok tree) size count = unless (file_fault (file_builder_of tree 
 -- the settings, if there is room for just a root hash and a file digest, and a tree above so many bytes
 abbrev pub with_file_end : Result TreeSettingsFields Fault → ℕ → ℕ → ℕ → Result TreeSettingsFields Fault
 with_file_end (Err fault) size root_room digest_room = Err fault
-with_file_end (Ok tree) size root_room digest_room =
-    if (root_room == digest_len tree) && (digest_room == digest_len tree)
-    then unless (file_fault (file_builder_of tree size) 0) tree else Err Length
+with_file_end (Ok tree) size root_room digest_room = if not (root_room == digest_len tree) then Err Root
+    else (if not (digest_room == digest_len tree) then Err Length
+    else unless (file_fault (file_builder_of tree size) 0) tree)
 
 -- the root hash and the digest of the file that these bytes are
 abbrev pub file_root_in : Result TreeSettingsFields Fault → List ℕ → Result (List ℕ) Fault

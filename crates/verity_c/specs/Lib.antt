@@ -1,4 +1,11 @@
 pub mod Statuses
 pub mod Parameters
 pub mod Answers
+pub mod ReadBack
+pub mod TrustedBlocks
 pub mod Building
+pub mod Texts
+pub mod FileTrees
+pub mod Algorithms
+pub mod Same
+pub mod BuildingLoop

@@ -1,5 +1,5 @@
 -- The statuses of the library for C, by the numbers that verity.h gives them (this project's own).
-use Rattle.std.specs.Prelude.{ℕ, Result, Ok, Err}
+use Rattle.std.specs.Prelude.{ℕ, ℤ, pos, neg_ℤ, Result, Ok, Err}
 use Rattle.verity_format.specs.declared.super_fault.SuperFault.{SuperFault}
 use Rattle.verity_format.specs.declared.super_fault.SuperFault.TheVariants as superblock
 use Rattle.verity_plan.specs.declared.plan_fault.PlanFault.{PlanFault}
@@ -18,33 +18,37 @@ use Rattle.verity_c.specs.declared.fault.Fault.TheVariants.{DataBlockSize, HashB
 use Rattle.verity_c.specs.declared.fault.Fault.TheVariants.{TooLarge, Short, Signature, Version, TooLong, TooShort, Waiting}
 
 -- the status of a call that has done what it is for
-abbrev pub done : ℕ
-done = 0
+abbrev pub done : ℤ
+done = pos 0
+
+-- the number -n
+abbrev pub minus : ℕ → ℤ
+minus n = neg_ℤ (pos n)
 
 -- the status of a fault
-abbrev pub code_of : Fault → ℕ
-code_of Differs = 1
-code_of Index = 2
-code_of Level = 3
-code_of Length = 4
-code_of Root = 5
-code_of Algorithm = 6
-code_of HashType = 7
-code_of DataBlockSize = 8
-code_of HashBlockSize = 9
-code_of SaltSize = 10
-code_of HashOffset = 11
-code_of NoData = 12
-code_of TooLarge = 13
-code_of Short = 14
-code_of Signature = 15
-code_of Version = 16
-code_of TooLong = 17
-code_of TooShort = 18
-code_of Waiting = 19
+abbrev pub code_of : Fault → ℤ
+code_of Differs = minus 1
+code_of Index = minus 2
+code_of Level = minus 3
+code_of Length = minus 4
+code_of Root = minus 5
+code_of Algorithm = minus 6
+code_of HashType = minus 7
+code_of DataBlockSize = minus 8
+code_of HashBlockSize = minus 9
+code_of SaltSize = minus 10
+code_of HashOffset = minus 11
+code_of NoData = minus 12
+code_of TooLarge = minus 13
+code_of Short = minus 14
+code_of Signature = minus 15
+code_of Version = minus 16
+code_of TooLong = minus 17
+code_of TooShort = minus 18
+code_of Waiting = minus 19
 
 -- the status of a value or a fault
-abbrev pub status_of : {A : Type 0} → Result A Fault → ℕ
+abbrev pub status_of : {A : Type 0} → Result A Fault → ℤ
 status_of (Ok _) = done
 status_of (Err fault) = code_of fault
 
@@ -79,13 +83,13 @@ fault_of_feed feed.Waiting = Waiting
 fault_of_feed feed.TooLarge = TooLarge
 
 -- the status of a data block that is checked by its path, and of one that is checked by the block above it
-abbrev pub path_status : Result Unit PathFault → ℕ
+abbrev pub path_status : Result Unit PathFault → ℤ
 path_status (Ok _) = done
 path_status (Err path.Index) = code_of Index
 path_status (Err path.Length) = code_of Length
 path_status (Err (path.DiffersAt _)) = code_of Differs
 
-abbrev pub link_status : Result Unit LinkFault → ℕ
+abbrev pub link_status : Result Unit LinkFault → ℤ
 link_status (Ok _) = done
 link_status (Err link.Index) = code_of Index
 link_status (Err link.Level) = code_of Level

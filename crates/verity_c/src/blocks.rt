@@ -24,7 +24,7 @@ pub extern "C" fn verity_check_block(
     path: &[u8],
     root: &[u8],
     level: &mut usize,
-) -> u32
+) -> i32
     ensures { AnswersBlock (with_root (plan_of params.now) root.now) index block.now path.now root.now result level.old
         level.new }
 {
@@ -40,7 +40,7 @@ pub extern "C" fn fsverity_check_block(
     path: &[u8],
     root: &[u8],
     level: &mut usize,
-) -> u32
+) -> i32
     ensures { AnswersBlock (with_root (fsverity_plan_of params.now) root.now) index block.now path.now root.now result
         level.old level.new }
 {
@@ -54,7 +54,7 @@ fn check_block_in(
     path: &[u8],
     root: &[u8],
     level: &mut usize,
-) -> u32
+) -> i32
     ensures { AnswersBlock (with_root plan root.now) index block.now path.now root.now result level.old level.new }
 {
     let plan = match plan {

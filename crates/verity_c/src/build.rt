@@ -7,19 +7,19 @@
 pub struct VerityBuild {
     /// How many bytes were fed.
     pub fed: u64,
-    /// Of how many levels the hash blocks above the last byte were handed out since it was fed.
+    /// Of how many levels the hash blocks above the latest byte were handed out since it was fed.
     pub closed: usize,
 }
 
-/// How much of a piece was taken, and the hash block that has closed: `struct verity_fed` of verity.h.
+/// How much of a piece was taken, and the hash block that is handed out: `struct verity_fed` of verity.h.
 #[repr(C)]
 #[derive(Clone, Copy)]
 pub struct VerityFed {
     /// How many bytes of the piece were taken.
     pub taken: usize,
-    /// The length of the hash block that has closed, in bytes: 0 if none has, and then the other four are 0 too.
+    /// The length of the hash block that is handed out, in bytes: 0 if none is, and then the numbers below are 0 too.
     pub block_length: usize,
-    /// The byte of the memory at which it stands until the next call of `verity_build_feed`.
+    /// The byte of the memory at which it stands until bytes are taken or the next one is handed out.
     pub block_at: usize,
     /// The byte of the hash device at which it goes.
     pub block_start: u64,

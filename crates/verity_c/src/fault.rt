@@ -2,26 +2,28 @@
 ghost use Rattle.std.specs.Prelude.{◌≡◌, Ok};
 ghost use Rattle.verity_c.specs.Statuses.{code_of, fault_of_feed, fault_of_plan, fault_of_setting, fault_of_superblock};
 ghost use Rattle.verity_c.specs.Statuses.{link_status, path_status};
+ghost use Rattle.verity_c.specs.Texts.{fault_numbered, text_of_fault};
 
 use verity_format::SuperFault;
 use verity_plan::{PlanFault, SettingFault};
 use verity_tree::{FeedFault, LinkFault, PathFault};
 
 /// The status of a call that has done what it is for.
-pub(crate) const DONE: u32 = 0;
+pub(crate) const DONE: i32 = 0;
 
 /// Why a call has not done what it is for; each has a status of its own in verity.h.
 #[derive(Clone, Copy, Debug, PartialEq, Eq)]
 pub(crate) enum Fault {
-    /// A block is not the one that the digest above it, or the root hash, stands for.
+    /// A block is not the one that the digest above it, or the root hash, stands for; or parameters aren't the trusted
+    /// ones.
     Differs,
     /// There is no data block of this number.
     Index,
     /// The tree has no level of this number.
     Level,
-    /// A block, a path or a buffer has another length.
+    /// A block, a path, a digest, the memory or a buffer has the wrong length.
     Length,
-    /// The root hash is not as long as a digest of the hash function.
+    /// The root hash, or the buffer for it, is not as long as a digest of the hash function.
     Root,
     /// The hash function is not known.
     Algorithm,
@@ -49,35 +51,90 @@ pub(crate) enum Fault {
     TooLong,
     /// There are fewer bytes than the parameters say.
     TooShort,
-    /// A hash block is still to be handed out.
+    /// A hash block is still to be handed out, or the rest of a piece to be fed.
     Waiting,
 }
 
 impl Fault {
-    /// Its status in verity.h.
-    pub(crate) fn code(self) -> u32
+    /// Its status in verity.h: a negative number.
+    pub(crate) fn code(self) -> i32
         ensures { result ≡ code_of self }
     {
         match self {
-            Fault::Differs => 1,
-            Fault::Index => 2,
-            Fault::Level => 3,
-            Fault::Length => 4,
-            Fault::Root => 5,
-            Fault::Algorithm => 6,
-            Fault::HashType => 7,
-            Fault::DataBlockSize => 8,
-            Fault::HashBlockSize => 9,
-            Fault::SaltSize => 10,
-            Fault::HashOffset => 11,
-            Fault::NoData => 12,
-            Fault::TooLarge => 13,
-            Fault::Short => 14,
-            Fault::Signature => 15,
-            Fault::Version => 16,
-            Fault::TooLong => 17,
-            Fault::TooShort => 18,
-            Fault::Waiting => 19,
+            Fault::Differs => -1,
+            Fault::Index => -2,
+            Fault::Level => -3,
+            Fault::Length => -4,
+            Fault::Root => -5,
+            Fault::Algorithm => -6,
+            Fault::HashType => -7,
+            Fault::DataBlockSize => -8,
+            Fault::HashBlockSize => -9,
+            Fault::SaltSize => -10,
+            Fault::HashOffset => -11,
+            Fault::NoData => -12,
+            Fault::TooLarge => -13,
+            Fault::Short => -14,
+            Fault::Signature => -15,
+            Fault::Version => -16,
+            Fault::TooLong => -17,
+            Fault::TooShort => -18,
+            Fault::Waiting => -19,
+        }
+    }
+
+    /// The fault whose status in verity.h is minus this number, if there is one.
+    pub(crate) fn numbered(number: u32) -> Option<Fault>
+        ensures { result ≡ fault_numbered number }
+    {
+        match number {
+            1 => Some(Fault::Differs),
+            2 => Some(Fault::Index),
+            3 => Some(Fault::Level),
+            4 => Some(Fault::Length),
+            5 => Some(Fault::Root),
+            6 => Some(Fault::Algorithm),
+            7 => Some(Fault::HashType),
+            8 => Some(Fault::DataBlockSize),
+            9 => Some(Fault::HashBlockSize),
+            10 => Some(Fault::SaltSize),
+            11 => Some(Fault::HashOffset),
+            12 => Some(Fault::NoData),
+            13 => Some(Fault::TooLarge),
+            14 => Some(Fault::Short),
+            15 => Some(Fault::Signature),
+            16 => Some(Fault::Version),
+            17 => Some(Fault::TooLong),
+            18 => Some(Fault::TooShort),
+            19 => Some(Fault::Waiting),
+            _ => None,
+        }
+    }
+
+    /// What it is, in words.
+    pub(crate) fn text(self) -> &'static str
+        ensures { result.now ≡ text_of_fault self }
+    {
+        match self {
+            Fault::Differs => "block, root hash or parameters differ",
+            Fault::Index => "no such data block",
+            Fault::Level => "no such level",
+            Fault::Length => "wrong length of a block, path, digest, memory or buffer",
+            Fault::Root => "wrong length of the root hash",
+            Fault::Algorithm => "unknown hash algorithm, or not one of fs-verity",
+            Fault::HashType => "unknown hash type",
+            Fault::DataBlockSize => "invalid data block size",
+            Fault::HashBlockSize => "invalid hash block size",
+            Fault::SaltSize => "invalid salt size",
+            Fault::HashOffset => "invalid hash offset",
+            Fault::NoData => "no data blocks",
+            Fault::TooLarge => "data or hash area too large",
+            Fault::Short => "fewer bytes than a superblock has",
+            Fault::Signature => "no superblock signature",
+            Fault::Version => "unknown superblock version",
+            Fault::TooLong => "more data than the parameters say",
+            Fault::TooShort => "less data than the parameters say",
+            Fault::Waiting => "a hash block, or the rest of a piece, is still to come",
         }
     }
 
@@ -136,7 +193,7 @@ impl Fault {
 }
 
 /// The status of a checked data block and its path.
-pub(crate) fn path_status(answer: Result<(), PathFault>) -> u32
+pub(crate) fn path_status(answer: Result<(), PathFault>) -> i32
     ensures { result ≡ path_status answer }
 {
     match answer {
@@ -148,7 +205,7 @@ pub(crate) fn path_status(answer: Result<(), PathFault>) -> u32
 }
 
 /// The status of a checked link.
-pub(crate) fn link_status(answer: Result<(), LinkFault>) -> u32
+pub(crate) fn link_status(answer: Result<(), LinkFault>) -> i32
     ensures { result ≡ link_status answer }
 {
     match answer {

@@ -19,7 +19,7 @@ use verity_tree::FileBuilder;
 ///
 /// The status is 0, or that of the first of `Algorithm`, `DataBlockSize`, `SaltSize`. Then the length stays as it was.
 #[unsafe(no_mangle)]
-pub extern "C" fn fsverity_build_memory(params: &FsverityParams, length: &mut usize) -> u32
+pub extern "C" fn fsverity_build_memory(params: &FsverityParams, length: &mut usize) -> i32
     ensures status { result ≡ status_of (file_memory_length_in (fsverity_tree_of params.now)) }
     ensures length { length.new ≡ value_or length.old (file_memory_length_in (fsverity_tree_of params.now)) }
 {
@@ -39,7 +39,7 @@ pub extern "C" fn fsverity_build_memory(params: &FsverityParams, length: &mut us
 /// The status is 0, or that of the first of `Algorithm`, `DataBlockSize`, `SaltSize`, `Length`. Then parameters and
 /// memory stay as they were.
 #[unsafe(no_mangle)]
-pub extern "C" fn fsverity_build_begin(params: &mut FsverityParams, memory: &mut [u8]) -> u32
+pub extern "C" fn fsverity_build_begin(params: &mut FsverityParams, memory: &mut [u8]) -> i32
     ensures status { result ≡ status_of (with_file_memory (fsverity_tree_of params.old) (length memory.old)) }
     ensures refused { result ≢ done → (params.new ≡ params.old) × (memory.new ≡ memory.old) }
     ensures size { result ≡ done → params.new ≡ record params.old { size = 0 } }
@@ -64,7 +64,7 @@ pub extern "C" fn fsverity_build_feed(
     params: &mut FsverityParams,
     memory: &mut [u8],
     piece: &[u8],
-) -> u32
+) -> i32
     ensures status { result ≡ status_of (with_file_piece (with_file_memory (fsverity_tree_of params.old)
         (length memory.old)) params.old.size (length piece.now)) }
     ensures refused { result ≢ done → (params.new ≡ params.old) × (memory.new ≡ memory.old) }
@@ -95,16 +95,17 @@ pub extern "C" fn fsverity_build_feed(
 /// function's digests. Both can be asked for at any time, as often as one likes: the memory stays that of the same
 /// bytes, and feeding goes on.
 ///
-/// The status is 0, or that of the first of `Algorithm`, `DataBlockSize`, `SaltSize`, `Length` (the memory's, then the
-/// buffers'), `TooLarge` (the bytes are too many for a tree, which no call before leaves). Then memory and buffers stay
-/// as they were. The answer is right where parameters and memory are as the call before left them.
+/// The status is 0, or that of the first of `Algorithm`, `DataBlockSize`, `SaltSize`, `Length` (the memory's), `Root`
+/// (the buffer for the root hash is shorter or longer), `Length` (the file digest's), `TooLarge` (the bytes are too
+/// many for a tree, which no call before leaves). Then memory and buffers stay as they were. The answer is right where
+/// parameters and memory are as the call before left them.
 #[unsafe(no_mangle)]
 pub extern "C" fn fsverity_build_end(
     params: &FsverityParams,
     memory: &mut [u8],
     root: &mut [u8],
     digest: &mut [u8],
-) -> u32
+) -> i32
     ensures status { result ≡ status_of (with_file_end (with_file_memory (fsverity_tree_of params.now)
         (length memory.old)) params.now.size (length root.old) (length digest.old)) }
     ensures refused { result ≢ done
@@ -121,7 +122,10 @@ pub extern "C" fn fsverity_build_end(
         Err(fault) => return fault.code(),
     };
     let digest_len = tree.algorithm().digest_len();
-    if root.len() != digest_len || digest.len() != digest_len {
+    if root.len() != digest_len {
+        return Fault::Root.code();
+    }
+    if digest.len() != digest_len {
         return Fault::Length.code();
     }
     let builder = FileBuilder {
@@ -141,7 +145,7 @@ pub extern "C" fn fsverity_build_end(
 /// long as their builder wants; or the first fault: that of the settings, `SaltSize`, `Length`. They aren't moved, which
 /// would take as long as a short piece takes otherwise.
 #[inline(always)]
-fn tree_in<'a>(
+pub(crate) fn tree_in<'a>(
     made: &'a Result<TreeSettings, SettingFault>,
     params: &FsverityParams,
     room: usize,

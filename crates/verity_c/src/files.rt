@@ -22,7 +22,7 @@ pub extern "C" fn fsverity_file_digest(
     params: &FsverityParams,
     root: &[u8],
     digest: &mut [u8],
-) -> u32
+) -> i32
     ensures status { result
         ≡ status_of (file_digest_in (fsverity_tree_of params.now) params.now.size root.now (length digest.old)) }
     ensures digest { digest.new
@@ -51,7 +51,7 @@ pub extern "C" fn fsverity_descriptor(
     params: &FsverityParams,
     root: &[u8],
     descriptor: &mut [u8],
-) -> u32
+) -> i32
     ensures status { result ≡ status_of (descriptor_bytes_in
         (descriptor_in (fsverity_tree_of params.now) params.now.size root.now) (length descriptor.old)) }
     ensures descriptor { descriptor.new ≡ value_or descriptor.old (descriptor_bytes_in

@@ -13,7 +13,7 @@ use verity_plan::Plan;
 ///
 /// The status is 0, or that of the first fault of the parameters. Then the number stays as it was.
 #[unsafe(no_mangle)]
-pub extern "C" fn verity_level_count(params: &VerityParams, levels: &mut usize) -> u32
+pub extern "C" fn verity_level_count(params: &VerityParams, levels: &mut usize) -> i32
     ensures status { result ≡ status_of (level_count_in (plan_of params.now)) }
     ensures levels { levels.new ≡ value_or levels.old (level_count_in (plan_of params.now)) }
 {
@@ -22,14 +22,14 @@ pub extern "C" fn verity_level_count(params: &VerityParams, levels: &mut usize) 
 
 /// The same of a file's fs-verity tree.
 #[unsafe(no_mangle)]
-pub extern "C" fn fsverity_level_count(params: &FsverityParams, levels: &mut usize) -> u32
+pub extern "C" fn fsverity_level_count(params: &FsverityParams, levels: &mut usize) -> i32
     ensures status { result ≡ status_of (level_count_in (fsverity_plan_of params.now)) }
     ensures levels { levels.new ≡ value_or levels.old (level_count_in (fsverity_plan_of params.now)) }
 {
     put_level_count(fsverity_plan_of(params), levels)
 }
 
-fn put_level_count(plan: Result<Plan, Fault>, levels: &mut usize) -> u32
+fn put_level_count(plan: Result<Plan, Fault>, levels: &mut usize) -> i32
     ensures status { result ≡ status_of (level_count_in plan) }
     ensures levels { levels.new ≡ value_or levels.old (level_count_in plan) }
 {
@@ -52,7 +52,7 @@ pub extern "C" fn verity_level_start(
     level: usize,
     start: &mut u64,
     blocks: &mut u64,
-) -> u32
+) -> i32
     ensures status { result ≡ status_of (level_start_in (plan_of params.now) level) }
     ensures start { start.new ≡ value_or start.old (level_start_in (plan_of params.now) level) }
     ensures blocks { blocks.new ≡ value_or blocks.old (level_blocks_in (plan_of params.now) level) }
@@ -67,7 +67,7 @@ pub extern "C" fn fsverity_level_start(
     level: usize,
     start: &mut u64,
     blocks: &mut u64,
-) -> u32
+) -> i32
     ensures status { result ≡ status_of (level_start_in (fsverity_plan_of params.now) level) }
     ensures start { start.new ≡ value_or start.old (level_start_in (fsverity_plan_of params.now) level) }
     ensures blocks { blocks.new ≡ value_or blocks.old (level_blocks_in (fsverity_plan_of params.now) level) }
@@ -80,7 +80,7 @@ fn put_level_start(
     level: usize,
     start: &mut u64,
     blocks: &mut u64,
-) -> u32
+) -> i32
     ensures status { result ≡ status_of (level_start_in plan level) }
     ensures start { start.new ≡ value_or start.old (level_start_in plan level) }
     ensures blocks { blocks.new ≡ value_or blocks.old (level_blocks_in plan level) }
@@ -109,7 +109,7 @@ pub extern "C" fn verity_hash_block_start(
     index: u64,
     level: usize,
     start: &mut u64,
-) -> u32
+) -> i32
     ensures status { result ≡ status_of (hash_block_start_in (plan_of params.now) index level) }
     ensures start { start.new ≡ value_or start.old (hash_block_start_in (plan_of params.now) index level) }
 {
@@ -123,14 +123,14 @@ pub extern "C" fn fsverity_hash_block_start(
     index: u64,
     level: usize,
     start: &mut u64,
-) -> u32
+) -> i32
     ensures status { result ≡ status_of (hash_block_start_in (fsverity_plan_of params.now) index level) }
     ensures start { start.new ≡ value_or start.old (hash_block_start_in (fsverity_plan_of params.now) index level) }
 {
     put_hash_block_start(fsverity_plan_of(params), index, level, start)
 }
 
-fn put_hash_block_start(plan: Result<Plan, Fault>, index: u64, level: usize, start: &mut u64) -> u32
+fn put_hash_block_start(plan: Result<Plan, Fault>, index: u64, level: usize, start: &mut u64) -> i32
     ensures status { result ≡ status_of (hash_block_start_in plan index level) }
     ensures start { start.new ≡ value_or start.old (hash_block_start_in plan index level) }
 {

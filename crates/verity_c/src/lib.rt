@@ -5,23 +5,37 @@
 //! returns with its answer.
 #![tactic(auto)]
 
+mod algorithms;
 mod blocks;
 mod build;
 mod fault;
 mod file_building;
+mod file_tree_building;
 mod files;
 pub mod laws;
 mod levels;
 mod links;
 mod parameters;
 mod plans;
+mod same;
+mod sizes;
 mod superblock;
+mod texts;
 mod tree_building;
+mod version;
 
+pub use algorithms::{
+    fsverity_formatted_digest, verity_algorithm_by_name, verity_algorithm_name,
+    verity_digest_length,
+};
 pub use blocks::{fsverity_check_block, verity_check_block};
 pub use build::{VerityBuild, VerityFed};
 pub use file_building::{
     fsverity_build_begin, fsverity_build_end, fsverity_build_feed, fsverity_build_memory,
+};
+pub use file_tree_building::{
+    fsverity_tree_build_begin, fsverity_tree_build_end, fsverity_tree_build_end_block,
+    fsverity_tree_build_feed,
 };
 pub use files::{fsverity_descriptor, fsverity_file_digest};
 pub use levels::{
@@ -30,7 +44,12 @@ pub use levels::{
 };
 pub use links::{fsverity_check_link, fsverity_check_top, verity_check_link, verity_check_top};
 pub use parameters::{FsverityParams, VerityParams};
+pub use same::verity_same_params;
+pub use sizes::{fsverity_tree_size, verity_hash_area_end};
 pub use superblock::{verity_read_superblock, verity_write_superblock};
+pub use texts::verity_status_text;
 pub use tree_building::{
-    verity_build_begin, verity_build_end, verity_build_feed, verity_build_memory,
+    verity_build_begin, verity_build_end, verity_build_feed, verity_build_last_block,
+    verity_build_memory,
 };
+pub use version::verity_version;

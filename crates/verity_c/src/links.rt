@@ -21,7 +21,7 @@ pub extern "C" fn verity_check_link(
     level: usize,
     block: &[u8],
     above: &[u8],
-) -> u32
+) -> i32
     ensures { result ≡ link_status_in (plan_of params.now) index level block.now above.now }
 {
     check_link_in(plan_of(params), index, level, block, above)
@@ -35,7 +35,7 @@ pub extern "C" fn fsverity_check_link(
     level: usize,
     block: &[u8],
     above: &[u8],
-) -> u32
+) -> i32
     ensures { result ≡ link_status_in (fsverity_plan_of params.now) index level block.now above.now }
 {
     check_link_in(fsverity_plan_of(params), index, level, block, above)
@@ -47,7 +47,7 @@ fn check_link_in(
     level: usize,
     block: &[u8],
     above: &[u8],
-) -> u32
+) -> i32
     ensures { result ≡ link_status_in plan index level block.now above.now }
 {
     match plan {
@@ -66,7 +66,7 @@ pub extern "C" fn verity_check_top(
     index: u64,
     block: &[u8],
     root: &[u8],
-) -> u32
+) -> i32
     ensures { result ≡ top_status_in (with_root (plan_of params.now) root.now) index block.now root.now }
 {
     check_top_in(plan_of(params), index, block, root)
@@ -79,13 +79,13 @@ pub extern "C" fn fsverity_check_top(
     index: u64,
     block: &[u8],
     root: &[u8],
-) -> u32
+) -> i32
     ensures { result ≡ top_status_in (with_root (fsverity_plan_of params.now) root.now) index block.now root.now }
 {
     check_top_in(fsverity_plan_of(params), index, block, root)
 }
 
-fn check_top_in(plan: Result<Plan, Fault>, index: u64, block: &[u8], root: &[u8]) -> u32
+fn check_top_in(plan: Result<Plan, Fault>, index: u64, block: &[u8], root: &[u8]) -> i32
     ensures { result ≡ top_status_in (with_root plan root.now) index block.now root.now }
 {
     let plan = match plan {

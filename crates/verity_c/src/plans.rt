@@ -10,7 +10,7 @@ use verity_hash::Algorithm;
 use verity_plan::{HashType, Plan, SettingFault, TreeSettings, multiple_of, offset_unit, plan_at};
 
 /// The hash function of a number in verity.h.
-fn algorithm_of(number: u32) -> Option<Algorithm>
+pub(crate) fn algorithm_of(number: u32) -> Option<Algorithm>
     ensures { result ≡ algorithm_of number }
 {
     match number {

@@ -24,7 +24,7 @@ pub extern "C" fn verity_read_superblock(
     bytes: &[u8],
     hash_offset: u64,
     params: &mut VerityParams,
-) -> u32
+) -> i32
     ensures status { result ≡ superblock_status (superblock_fault bytes.now) }
     ensures params { ReadsParameters (superblock_fault bytes.now) bytes.now hash_offset params.old params.new }
 {
@@ -44,7 +44,7 @@ pub extern "C" fn verity_read_superblock(
 ///
 /// The status is 0, or that of the first fault of the parameters, or of `Length`. Then the bytes stay as they were.
 #[unsafe(no_mangle)]
-pub extern "C" fn verity_write_superblock(params: &VerityParams, bytes: &mut [u8]) -> u32
+pub extern "C" fn verity_write_superblock(params: &VerityParams, bytes: &mut [u8]) -> i32
     ensures status { result
         ≡ status_of (superblock_in (plan_of params.now) params.now.uuid (length bytes.old)) }
     ensures bytes { bytes.new

@@ -1,8 +1,8 @@
 //! Building a dm-verity tree as pieces of its data come.
 ghost use Rattle.std.specs.Prelude.{◌≡◌, ◌≢◌, ◌<◌, ℕ, List, [], ◌++◌, length, take, IfOk};
 ghost use Rattle.verity_c.specs.Answers.{value_or};
-ghost use Rattle.verity_c.specs.Building.{HandsOut, IsFedTo, TakesPiece, fed_of, memory_length_in, memory_length_of};
-ghost use Rattle.verity_c.specs.Building.{root_in, with_all_fed, with_memory, with_piece};
+ghost use Rattle.verity_c.specs.Building.{HandsOut, IsFedTo, StandsLast, TakesPiece, fed_of, last_in, memory_length_in};
+ghost use Rattle.verity_c.specs.Building.{memory_length_of, root_in, with_all_fed, with_memory, with_piece};
 ghost use Rattle.verity_c.specs.Parameters.{plan_of};
 ghost use Rattle.verity_c.specs.Statuses.{done, status_of};
 
@@ -19,7 +19,7 @@ use verity_tree::{Fed, TreeBuilder};
 ///
 /// The status is 0, or that of the first fault of the parameters. Then the length stays as it was.
 #[unsafe(no_mangle)]
-pub extern "C" fn verity_build_memory(params: &VerityParams, length: &mut usize) -> u32
+pub extern "C" fn verity_build_memory(params: &VerityParams, length: &mut usize) -> i32
     ensures status { result ≡ status_of (memory_length_in (plan_of params.now)) }
     ensures length { length.new ≡ value_or length.old (memory_length_in (plan_of params.now)) }
 {
@@ -42,7 +42,7 @@ pub extern "C" fn verity_build_begin(
     params: &VerityParams,
     build: &mut VerityBuild,
     memory: &mut [u8],
-) -> u32
+) -> i32
     ensures status { result ≡ status_of (with_memory (plan_of params.now) (length memory.old)) }
     ensures refused { result ≢ done → (build.new ≡ build.old) × (memory.new ≡ memory.old) }
     ensures fed { result ≡ done → IsFedTo params.now build.new memory.new [] }
@@ -59,12 +59,13 @@ pub extern "C" fn verity_build_begin(
     DONE
 }
 
-/// Feeds the next piece of the data, of any length: all of it, or its bytes up to those with which a hash block closes,
-/// which is handed out with its place on the hash device (Linux kernel, dm-verity page, "On-disk format"). It stands in
-/// the memory until the next such call. Then the rest of the piece, perhaps of no bytes, is fed by further calls, until one
-/// hands out none. A hash block that closes with the last byte of a piece is handed out by the next call with more bytes;
-/// with the last byte of the data, that call and the next ones hand out all that are left, one a call. When all bytes
-/// were fed, and a call hands out none, each hash block of the tree was handed out once.
+/// Feeds the next piece of the data, of any length: all of it, or its bytes up to those with which a hash block
+/// closes, which is handed out with its place on the hash device (Linux kernel, dm-verity page, "On-disk format"). It
+/// stands in the memory until bytes are taken or the next one is handed out. Then the rest of the piece, perhaps of no
+/// bytes, is fed by further calls, until one hands out none. A hash block that closes with the last byte of a piece is
+/// handed out by the next call with more bytes; with the last byte of the data, that call and the next ones hand out
+/// all that are left, one a call. When all bytes were fed, and a call hands out none, each hash block of the tree was
+/// handed out once.
 ///
 /// The status is 0, or that of the first fault of the parameters, or of `Length` (the memory's), `Level` (more levels
 /// have closed than the tree has), `TooLong`. Then structs and memory stay as they were. The answer is right where
@@ -76,7 +77,7 @@ pub extern "C" fn verity_build_feed(
     memory: &mut [u8],
     piece: &[u8],
     fed: &mut VerityFed,
-) -> u32
+) -> i32
     ensures status { result
         ≡ status_of (with_piece (with_memory (plan_of params.now) (length memory.old)) build.old (length piece.now)) }
     ensures refused { result ≢ done → (build.new ≡ build.old) × (memory.new ≡ memory.old) × (fed.new ≡ fed.old) }
@@ -110,21 +111,62 @@ pub extern "C" fn verity_build_feed(
     }
 }
 
+/// The hash block that `verity_build_feed` handed out last, once more. It stands in the memory until bytes are taken
+/// or the next one is handed out: so a build that was stored before it was written can go on. `taken` becomes 0, and
+/// so do the other numbers if no hash block was handed out since the latest byte was fed.
+///
+/// The status is 0, or that of the first fault of the parameters, or of `Level` (more levels have closed than the tree
+/// has), `TooLong`. Then the answer's struct stays as it was. The answer is right where struct and memory are as a call
+/// left them, with the same parameters; others have an answer too.
+#[unsafe(no_mangle)]
+pub extern "C" fn verity_build_last_block(
+    params: &VerityParams,
+    build: &VerityBuild,
+    fed: &mut VerityFed,
+) -> i32
+    ensures status { result ≡ status_of (last_in (with_piece (plan_of params.now) build.now 0) build.now) }
+    ensures fed { fed.new ≡ value_or fed.old (last_in (with_piece (plan_of params.now) build.now 0) build.now) }
+    ensures block { (memory bytes : List ℕ) → IsFedTo params.now build.now memory bytes → result ≡ done
+        → IfOk (plan_of params.now) (λ p. StandsLast p build.now bytes memory fed.new) }
+{
+    let plan = match plan_of(params) {
+        Ok(plan) => plan,
+        Err(fault) => return fault.code(),
+    };
+    let builder = TreeBuilder {
+        plan,
+        fed: build.fed,
+        closed: build.closed,
+    };
+    if builder.closed > plan.levels() {
+        return Fault::Level.code();
+    }
+    if builder.fed > plan.wanted() {
+        return Fault::TooLong.code();
+    }
+    let answer = Fed {
+        taken: 0,
+        hash_block: builder.last_block(),
+    };
+    *fed = fed_of(&plan, &answer);
+    DONE
+}
+
 /// The root hash, when all bytes were fed and all hash blocks handed out (Linux kernel, dm-verity page, "Hash Tree").
 /// The buffer for it is as long as the hash function's digests. It can be asked for as often as one likes: struct and
 /// memory stay those of the same bytes.
 ///
-/// The status is 0, or that of the first fault of the parameters, or of `Length` (the memory's, then the buffer's),
-/// `Level` (more levels have closed than the tree has), `TooLong`, `TooShort`, `Waiting` (a hash block is still to be
-/// handed out). Then memory and buffer stay as they were. The answer is right where struct and memory are as the call
-/// before left them, with the same parameters.
+/// The status is 0, or that of the first fault of the parameters, or of `Length` (the memory's), `Root` (the buffer is
+/// shorter or longer), `Level` (more levels have closed than the tree has), `TooLong`, `TooShort`, `Waiting` (a hash
+/// block is still to be handed out). Then memory and buffer stay as they were. The answer is right where struct and
+/// memory are as the call before left them, with the same parameters.
 #[unsafe(no_mangle)]
 pub extern "C" fn verity_build_end(
     params: &VerityParams,
     build: &VerityBuild,
     memory: &mut [u8],
     root: &mut [u8],
-) -> u32
+) -> i32
     ensures status { result
         ≡ status_of (with_all_fed (with_memory (plan_of params.now) (length memory.old)) build.now (length root.old)) }
     ensures refused { result ≢ done → (memory.new ≡ memory.old) × (root.new ≡ root.old) }
@@ -138,7 +180,7 @@ pub extern "C" fn verity_build_end(
         Err(fault) => return fault.code(),
     };
     if root.len() != plan.digest_len() {
-        return Fault::Length.code();
+        return Fault::Root.code();
     }
     let builder = TreeBuilder {
         plan,

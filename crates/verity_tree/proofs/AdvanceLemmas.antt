@@ -10,7 +10,7 @@ use Rattle.std.proofs.Math.Seq.{take-add}
 use Rattle.verity_plan.specs.Plans.{IsPlan, PlanFields}
 use Rattle.verity_plan.specs.Settings.{fan}
 use Rattle.verity_tree.specs.ClosingOrder.{closed_after, handed_out, blocks_before}
-use Rattle.verity_tree.specs.Steps.Feeding.{EndsWindow, FeedsOn, Hands, HasFed, HasWindow, IsHandingOut, handed_at}
+use Rattle.verity_tree.specs.Steps.Feeding.{ClosesNext, EndsWindow, FeedsOn, Hands, HasFed, HasWindow, IsHandingOut, handed_at}
 use Rattle.verity_tree.specs.Steps.Feeding.{Stands, TakesMore, first_blocks, windows_before}
 use Rattle.verity_tree.specs.Steps.OpenBlocks.{HasOpenBlocks}
 use Rattle.verity_tree.specs.Windows.{window_blocks, window_length}
@@ -138,6 +138,17 @@ FeedsOn-more p levels closed middle new_closed fed more further before held open
         → Hands p a c e f closes
     hands-more p a c b d e f true one two = rw (← one) two
     hands-more p a c b d e f false one two = two ∙ one
+
+-- bytes were fed and no hash block has closed, and then one has without bytes
+pub FeedsOn-last : (p : PlanFields) (levels closed middle new_closed : ℕ) (fed more before held opened window : List ℕ)
+    (closes : Bool) → (closes ≡ false → ⊥) → (closes ≡ true → new_closed ≡ middle + 1)
+    → FeedsOn p levels fed closed more false middle before held
+    → ClosesNext p levels (fed ++ more) middle closes opened window
+    → FeedsOn p levels fed closed more closes new_closed opened window
+FeedsOn-last p levels closed middle new_closed fed more before held opened window false some next first h = absurd (some refl)
+FeedsOn-last p levels closed middle new_closed fed more before held opened window true some next first h =
+    rw (append-nil more) at (FeedsOn-more p levels closed middle new_closed fed more [] before held opened window true first
+    (FeedsOn-climbs p levels middle new_closed (fed ++ more) opened window (next refl) h))
 
 -- the bytes of a piece up to a place, and those of its rest up to another
 pub take-of_rest : (n m : ℕ) (piece : List ℕ)

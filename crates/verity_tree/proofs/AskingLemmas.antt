@@ -2,7 +2,8 @@
 use Rattle.std.proofs.Common.{◌≡◌, ℕ, ◌+◌, ◌-◌, ◌*◌, ◌/◌, ◌^◌, ◌<◌, ◌≤◌, List, length, length-drop, take}
 use Rattle.std.proofs.Common.{arith, refl, sym, ◌∙◌, ap, inl, inr}
 use Rattle.std.proofs.lemmas.Bool.{cases_lt}
-use Rattle.std.proofs.Math.Nat.{div-eq_of_lt, pow-le-pow_right}
+use Rattle.std.proofs.Math.Nat.{div-div-eq-div-mul, div-eq_of_lt, pow-le-pow_right, pow-suc}
+use Rattle.std.proofs.Common.{zero, suc}
 use Rattle.std.specs.Fork.{slice_chunk}
 use Rattle.verity_plan.specs.Plans.{IsPlan, PlanFields}
 use Rattle.verity_plan.specs.PlanCounts.{level_count_of}
@@ -10,15 +11,15 @@ use Rattle.verity_plan.specs.Settings.{fan, hash}
 use Rattle.verity_plan.proofs.FanLemmas.{fan-some}
 use Rattle.verity_tree.specs.ClosingOrder.{blocks_before}
 use Rattle.verity_tree.specs.Levels.{data_blocks, root}
-use Rattle.verity_tree.specs.Steps.Feeding.{HasCome, HasFed, HasWindow, IsHandingOut, IsWindowPlace, after_windows, windows_before}
-use Rattle.verity_tree.specs.Steps.OpenBlocks.{IsAsking, carry_state, level_digest}
+use Rattle.verity_tree.specs.Steps.Feeding.{HasCome, HasFed, HasWindow, IsHandingOut, after_windows, last_window, windows_before}
+use Rattle.verity_tree.specs.Steps.OpenBlocks.{IsAsking, carry_state, digests_under, level_digest, open_block}
 use Rattle.verity_tree.specs.Windows.{window_blocks, window_length}
-use Rattle.verity_tree.specs.declared.window.WindowPlace.{WindowPlace}
 use Rattle.verity_tree.proofs.ClimbLemmas.{blocks-most, last-block}
 use Rattle.verity_tree.proofs.FirstBlockLemmas.{plan-first_blocks}
 use Rattle.verity_tree.proofs.LevelLemmas.{length-cut}
 use Rattle.verity_tree.proofs.TreeLemmas.{height-level_count}
-use Rattle.verity_tree.proofs.WindowLemmas.{placed-in-window}
+use Rattle.verity_tree.proofs.OpenBlockSteps.{quotient-same}
+use Rattle.verity_tree.proofs.WindowLemmas.{placed-in-window, window-beside}
 
 -- the last data block's digest comes to level 0
 pub IsAsking-first : (p : PlanFields) (levels first last : ℕ) (fed opened digest : List ℕ) → IsPlan p → length fed ≡ p.wanted
@@ -58,33 +59,50 @@ top-root p levels level fed opened planned top all h =
     ap (hash p.settings) h.closed.stands
     ∙ root-above p _ (level + 1) fed planned (ap (λ (n : ℕ). blocks_before p.settings n + 1) all ∙ last-block p planned) (sym top)
 
--- the open blocks are those before the last window, and the window's bytes that were fed are as they were
-pub HasFed-asked : (p : PlanFields) (levels last top n : ℕ) (place : WindowPlace)
-    (fed before opened held window digest : List ℕ) → IsPlan p → length fed ≡ n → n ≡ p.wanted → last + 1 ≡ p.blocks
-    → top ≡ level_count_of p → IsWindowPlace p n place
-    → take (n - windows_before p.settings n * window_length p.settings) window
-    ≡ take (n - windows_before p.settings n * window_length p.settings) held
-    → IsAsking p.settings (data_blocks p fed) place.first (carry_state last top levels) opened digest
-    → HasFed p.settings levels fed before held → HasFed p.settings levels fed opened window
-HasFed-asked p levels last top n place fed before opened held window digest planned many all last_is top_is is same h fed_is =
+-- from a level above all, or above one that has closed, the last data block and the first of its window have one place
+pub above-top : (p : PlanFields) (last l : ℕ) → IsPlan p → last + 1 ≡ p.blocks → level_count_of p ≤ l
+    → last / fan p.settings ^ l ≡ last_window p / fan p.settings ^ l
+above-top p last l planned last_is high =
+    let before = (placed-in-window p.settings p.wanted planned.valid planned.some).from in
+    top-place p last l planned (omega (arith, last_is)) high
+    ∙ sym (top-place p (last_window p) l planned (omega (arith, before, last-block p planned)) high)
+
+pub above-level : (p : PlanFields) (last level l : ℕ) → IsPlan p → last + 1 ≡ p.blocks → level + 1 ≤ l
+    → last / fan p.settings ^ l ≡ last_window p / fan p.settings ^ l
+above-level p last level zero planned last_is high = absurd (omega (arith, high))
+above-level p last level (suc l) planned last_is high =
     let s = p.settings in
+    let f = fan s in
+    let same : blocks_before s p.wanted ≡ last = omega (arith, last_is, last-block p planned) in
+    let power : f ^ suc l ≡ f ^ l * f = pow-suc f l in
+    let up : (x : ℕ) → x / f ^ suc l ≡ x / f ^ l / f = λ x. ap (λ (n : ℕ). x / n) power ∙ sym (div-div-eq-div-mul x (f ^ l) f) in
+    let beside : last / f ≡ last_window p / f =
+    sym (window-beside s p.wanted planned.valid planned.some ∙ ap (λ (n : ℕ). n / f) same) in
+    up last ∙ quotient-same f last (last_window p) l beside ∙ sym (up (last_window p))
+
+-- the open blocks are those before the last window, and the window's bytes that were fed are as they were
+pub HasFed-asked : (p : PlanFields) (levels last top : ℕ) (fed before opened held window digest : List ℕ) → IsPlan p
+    → length fed ≡ p.wanted
+    → ((l : ℕ) → top ≤ l → last / fan p.settings ^ l ≡ last_window p / fan p.settings ^ l)
+    → take (p.wanted - windows_before p.settings p.wanted * window_length p.settings) window
+    ≡ take (p.wanted - windows_before p.settings p.wanted * window_length p.settings) held
+    → IsAsking p.settings (data_blocks p fed) (last_window p) (carry_state last top levels) opened digest
+    → HasFed p.settings levels fed before held → HasFed p.settings levels fed opened window
+HasFed-asked p levels last top fed before opened held window digest planned all above same h fed_is =
+    let s = p.settings in
+    let n = p.wanted in
     let k = windows_before s n in
-    let placed = placed-in-window s n planned.valid (omega (arith, all, planned.some)) in
+    let placed = placed-in-window s n planned.valid planned.some in
     let long : length (after_windows s k fed) ≡ n - k * window_length s =
-    omega (arith, length-drop (k * window_length s) fed, many) in
-    let held_is : HasWindow s levels k fed before held = rw many at fed_is in
-    rw many (record {
-      stands = plan-first_blocks p (k * window_blocks s) levels fed opened planned (omega (arith, placed.before, many))
-          (omega (arith, many, all))
-          (rw (← is.first_is) (λ l from to. elim (cases_lt l top) [
+    omega (arith, length-drop (k * window_length s) fed, all) in
+    let held_is : HasWindow s levels k fed before held = rw all at fed_is in
+    rw all (record {
+      stands = plan-first_blocks p (k * window_blocks s) levels fed opened planned (omega (arith, placed.before, all))
+          (omega (arith, all))
+          (λ l from to. elim (cases_lt l top) [
             | inl low ↦ h.below l from low
             | inr high ↦
-                let past : level_count_of p ≤ l = omega (arith, high, top_is) in
-                h.above l high to
-                ∙ rw (
-                  top-place p last l planned (omega (arith, last_is)) past,
-                  top-place p place.first l planned (omega (arith, is.batch.below)) past,
-                ) refl
-          ]));
+                h.above l high to ∙ ap (open_block s (digests_under s (data_blocks p fed) l)) (above l (omega (arith, high)))
+          ]);
       holds = rw long (same ∙ (rw long at held_is.holds));
     })

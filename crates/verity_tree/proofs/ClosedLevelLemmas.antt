@@ -2,7 +2,9 @@
 use Rattle.std.proofs.Common.{◌≡◌, ℕ, zero, suc, ◌+◌, ◌-◌, ◌*◌, ◌/◌, ◌%◌, ◌^◌, ◌<◌, ◌≤◌, ◌⊎◌, Bool, true, false, List}
 use Rattle.std.proofs.Common.{◌++◌, take, length, replicate, arith, sym, ◌∙◌, ap, subst, inl, inr, refl}
 use Rattle.std.proofs.lemmas.Nat.{div-add-mod', mod_below}
-use Rattle.std.proofs.lemmas.List.{length-replicate}
+use Rattle.std.proofs.Common.{drop, length-drop}
+use borrow.Rule.Slice.PartMut.{put_mid}
+use Rattle.std.proofs.lemmas.List.{append-nil, drop_all, length-replicate, length-take-le}
 use Rattle.std.proofs.Math.Nat.{div-eq_of_eq-mul_left, mul-mod_left, one-le-pow, pow-suc, pow-zero}
 use Rattle.verity_plan.specs.Plans.{level_count}
 use Rattle.verity_plan.specs.Settings.{TreeSettingsFields, hash, fan, slot_width}
@@ -10,6 +12,8 @@ use Rattle.verity_plan.proofs.CountLemmas.{IsLevelCount-level_count}
 use Rattle.verity_plan.proofs.FanLemmas.{fan-some}
 use Rattle.verity_tree.specs.Levels.{blocks_up}
 use Rattle.verity_tree.specs.Steps.OpenBlocks.{HasOpenBlocks, IsAsking, IsCarrying, IsReached, carry_state, digests_under}
+use Rattle.verity_tree.specs.Steps.OpenBlocks.{level_digest}
+use Rattle.verity_tree.specs.TreeOnDevice.{tree_block}
 use Rattle.verity_tree.specs.Steps.OpenBlocks.{open_block}
 use Rattle.verity_tree.proofs.OpenBlockLemmas.{open-cleared}
 use Rattle.verity_tree.proofs.OpenBlockSteps.{HasOpenBlocks-written, IsWritten, IsWritten-part, level_digest-below, part_at}
@@ -130,6 +134,17 @@ pub HasOpenBlocks-added : (s : TreeSettingsFields) (blocks : List (List ℕ)) (i
 HasOpenBlocks-added s blocks i levels true opened more apart h = absurd (apart (full-first (fan s) i (h.reached more)))
 HasOpenBlocks-added s blocks i levels false opened more apart h = h.1
 
+-- with the last data block's digest a level's open block is its last hash block
+pub block-with_last : (s : TreeSettingsFields) (blocks : List (List ℕ)) (i m levels index f w n : ℕ)
+    (store block digest : List ℕ) → f ≡ fan s → w ≡ slot_width s → n ≡ s.hash_block → fan s * slot_width s ≤ s.hash_block
+    → i + 1 ≡ length blocks → m < levels → index ≡ i / fan s ^ m → HasOpenBlocks s blocks m levels i store
+    → digest ≡ level_digest s blocks i m → block ≡ with_digest (part_at store m n) (index % f * w) digest
+    → block ≡ tree_block s blocks m (i / fan s ^ (m + 1))
+block-with_last s blocks i m levels index f w n store block digest ef ew en fits last inside place above is put =
+    let below : i < length blocks = omega (arith, last) in
+    open_block_with-put s blocks i m levels index f w n store block digest ef ew en fits below inside place above is put
+    ∙ sym (level_digest-next s blocks i m below (inr last))
+
 -- with the last data block's digest a level's block closes, and its digest comes one level up; the digests before another
 -- data block stay
 pub IsAsking-up : (s : TreeSettingsFields) (blocks : List (List ℕ)) (first i m levels index start f w n : ℕ)
@@ -161,3 +176,14 @@ IsAsking-up s blocks first i m levels index start f w n store block after digest
       above = λ l low high. written.others l (inr (omega (arith, low))) ∙ h.above l (omega (arith, low)) high;
       digest_is = above_is ∙ ap (hash s) (closes ∙ sym (level_digest-next s blocks i m below (inr last)));
     }
+
+-- a block that is filled with zeros from a byte on
+pub cleared-is : (at len : ℕ) (block zeros : List ℕ) → length block ≡ len
+    → zeros ≡ replicate (length (take (length block - at) (drop at block))) 0
+    → put_mid at (length block - at) block zeros ≡ take at block ++ replicate (len - at) 0
+cleared-is at len block zeros long is =
+    let k = length block - at in
+    let rest = length-take-le k (drop at block) (omega (arith, length-drop at block)) in
+    let none = drop_all k (drop at block) (omega (arith, length-drop at block)) in
+    let end = append-nil zeros in
+    cc

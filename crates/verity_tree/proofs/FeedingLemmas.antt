@@ -50,7 +50,7 @@ pub IsFedFile-parted : (b : FileBuilder) (n : ℕ) (memory opened window fed : L
 IsFedFile-parted b n memory opened window fed same front back h = rw (front, back, same) h.stands
 
 -- an open block of the memory
-block-within : (size level levels : ℕ) (memory : List ℕ) → level + 1 ≤ levels
+pub block-within : (size level levels : ℕ) (memory : List ℕ) → level + 1 ≤ levels
     → take size (drop (level * size) (take (levels * size) memory)) ≡ take size (drop (level * size) memory)
 block-within size level levels memory step =
     let room : level * size + size ≤ levels * size = omega (arith, mul_le (level + 1) levels size step) in
@@ -148,7 +148,7 @@ FilePlan-large s size valid past =
     (has_room-data (file_plan s size) (omega (arith, wide, past)))
 
 -- a plan that isn't made for want of data has no data blocks
-no_blocks : (asked : PlanFields) → Err NoData ≡ checked_plan asked → asked.blocks ≡ 0
+pub no_blocks : (asked : PlanFields) → Err NoData ≡ checked_plan asked → asked.blocks ≡ 0
 no_blocks asked is =
     elim (cases_lt 0 asked.blocks) [
       | inl some ↦

@@ -10,8 +10,8 @@ use Rattle.std.specs.List.{range_with_len}
 use Rattle.std.specs.Fork.{slice_chunk}
 use Rattle.std.specs.Int.{div_ceil}
 use Rattle.verity_hash.specs.Hashing.{with_zeros}
-use Rattle.verity_plan.specs.Plans.{IsPlan, PlanFields}
-use Rattle.verity_plan.specs.Settings.{TreeSettingsFields, hash, fan}
+use Rattle.verity_plan.specs.Plans.{IsPlan, PlanFields, block_count}
+use Rattle.verity_plan.specs.Settings.{IsValid, TreeSettingsFields, hash, fan}
 use Rattle.verity_plan.proofs.CountLemmas.{div_ceil-le, le-div_ceil, mul_le}
 use Rattle.verity_plan.proofs.FanLemmas.{fan-some, some_data}
 use Rattle.verity_tree.specs.Levels.{block_at, blocks_up, cut, data_blocks, hash_block_of, pack}
@@ -45,7 +45,7 @@ pack-front s digests k some within =
     (run-of_front front digests f j (take-take (j * f + f) (k * f) digests (omega (arith, mul_le (j + 1) k f (omega (arith, low))))))))
 
 -- the blocks of a level that stand above whole data blocks are those of these data blocks alone
-blocks_up-front : (s : TreeSettingsFields) (xs : List (List ℕ)) (l k : ℕ) → 0 < fan s → k * fan s ^ l ≤ length xs
+pub blocks_up-front : (s : TreeSettingsFields) (xs : List (List ℕ)) (l k : ℕ) → 0 < fan s → k * fan s ^ l ≤ length xs
     → take k (blocks_up s xs l) ≡ blocks_up s (take (k * fan s ^ l) xs) l
 unfolding blocks_up
 blocks_up-front s xs zero k some within =
@@ -109,28 +109,37 @@ pub chunk-front : (xs ys : List ℕ) (size k : ℕ) → k * size + size ≤ leng
     → slice_chunk (xs ++ ys) size k ≡ slice_chunk xs size k
 chunk-front xs ys size k within = run-of_front (xs ++ ys) xs size k (take-append-le (k * size + size) xs ys within)
 
--- the open blocks above the first n data blocks are those above the data blocks of a plan
-open-same : (p : PlanFields) (n : ℕ) (fed : List ℕ) → IsPlan p → n * p.settings.data_block ≤ length fed
-    → length fed ≤ p.wanted → (l : ℕ)
-    → open_block p.settings (digests_under p.settings (first_blocks p.settings n fed) l) (n / fan p.settings ^ l)
-    ≡ open_block p.settings (digests_under p.settings (data_blocks p fed) l) (n / fan p.settings ^ l)
-open-same p n fed planned enough most l =
+-- the first n data blocks are the first of those of a plan
+pub plan-front : (p : PlanFields) (n : ℕ) (fed : List ℕ) → IsValid p.settings → p.blocks ≡ block_count p.settings p.wanted
+    → n * p.settings.data_block ≤ length fed → length fed ≤ p.wanted
+    → (n ≤ length (data_blocks p fed)) × (first_blocks p.settings n fed ≡ take n (data_blocks p fed))
+plan-front p n fed valid blocks_are enough most =
     let s = p.settings in
     let size = s.data_block in
-    let some = some_data s planned.valid in
-    let few : n ≤ p.blocks = omega (arith, planned.blocks_are, div_ceil-most p.wanted size n some (omega (arith, enough, most))) in
+    let few : n ≤ p.blocks =
+    omega (arith, blocks_are, div_ceil-most p.wanted size n (some_data s valid) (omega (arith, enough, most))) in
     let many : n ≤ length (data_blocks p fed) = omega (arith, few, length-cut s p.blocks p.wanted fed) in
-    let count : length (first_blocks s n fed) ≡ n = length-cut s n (n * size) fed in
-    let front : first_blocks s n fed ≡ take n (data_blocks p fed) =
-    ext_get_or [] _ _ (count ∙ sym (length-take-le n (data_blocks p fed) many)) (λ k low.
-    let below : k < n = omega (arith, low, count) in
-    let room : k * size + size ≤ n * size = omega (arith, mul_le (k + 1) n size (omega (arith, below))) in
-    cut-block s n (n * size) k fed below room (omega (arith, room, enough))
-    ∙ sym (get_or-take n (data_blocks p fed) k [] below
-    ∙ cut-block s p.blocks p.wanted k fed (omega (arith, below, few)) (omega (arith, room, enough, most))
-    (omega (arith, room, enough)))) in
-    ap (λ (xs : List (List ℕ)). open_block s (digests_under s xs l) (n / fan s ^ l)) front
-    ∙ open-front s (data_blocks p fed) n l (fan-some s) many
+    let count : length (first_blocks s n fed) ≡ n = length-cut s n (n * size) fed in (
+      many,
+      ext_get_or [] _ _ (count ∙ sym (length-take-le n (data_blocks p fed) many)) (λ k low.
+          let below : k < n = omega (arith, low, count) in
+          let room : k * size + size ≤ n * size = omega (arith, mul_le (k + 1) n size (omega (arith, below))) in
+          cut-block s n (n * size) k fed below room (omega (arith, room, enough))
+          ∙ sym (get_or-take n (data_blocks p fed) k [] below
+          ∙ cut-block s p.blocks p.wanted k fed (omega (arith, below, few)) (omega (arith, room, enough, most))
+          (omega (arith, room, enough)))),
+    )
+
+-- the open blocks above the first n data blocks are those above the data blocks of a plan
+pub open-same : (p : PlanFields) (n : ℕ) (fed : List ℕ) → IsValid p.settings → p.blocks ≡ block_count p.settings p.wanted
+    → n * p.settings.data_block ≤ length fed → length fed ≤ p.wanted → (l : ℕ)
+    → open_block p.settings (digests_under p.settings (first_blocks p.settings n fed) l) (n / fan p.settings ^ l)
+    ≡ open_block p.settings (digests_under p.settings (data_blocks p fed) l) (n / fan p.settings ^ l)
+open-same p n fed valid blocks_are enough most l =
+    let s = p.settings in
+    let front = plan-front p n fed valid blocks_are enough most in
+    ap (λ (xs : List (List ℕ)). open_block s (digests_under s xs l) (n / fan s ^ l)) front.1
+    ∙ open-front s (data_blocks p fed) n l (fan-some s) front.0
 
 -- bytes that come after n data blocks leave these
 pub first_blocks-more : (s : TreeSettingsFields) (n levels : ℕ) (fed more store : List ℕ) → 0 < fan s → n * s.data_block ≤ length fed
@@ -147,11 +156,11 @@ pub first_blocks-plan : (p : PlanFields) (n levels : ℕ) (fed store : List ℕ)
     → HasOpenBlocks p.settings (first_blocks p.settings n fed) 0 levels n store
     → HasOpenBlocks p.settings (data_blocks p fed) 0 levels n store
 first_blocks-plan p n levels fed store planned enough most h = λ l from to.
-    h l from to ∙ open-same p n fed planned enough most l
+    h l from to ∙ open-same p n fed planned.valid planned.blocks_are enough most l
 
 pub plan-first_blocks : (p : PlanFields) (n levels : ℕ) (fed store : List ℕ) → IsPlan p
     → n * p.settings.data_block ≤ length fed → length fed ≤ p.wanted
     → HasOpenBlocks p.settings (data_blocks p fed) 0 levels n store
     → HasOpenBlocks p.settings (first_blocks p.settings n fed) 0 levels n store
 plan-first_blocks p n levels fed store planned enough most h = λ l from to.
-    h l from to ∙ sym (open-same p n fed planned enough most l)
+    h l from to ∙ sym (open-same p n fed planned.valid planned.blocks_are enough most l)

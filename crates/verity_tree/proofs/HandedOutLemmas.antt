@@ -18,7 +18,8 @@ use Rattle.verity_tree.specs.ClosingOrder.{BlockIndex, closed_after, handed_out,
 use Rattle.verity_tree.specs.Feeding.{BuildsInCalls, FeedCall, FeedsCalls, FeedsPieces, IsFed, IsFedFile, IsHandedOut}
 use Rattle.verity_tree.specs.Feeding.{FileCall, IsAfterCall, IsAfterCalls, asks, bytes_fed, feeds, given, written, written_all}
 use Rattle.verity_tree.specs.Levels.{data_blocks}
-use Rattle.verity_tree.specs.Steps.Feeding.{IsHandingOut, Stands}
+use Rattle.verity_tree.specs.Steps.Feeding.{EndsWindow, IsHandingOut, Stands}
+use Rattle.verity_tree.specs.Steps.OpenBlocks.{HasClosed}
 use Rattle.verity_tree.specs.TreeOnDevice.{tree_block}
 use Rattle.verity_tree.specs.TreeWriting.{device_with}
 use Rattle.verity_tree.specs.declared.file_builder.FileBuilder.{FileBuilder}
@@ -43,14 +44,15 @@ whole-same p n k fed more enough most few below =
     ∙ sym (cut-block s p.blocks p.wanted k (fed ++ more) (omega (arith, below, few)) (omega (arith, room, most))
     (omega (arith, room, length-append fed more)))
 
--- the hash block that is handed out is the tree's whatever bytes come after
-pub handed-out-stays : (p : PlanFields) (levels level : ℕ) (fed more opened : List ℕ) → IsPlan p
-    → IsHandingOut p levels level fed opened → length (fed ++ more) ≤ p.wanted
+-- a hash block that has closed is the tree's whatever bytes come after
+pub closed-stays : (p : PlanFields) (levels level : ℕ) (fed more opened : List ℕ) → IsPlan p → EndsWindow p (length fed)
+    → HasClosed p.settings (data_blocks p fed) (blocks_before p.settings (length fed)) level levels opened
+    → length (fed ++ more) ≤ p.wanted
     → tree_block p.settings (data_blocks p fed) level
     (blocks_before p.settings (length fed) / fan p.settings ^ (level + 1))
     ≡ tree_block p.settings (data_blocks p (fed ++ more)) level
     (blocks_before p.settings (length fed) / fan p.settings ^ (level + 1))
-handed-out-stays p levels level fed more opened planned h most =
+closed-stays p levels level fed more opened planned ends closed most =
     let s = p.settings in
     let wide = fan s ^ (level + 1) in
     let i = blocks_before s (length fed) in
@@ -58,23 +60,33 @@ handed-out-stays p levels level fed more opened planned h most =
     let ys = data_blocks p (fed ++ more) in
     let left : length xs ≡ p.blocks = length-cut s p.blocks p.wanted fed in
     let right : length ys ≡ p.blocks = length-cut s p.blocks p.wanted (fed ++ more) in
-    let below = last-below p (length fed) planned h.ends.some h.ends.most in
-    elim h.ends.ends [
+    let below = last-below p (length fed) planned ends.some ends.most in
+    elim ends.ends [
       | inl whole ↦
           let inside : i / wide < div_ceil (length xs) wide =
           rw left (quotient-below i p.blocks wide (one-le-pow (level + 1) (fan s) (fan-some s)) below) in
           let time : min ((i / wide + 1) * wide) (length xs) ≤ i + 1 = elim (cases_lt (i + 1) (length xs)) [
-            | inl less ↦ omega (arith, (h.closed.reached less).whole)
+            | inl less ↦ omega (arith, (closed.reached less).whole)
             | inr last ↦ omega (arith, last)
           ] in
           blocks_up-prefix s xs ys (i + 1) (level + 1) (i / wide) (fan-some s) (left ∙ sym right)
           (λ k low. whole-same p (i + 1) k fed more
-          (omega (arith, whole-block s (length fed) planned.valid h.ends.some whole)) h.ends.most (omega (arith, below)) low)
+          (omega (arith, whole-block s (length fed) planned.valid ends.some whole)) ends.most (omega (arith, below)) low)
           inside time
       | inr all ↦
           let none : more ≡ [] = nil_from_length more (omega (arith, all, most, length-append fed more)) in
           rw (none, append-nil) refl
     ]
+
+-- and so is the one that is handed out
+pub handed-out-stays : (p : PlanFields) (levels level : ℕ) (fed more opened : List ℕ) → IsPlan p
+    → IsHandingOut p levels level fed opened → length (fed ++ more) ≤ p.wanted
+    → tree_block p.settings (data_blocks p fed) level
+    (blocks_before p.settings (length fed) / fan p.settings ^ (level + 1))
+    ≡ tree_block p.settings (data_blocks p (fed ++ more)) level
+    (blocks_before p.settings (length fed) / fan p.settings ^ (level + 1))
+handed-out-stays p levels level fed more opened planned h most =
+    closed-stays p levels level fed more opened planned h.ends h.closed most
 
 -- after one call the bytes are those before it and those that are fed with it
 call-fed : (b after : FileBuilder) (memory room fed : List ℕ) (call : FileCall) → IsAfterCall b memory call after room
@@ -167,7 +179,7 @@ unfolding closed_after
 none-handed-out p = rw zero-div refl
 
 -- before the first byte nothing was handed out
-first-closed : (p : PlanFields) (levels closed : ℕ) (opened window : List ℕ) → Stands p levels [] closed opened window
+pub first-closed : (p : PlanFields) (levels closed : ℕ) (opened window : List ℕ) → Stands p levels [] closed opened window
     → closed ≡ 0
 first-closed p levels zero opened window h = refl
 first-closed p levels (suc m) opened window h = absurd (omega (arith, h.ends.some))

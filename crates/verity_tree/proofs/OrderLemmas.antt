@@ -1,5 +1,5 @@
 -- The closing order has each block once.
-use Rattle.std.proofs.Common.{◌≡◌, ℕ, zero, suc, ◌+◌, ◌*◌, ◌/◌, ◌%◌, ◌^◌, ◌<◌, ◌≤◌, min, Bool, cond}
+use Rattle.std.proofs.Common.{◌≡◌, ℕ, zero, suc, ◌+◌, ◌*◌, ◌/◌, ◌%◌, ◌^◌, ◌<◌, ◌≤◌, Bool, cond}
 use Rattle.std.proofs.Common.{leb, List, ◌∷◌, map, arith, ◌∙◌, ap}
 use Rattle.std.proofs.Common.{ltb}
 use Rattle.std.proofs.lemmas.Bool.Decides.{nat_tests}
@@ -10,12 +10,13 @@ use Rattle.std.specs.List.{filter, range_with_len}
 use Rattle.std.specs.Prelude.{◌==◌, ◌&&◌}
 use Rattle.verity_plan.specs.Plans.{level_count, level_size, IsTreeBlock}
 use Rattle.verity_tree.specs.ClosingOrder.{BlockIndex, block_index, closes, closing_with, closed_after, times, ClosesOnce}
+use Rattle.verity_tree.specs.FirstDifferences.{closing_moment}
 use Rattle.verity_plan.proofs.CountLemmas.{mul-lt_div_ceil, mul_le}
 use Rattle.verity_plan.proofs.IndexLemmas.{quotient-below}
 use Rattle.verity_tree.proofs.QuotientLemmas.{slots-more}
 
 -- the levels that pass a test, each with a block
-abbrev indices : (ℕ → ℕ) → (ℕ → Bool) → List ℕ → List BlockIndex
+abbrev pub indices : (ℕ → ℕ) → (ℕ → Bool) → List ℕ → List BlockIndex
 indices f c levels = map (λ level. block_index level (f level)) (filter c levels)
 
 -- one for a test that passes
@@ -36,13 +37,9 @@ times-run l j a zero f c = grind (arith, nat_tests)
 times-run l j a (suc k) f c =
     grind (arith, nat_tests, times-indices l j a f c (range_with_len (a + 1) k), times-run l j (a + 1) k f c)
 
--- when a block closes: after so many data blocks
-abbrev pub closing_time : ℕ → ℕ → ℕ → ℕ → ℕ
-closing_time fan n l j = min ((j + 1) * fan ^ (l + 1)) n
-
 -- the block that closes is the one whose time it is
-closes-time : (fan n l j i : ℕ) → 0 < fan → i < n → j < level_size fan n l
-    → (closes fan n i l && (i / fan ^ (l + 1) == j)) ≡ (closing_time fan n l j == i + 1)
+pub closes-time : (fan n l j i : ℕ) → 0 < fan → i < n → j < level_size fan n l
+    → (closes fan n i l && (i / fan ^ (l + 1) == j)) ≡ (closing_moment fan n (block_index l j) == i + 1)
 closes-time fan n l j i pos below inside =
     let w = fan ^ (l + 1) in
     let wide : 0 < w = one-le-pow (l + 1) fan pos in
@@ -60,7 +57,7 @@ closes-time fan n l j i pos below inside =
 -- after so many data blocks the tree's block of this place has closed
 abbrev has_closed : ℕ → ℕ → ℕ → ℕ → ℕ → Bool
 has_closed fan n l j i =
-    (ltb l (level_count fan n) && ltb j (level_size fan n l)) && leb (closing_time fan n l j) i
+    (ltb l (level_count fan n) && ltb j (level_size fan n l)) && leb (closing_moment fan n (block_index l j)) i
 
 -- a block of the tree has closed once from its time on, and nothing else closes
 times-closed_after : (fan n l j i : ℕ) → 0 < fan → i ≤ n
@@ -69,7 +66,7 @@ unfolding closed_after
 times-closed_after fan n l j zero pos most =
     let width = fan ^ (l + 1) in
     let wide : 0 < width = one-le-pow (l + 1) fan pos in
-    let later : j < level_size fan n l → 0 < closing_time fan n l j = λ inside.
+    let later : j < level_size fan n l → 0 < closing_moment fan n (block_index l j) = λ inside.
     let at_least : 1 ≤ j + 1 = omega arith in
     omega (arith, mul-lt_div_ceil n width j wide inside, mul-le-mul_right width at_least) in
     grind (arith, nat_tests, later)
@@ -85,7 +82,7 @@ times-closed_after fan n l j (suc i) pos most =
 
 -- what has closed is a block of the tree whose time has come
 pub closed_time : (fan n l j i : ℕ) → 0 < fan → i ≤ n → 0 < times l j (closed_after fan n i)
-    → IsTreeBlock fan n l j × (closing_time fan n l j ≤ i)
+    → IsTreeBlock fan n l j × (closing_moment fan n (block_index l j) ≤ i)
 closed_time fan n l j i pos most some =
     let closed = times-closed_after fan n l j i pos most in (
       record { level_below = grind (arith, nat_tests); block_below = grind (arith, nat_tests) },

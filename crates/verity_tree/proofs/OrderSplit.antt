@@ -19,7 +19,7 @@ use Rattle.verity_io.specs.Writing.{put}
 use Rattle.verity_tree.proofs.QuotientLemmas.{quotient-stays}
 
 -- a test that the first numbers pass leaves them, and nothing after them if the others don't pass
-filter-front : (c : ℕ → Bool) (a m n : ℕ) → ((l : ℕ) → a ≤ l → l < a + m → c l ≡ true) → m ≤ n
+pub filter-front : (c : ℕ → Bool) (a m n : ℕ) → ((l : ℕ) → a ≤ l → l < a + m → c l ≡ true) → m ≤ n
     → (rest : List ℕ) × (filter c (range_with_len a n) ≡ range_with_len a m ++ rest)
     × (((l : ℕ) → a + m ≤ l → l < a + n → c l ≡ false) → rest ≡ [])
 filter-front c a zero zero pass le = ([], refl, λ fail. refl)

@@ -49,7 +49,7 @@ range-within device bytes a n some long here =
     omega (arith, ap length here, length-take n (drop a device), length-drop a device, long, some)
 
 -- blocks of the tree are one, or don't overlap
-apart : (s : TreeSettingsFields) (n base l j m k : ℕ) → IsTreeBlock (fan s) n l j → IsTreeBlock (fan s) n m k
+pub apart : (s : TreeSettingsFields) (n base l j m k : ℕ) → IsTreeBlock (fan s) n l j → IsTreeBlock (fan s) n m k
     → ((m ≡ l) × (k ≡ j)) ⊎ ((start_byte s n base l j + s.hash_block ≤ start_byte s n base m k)
     ⊎ (start_byte s n base m k + s.hash_block ≤ start_byte s n base l j))
 apart s n base l j m k here there =

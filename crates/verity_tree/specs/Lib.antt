@@ -11,5 +11,8 @@ pub mod Links
 pub mod Collisions
 pub mod Windows
 pub mod Feeding
+pub mod FileTrees
+pub mod Parts
+pub mod FirstDifferences
 pub mod Steps
 pub mod Stores

@@ -8,3 +8,4 @@ pub mod Batches
 pub mod Feeding
 pub mod OnePass
 pub mod PlainRoots
+pub mod Parts

@@ -1,15 +1,17 @@
 //! The steps by which a tree is made, whoever brings the bytes: its hash blocks close one after another, and at the end
 //! there is its root hash.
-ghost use Rattle.std.specs.Prelude.{◌≡◌, ℕ, ◌+◌, ◌*◌, ◌/◌, ◌^◌, ◌<◌, ◌≤◌, List, length, true, false};
+ghost use Rattle.std.specs.Prelude.{◌≡◌, ℕ, ◌+◌, ◌*◌, ◌/◌, ◌^◌, ◌<◌, ◌≤◌, ◌-◌, List, length, take, true, false};
 ghost use Rattle.verity_plan.specs.PlanCounts.{level_count_of};
 ghost use Rattle.verity_plan.specs.Plans.{IsPlan, start_byte_of};
 ghost use Rattle.verity_plan.specs.Settings.{digest_len, fan};
 ghost use Rattle.verity_tree.specs.ClosingOrder.{blocks_before};
 ghost use Rattle.verity_tree.specs.Levels.{data_blocks, root};
-ghost use Rattle.verity_tree.specs.Steps.Feeding.{CanStep, ClosesNext, HasFed, Stands};
+ghost use Rattle.verity_tree.specs.Steps.Feeding.{CanStep, ClosesNext, HasFed, Stands, last_window, windows_before};
+ghost use Rattle.verity_tree.specs.Steps.OpenBlocks.{IsAsking, carry_state};
+ghost use Rattle.verity_tree.specs.TreeOnDevice.{tree_block};
 ghost use Rattle.verity_tree.specs.Windows.{window_length};
 
-use crate::open_blocks::{add_digest, close_block, digest_with};
+use crate::open_blocks::{add_digest, block_with, close_block, digest_with};
 use crate::planned::planned;
 use crate::tree_builder::HashBlock;
 use crate::window::{add_window, window_length, window_place};
@@ -90,6 +92,34 @@ pub(crate) fn handed_out(plan: &Plan, progress: &Progress) -> HashBlock
     }
 }
 
+/// The digest that comes to a level with the last data block, when all data that the plan wants has come: it goes up
+/// through the open blocks below, and is taken out of them again.
+fn digest_below(plan: &Plan, opened: &mut [u8], window: &mut [u8], to: usize) -> Digest
+    requires planned { IsPlan plan.now }
+    requires opened { level_count_of plan.now * plan.now.settings.hash_block ≤ length opened.old }
+    requires window { length window.old ≡ window_length plan.now.settings }
+    requires level { to ≤ level_count_of plan.now }
+    ensures size { length result ≡ digest_len plan.now.settings }
+    ensures asks { (levels : ℕ) (fed : List ℕ) → level_count_of plan.now ≤ levels
+        → levels * plan.now.settings.hash_block ≤ length opened.old → length fed ≡ plan.now.wanted
+        → HasFed plan.now.settings levels fed opened.old window.old
+        → IsAsking plan.now.settings (data_blocks plan.now fed) (last_window plan.now)
+        (carry_state (plan.now.blocks - 1) to levels) opened.new result }
+    ensures stays { take (plan.now.wanted - windows_before plan.now.settings plan.now.wanted
+        * window_length plan.now.settings) window.new
+        ≡ take (plan.now.wanted - windows_before plan.now.settings plan.now.wanted
+        * window_length plan.now.settings) window.old }
+{
+    let wanted = plan.wanted();
+    let first = window_place(plan, wanted).first;
+    let last = plan.blocks() - 1;
+    let mut digest = add_window(plan, opened, window, wanted);
+    for level in 0..to {
+        digest = digest_with(plan, opened, first, last, level, &digest);
+    }
+    digest
+}
+
 /// The root hash of the data that the plan wants, when all of it has come: digests go up through the open blocks, and are
 /// taken out again. All stays for more bytes, of a plan that wants more.
 pub(crate) fn root_of_fed(plan: &Plan, opened: &mut [u8], window: &mut [u8]) -> Digest
@@ -106,14 +136,38 @@ pub(crate) fn root_of_fed(plan: &Plan, opened: &mut [u8], window: &mut [u8]) -> 
         → HasFed plan.now.settings levels fed opened.old window.old
         → HasFed plan.now.settings levels fed opened.new window.new }
 {
-    let wanted = plan.wanted();
-    let first = window_place(plan, wanted).first;
+    digest_below(plan, opened, window, plan.levels())
+}
+
+/// Writes the last hash block of a level into `block`, when all data that the plan wants has come: its number in the level.
+/// All stays for more bytes, of a plan that wants more.
+pub(crate) fn last_block_of_fed(
+    plan: &Plan,
+    opened: &mut [u8],
+    window: &mut [u8],
+    level: usize,
+    block: &mut [u8],
+) -> u64
+    requires planned { IsPlan plan.now }
+    requires opened { level_count_of plan.now * plan.now.settings.hash_block ≤ length opened.old }
+    requires window { length window.old ≡ window_length plan.now.settings }
+    requires level { level < level_count_of plan.now }
+    requires block { length block.old ≡ plan.now.settings.hash_block }
+    ensures index { result ≡ blocks_before plan.now.settings plan.now.wanted / fan plan.now.settings ^ (level + 1) }
+    ensures block { (levels : ℕ) (fed : List ℕ) → level_count_of plan.now ≤ levels
+        → levels * plan.now.settings.hash_block ≤ length opened.old → length fed ≡ plan.now.wanted
+        → HasFed plan.now.settings levels fed opened.old window.old
+        → block.new ≡ tree_block plan.now.settings (data_blocks plan.now fed) level result }
+    ensures stays { (levels : ℕ) (fed : List ℕ) → level_count_of plan.now ≤ levels
+        → levels * plan.now.settings.hash_block ≤ length opened.old → length fed ≡ plan.now.wanted
+        → HasFed plan.now.settings levels fed opened.old window.old
+        → HasFed plan.now.settings levels fed opened.new window.new }
+{
+    let first = window_place(plan, plan.wanted()).first;
     let last = plan.blocks() - 1;
-    let mut digest = add_window(plan, opened, window, wanted);
-    for level in 0..plan.levels() {
-        digest = digest_with(plan, opened, first, last, level, &digest);
-    }
-    digest
+    let digest = digest_below(plan, opened, window, level);
+    block_with(plan, opened, first, last, level, &digest, block);
+    plan.index_above(last, level + 1)
 }
 
 /// The root hash, when the hash blocks of all levels have closed: of the top level's, or, without one, of the data block.

@@ -1,6 +1,7 @@
 //! A file's tree that is built as pieces of the file come, whose length isn't known before.
 ghost use Rattle.std.specs.Prelude.{◌≡◌, ◌≤◌, ℕ, ◌+◌, ◌*◌, ◌++◌, List, [], length, IfErr, IfOk};
 ghost use Rattle.verity_plan.specs.PlanCounts.{most_level_count};
+ghost use Rattle.verity_plan.specs.Settings.{IsValid, digest_len};
 ghost use Rattle.verity_tree.specs.Feeding.{IsFedFile, fault_in, feeding_length, file_fault};
 ghost use Rattle.verity_tree.specs.Levels.{root_of_file};
 
@@ -91,6 +92,7 @@ impl FileBuilder {
         requires { length memory.old ≡ feeding_length self.now.settings (most_level_count self.now.settings) }
         ensures fault { fault_in result ≡ file_fault self.now 0 }
         ensures refused { IfErr result (λ _. memory.new ≡ memory.old) }
+        ensures size { IfOk result (λ answer. length answer ≡ digest_len self.now.settings) }
         ensures root { (fed : List ℕ) → IsFedFile self.now memory.old fed
             → IfOk result (λ answer. answer ≡ root_of_file self.now.settings (length fed) fed) }
         ensures stays { (fed : List ℕ) → IsFedFile self.now memory.old fed → IsFedFile self.now memory.new fed }
@@ -108,9 +110,10 @@ impl FileBuilder {
 }
 
 /// The length of the open blocks of the largest file, in bytes.
-fn open_length(settings: &TreeSettings) -> usize
+pub(crate) fn open_length(settings: &TreeSettings) -> usize
     ensures value { result ≡ most_level_count settings.now * settings.now.hash_block }
     ensures few { result ≤ 33030144 }
+    ensures valid { IsValid settings.now }
 {
     Plan::most_levels(settings) * settings.hash_block() as usize
 }

@@ -3,10 +3,11 @@ ghost use Rattle.std.specs.Prelude.{◌≡◌, ℕ, ◌+◌, ◌*◌, ◌/◌, �
 ghost use Rattle.std.specs.Prelude.{true, false};
 ghost use Rattle.verity_plan.specs.PlanCounts.{level_count_of};
 ghost use Rattle.verity_plan.specs.Plans.{IsPlan};
-ghost use Rattle.verity_plan.specs.Settings.{digest_len, fan};
+ghost use Rattle.verity_plan.specs.Settings.{digest_len, fan, hash};
 ghost use Rattle.verity_tree.specs.Steps.OpenBlocks.{Adds, HasClosed, HasOpenBlocks, IsAsking, IsCarrying, carry_state};
 ghost use Rattle.verity_tree.specs.Steps.OpenBlocks.{level_digest};
 ghost use Rattle.verity_tree.specs.Steps.Batches.{HoldsDataBlocks, IsBatch};
+ghost use Rattle.verity_tree.specs.TreeOnDevice.{tree_block};
 
 use crate::planned::planned;
 use crate::side_by_side::digest_rows;
@@ -102,6 +103,44 @@ pub(crate) fn digest_with(
     let above = plan.settings().hash(block);
     block[clear * width..].fill(0);
     above
+}
+
+/// Writes a level's hash block above the last data block into `block`: the open block with the digest that comes to it. The
+/// open block is left as `digest_with` leaves it.
+pub(crate) fn block_with(
+    plan: &Plan,
+    opened: &mut [u8],
+    first: u64,
+    last: u64,
+    level: usize,
+    digest: &Digest,
+    block: &mut [u8],
+)
+    requires room { level * plan.now.settings.hash_block + plan.now.settings.hash_block ≤ length opened.old }
+    requires size { length digest.now ≡ digest_len plan.now.settings }
+    requires block { length block.old ≡ plan.now.settings.hash_block }
+    requires last { last + 1 ≡ plan.now.blocks }
+    requires order { first ≤ last }
+    requires beside { first / fan plan.now.settings ≡ last / fan plan.now.settings }
+    ensures block { (blocks : List (List ℕ)) (levels : ℕ) → plan.now.blocks ≡ length blocks → level < levels
+        → levels * plan.now.settings.hash_block ≤ length opened.old
+        → IsAsking plan.now.settings blocks first (carry_state last level levels) opened.old digest.now
+        → block.new ≡ tree_block plan.now.settings blocks level (last / fan plan.now.settings ^ (level + 1)) }
+    ensures asks { (blocks : List (List ℕ)) (levels : ℕ) → plan.now.blocks ≡ length blocks → level < levels
+        → levels * plan.now.settings.hash_block ≤ length opened.old
+        → IsAsking plan.now.settings blocks first (carry_state last level levels) opened.old digest.now
+        → IsAsking plan.now.settings blocks first (carry_state last (level + 1) levels) opened.new
+        (hash plan.now.settings block.new) }
+{
+    let size = plan.hash_block();
+    let fan = plan.fan() as u64;
+    let width = plan.settings().slot_width();
+    let slot = (plan.index_above(last, level) % fan) as usize;
+    let clear = (plan.index_above(first, level) % fan) as usize;
+    let own = &mut opened[level * size..level * size + size];
+    put_slot(own, slot * width, digest);
+    block.copy_from_slice(own);
+    own[clear * width..].fill(0);
 }
 
 /// Adds the digests of a batch of data blocks from `i` on, which stand one after another in `rows`, to the open block of

@@ -1,6 +1,7 @@
 //! A tree that is built as pieces of its data come, with each hash block handed out as it closes.
 ghost use Rattle.std.specs.Prelude.{◌≡◌, ℕ, List, [], length, take, IfErr, IfOk, MatchOption};
 ghost use Rattle.verity_plan.specs.PlanCounts.{level_count_of};
+ghost use Rattle.verity_plan.specs.Settings.{digest_len};
 ghost use Rattle.verity_tree.specs.Feeding.{Feeds, HasLast, IsFed, IsHandedOut, IsPlaced, Takes, end_fault, fault_in};
 ghost use Rattle.verity_tree.specs.Feeding.{feed_fault, feeding_length};
 ghost use Rattle.verity_tree.specs.Levels.{data_blocks, root};
@@ -153,6 +154,7 @@ impl TreeBuilder {
         requires { length memory.old ≡ feeding_length self.now.plan.settings (level_count_of self.now.plan) }
         ensures fault { fault_in result ≡ end_fault self.now }
         ensures refused { IfErr result (λ _. memory.new ≡ memory.old) }
+        ensures size { IfOk result (λ answer. length answer ≡ digest_len self.now.plan.settings) }
         ensures root { (fed : List ℕ) → IsFed self.now memory.old fed
             → IfOk result (λ answer. answer ≡ root self.now.plan.settings (data_blocks self.now.plan fed)) }
         ensures stays { (fed : List ℕ) → IsFed self.now memory.old fed → IsFed self.now memory.new fed }

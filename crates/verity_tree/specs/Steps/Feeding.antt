@@ -20,6 +20,10 @@ first_blocks s n fed = cut s n (n * s.data_block) fed
 abbrev pub windows_before : TreeSettingsFields → ℕ → ℕ
 windows_before s count = (count - 1) / window_length s
 
+-- the first data block of the window that the last byte of all is in
+abbrev pub last_window : PlanFields → ℕ
+last_window p = windows_before p.settings p.wanted * window_blocks p.settings
+
 -- the bytes that come after so many windows
 abbrev pub after_windows : TreeSettingsFields → ℕ → List ℕ → List ℕ
 after_windows s windows fed = drop (windows * window_length s) fed

@@ -38,6 +38,41 @@ fn advance(
     taken
 }
 
+/// Takes a piece until a hash block closes before its end: how many bytes were taken, and whether one has closed.
+pub(crate) fn feed_before_end(
+    plan: &Plan,
+    progress: &mut Progress,
+    opened: &mut [u8],
+    window: &mut [u8],
+    piece: &[u8],
+) -> (usize, bool)
+    requires step { CanStep plan.now (progress.old.fed + length piece.now) progress.old.closed opened.old window.old }
+    ensures most { result.0 ≤ length piece.now }
+    ensures fed { progress.new.fed ≡ progress.old.fed + result.0 }
+    ensures closed { progress.new.closed ≤ level_count_of plan.now }
+    ensures none_closes { result.1 ≡ false → (result.0 ≡ length piece.now)
+        × (0 < length piece.now → progress.new.closed ≡ 0)
+        × (length piece.now ≡ 0 → progress.new.closed ≡ progress.old.closed) }
+    ensures closes { result.1 ≡ true → (0 < progress.new.closed) × (0 < progress.new.fed)
+        × (result.0 ≡ 0 → progress.new.closed ≡ progress.old.closed + 1) }
+    ensures before_end { result.1 ≡ true → result.0 < length piece.now }
+    ensures stands { (levels : ℕ) (fed : List ℕ) → level_count_of plan.now ≤ levels
+        → levels * plan.now.settings.hash_block ≤ length opened.old → length fed ≡ progress.old.fed
+        → Stands plan.now levels fed progress.old.closed opened.old window.old
+        → FeedsOn plan.now levels fed progress.old.closed (take result.0 piece.now) result.1 progress.new.closed
+        opened.new window.new }
+{
+    let mut taken = 0;
+    while taken < piece.len() {
+        let count = advance(plan, progress, opened, window, &piece[taken..]);
+        if count == 0 {
+            return (taken, true);
+        }
+        taken += count;
+    }
+    (taken, false)
+}
+
 /// Takes a piece until a hash block closes: how many bytes were taken, and whether one has closed. When all data has come,
 /// hash blocks close without bytes.
 pub(crate) fn feed_until_closed(
@@ -55,6 +90,7 @@ pub(crate) fn feed_until_closed(
         × (progress.new.fed ≡ plan.now.wanted → progress.new.closed ≡ level_count_of plan.now) }
     ensures closes { result.1 ≡ true → (0 < progress.new.closed) × (0 < progress.new.fed)
         × (result.0 ≡ 0 → progress.new.closed ≡ progress.old.closed + 1) }
+    ensures stays { result.1 ≡ false → length piece.now ≡ 0 → progress.new.closed ≡ progress.old.closed }
     ensures waits { result.1 ≡ true → (result.0 < length piece.now) ⊎ (progress.new.fed ≡ plan.now.wanted) }
     ensures stands { (levels : ℕ) (fed : List ℕ) → level_count_of plan.now ≤ levels
         → levels * plan.now.settings.hash_block ≤ length opened.old → length fed ≡ progress.old.fed
@@ -62,17 +98,12 @@ pub(crate) fn feed_until_closed(
         → FeedsOn plan.now levels fed progress.old.closed (take result.0 piece.now) result.1 progress.new.closed
         opened.new window.new }
 {
-    let mut taken = 0;
-    while taken < piece.len()
-        || (progress.fed == plan.wanted() && progress.closed < plan.levels())
-    {
-        let count = advance(plan, progress, opened, window, &piece[taken..]);
-        if count == 0 {
-            return (taken, true);
-        }
-        taken += count;
+    let (taken, closes) = feed_before_end(plan, progress, opened, window, piece);
+    if closes || progress.fed < plan.wanted() || progress.closed >= plan.levels() {
+        return (taken, closes);
     }
-    (taken, false)
+    let last_closes = close_next(plan, progress, opened, window);
+    (taken, last_closes)
 }
 
 /// Takes all of a piece. The window so far stays open for more bytes.

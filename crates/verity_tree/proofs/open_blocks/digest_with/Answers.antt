@@ -1,9 +1,6 @@
-use Rattle.std.proofs.Common.{◌≡◌, ℕ, ◌-◌, List, ◌++◌, length, take, drop, replicate, arith, ap, ◌∙◌}
-use Rattle.std.proofs.Common.{length-drop}
-use Rattle.std.proofs.lemmas.List.{append-nil, drop_all, length-take-le}
-use borrow.Rule.Slice.PartMut.{put_mid}
+use Rattle.std.proofs.Common.{length, arith, ap, ◌∙◌}
 use Rattle.verity_plan.specs.Settings.{slot_width}
-use Rattle.verity_tree.proofs.ClosedLevelLemmas.{IsAsking-up}
+use Rattle.verity_tree.proofs.ClosedLevelLemmas.{IsAsking-up, cleared-is}
 use Rattle.verity_tree.proofs.OpenBlockLemmas.{hash-by, length-hash}
 use Rattle.verity_tree.proofs.OpenBlockSteps.{slot-room}
 use Rattle.verity_tree.proofs.open_blocks.digest_with.Goals as goal
@@ -18,17 +15,6 @@ put_slot-requires c =
 pub returns-clause-size : goal.returns-clause-size
 returns-clause-size c =
     ap length (hash-by _ _ _ _ c.settings-2.ensures c.hash-above.ensures) ∙ length-hash c.args.plan.now.settings _
-
--- a block that is filled with zeros from a byte on
-cleared-is : (at len : ℕ) (block zeros : List ℕ) → length block ≡ len
-    → zeros ≡ replicate (length (take (length block - at) (drop at block))) 0
-    → put_mid at (length block - at) block zeros ≡ take at block ++ replicate (len - at) 0
-cleared-is at len block zeros long is =
-    let k = length block - at in
-    let rest = length-take-le k (drop at block) (omega (arith, length-drop at block)) in
-    let none = drop_all k (drop at block) (omega (arith, length-drop at block)) in
-    let end = append-nil zeros in
-    cc
 
 pub returns-clause-asks : goal.returns-clause-asks
 returns-clause-asks c = λ blocks levels many inside room h.

@@ -4,7 +4,7 @@ use Rattle.verity_plan.specs.Settings.{digest_len}
 use Rattle.verity_tree.specs.Levels.{data_blocks}
 use Rattle.verity_tree.specs.Steps.Feeding.{HasFed}
 use Rattle.verity_tree.specs.Steps.OpenBlocks.{IsAsking, carry_state}
-use Rattle.verity_tree.proofs.closing.root_of_fed.Given as goal
+use Rattle.verity_tree.proofs.closing.digest_below.Given as goal
 
 -- the digest that comes to the level with the last data block; below it the open blocks are those before the last window's
 -- first

@@ -1,7 +1,7 @@
-use Rattle.std.proofs.Common.{length, ◌-◌, ◌≡◌, ℕ, ◌+◌, ◌*◌, ◌≤◌, List, take, false}
+use Rattle.std.proofs.Common.{length, ◌-◌, ◌≡◌, ℕ, ◌+◌, ◌*◌, ◌<◌, ◌≤◌, List, take, false}
 use Rattle.verity_plan.specs.PlanCounts.{level_count_of}
 use Rattle.verity_tree.specs.Steps.Feeding.{FeedsOn, Stands}
-use Rattle.verity_tree.proofs.feeding.steps.feed_until_closed.Given as goal
+use Rattle.verity_tree.proofs.feeding.steps.feed_before_end.Given as goal
 
 -- no hash block has closed with the bytes that were taken
 abbrev pub invariant-loop-taken : goal.invariant-loop-taken
@@ -10,6 +10,7 @@ invariant-loop-taken l = record {
   fed : l.progress.fed ≡ l.fn.progress.fed + l.taken;
   closed : l.progress.closed ≤ level_count_of l.plan;
   first : l.taken ≡ 0 → l.progress.closed ≡ l.fn.progress.closed;
+  none_closes : 0 < l.taken → l.progress.closed ≡ 0;
   stands : (levels : ℕ) (fed : List ℕ) → level_count_of l.plan ≤ levels
       → levels * l.plan.settings.hash_block ≤ length l.fn.opened → length fed ≡ l.fn.progress.fed
       → Stands l.plan levels fed l.fn.progress.closed l.fn.opened l.fn.window

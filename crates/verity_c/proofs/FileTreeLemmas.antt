@@ -1,0 +1,196 @@
+-- What a builder of a file's tree has answered is what the library for C says of it.
+use Rattle.std.proofs.Common.{◌≡◌, ◌<◌, ◌≤◌, ◌+◌, ℕ, true, false, List, ◌++◌, take, Option, Some, None, Result, Ok, Err}
+use Rattle.std.proofs.Common.{IfOk, arith, ap, inl, inr, of_z, refl, subst, sym, to_z, w32, ◌∙◌}
+use Rattle.std.proofs.lemmas.Bool.Decides.{nat_tests}
+use Rattle.std.specs.Prelude.{◌==◌}
+use Rattle.verity_plan.proofs.CountLemmas.{mul_le}
+use Rattle.verity_plan.specs.PlanCounts.{most_level_count}
+use Rattle.verity_plan.specs.Settings.{TreeSettingsFields, digest_len}
+use Rattle.verity_tree.specs.FileTrees.{FeedsFile, IsFedFileTree, TakesOfFile, last_block_fault, root_fault}
+use Rattle.verity_tree.specs.declared.feed_fault.FeedFault.{FeedFault}
+use Rattle.verity_tree.specs.declared.file_tree_builder.FileFed.{FileFed}
+use Rattle.verity_tree.specs.declared.file_tree_builder.FileHashBlock.{FileHashBlock}
+use Rattle.verity_tree.specs.declared.file_tree_builder.FileTreeBuilder.{FileTreeBuilder}
+use Rattle.verity_c.specs.FileTrees.{HandsOutOfFile, IsFedTreeTo, TakesFilePiece, fed_by_file, fed_of_file, tree_builder_of}
+use Rattle.verity_c.specs.FileTrees.{with_last_block, with_tree_end}
+use Rattle.verity_c.specs.Parameters.{algorithm_of, fsverity_tree_of}
+use Rattle.verity_c.specs.Statuses.{code_of, fault_of_feed}
+use Rattle.verity_c.specs.declared.build.VerityBuild.{VerityBuild}
+use Rattle.verity_c.specs.declared.build.VerityFed.{VerityFed}
+use Rattle.verity_c.specs.declared.fault.Fault.{Fault}
+use Rattle.verity_c.specs.declared.fault.Fault.TheVariants.{Differs, Index, Level, Length, Root, Algorithm, HashType}
+use Rattle.verity_c.specs.declared.fault.Fault.TheVariants.{DataBlockSize, HashBlockSize, SaltSize, HashOffset, NoData}
+use Rattle.verity_c.specs.declared.fault.Fault.TheVariants.{TooLarge, Short, Signature, Version, TooLong, TooShort, Waiting}
+use Rattle.verity_c.specs.declared.parameters.FsverityParams.{FsverityParams}
+use Rattle.verity_c.proofs.BuildingLemmas.{tree-sized}
+
+-- a builder is that of its settings and its two numbers
+tree_builder_of-parts : (s : TreeSettingsFields) (b : FileTreeBuilder) → b.settings ≡ s
+    → b ≡ tree_builder_of s (record { fed = b.fed; closed = b.closed })
+tree_builder_of-parts s b is =
+    ap (λ (t : TreeSettingsFields). tree_builder_of t (record { fed = b.fed; closed = b.closed })) is
+
+-- a result has one value
+one_value : {A : Type 0} → (r : Result A Fault) (x y : A) → r ≡ Ok x → r ≡ Ok y → x ≡ y
+one_value r x y is also = cc
+
+-- what was fed to the tree of parameters was fed to the builder of the settings that they make, and the other way round
+pub IsFedTreeTo-at : (params : FsverityParams) (s : TreeSettingsFields) (build : VerityBuild) (memory fed : List ℕ)
+    → fsverity_tree_of params ≡ Ok s
+    → IsFedTreeTo params build memory fed → IsFedFileTree (tree_builder_of s build) memory fed
+IsFedTreeTo-at params s build memory fed made h =
+    let same : h.tree ≡ s = one_value (fsverity_tree_of params) h.tree s h.made made in
+    subst (λ (t : TreeSettingsFields). IsFedFileTree (tree_builder_of t build) memory fed) same h.is_fed
+
+pub IsFedTreeTo-of : (params : FsverityParams) (s : TreeSettingsFields) (b : FileTreeBuilder) (memory fed : List ℕ)
+    → fsverity_tree_of params ≡ Ok s → b.settings ≡ s → IsFedFileTree b memory fed
+    → IsFedTreeTo params (record { fed = b.fed; closed = b.closed }) memory fed
+IsFedTreeTo-of params s b memory fed made is h = record {
+  tree = s;
+  made = made;
+  is_fed = subst (λ (a : FileTreeBuilder). IsFedFileTree a memory fed) (tree_builder_of-parts s b is) h;
+}
+
+-- the settings of parameters with another size
+pub tree_of_sized : (params : FsverityParams) (size : ℕ)
+    → fsverity_tree_of (record params { size = size }) ≡ fsverity_tree_of params
+tree_of_sized params size = tree-sized (algorithm_of params.hash_algorithm) params size
+
+-- how much of a piece was taken, in the numbers of the struct
+TakesFilePiece-by : (s : TreeSettingsFields) (before : VerityBuild) (after : FileTreeBuilder) (count taken : ℕ)
+    (closed : Option FileHashBlock) → 0 < s.hash_block
+    → TakesOfFile (tree_builder_of s before) after count (record { taken = taken; hash_block = closed })
+    → TakesFilePiece s before (record { fed = after.fed; closed = after.closed }) count
+    (fed_by_file s.hash_block taken closed)
+TakesFilePiece-by s before after count taken None some h = record {
+  fed_is = h.fed_is;
+  most = h.most;
+  block_length = inl refl;
+  none = λ _. refl;
+  all = λ _. h.all refl;
+  none_waits = λ _. h.none_waits refl;
+  nothing = λ zero. ap (λ (b : FileTreeBuilder). record { fed = b.fed; closed = b.closed }) (h.nothing zero);
+  placed = λ some_block. absurd (some_block refl);
+  no_start = refl;
+  within = omega arith;
+  before_end = λ some_block. absurd (some_block refl);
+  rises = λ some_block. absurd (some_block refl);
+}
+TakesFilePiece-by s before after count taken (Some block) some h =
+    let placed = h.placed block refl in
+    let step : block.level + 1 ≤ most_level_count s = omega (arith, placed.level_below) in
+    record {
+      fed_is = h.fed_is;
+      most = h.most;
+      block_length = inr refl;
+      none = λ zero. absurd (omega (arith, some, zero));
+      all = λ zero. absurd (omega (arith, some, zero));
+      none_waits = λ zero. absurd (omega (arith, some, zero));
+      nothing = λ zero. ap (λ (b : FileTreeBuilder). record { fed = b.fed; closed = b.closed }) (h.nothing zero);
+      placed = λ _. placed;
+      no_start = refl;
+      within = omega (arith, placed.at_is, mul_le (block.level + 1) (most_level_count s) s.hash_block step);
+      before_end = λ _. h.before_end block refl;
+      rises = λ _. h.rises block refl;
+    }
+
+-- the hash block that is handed out, in the numbers of the struct
+HandsOutOfFile-by : (s : TreeSettingsFields) (before : VerityBuild) (after : FileTreeBuilder) (fed more memory : List ℕ)
+    (taken : ℕ) (closed : Option FileHashBlock) → 0 < s.hash_block
+    → FeedsFile (tree_builder_of s before) after fed more memory closed
+    → HandsOutOfFile s before (record { fed = after.fed; closed = after.closed }) (fed ++ more) memory
+    (fed_by_file s.hash_block taken closed)
+HandsOutOfFile-by s before after fed more memory taken None some h = record {
+  order = h.order;
+  block = λ none. absurd (none refl);
+}
+HandsOutOfFile-by s before after fed more memory taken (Some block) some h =
+    let stands : (s.hash_block == 0) ≡ false = grind (arith, nat_tests, some) in
+    record { order = rw stands h.order; block = λ _. h.stands block refl }
+
+-- what was taken, in the numbers of the struct
+fed_by_file-taken : (size taken : ℕ) (closed : Option FileHashBlock) → (fed_by_file size taken closed).taken ≡ taken
+fed_by_file-taken size taken None = refl
+fed_by_file-taken size taken (Some block) = refl
+
+pub taken_of_file : (s : TreeSettingsFields) (answer : FileFed) (fed : VerityFed) → fed ≡ fed_of_file s answer
+    → fed.taken ≡ answer.taken
+taken_of_file s answer fed is =
+    ap (λ (f : VerityFed). f.taken) is ∙ fed_by_file-taken s.hash_block answer.taken answer.hash_block
+
+-- both, of the settings that parameters make
+pub TakesFilePiece-at : (params : FsverityParams) (s : TreeSettingsFields) (before : VerityBuild) (after : FileTreeBuilder)
+    (count : ℕ) (answer : FileFed) (fed : VerityFed) → fsverity_tree_of params ≡ Ok s → fed ≡ fed_of_file s answer
+    → 0 < s.hash_block → TakesOfFile (tree_builder_of s before) after count answer
+    → IfOk (fsverity_tree_of params)
+    (λ t. TakesFilePiece t before (record { fed = after.fed; closed = after.closed }) count fed)
+TakesFilePiece-at params s before after count answer fed made is some h =
+    let last : VerityBuild = record { fed = after.fed; closed = after.closed } in
+    subst (λ (r : Result TreeSettingsFields Fault). IfOk r (λ t. TakesFilePiece t before last count fed)) (sym made)
+    (subst (λ (f : VerityFed). TakesFilePiece s before last count f) (sym is)
+    (TakesFilePiece-by s before after count answer.taken answer.hash_block some h))
+
+pub HandsOutOfFile-at : (params : FsverityParams) (s : TreeSettingsFields) (before : VerityBuild) (after : FileTreeBuilder)
+    (bytes piece memory : List ℕ) (answer : FileFed) (fed : VerityFed) → fsverity_tree_of params ≡ Ok s
+    → fed ≡ fed_of_file s answer → 0 < s.hash_block
+    → FeedsFile (tree_builder_of s before) after bytes (take answer.taken piece) memory answer.hash_block
+    → IfOk (fsverity_tree_of params) (λ t. HandsOutOfFile t before (record { fed = after.fed; closed = after.closed })
+    (bytes ++ take fed.taken piece) memory fed)
+HandsOutOfFile-at params s before after bytes piece memory answer fed made is some h =
+    let last : VerityBuild = record { fed = after.fed; closed = after.closed } in
+    let numbers : VerityFed = fed_of_file s answer in
+    let here : HandsOutOfFile s before last (bytes ++ take answer.taken piece) memory numbers =
+    HandsOutOfFile-by s before after bytes (take answer.taken piece) memory answer.taken answer.hash_block some h in
+    let taken : numbers.taken ≡ answer.taken = taken_of_file s answer numbers refl in
+    let there : HandsOutOfFile s before last (bytes ++ take numbers.taken piece) memory numbers =
+    subst (λ (n : ℕ). HandsOutOfFile s before last (bytes ++ take n piece) memory numbers) (sym taken) here in
+    let all : List ℕ = bytes ++ take fed.taken piece in
+    subst (λ (r : Result TreeSettingsFields Fault). IfOk r (λ t. HandsOutOfFile t before last all memory fed)) (sym made)
+    (subst (λ (f : VerityFed). HandsOutOfFile s before last (bytes ++ take f.taken piece) memory f) (sym is) there)
+
+-- settings whose tree has the level, or the fault of the builder
+pub with_last_block-ok : (made : Result TreeSettingsFields Fault) (s : TreeSettingsFields) (build : VerityBuild)
+    (level room : ℕ) → made ≡ Ok s → room ≡ s.hash_block → last_block_fault (tree_builder_of s build) level ≡ None
+    → with_last_block made build level room ≡ Ok s
+with_last_block-ok made s build level room is fits none =
+    let is_room : (room == s.hash_block) ≡ true = grind (arith, nat_tests, fits) in
+    rw (is, is_room, none) refl
+
+pub with_last_block-fault : (made : Result TreeSettingsFields Fault) (s : TreeSettingsFields) (build : VerityBuild)
+    (level room : ℕ) (fault : FeedFault) → made ≡ Ok s → room ≡ s.hash_block
+    → last_block_fault (tree_builder_of s build) level ≡ Some fault
+    → with_last_block made build level room ≡ Err (fault_of_feed fault)
+with_last_block-fault made s build level room fault is fits some =
+    let is_room : (room == s.hash_block) ≡ true = grind (arith, nat_tests, fits) in
+    rw (is, is_room, some) refl
+
+-- settings with a root hash of the bytes so far, and room for it and the file digest
+pub with_tree_end-ok : (made : Result TreeSettingsFields Fault) (s : TreeSettingsFields) (build : VerityBuild)
+    (root_room digest_room : ℕ) → made ≡ Ok s → root_room ≡ digest_len s → digest_room ≡ digest_len s
+    → root_fault (tree_builder_of s build) ≡ None → with_tree_end made build root_room digest_room ≡ Ok s
+with_tree_end-ok made s build root_room digest_room is root_fits digest_fits none =
+    let is_root : (root_room == digest_len s) ≡ true = grind (arith, nat_tests, root_fits) in
+    let is_digest : (digest_room == digest_len s) ≡ true = grind (arith, nat_tests, digest_fits) in
+    rw (is, is_root, is_digest, none) refl
+
+-- the status of a fault fits the number that is answered
+pub code-fits : (fault : Fault) → to_z w32 (of_z w32 (code_of fault)) ≡ code_of fault
+code-fits Differs = refl
+code-fits Index = refl
+code-fits Level = refl
+code-fits Length = refl
+code-fits Root = refl
+code-fits Algorithm = refl
+code-fits HashType = refl
+code-fits DataBlockSize = refl
+code-fits HashBlockSize = refl
+code-fits SaltSize = refl
+code-fits HashOffset = refl
+code-fits NoData = refl
+code-fits TooLarge = refl
+code-fits Short = refl
+code-fits Signature = refl
+code-fits Version = refl
+code-fits TooLong = refl
+code-fits TooShort = refl
+code-fits Waiting = refl
