@@ -30,8 +30,8 @@ SECONDS = 1800
 SEED =
 
 .PHONY: run programs library libraries test check gate wrong-bodies check-programs check-library out-of-memory interop \
-    soak search kernel bench bench-feeding reproducible install uninstall install-library uninstall-library dist clean \
-    help
+    soak search kernel bench bench-feeding bench-parallel reproducible install uninstall install-library \
+    uninstall-library dist clean help
 
 # Proves and builds the one program that this needs, and prints the digest of a real file.
 run:
@@ -112,6 +112,10 @@ bench: programs
 bench-feeding: programs library
 	bench/feeding.sh
 
+# Measures a tree that is built from parts by threads beside bin/veritysetup and Debian's.
+bench-parallel: programs library
+	bench/parallel.sh
+
 # Builds both programs once more in another folder, and compares their bytes.
 reproducible: programs
 	tests/reproducible.sh
@@ -163,6 +167,7 @@ help:
 	@echo 'make kernel          10 minutes +  has the Linux kernel open the images, in a virtual machine [KERNEL, MODULES]'
 	@echo 'make bench           7 minutes +   measures speed and memory, beside bare hashing and the programs of Debian'
 	@echo 'make bench-feeding   2 minutes +   measures the library that is fed with pieces of a file'
+	@echo 'make bench-parallel  2 minutes +   measures a tree that is built from parts by threads'
 	@echo 'make reproducible    5 minutes +   builds once more in another folder, and compares the programs'
 	@echo 'make install         seconds       installs programs, pages and completion, and the library if it is built'
 	@echo '                                   [PREFIX, DESTDIR, SUFFIX, STRIP=yes, BINDIR, SBINDIR, MANDIR, BASHCOMPDIR,'

@@ -5,7 +5,7 @@
  * definitions. Of a tree that is built in pieces, hash blocks, root hash and file digest are so only while its struct
  * and memory stand as the call before left them (what else holds then is said below). The library takes no memory,
  * keeps nothing between calls, opens and prints nothing, and takes no lock: any number of threads may call it at once,
- * but only one at a time with the struct and the memory of one tree that is built. It calls memcpy, memmove and memset,
+ * but only one at a time with the struct and the memory of one tree, part or join. It calls memcpy, memmove and memset,
  * and nothing else.
  *
  * What every caller owes, since it can't be checked here:
@@ -28,7 +28,8 @@
  * page size or above the file system's block size; before Linux 6.3 it took those of its page size alone.
  *
  * Data blocks are counted from 0, and so are levels; level 0 is next to the data. Sizes, lengths, offsets and starts
- * are in bytes. The last data block of an fs-verity file is handed in whole, with the zeros that fill it.
+ * are in bytes. A block that is checked is handed in whole: the last one of a file with the zeros that fill it. What is
+ * fed is the data alone.
  *
  * Every function but verity_version answers a status: VERITY_OK, which is 0, or one of the negative numbers below, so
  * that status < 0 and status != VERITY_OK are the same question. Statuses aren't numbers of errno.h. The status is
@@ -111,15 +112,44 @@
  *     status = fsverity_tree_build_end(&params, &build, memory, memory_length, root, root_length, digest, root_length);
  *     params.size = build.fed;
  *
- * Memory and struct hold all that is kept between the calls. The struct is struct verity_build, but after
- * fsverity_build_begin struct fsverity_params. They are left alone then, but may be moved and copied, both together: a
- * copy goes on by itself. They may also be stored between any two calls, together with the parameters, and the tree
- * goes on from there, in another process or on another machine, by a library of the same major version. Some of the
- * memory may still be what it was before the tree was begun: clear it first if that is secret. Before they are stored,
- * every hash block that was handed out has to be where it can't be lost (fsync), except the one that
- * verity_build_last_block names, which stands in the memory; no function names a block of a file once more. The same
- * holds for the bytes that were fed, if the caller writes them as they come. Whoever goes on with a tree of dm-verity
- * writes that hash block first, even if nothing more is to be fed:
+ * A tree can be built from parts, too, by as many threads, processes or machines as the caller has: the data blocks
+ * below one digest of a level, and the hash blocks of the levels below it, need nothing of the others. Each part is
+ * built like a tree, by the functions whose names have _part_ in them, and ends with a digest; the functions with
+ * _join_ take these digests in order, hand out the hash blocks of the level and above, and end with the root hash.
+ * Which part is built when, and where, doesn't matter: each hash block of the tree is handed out once, with its place.
+ *
+ *     status = verity_part_count(&params, level, &parts, &blocks);
+ *     for each part, wherever it is built:
+ *     status = verity_part_begin(&params, level, number, &part, memory, memory_length);
+ *     and for each piece of its data, from data block number * blocks on, the loop above with verity_part_feed; then
+ *     status = verity_part_end(&params, &part, memory, memory_length, digest, digest_length);
+ *     and with all digests:
+ *     status = verity_join_begin(&params, level, &join, memory, memory_length);
+ *     the loop with verity_join_feed, over the digests one after another; then
+ *     status = verity_join_end(&params, &join, memory, memory_length, root, root_length);
+ *
+ * A part of level 1 has as many data blocks as a hash block has digests (128 with SHA-256 and blocks of 4096 bytes),
+ * one of level 2 the square of that. Each part that is built at one time has a struct and a memory of its own. All
+ * parts and their join have the same parameters and the same level: the size of a file, too, which has to be known.
+ * The library can't know whose digest it is handed: digests of another level, of another tree or in another order
+ * give another root hash, and no fault.
+ *
+ * An image is checked by parts like this: compare each hash block that is handed out with the one that stands at its
+ * place, and of the first differences of all parts and of the join take the earliest, by the data block with which it
+ * closes, and of those that close with one data block by the level, from 0 upward. Block number N of level L closes
+ * with the last data block of part number N of level L + 1. So, where there is all the data, the difference is the one
+ * that `veritysetup verify` names.
+ *
+ * Memory and struct hold all that is kept between the calls. The struct is struct verity_build, of a part struct
+ * verity_part, of a join struct verity_join, and after fsverity_build_begin struct fsverity_params. They are left alone
+ * then, but may be moved and copied, both together: a copy goes on by itself. They may also be stored between any two
+ * calls, together with the parameters, and the tree goes on from there, in another process or on another machine, by a
+ * library of the same major version. Some of the memory may still be what it was before the tree was begun: clear it
+ * first if that is secret. Before they are stored, every hash block that was handed out has to be where it can't be
+ * lost (fsync), except the one that a function whose name ends in _last_block names, which stands in the memory; where
+ * a file's length isn't known, no function names a block once more. The same holds for the bytes that were fed, if the
+ * caller writes them as they come. Whoever goes on writes that hash block first, even if nothing more is to be fed; of
+ * parts and joins by their own functions:
  *
  *     status = verity_build_last_block(&params, &build, &fed);
  *     if (status < 0)
@@ -128,8 +158,9 @@
  *         pwrite(device, memory + fed.block_at, fed.block_length, fed.block_start) != (ssize_t)fed.block_length)
  *         return 1;
  *
- * Then the data is fed from byte build.fed on; after fsverity_build_begin, from the size in the parameters on. If a
- * tree of dm-verity has no more, 0 bytes are fed until no hash block is handed out.
+ * Then the data is fed from byte build.fed on; after fsverity_build_begin, from the size in the parameters on; that of
+ * a part from the part's byte part.fed on; and to a join the digests from number join.taken on. If nothing more is
+ * left, 0 bytes are fed until no hash block is handed out.
  *
  * If anything else stands in memory and struct, hash blocks, root hash and digest mean nothing. All else holds: a call
  * returns, with the status that is said of the numbers in the struct, it reads and writes nothing but what it is
@@ -217,7 +248,7 @@ enum verity_status {
     VERITY_DIFFERS = -1,
     /* There is no data block of this number. */
     VERITY_NO_SUCH_BLOCK = -2,
-    /* The tree has no level of this number, or struct verity_build counts more than the tree has. */
+    /* The tree has no level of this number, or the struct of what is built counts more than there are. */
     VERITY_NO_SUCH_LEVEL = -3,
     /*
      * A block, a path, a digest, the memory or a buffer has the wrong length; a root hash and its buffer have the next
@@ -247,11 +278,13 @@ enum verity_status {
     VERITY_SHORT_SUPERBLOCK = -14,
     VERITY_BAD_SIGNATURE = -15,
     VERITY_BAD_VERSION = -16,
-    /* What is fed, or a struct that is disturbed: more bytes than the parameters say, or fewer. */
+    /* What is fed, or a struct that is disturbed: more bytes or digests than the parameters say, or fewer. */
     VERITY_TOO_LONG = -17,
     VERITY_TOO_SHORT = -18,
     /* A hash block, or the rest of a piece, is still to come: the function that feeds is to be called again. */
-    VERITY_WAITING = -19
+    VERITY_WAITING = -19,
+    /* The level of the tree has no part of this number. */
+    VERITY_NO_SUCH_PART = -20
 };
 
 /* Hash functions. fs-verity has the first two alone. */
@@ -290,8 +323,8 @@ struct verity_params {
 /*
  * Parameters of a file's fs-verity tree. Each function below checks all but the size: VERITY_BAD_HASH_ALGORITHM,
  * VERITY_BAD_DATA_BLOCK_SIZE, VERITY_BAD_SALT_SIZE. Those of levels, starts, the tree's size and checks of blocks go
- * on with the size: VERITY_NO_DATA, VERITY_TOO_LARGE. A file digest and a descriptor have any size, and the functions
- * of a tree that is built count it themselves.
+ * on with the size: VERITY_NO_DATA, VERITY_TOO_LARGE; and so do those of parts and joins. A file digest and a
+ * descriptor have any size, and the functions with _build_ in their names count it themselves.
  */
 struct fsverity_params {
     uint32_t hash_algorithm; /* VERITY_SHA256 or VERITY_SHA512 */
@@ -429,12 +462,12 @@ struct verity_build {
     size_t closed; /* of how many levels the hash blocks above the latest byte were handed out since it was fed */
 };
 
-/* What verity_build_feed or fsverity_tree_build_feed has done, and what verity_build_last_block has found. */
+/* What a function whose name ends in _feed has done, and what one in _last_block has found. */
 struct verity_fed {
     size_t taken;         /* how many bytes of the piece were taken */
     size_t block_length;  /* of the hash block that is handed out, or was last; 0 if there is none, and so all below */
     size_t block_at;      /* the byte of the memory at which it stands */
-    uint64_t block_start; /* the byte of the hash device at which it goes; of a file 0, since it isn't known yet */
+    uint64_t block_start; /* the byte of the hash device or the file's tree at which it goes; 0 if that isn't known */
     uint64_t block_index; /* its number in its level, from 0 */
     size_t block_level;   /* its level, from 0 next to the data */
 };
@@ -590,6 +623,157 @@ VERITY_MUST_CHECK int fsverity_tree_build_end_block(const struct fsverity_params
 VERITY_MUST_CHECK int fsverity_tree_build_end(const struct fsverity_params *params, const struct verity_build *build,
                                               uint8_t *memory, size_t memory_length, uint8_t *root, size_t root_length,
                                               uint8_t *digest, size_t digest_length);
+
+/*
+ * The parts of a level: how many there are, and how many data blocks each has but the last one, which has what is left,
+ * down to a single one. Level 0 has a part for each data block. The level above the top, whose number is
+ * verity_level_count, has one part, the whole tree. So part number N begins with data block N * blocks.
+ *
+ * A fault of the parameters, VERITY_NO_SUCH_LEVEL.
+ */
+VERITY_MUST_CHECK int verity_part_count(const struct verity_params *params, size_t level, uint64_t *parts,
+                                        uint64_t *blocks);
+VERITY_MUST_CHECK int fsverity_part_count(const struct fsverity_params *params, size_t level, uint64_t *parts,
+                                          uint64_t *blocks);
+
+/*
+ * How far a part is built. The functions whose names end in _part_begin fill it, and those in _part_feed go on with it.
+ */
+struct verity_part {
+    size_t level;  /* the level whose part it is: its hash blocks are those of the levels below */
+    uint64_t part; /* its number, from 0 */
+    uint64_t fed;  /* how many of its bytes were fed */
+    size_t closed; /* of how many levels the hash blocks above the latest byte were handed out since it was fed */
+};
+
+/*
+ * The length of the memory in which a part of a level is built: a hash block for each level below, and up to eight data
+ * blocks, as in verity_build_memory.
+ *
+ * A fault of the parameters, VERITY_NO_SUCH_LEVEL.
+ */
+VERITY_MUST_CHECK int verity_part_memory(const struct verity_params *params, size_t level, size_t *length);
+VERITY_MUST_CHECK int fsverity_part_memory(const struct fsverity_params *params, size_t level, size_t *length);
+
+/*
+ * Begins a part of a level: struct and memory are those of no bytes. What stood in them doesn't count and needs no
+ * value.
+ *
+ * A fault of the parameters, VERITY_NO_SUCH_LEVEL, VERITY_NO_SUCH_PART, VERITY_BAD_LENGTH.
+ */
+VERITY_MUST_CHECK int verity_part_begin(const struct verity_params *params, size_t level, uint64_t number,
+                                        struct verity_part *part, uint8_t *memory, size_t memory_length);
+VERITY_MUST_CHECK int fsverity_part_begin(const struct fsverity_params *params, size_t level, uint64_t number,
+                                          struct verity_part *part, uint8_t *memory, size_t memory_length);
+
+/*
+ * Feeds a piece of the part's data, as verity_build_feed does with that of a whole tree: all of it, or its bytes up to
+ * the next hash block that closes, which is handed out. Its number and its start are those of the whole tree.
+ *
+ * A fault of the parameters, VERITY_NO_SUCH_LEVEL, VERITY_NO_SUCH_PART, VERITY_BAD_LENGTH (the memory's),
+ * VERITY_NO_SUCH_LEVEL (more levels are closed than there are), VERITY_TOO_LONG (with the whole piece there would be
+ * more bytes than the part has).
+ */
+VERITY_MUST_CHECK int verity_part_feed(const struct verity_params *params, struct verity_part *part, uint8_t *memory,
+                                       size_t memory_length, const uint8_t *piece, size_t piece_length,
+                                       struct verity_fed *fed);
+VERITY_MUST_CHECK int fsverity_part_feed(const struct fsverity_params *params, struct verity_part *part,
+                                         uint8_t *memory, size_t memory_length, const uint8_t *piece,
+                                         size_t piece_length, struct verity_fed *fed);
+
+/*
+ * The hash block that was handed out last, once more, as verity_build_last_block gives it: for a part that goes on from
+ * what was stored.
+ *
+ * A fault of the parameters, VERITY_NO_SUCH_LEVEL, VERITY_NO_SUCH_PART, VERITY_NO_SUCH_LEVEL (more levels are closed
+ * than there are), VERITY_TOO_LONG (more bytes were fed than the part has).
+ */
+VERITY_MUST_CHECK int verity_part_last_block(const struct verity_params *params, const struct verity_part *part,
+                                             struct verity_fed *fed);
+VERITY_MUST_CHECK int fsverity_part_last_block(const struct fsverity_params *params, const struct verity_part *part,
+                                               struct verity_fed *fed);
+
+/*
+ * The part's digest, when all its data was fed and all its hash blocks were handed out. digest_length is exactly that
+ * of the hash function's digests. It can be asked for as often as one likes: struct and memory stay those of the same
+ * bytes.
+ *
+ * A fault of the parameters, VERITY_NO_SUCH_LEVEL, VERITY_NO_SUCH_PART, VERITY_BAD_LENGTH (the memory's, or the
+ * digest's), VERITY_NO_SUCH_LEVEL (more levels are closed than there are), VERITY_TOO_LONG, VERITY_TOO_SHORT,
+ * VERITY_WAITING.
+ */
+VERITY_MUST_CHECK int verity_part_end(const struct verity_params *params, const struct verity_part *part,
+                                      uint8_t *memory, size_t memory_length, uint8_t *digest, size_t digest_length);
+VERITY_MUST_CHECK int fsverity_part_end(const struct fsverity_params *params, const struct verity_part *part,
+                                        uint8_t *memory, size_t memory_length, uint8_t *digest, size_t digest_length);
+
+/* How far the parts of a level are joined. */
+struct verity_join {
+    size_t level;   /* the level whose parts are joined: the hash blocks are those of this level and above */
+    uint64_t taken; /* how many digests were taken */
+    size_t closed;  /* of how many levels the hash blocks above the latest digest were handed out since it was taken */
+};
+
+/*
+ * The length of the memory in which the parts of a level are joined: a hash block for each level from this one on, and
+ * a digest.
+ *
+ * A fault of the parameters, VERITY_NO_SUCH_LEVEL.
+ */
+VERITY_MUST_CHECK int verity_join_memory(const struct verity_params *params, size_t level, size_t *length);
+VERITY_MUST_CHECK int fsverity_join_memory(const struct fsverity_params *params, size_t level, size_t *length);
+
+/*
+ * Begins to join the parts of a level: no digest was taken. What stood in struct and memory doesn't count and needs no
+ * value.
+ *
+ * A fault of the parameters, VERITY_NO_SUCH_LEVEL, VERITY_BAD_LENGTH.
+ */
+VERITY_MUST_CHECK int verity_join_begin(const struct verity_params *params, size_t level, struct verity_join *join,
+                                        uint8_t *memory, size_t memory_length);
+VERITY_MUST_CHECK int fsverity_join_begin(const struct fsverity_params *params, size_t level, struct verity_join *join,
+                                          uint8_t *memory, size_t memory_length);
+
+/*
+ * Takes the next digests, in the order of their parts, one after another in digests: all of them, or those up to the
+ * next hash block that closes, which is handed out. taken is in bytes. Then the rest is to be fed, perhaps of no bytes,
+ * until no hash block is handed out.
+ *
+ * A fault of the parameters, VERITY_NO_SUCH_LEVEL, VERITY_BAD_LENGTH (the memory's, or digests that aren't whole),
+ * VERITY_NO_SUCH_LEVEL (more levels are closed than there are), VERITY_TOO_LONG (there would be more digests than
+ * parts).
+ */
+VERITY_MUST_CHECK int verity_join_feed(const struct verity_params *params, struct verity_join *join, uint8_t *memory,
+                                       size_t memory_length, const uint8_t *digests, size_t digests_length,
+                                       struct verity_fed *fed);
+VERITY_MUST_CHECK int fsverity_join_feed(const struct fsverity_params *params, struct verity_join *join,
+                                         uint8_t *memory, size_t memory_length, const uint8_t *digests,
+                                         size_t digests_length, struct verity_fed *fed);
+
+/*
+ * The hash block that was handed out last, once more: for a join that goes on from what was stored.
+ *
+ * A fault of the parameters, VERITY_NO_SUCH_LEVEL (the level, or more levels are closed than there are),
+ * VERITY_TOO_LONG (more digests were taken than there are parts).
+ */
+VERITY_MUST_CHECK int verity_join_last_block(const struct verity_params *params, const struct verity_join *join,
+                                             struct verity_fed *fed);
+VERITY_MUST_CHECK int fsverity_join_last_block(const struct fsverity_params *params, const struct verity_join *join,
+                                               struct verity_fed *fed);
+
+/*
+ * The root hash, when the digests of all parts were taken and all hash blocks handed out, and of a file its digest,
+ * too. It can be asked for as often as one likes: the memory is only read.
+ *
+ * A fault of the parameters, VERITY_NO_SUCH_LEVEL, VERITY_BAD_LENGTH (the memory's), VERITY_BAD_ROOT_LENGTH,
+ * VERITY_BAD_LENGTH (the file digest's), VERITY_NO_SUCH_LEVEL (more levels are closed than there are), VERITY_TOO_LONG,
+ * VERITY_TOO_SHORT, VERITY_WAITING.
+ */
+VERITY_MUST_CHECK int verity_join_end(const struct verity_params *params, const struct verity_join *join,
+                                      const uint8_t *memory, size_t memory_length, uint8_t *root, size_t root_length);
+VERITY_MUST_CHECK int fsverity_join_end(const struct fsverity_params *params, const struct verity_join *join,
+                                        const uint8_t *memory, size_t memory_length, uint8_t *root, size_t root_length,
+                                        uint8_t *digest, size_t digest_length);
 
 /*
  * Writes the fs-verity descriptor of the file with these parameters and this root hash into 256 bytes: what the file

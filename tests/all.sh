@@ -30,12 +30,12 @@ add_programs() {
     done
     # A million random feedings, over all libraries together.
     for library in "${libraries[@]}"; do
-        parts+=("env LIB=$library FEEDINGS=$feedings tests/library/feeding.sh"
+        parts+=("env LIB=$library FEEDINGS=$feedings tests/library/feeding.sh" "env LIB=$library tests/library/parts.sh"
             "env LIB=$library tests/library/debian_images.sh" "env LIB=$library tests/library/header.sh")
     done
     for script in tests/library/*.sh; do
         case $script in
-        */debian_images.sh | */feeding.sh | */header.sh) continue ;;
+        */debian_images.sh | */feeding.sh | */header.sh | */parts.sh) continue ;;
         esac
         parts+=("$script")
     done

@@ -306,7 +306,7 @@ all_parts() {
         "$(comm -13 names scripts | sed 's|.*/||; s|\.sh$||' | tr '\n' ' ')"
     same 'for which processors programs are tested' '/x86-64-v2 /x86-64-v3 ' \
         "$(sed -n 's|^tests/programs/format.sh ||p' ran | sort | tr '\n' ' ')"
-    for script in debian_images feeding header; do
+    for script in debian_images feeding header parts; do
         same "for which processors $script.sh tests the library" 'lib lib/glibc-hwcaps/x86-64-v3 ' \
             "$(sed -n "s|^tests/library/$script.sh ||p" ran | sort | tr '\n' ' ')"
     done

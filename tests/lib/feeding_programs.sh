@@ -1,8 +1,8 @@
-# What tests/library/feeding.sh, arm.sh and processors.sh share: how the programs that feed data are built and run.
-# Sourced after tests/lib/c_programs.sh.
+# What the scripts of tests/library share that build trees: how the programs that feed data are built and run. Sourced
+# after tests/lib/c_programs.sh.
 
 # The sources of each program, beside its own.
-feeding_sources=(tests/library/{feeding_calls,images,support}.c)
+feeding_sources=(tests/library/{disturbed_parts,part_calls,feeding_calls,images,support}.c)
 # The block sizes of images that are fed.
 fed_sizes=(512 512 1024 2048 4096 8192 16384 32768 65536)
 
@@ -132,4 +132,18 @@ tries_feedings() {
     adds "feedings of seed $SEED" "$@" "$program" "$SEED" "$count" "${trees[@]}"
     echo "seed $SEED: $(grep ' feedings, ' "$scratch/.ran")"
     grep ', disturbed [0-9]*$' "$scratch/.ran" | sed 's/^/    /'
+}
+
+# builds_parts NAME PROGRAM MOST-BYTES MOST-EACH-WAY [WORD..]: builds trees over all settings from the parts of each
+# level, after WORD.., an emulator; and breaks_parts NAME PROGRAM [WORD..] with each mistake of the caller's.
+builds_parts() {
+    local name=$1 program=$2 most=$3
+    draws_trees parts "$most" "$4"
+    adds "$name" "${@:5}" "$program" "$SEED" "${trees[@]}" all
+}
+
+breaks_parts() {
+    local name=$1 program=$2
+    draws_trees mistakes
+    adds "$name" "${@:3}" "$program" "$SEED" "${trees[@]}" mistakes
 }

@@ -4,7 +4,7 @@ file digests, by trees.py or by Debian's programs.
 
     tree_files.py verity superblock|bare HASH TYPE DATA-BLOCK HASH-BLOCK SALT BLOCKS OFFSET UUID DATA HASH-FILE ROOT
     tree_files.py fsverity HASH BLOCK SALT SIZE TREE-FILE DESCRIPTOR-FILE DIGEST
-    tree_files.py settings|large|stored|fuzz|refused DATA SEED LIMIT..
+    tree_files.py settings|large|stored|parts|mistakes|fuzz|refused DATA SEED LIMIT..
 
 The first two print the tree that Debian's program made, the others many, of parts of the file DATA. SALT, UUID, ROOT
 and DIGEST are in hexadecimal, `-` for no salt. LIMIT.. is said at each kind's function.
@@ -156,6 +156,36 @@ def stored(numbers, data, most):
                            lambda fan: (1, 2, fan, fan + 1, 2 * fan + 1, fan**2 + 1), most)
 
 
+def parts(numbers, data, most, each_way):
+    """For parts.c: numbers of blocks about the powers of the fan-out, and with a last part of one block, of some, and
+    of all but one; sizes of files that end in a block, too. More than each_way is built in one way."""
+    for name in FILE_NAMES:
+        for block in doubled(64 * NUMBERS[name], 4096):
+            fan, count = block // (32 * NUMBERS[name]), 1
+            yield file(name, block, b"", 0, data)
+            while count * block <= most:
+                for blocks in {count - 1, count, count + 1, count + fan // 2, 2 * count + 1} - {0}:
+                    for size in (blocks * block - numbers.randrange(1, block), blocks * block):
+                        salt = numbers.randbytes(numbers.choice((0, 32, numbers.randint(0, 32))))
+                        yield file(name, block, salt, size, data, is_one=size > each_way)
+                count *= fan
+    yield from all_devices(numbers, data, most, (512, 4096), (512, 2048),
+                           lambda fan: sorted({1, 2, fan - 1, fan, fan + 1, 2 * fan + 1, fan**2 - 1, fan**2,
+                                               fan**2 + 1, fan**2 + fan + 1, 2 * fan**2 + fan // 2, fan**3,
+                                               fan**3 + 1}), each_way)
+
+
+def mistakes(numbers, data):
+    """For the mistakes of parts.c: trees of three levels and more, each with parts of several blocks on all but the
+    lowest level, and a last part with fewer blocks, or that ends in one."""
+    for name, hash_type in (("sha256", 1), ("sha1", 0), ("sha512", 1)):
+        fan = Shape(Settings(name, 512, 512, b"", 1, hash_type), 0).fan
+        for count in (fan**2 + 1, fan**2 + 2 * fan + 3):
+            yield drawn_device(numbers, data, name, hash_type, 512, 512, count)
+    for name, block, size in (("sha256", 64, 1000), ("sha512", 512, 40000), ("sha256", 512, 140001)):
+        yield file(name, block, numbers.randbytes(5), size, data)
+
+
 def fuzz(numbers, data, count):
     """So many trees of small blocks for feeding_fuzz.c. A file has ends of fewer bytes and of more."""
     for _ in range(count):
@@ -213,7 +243,8 @@ def main():
     if kind in ("verity", "fsverity"):
         trees = (of_veritysetup if kind == "verity" else of_fsverity)(*words)
     else:
-        kinds = {"settings": settings, "large": large, "stored": stored, "fuzz": fuzz, "refused": refused}
+        kinds = {"settings": settings, "large": large, "stored": stored, "parts": parts, "mistakes": mistakes,
+                 "fuzz": fuzz, "refused": refused}
         data = open(words[0], "rb").read()
         trees = kinds[kind](random.Random(int(words[1])), data, *map(int, words[2:]))
     for tree in trees:

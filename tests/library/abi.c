@@ -230,6 +230,104 @@ static void try_file_tree(void)
     show("digest", digest, 32);
 }
 
+/* The last part of level 1, and the join of all of them, by digests that are random: every call has its answer. */
+static void try_part(void)
+{
+    struct verity_params *params = device_params();
+    struct verity_part *part = unset(sizeof *part);
+    struct verity_join *join = unset(sizeof *join);
+    struct verity_fed *fed;
+    uint64_t *parts = unset(sizeof *parts), *blocks = unset(sizeof *blocks);
+    size_t *length = unset(sizeof *length), at, taken = 0;
+    uint8_t *memory, *digest = unset(32), *root = unset(32);
+
+    SHOW_TWO(verity_part_count(params, 1, parts, blocks), parts, blocks);
+    SHOW(verity_part_memory(params, 1, length), length, sizeof *length);
+    memory = unset(*length);
+    SHOW(verity_part_begin(params, 1, *parts - 1, part, memory, *length), part, sizeof *part);
+    at = (size_t)((*parts - 1) * *blocks * BLOCK_SIZE);
+    do {
+        size_t piece = DATA - at < 5000 ? DATA - at : 5000;
+
+        fed = unset(sizeof *fed);
+        SHOW(verity_part_feed(params, part, memory, *length, data + at, piece, fed), fed, sizeof *fed);
+        at += fed->taken;
+        fed = unset(sizeof *fed);
+        SHOW(verity_part_last_block(params, part, fed), fed, sizeof *fed);
+        if (fed->block_length > 0)
+            show("block", memory + fed->block_at, fed->block_length);
+    } while (at < DATA);
+    SHOW(verity_part_end(params, part, memory, *length, digest, 32), digest, 32);
+
+    length = unset(sizeof *length);
+    SHOW(verity_join_memory(params, 1, length), length, sizeof *length);
+    memory = unset(*length);
+    SHOW(verity_join_begin(params, 1, join, memory, *length), join, sizeof *join);
+    do {
+        fed = unset(sizeof *fed);
+        SHOW(verity_join_feed(params, join, memory, *length, data + taken, *parts * 32 - taken, fed), fed, sizeof *fed);
+        taken += fed->taken;
+        if (fed->block_length > 0)
+            show("block", memory + fed->block_at, fed->block_length);
+    } while (fed->block_length > 0);
+    fed = unset(sizeof *fed);
+    SHOW(verity_join_last_block(params, join, fed), fed, sizeof *fed);
+    SHOW(verity_join_end(params, join, memory, *length, root, 32), root, 32);
+}
+
+/* The same of a file, which ends in a data block. */
+static void try_file_part(void)
+{
+    struct fsverity_params *params = unset(sizeof *params);
+    struct verity_part *part = unset(sizeof *part);
+    struct verity_join *join = unset(sizeof *join);
+    struct verity_fed *fed;
+    uint64_t *parts = unset(sizeof *parts), *blocks = unset(sizeof *blocks);
+    size_t *length = unset(sizeof *length), at, taken = 0;
+    uint8_t *memory, *digest = unset(32), *root = unset(32);
+
+    params->hash_algorithm = VERITY_SHA256;
+    params->block_size = BLOCK_SIZE;
+    params->size = DATA - 77;
+    params->salt_size = 3;
+    memcpy(params->salt, "NaCl", 3);
+    SHOW_TWO(fsverity_part_count(params, 1, parts, blocks), parts, blocks);
+    SHOW(fsverity_part_memory(params, 1, length), length, sizeof *length);
+    memory = unset(*length);
+    SHOW(fsverity_part_begin(params, 1, *parts - 1, part, memory, *length), part, sizeof *part);
+    at = (size_t)((*parts - 1) * *blocks * BLOCK_SIZE);
+    do {
+        size_t piece = DATA - 77 - at < 5000 ? DATA - 77 - at : 5000;
+
+        fed = unset(sizeof *fed);
+        SHOW(fsverity_part_feed(params, part, memory, *length, data + at, piece, fed), fed, sizeof *fed);
+        at += fed->taken;
+        fed = unset(sizeof *fed);
+        SHOW(fsverity_part_last_block(params, part, fed), fed, sizeof *fed);
+        if (fed->block_length > 0)
+            show("block", memory + fed->block_at, fed->block_length);
+    } while (at < DATA - 77);
+    SHOW(fsverity_part_end(params, part, memory, *length, digest, 32), digest, 32);
+
+    length = unset(sizeof *length);
+    SHOW(fsverity_join_memory(params, 1, length), length, sizeof *length);
+    memory = unset(*length);
+    SHOW(fsverity_join_begin(params, 1, join, memory, *length), join, sizeof *join);
+    do {
+        fed = unset(sizeof *fed);
+        SHOW(fsverity_join_feed(params, join, memory, *length, data + taken, *parts * 32 - taken, fed), fed,
+             sizeof *fed);
+        taken += fed->taken;
+        if (fed->block_length > 0)
+            show("block", memory + fed->block_at, fed->block_length);
+    } while (fed->block_length > 0);
+    fed = unset(sizeof *fed);
+    SHOW(fsverity_join_last_block(params, join, fed), fed, sizeof *fed);
+    digest = unset(32);
+    SHOW(fsverity_join_end(params, join, memory, *length, root, 32, digest, 32), root, 32);
+    show("digest", digest, 32);
+}
+
 /* What is said of hash functions, statuses and the library. */
 static void try_names(void)
 {
@@ -259,6 +357,8 @@ int main(int count, char **words)
     try_device();
     try_file();
     try_file_tree();
+    try_part();
+    try_file_part();
     try_names();
     /* Not by a return, for which whoever has called this would want its own registers back. */
     exit(filling < 0 ? 0 : finish());

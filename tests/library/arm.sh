@@ -1,9 +1,9 @@
 #!/bin/bash
 # The libraries for 64-bit ARM, in an emulator: the tests of images, refused parameters and superblocks, random calls,
-# and trees that are built of pieces, in all of which they leave the register x18 alone; and that a call keeps what
-# include/verity.h and verity(3) say of registers and stack. Then trees that are stored after each call go on by another
-# of the libraries, or by that for x86-64. SEED=N draws other settings, LIB=FOLDER and ARM_LIB=FOLDER take the libraries
-# of other folders.
+# and trees that are built of pieces and of parts, in all of which they leave the register x18 alone; and that a call
+# keeps what include/verity.h and verity(3) say of registers and stack. Then trees that are stored after each call go on
+# by another of the libraries, or by that for x86-64. SEED=N draws other settings, LIB=FOLDER and ARM_LIB=FOLDER take
+# the libraries of other folders.
 set -u
 cd "$(dirname "$0")/../.."
 . tests/lib/checks.sh
@@ -45,7 +45,8 @@ done
 # All programs below keep a pointer of their own in it, and look after each call whether it still stands there. They
 # call every function that the libraries show.
 platform=(-ffixed-x18 -DKEEPS_X18)
-if compiles "$scratch/calls.o" aarch64-linux-gnu-gcc -r "${platform[@]}" tests/library/{feeding_calls,support}.c; then
+calls=(tests/library/{part_calls,feeding_calls,support}.c)
+if compiles "$scratch/calls.o" aarch64-linux-gnu-gcc -r "${platform[@]}" "${calls[@]}"; then
     names='\b(fs)?verity_[a-z_]+'
     same 'functions that are called with x18 as a caller'"'"'s' \
         "$(aarch64-linux-gnu-nm -D --defined-only "$ARM_LIB/libverity.so.2" | grep -oE "$names" | sort)" \
@@ -110,6 +111,12 @@ tries_library() {
     if compiles "$built/stored" "${static[@]}" tests/library/stored.c "$library"; then
         tries_stored "$built/stored" $((4096 / part)) qemu-aarch64
     fi
+    if compiles "$built/parts" "${static[@]}" tests/library/parts.c "$library"; then
+        builds_parts 'parts, all settings' "$built/parts" $(((1 << 12) / part)) 64 qemu-aarch64
+        breaks_parts 'parts, mistakes' "$built/parts" qemu-aarch64
+        feeds_images "$built/parts" $((4 / part)) $((4 / part)) $((1 << 17)) qemu-aarch64
+    fi
+    compiles "$built/stored_parts" "${static[@]}" tests/library/stored_parts.c "$library"
     if compiles "$built/feeding_fuzz" "${static[@]}" tests/library/feeding_fuzz.c "$library"; then
         tries_feedings "$built/feeding_fuzz" $((30000 / part)) qemu-aarch64
     fi
@@ -119,27 +126,35 @@ tries_library libverity.a 1
 tries_library libverity-strict-align.a 4
 
 # A tree goes on by another library than the one by which it was stored: each of its calls is made by the next program.
-cat >"$scratch/in_turns" <<'END'
+# So does a tree that is built from parts.
+cat >"$scratch/stored_in_turns" <<'END'
 #!/bin/bash
-# in_turns SEED WORD..: makes a call by one of three programs; the next SEED takes the next of them.
-folder=${0%/*}
+# stored_in_turns SEED WORD..: makes a call by one of three programs; the next SEED takes the next of them. They are
+# named as this one.
+folder=${0%/*} name=${0##*/}
 case $(($1 % 3)) in
-0) program=("$folder/stored") ;;
-1) program=(qemu-aarch64 "$folder/libverity.a/stored") ;;
-2) program=(qemu-aarch64 "$folder/libverity-strict-align.a/stored") ;;
+0) program=("$folder/${name%_in_turns}") ;;
+1) program=(qemu-aarch64 "$folder/libverity.a/${name%_in_turns}") ;;
+2) program=(qemu-aarch64 "$folder/libverity-strict-align.a/${name%_in_turns}") ;;
 esac
 echo "${program[*]}" >>"$folder/turns"
 exec "${program[@]}" "$@"
 END
-chmod +x "$scratch/in_turns"
-: >"$scratch/turns"
-if compiles "$scratch/stored" gcc -O2 "${feeding_sources[@]}" tests/library/stored.c "$LIB/libverity.a"; then
-    # Some trees begin by each of them.
+chmod +x "$scratch/stored_in_turns"
+cp "$scratch/stored_in_turns" "$scratch/stored_parts_in_turns"
+
+# takes_turns PROGRAM COUNT MOST-BYTES: trees that begin by each of the three builds of a program.
+takes_turns() {
+    local turn
+    : >"$scratch/turns"
+    if ! compiles "$scratch/$1" gcc -O2 "${feeding_sources[@]}" "tests/library/$1.c" "$LIB/libverity.a"; then return; fi
     for ((turn = 0; turn < 3; turn++)); do
-        SEED=$((SEED + turn)) stores_images "$scratch/in_turns" 2 2 $((1 << 17))
+        SEED=$((SEED + turn)) stores_images "$scratch/$1_in_turns" "$2" "$2" "$3"
     done
-fi
-if [ -s "$scratch/turns" ]; then
-    same 'how many programs trees went through' 3 "$(sort -u "$scratch/turns" | wc -l)"
-fi
+    if [ -s "$scratch/turns" ]; then
+        same "how many programs trees went through, $1" 3 "$(sort -u "$scratch/turns" | wc -l)"
+    fi
+}
+takes_turns stored 2 $((1 << 17))
+takes_turns stored_parts 1 $((1 << 16))
 finish

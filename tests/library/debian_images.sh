@@ -15,7 +15,7 @@ static=("$LIB/libverity.a")
 takes_shared
 draws_data
 for program in refused debian_images; do
-    sources=(tests/library/"$program".c tests/library/{chains,images,feeding_calls,support}.c)
+    sources=(tests/library/"$program".c tests/library/{chains,images,part_calls,feeding_calls,support}.c)
     compiles "$scratch/$program.static" gcc -O2 "${sources[@]}" "${static[@]}"
     compiles "$scratch/$program.shared" gcc -O2 "${sources[@]}" "${shared[@]}"
 done

@@ -374,8 +374,8 @@ stack_of() {
     while read -r function taken; do
         printf '    %-24s %5d\n' "$function" "$taken"
         case $function in
-        *_build_feed) most=$feeding ;;
-        *_build_end | *_build_end_block) most=$stated_of_building ;;
+        *_build_feed | *_part_feed | *_join_feed) most=$feeding ;;
+        *_build_end | *_build_end_block | *_part_end | *_join_end) most=$stated_of_building ;;
         *) most=$stated ;;
         esac
         if [ "$taken" -gt 0 ] && [ "$taken" -le "$most" ]; then

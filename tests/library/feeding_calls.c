@@ -3,8 +3,7 @@
 
 #include <string.h>
 
-/* Up to eight data blocks, but no more bytes than the largest block has, nor blocks than a hash block has slots. */
-static size_t window_length(size_t data_block_size, uint64_t fan_out)
+size_t window_length(size_t data_block_size, uint64_t fan_out)
 {
     size_t blocks = 8;
 

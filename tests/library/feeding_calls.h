@@ -16,6 +16,9 @@ struct building {
     bool is_disturbed;
 };
 
+/* Up to eight data blocks, but no more bytes than the largest block has, nor blocks than a hash block has slots. */
+size_t window_length(size_t data_block_size, uint64_t fan_out);
+
 /*
  * The length of the memory that verity.h says of parameters without a fault: a hash block for each level and up to
  * eight data blocks. A file has the levels of the largest one, whose blocks are all full.

@@ -12,7 +12,9 @@
 #include <string.h>
 
 #include "chains.h"
+#include "disturbed_parts.h"
 #include "images.h"
+#include "part_calls.h"
 #include "support.h"
 
 #define LARGEST (((uint64_t)1 << 63) - 1)
@@ -199,6 +201,38 @@ static void try_end(void)
         check(end >= start && end - start < shape.hash_block_size && end % shape.hash_block_size == 0,
               "the end without levels: %" PRIu64, end);
     }
+}
+
+/* The parts of a level of any tree, and the memory for one and for their join; then any struct and memory of either. */
+static void try_parts(void)
+{
+    struct tree tree;
+    struct part_shape part;
+    struct join_shape join;
+    uint64_t parts = PAINT, blocks = PAINT;
+    size_t level, length = PAINT, join_length = PAINT;
+    int status;
+    bool is_right;
+
+    draw_tree(&tree);
+    level = (size_t)number_about(shape_of(&tree).levels + 1);
+    part = part_shape_of(&tree, level, 0);
+    join = join_shape_of(&tree, level);
+    is_right = part.status == VERITY_OK;
+    status = call_part_count(&tree, level, &parts, &blocks);
+    check(status == part.status && parts == (is_right ? part.parts : PAINT) &&
+                  blocks == (is_right ? part.blocks : PAINT),
+          "parts of level %zu: status %d, %" PRIu64 " of %" PRIu64 " blocks", level, status, parts, blocks);
+    check(!is_right || (blocks * (parts - 1) < part.tree.data_blocks && part.tree.data_blocks - blocks * (parts - 1) <=
+                        blocks), "parts of level %zu are not all data blocks", level);
+    status = call_part_memory(&tree, level, &length);
+    check(status == part.status && length == (is_right ? part.memory_length : PAINT), "memory for a part: %zu bytes",
+          length);
+    status = call_join_memory(&tree, level, &join_length);
+    check(status == join.status && join_length == (is_right ? join.memory_length : PAINT),
+          "memory for a join: %zu bytes", join_length);
+    try_disturbed_part(&tree, level);
+    try_disturbed_join(&tree, level);
 }
 
 /* Parameters and others, with no change or with one or two. */
@@ -554,7 +588,7 @@ int main(int count, char **words)
     wanted = number_of(words[2]);
     read_chains(words[3]);
     while (calls_made < wanted) {
-        switch (random_below(12)) {
+        switch (random_below(14)) {
         case 8:
             try_end();
             break;
@@ -566,6 +600,10 @@ int main(int count, char **words)
             break;
         case 11:
             try_formatted();
+            break;
+        case 12:
+        case 13:
+            try_parts();
             break;
         case 0:
         case 1:
@@ -588,6 +626,8 @@ int main(int count, char **words)
         }
     }
     for (status = VERITY_OK; status >= VERITY_BAD_VERSION; status--)
+        check(status_seen[-status], "status %d wasn't answered", status);
+    for (status = VERITY_TOO_LONG; status >= LEAST_STATUS; status--)
         check(status_seen[-status], "status %d wasn't answered", status);
     printf("%" PRIu64 " calls, %zu chains\n", calls_made, chain_count);
     return finish();

@@ -6,11 +6,12 @@ set -u
 cd "$(dirname "$0")/../.."
 . tests/lib/checks.sh
 . tests/lib/c_programs.sh
+. tests/lib/feeding_programs.sh
 needs gcc gcc
 needs python3 python3
 has_library "$LIB/libverity.a"
 
-if compiles "$scratch/fuzz" gcc -O2 tests/library/{fuzz,chains,images,support}.c "$LIB/libverity.a"; then
+if compiles "$scratch/fuzz" gcc -O2 tests/library/{fuzz,chains}.c "${feeding_sources[@]}" "$LIB/libverity.a"; then
     tries_random "$scratch/fuzz" "${CALLS:-2000000}"
 fi
 finish

@@ -120,6 +120,15 @@ AT(verity_fed, block_start, 24);
 AT(verity_fed, block_index, 32);
 AT(verity_fed, block_level, 40);
 _Static_assert(sizeof(struct verity_fed) == 48, "verity_fed");
+AT(verity_part, level, 0);
+AT(verity_part, part, 8);
+AT(verity_part, fed, 16);
+AT(verity_part, closed, 24);
+_Static_assert(sizeof(struct verity_part) == 32, "verity_part");
+AT(verity_join, level, 0);
+AT(verity_join, taken, 8);
+AT(verity_join, closed, 16);
+_Static_assert(sizeof(struct verity_join) == 24, "verity_join");
 
 static void show(const char *name, const unsigned char *bytes, size_t length)
 {
@@ -178,7 +187,7 @@ beside $paint
 digest $(sha512 "$scratch/descriptor")" "$(cat "$scratch/layout.txt")"
 fi
 
-same 'functions of the header' 38 "$(wc -l <<<"$functions")"
+same 'functions of the header' 60 "$(wc -l <<<"$functions")"
 same 'functions that refused.c calls' "$with_status" \
     "$(sed -nE 's/^    \{"((fs)?verity_[a-z_]+)", .*/\1/p' tests/library/refused.c | sort)"
 same 'functions that the shared library shows' "$(sed 's/$/@@VERITY_2.0/' <<<"$functions" | sort)" \

@@ -34,7 +34,7 @@ runs_there() {
     if compiles "$scratch/feeding" gcc -O2 "${feeding[@]}" "$@"; then
         feeds_settings "$name" "$scratch/feeding" $((1 << 12)) $((1 << 9)) "${first[@]}"
     fi
-    if compiles "$scratch/fuzz" gcc -O2 tests/library/{fuzz,chains,images,support}.c "$@"; then
+    if compiles "$scratch/fuzz" gcc -O2 tests/library/{fuzz,chains}.c "${feeding_sources[@]}" "$@"; then
         tries_random "$scratch/fuzz" 20000 "${first[@]}"
     fi
 }

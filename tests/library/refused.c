@@ -11,23 +11,33 @@
 #include <string.h>
 
 #include "feeding_calls.h"
+#include "part_calls.h"
 #include "support.h"
 
 /* 300 data blocks of 512 bytes, three levels of 16 digests each; and the same bytes as a file. */
 enum { BLOCK_SIZE = 512, DATA_BLOCKS = 300, LEVELS = 3, INDEX = 299, DEVICE = 0, FILES = 1, TREES = 2, BUILDINGS = 3 };
 
+/* The second part of level 1, and the join of all its parts: of an image, and of a file. */
+enum { PART_LEVEL = 1, PART_COUNT = 19, PART = 1, PART_SIZE = 16 * BLOCK_SIZE, PART_KINDS = 2 };
+
 /* What calls are handed, right, and with faults. In each building all was fed; TREES has a file's blocks handed out. */
 struct arguments {
     struct building buildings[BUILDINGS];
-    uint64_t index;
-    size_t level;
+    struct part_building parts[PART_KINDS];
+    struct joining joins[PART_KINDS];
+    uint64_t index, part;
+    size_t level, part_level;
     uint8_t block[BLOCK_SIZE], path[LEVELS * BLOCK_SIZE], root[64], superblock[SUPERBLOCK_SIZE];
     size_t block_length, path_length, above_length, top_length, root_length, superblock_length, room, piece_length,
-        digest_length, descriptor_length, formatted_length, last_length, text_room, name_length;
+        digests_length, digest_length, descriptor_length, formatted_length, last_length, text_room, name_length;
 };
 
 static struct arguments right, now;
-static uint8_t data[DATA_BLOCKS * BLOCK_SIZE], memories[BUILDINGS][1 << 16], kept[BUILDINGS][1 << 16];
+static uint8_t data[DATA_BLOCKS * BLOCK_SIZE], digests[(PART_COUNT + 2) * 32];
+
+/* The memories of the buildings, then those of parts and of joins; and what is in them when all is right. */
+enum { MEMORIES = BUILDINGS + 2 * PART_KINDS };
+static uint8_t memories[MEMORIES][1 << 16], kept[MEMORIES][1 << 16];
 
 /* The functions, each of either kind of tree, and what they fill. */
 static uint8_t root[64], digest[64], out[SUPERBLOCK_SIZE + 1];
@@ -78,6 +88,35 @@ CALL(algorithm_by_name, call_algorithm_by_name(bytes_of((const uint8_t *)"sha224
 CALL(status_text, call_text(STATUS, VERITY_DIFFERS, text, now.text_room, &number))
 CALL(descriptor, call_descriptor(&tree->file, bytes_of(now.root, now.root_length), out, now.descriptor_length))
 
+/* The part and the join of the tree's kind, with its parameters. */
+static struct part_building *part_of(const struct tree *tree)
+{
+    struct part_building *part = &now.parts[tree->is_file ? FILES : DEVICE];
+
+    part->tree = *tree;
+    return part;
+}
+
+static struct joining *join_of(const struct tree *tree)
+{
+    struct joining *join = &now.joins[tree->is_file ? FILES : DEVICE];
+
+    join->tree = *tree;
+    return join;
+}
+
+CALL(part_count, call_part_count(tree, now.part_level, &start, &blocks))
+CALL(part_memory, call_part_memory(tree, now.part_level, &number))
+CALL(part_begin, call_part_begin(part_of(tree), now.part_level, now.part))
+CALL(part_feed, call_part_feed(part_of(tree), bytes_of(data, now.piece_length), &fed))
+CALL(part_last_block, call_part_last_block(part_of(tree), &fed))
+CALL(part_end, call_part_end(part_of(tree), digest, now.digest_length))
+CALL(join_memory, call_join_memory(tree, now.part_level, &number))
+CALL(join_begin, call_join_begin(join_of(tree), now.part_level))
+CALL(join_feed, call_join_feed(join_of(tree), bytes_of(digests, now.digests_length), &fed))
+CALL(join_last_block, call_join_last_block(join_of(tree), &fed))
+CALL(join_end, call_join_end(join_of(tree), root, now.root_length, digest, now.digest_length))
+
 /* The memories have no bytes, or so many more than are right. */
 static void changes_memories(int more)
 {
@@ -85,6 +124,10 @@ static void changes_memories(int more)
 
     for (i = 0; i < BUILDINGS; i++)
         now.buildings[i].memory_length = more == 0 ? 0 : right.buildings[i].memory_length + (size_t)more;
+    for (i = 0; i < PART_KINDS; i++) {
+        now.parts[i].memory_length = more == 0 ? 0 : right.parts[i].memory_length + (size_t)more;
+        now.joins[i].memory_length = more == 0 ? 0 : right.joins[i].memory_length + (size_t)more;
+    }
 }
 
 /* Faults, each with its status. They are made anew over one another. */
@@ -162,6 +205,24 @@ FAULT(short_formatted, VERITY_BAD_LENGTH, now.formatted_length = 43)
 FAULT(long_formatted, VERITY_BAD_LENGTH, now.formatted_length = 45)
 FAULT(short_text, VERITY_BAD_LENGTH, now.text_room = 6)
 FAULT(short_name, VERITY_BAD_HASH_ALGORITHM, now.name_length = 5)
+FAULT(no_part_level, VERITY_NO_SUCH_LEVEL, now.part_level = LEVELS + 1)
+FAULT(no_part, VERITY_NO_SUCH_PART, now.part = PART_COUNT)
+FAULT(level_of_part, VERITY_NO_SUCH_LEVEL, now.parts[DEVICE].part.level = now.parts[FILES].part.level = LEVELS + 1)
+FAULT(number_of_part, VERITY_NO_SUCH_PART, now.parts[DEVICE].part.part = now.parts[FILES].part.part = PART_COUNT)
+FAULT(part_closed, VERITY_NO_SUCH_LEVEL,
+      now.parts[DEVICE].part.closed = now.parts[FILES].part.closed = PART_LEVEL + 1)
+FAULT(part_fed, VERITY_TOO_LONG, now.parts[DEVICE].part.fed = now.parts[FILES].part.fed = PART_SIZE + 1)
+FAULT(part_too_short, VERITY_TOO_SHORT, now.parts[DEVICE].part.fed = now.parts[FILES].part.fed = PART_SIZE - 1)
+FAULT(part_waiting, VERITY_WAITING, now.parts[DEVICE].part.closed = now.parts[FILES].part.closed = 0)
+FAULT(level_of_join, VERITY_NO_SUCH_LEVEL, now.joins[DEVICE].join.level = now.joins[FILES].join.level = LEVELS + 1)
+FAULT(short_digests, VERITY_BAD_LENGTH, now.digests_length = 31)
+FAULT(long_digests, VERITY_BAD_LENGTH, now.digests_length = 65)
+FAULT(join_closed, VERITY_NO_SUCH_LEVEL,
+      now.joins[DEVICE].join.closed = now.joins[FILES].join.closed = LEVELS - PART_LEVEL + 1)
+FAULT(join_taken, VERITY_TOO_LONG, now.joins[DEVICE].join.taken = now.joins[FILES].join.taken = PART_COUNT + 1)
+FAULT(one_digest, VERITY_TOO_LONG, now.digests_length = 32)
+FAULT(join_too_short, VERITY_TOO_SHORT, now.joins[DEVICE].join.taken = now.joins[FILES].join.taken = PART_COUNT - 1)
+FAULT(join_waiting, VERITY_WAITING, now.joins[DEVICE].join.closed = now.joins[FILES].join.closed = 1)
 
 #define PARAMS_OF_DEVICE &algorithm, &type, &data_size, &hash_size, &salt, &offset, &no_data, &too_large
 #define PARAMS_OF_BUILD &algorithm, &data_size, &salt
@@ -172,6 +233,13 @@ FAULT(short_name, VERITY_BAD_HASH_ALGORITHM, now.name_length = 5)
 #define BLOCK_FAULTS ROOT_FAULTS, &no_block, &short_block, &short_path, &changed_block, &changed_path, &changed_root
 #define LINK_FAULTS &no_block, &no_level, &short_block, &short_above, &changed_block, &changed_above
 #define TOP_FAULTS ROOT_FAULTS, &no_block, &short_top, &changed_path, &changed_root
+#define PART_FAULTS &level_of_part, &number_of_part
+#define PART_FEED_FAULTS PART_FAULTS, MEMORY_FAULTS, &part_closed, &part_fed, &long_piece
+#define PART_END_FAULTS \
+    PART_FAULTS, MEMORY_FAULTS, DIGEST_FAULTS, &part_closed, &part_fed, &part_too_short, &part_waiting
+#define JOIN_FEED_FAULTS \
+    &level_of_join, MEMORY_FAULTS, &short_digests, &long_digests, &join_closed, &join_taken, &one_digest
+#define JOIN_FAULTS &join_closed, &join_taken, &join_too_short, &join_waiting
 
 /* The functions with their faults, in the order of the header. */
 static const struct row {
@@ -215,6 +283,30 @@ static const struct row {
     {"fsverity_tree_build_end", tree_build_end, TREES,
      {PARAMS_OF_BUILD, MEMORY_FAULTS, ROOT_FAULTS, DIGEST_FAULTS, &tree_waiting, &tree_too_large}},
     {"fsverity_descriptor", descriptor, FILES, {PARAMS_OF_BUILD, ROOT_FAULTS, &short_descriptor, &long_descriptor}},
+    {"verity_part_count", part_count, DEVICE, {PARAMS_OF_DEVICE, &no_part_level}},
+    {"verity_part_memory", part_memory, DEVICE, {PARAMS_OF_DEVICE, &no_part_level}},
+    {"verity_part_begin", part_begin, DEVICE, {PARAMS_OF_DEVICE, &no_part_level, &no_part, MEMORY_FAULTS}},
+    {"verity_part_feed", part_feed, DEVICE, {PARAMS_OF_DEVICE, PART_FEED_FAULTS}},
+    {"verity_part_last_block", part_last_block, DEVICE, {PARAMS_OF_DEVICE, PART_FAULTS, &part_closed, &part_fed}},
+    {"verity_part_end", part_end, DEVICE, {PARAMS_OF_DEVICE, PART_END_FAULTS}},
+    {"verity_join_memory", join_memory, DEVICE, {PARAMS_OF_DEVICE, &no_part_level}},
+    {"verity_join_begin", join_begin, DEVICE, {PARAMS_OF_DEVICE, &no_part_level, MEMORY_FAULTS}},
+    {"verity_join_feed", join_feed, DEVICE, {PARAMS_OF_DEVICE, JOIN_FEED_FAULTS}},
+    {"verity_join_last_block", join_last_block, DEVICE, {PARAMS_OF_DEVICE, &level_of_join, &join_closed, &join_taken}},
+    {"verity_join_end", join_end, DEVICE,
+     {PARAMS_OF_DEVICE, &level_of_join, MEMORY_FAULTS, ROOT_FAULTS, JOIN_FAULTS}},
+    {"fsverity_part_count", part_count, FILES, {PARAMS_OF_FILE, &no_part_level}},
+    {"fsverity_part_memory", part_memory, FILES, {PARAMS_OF_FILE, &no_part_level}},
+    {"fsverity_part_begin", part_begin, FILES, {PARAMS_OF_FILE, &no_part_level, &no_part, MEMORY_FAULTS}},
+    {"fsverity_part_feed", part_feed, FILES, {PARAMS_OF_FILE, PART_FEED_FAULTS}},
+    {"fsverity_part_last_block", part_last_block, FILES, {PARAMS_OF_FILE, PART_FAULTS, &part_closed, &part_fed}},
+    {"fsverity_part_end", part_end, FILES, {PARAMS_OF_FILE, PART_END_FAULTS}},
+    {"fsverity_join_memory", join_memory, FILES, {PARAMS_OF_FILE, &no_part_level}},
+    {"fsverity_join_begin", join_begin, FILES, {PARAMS_OF_FILE, &no_part_level, MEMORY_FAULTS}},
+    {"fsverity_join_feed", join_feed, FILES, {PARAMS_OF_FILE, JOIN_FEED_FAULTS}},
+    {"fsverity_join_last_block", join_last_block, FILES, {PARAMS_OF_FILE, &level_of_join, &join_closed, &join_taken}},
+    {"fsverity_join_end", join_end, FILES,
+     {PARAMS_OF_FILE, &level_of_join, MEMORY_FAULTS, ROOT_FAULTS, DIGEST_FAULTS, JOIN_FAULTS}},
     {"verity_same_params", same_params, DEVICE, {PARAMS_OF_DEVICE, &other_blocks, &other_salt}},
     {"verity_hash_area_end", area_end, DEVICE, {PARAMS_OF_DEVICE}},
     {"fsverity_tree_size", area_end, FILES, {PARAMS_OF_FILE}},
@@ -275,6 +367,49 @@ static struct tree right_tree(bool is_file)
     return tree;
 }
 
+/* Builds a part of level 1, whose digest it answers. */
+static void build_part_of(struct part_building *part, uint64_t part_number, uint8_t *part_digest)
+{
+    const uint8_t *bytes = data + part_number * PART_SIZE;
+    size_t length = part_number + 1 < PART_COUNT ? PART_SIZE : sizeof data - part_number * PART_SIZE, taken = 0;
+
+    if (call_part_memory(&part->tree, PART_LEVEL, &part->memory_length) != VERITY_OK ||
+        part->memory_length >= sizeof memories[0] || call_part_begin(part, PART_LEVEL, part_number) != VERITY_OK)
+        give_up("the part isn't begun");
+    do {
+        if (call_part_feed(part, bytes_of(bytes + taken, length - taken), &fed) != VERITY_OK)
+            give_up("the part isn't fed");
+        taken += fed.taken;
+    } while (fed.block_length > 0);
+    if (call_part_end(part, part_digest, 32) != VERITY_OK)
+        give_up("the part isn't ended");
+}
+
+/* Joins all parts of level 1. The part that is kept is the last that is built. */
+static void build_parts_right(int kind)
+{
+    struct part_building *part = &right.parts[kind];
+    struct joining *join = &right.joins[kind];
+    uint64_t next;
+    size_t taken = 0;
+
+    *part = (struct part_building){.tree = right_tree(kind == FILES), .memory = memories[BUILDINGS + kind]};
+    *join = (struct joining){.tree = right_tree(kind == FILES), .memory = memories[BUILDINGS + PART_KINDS + kind]};
+    for (next = 0; next < PART_COUNT; next++)
+        build_part_of(part, next, digests + next * 32);
+    build_part_of(part, PART, root);
+    if (memcmp(root, digests + PART * 32, 32) != 0)
+        give_up("the part has another digest");
+    if (call_join_memory(&join->tree, PART_LEVEL, &join->memory_length) != VERITY_OK ||
+        join->memory_length >= sizeof memories[0] || call_join_begin(join, PART_LEVEL) != VERITY_OK)
+        give_up("the join isn't begun");
+    do {
+        if (call_join_feed(join, bytes_of(digests + taken, PART_COUNT * 32 - taken), &fed) != VERITY_OK)
+            give_up("the parts aren't joined");
+        taken += fed.taken;
+    } while (fed.block_length > 0);
+}
+
 /* Builds the tree, whose hash blocks stand behind one another: the top one, 2 of level 1 and 19 of level 0. */
 static void build_right(void)
 {
@@ -287,7 +422,7 @@ static void build_right(void)
         .index = INDEX, .block_length = BLOCK_SIZE, .path_length = LEVELS * BLOCK_SIZE, .above_length = BLOCK_SIZE,
         .top_length = BLOCK_SIZE, .root_length = 32, .superblock_length = SUPERBLOCK_SIZE, .room = SUPERBLOCK_SIZE,
         .digest_length = 32, .descriptor_length = DESCRIPTOR_SIZE, .formatted_length = 44, .last_length = BLOCK_SIZE,
-        .text_room = VERITY_MAX_TEXT_SIZE, .name_length = 6};
+        .text_room = VERITY_MAX_TEXT_SIZE, .name_length = 6, .part_level = PART_LEVEL, .part = PART};
     *device = (struct building){.tree = right_tree(false), .memory = memories[DEVICE]};
     *file = (struct building){.tree = right_tree(true), .memory = memories[FILES]};
     *tree = (struct building){.tree = right_tree(true), .memory = memories[TREES]};
@@ -311,6 +446,8 @@ static void build_right(void)
     for (taken = 0; taken < sizeof data; taken += fed.taken)
         if (call_tree_build_feed(tree, bytes_of(data + taken, sizeof data - taken), &fed) != VERITY_OK)
             give_up("the file's tree isn't fed");
+    build_parts_right(DEVICE);
+    build_parts_right(FILES);
     memcpy(right.block, data + INDEX * BLOCK_SIZE, BLOCK_SIZE);
     memcpy(right.path, hashes + (3 + INDEX / 16) * BLOCK_SIZE, BLOCK_SIZE);
     memcpy(right.path + BLOCK_SIZE, hashes + (1 + INDEX / 256) * BLOCK_SIZE, BLOCK_SIZE);
@@ -514,7 +651,7 @@ int main(void)
     file_sizes();
     check(call_version() == VERITY_VERSION_MAJOR * 10000 + VERITY_VERSION_MINOR * 100 + VERITY_VERSION_PATCH,
           "version %" PRIu32, call_version());
-    for (status = VERITY_OK; status >= VERITY_WAITING; status--)
+    for (status = VERITY_OK; status >= LEAST_STATUS; status--)
         check(status_seen[-status], "status %d wasn't answered", status);
     return finish();
 }

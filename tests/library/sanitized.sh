@@ -7,6 +7,7 @@ set -u
 cd "$(dirname "$0")/../.."
 . tests/lib/checks.sh
 . tests/lib/c_programs.sh
+. tests/lib/feeding_programs.sh
 needs gcc gcc
 needs python3 python3
 has_library "$LIB/libverity.a"
@@ -52,7 +53,7 @@ if compiles "$scratch/overrun" gcc "${sanitizers[@]}" "$scratch/overrun.c" "$LIB
     done
 fi
 
-watched=("${sanitizers[@]}" tests/library/{chains,images,feeding_calls,support}.c "$LIB/libverity.a")
+watched=("${sanitizers[@]}" tests/library/chains.c "${feeding_sources[@]}" "$LIB/libverity.a")
 if compiles "$scratch/refused" gcc tests/library/refused.c "${watched[@]}"; then adds 'refused' "$scratch/refused"; fi
 if compiles "$scratch/images" gcc tests/library/debian_images.c "${watched[@]}"; then
     draws_data

@@ -46,6 +46,12 @@ static uint8_t last_block[4096];
 static uint32_t found_number;
 static uint64_t all_bytes;
 
+/* A part of the level, the join of all of them, and their memories: each stands shortly before its end. */
+static struct verity_part part;
+static struct verity_join join;
+static size_t part_length, join_length, fed_length, digests_length, more_memory;
+static uint64_t part_number, parts, part_blocks;
+
 /* The block that is checked at a level. */
 static const uint8_t *below(size_t level) {
     return level == 0 ? block : path + (level - 1) * hash_block_size;
@@ -225,7 +231,97 @@ static void fsverity_descriptor_call(void) {
 CALLS(verity, params)
 CALLS(fsverity, file_params)
 
-enum { ONCE, EACH_LEVEL };
+/* The calls that build a part and join all of a level. What a call that feeds goes on from is prepared before it. */
+#define PART_CALLS(kind, the_params) \
+    static void kind##_part_count_call(void) { \
+        status = kind##_part_count(&the_params, at_level, &parts, &part_blocks); \
+    } \
+    static void kind##_part_memory_call(void) { \
+        status = kind##_part_memory(&the_params, at_level, &part_length); \
+    } \
+    static void kind##_part_begin_call(void) { \
+        status = kind##_part_begin(&the_params, at_level, part_number, &part, memory, part_length + more_memory); \
+    } \
+    static void kind##_part_feed_call(void) { \
+        size_t taken = 0; \
+\
+        part.fed -= fed_length; \
+        part.closed = 0; \
+        do { \
+            fed.block_length = 0; \
+            status = kind##_part_feed(&the_params, &part, memory, part_length + more_memory, piece + taken, \
+                                      fed_length - taken, &fed); \
+            taken += fed.taken; \
+        } while (status == VERITY_OK && fed.block_length > 0); \
+    } \
+    static void kind##_part_last_block_call(void) { \
+        status = kind##_part_last_block(&the_params, &part, &fed); \
+    } \
+    static void kind##_part_end_call(void) { \
+        status = kind##_part_end(&the_params, &part, memory, part_length + more_memory, digest, root_length); \
+    } \
+    static void kind##_join_memory_call(void) { \
+        status = kind##_join_memory(&the_params, at_level, &join_length); \
+    } \
+    static void kind##_join_begin_call(void) { \
+        status = kind##_join_begin(&the_params, at_level, &join, memory, join_length + more_memory); \
+    } \
+    static void kind##_join_feed_call(void) { \
+        size_t taken = 0; \
+\
+        join.taken -= digests_length / root_length; \
+        join.closed = 0; \
+        do { \
+            fed.block_length = 0; \
+            status = kind##_join_feed(&the_params, &join, memory, join_length + more_memory, piece + taken, \
+                                      digests_length - taken, &fed); \
+            taken += fed.taken; \
+        } while (status == VERITY_OK && fed.block_length > 0); \
+    } \
+    static void kind##_join_last_block_call(void) { \
+        status = kind##_join_last_block(&the_params, &join, &fed); \
+    }
+
+PART_CALLS(verity, params)
+PART_CALLS(fsverity, file_params)
+
+static void verity_join_end_call(void) {
+    status = verity_join_end(&params, &join, memory, join_length + more_memory, digest, root_length);
+}
+
+static void fsverity_join_end_call(void) {
+    status = fsverity_join_end(&file_params, &join, memory, join_length + more_memory, digest, root_length,
+                               digest + VERITY_MAX_DIGEST_SIZE, root_length);
+}
+
+static size_t at_most(uint64_t all, size_t most) {
+    return all < most ? (size_t)all : most;
+}
+
+/* A part of this level to which all was fed, and the join with all digests, for the call that comes. */
+static void prepare_part(int of_files) {
+    uint64_t bytes;
+
+    if (of_files) {
+        fsverity_part_memory_call();
+        fsverity_join_memory_call();
+        fsverity_part_count_call();
+        bytes = file_params.size;
+    } else {
+        verity_part_memory_call();
+        verity_join_memory_call();
+        verity_part_count_call();
+        bytes = params.data_blocks * params.data_block_size;
+    }
+    if (part_blocks * block_size < bytes)
+        bytes = part_blocks * block_size;
+    part = (struct verity_part){.level = at_level, .part = part_number, .fed = bytes, .closed = at_level};
+    join = (struct verity_join){.level = at_level, .taken = parts, .closed = levels - at_level};
+    fed_length = at_most(bytes, piece_length);
+    digests_length = root_length * at_most(parts, MOST_BLOCKS);
+}
+
+enum { ONCE, EACH_LEVEL, EACH_PART };
 
 static struct function {
     const char *name;
@@ -263,6 +359,28 @@ static struct function {
     {"fsverity_tree_build_feed", fsverity_tree_build_feed_call, 1, ONCE, 0},
     {"fsverity_tree_build_end_block", fsverity_tree_build_end_block_call, 1, EACH_LEVEL, 0},
     {"fsverity_tree_build_end", fsverity_tree_build_end_call, 1, ONCE, 0},
+    {"verity_part_count", verity_part_count_call, 0, EACH_PART, 0},
+    {"verity_part_memory", verity_part_memory_call, 0, EACH_PART, 0},
+    {"verity_part_begin", verity_part_begin_call, 0, EACH_PART, 0},
+    {"verity_part_feed", verity_part_feed_call, 0, EACH_PART, 0},
+    {"verity_part_last_block", verity_part_last_block_call, 0, EACH_PART, 0},
+    {"verity_part_end", verity_part_end_call, 0, EACH_PART, 0},
+    {"verity_join_memory", verity_join_memory_call, 0, EACH_PART, 0},
+    {"verity_join_begin", verity_join_begin_call, 0, EACH_PART, 0},
+    {"verity_join_feed", verity_join_feed_call, 0, EACH_PART, 0},
+    {"verity_join_last_block", verity_join_last_block_call, 0, EACH_PART, 0},
+    {"verity_join_end", verity_join_end_call, 0, EACH_PART, 0},
+    {"fsverity_part_count", fsverity_part_count_call, 1, EACH_PART, 0},
+    {"fsverity_part_memory", fsverity_part_memory_call, 1, EACH_PART, 0},
+    {"fsverity_part_begin", fsverity_part_begin_call, 1, EACH_PART, 0},
+    {"fsverity_part_feed", fsverity_part_feed_call, 1, EACH_PART, 0},
+    {"fsverity_part_last_block", fsverity_part_last_block_call, 1, EACH_PART, 0},
+    {"fsverity_part_end", fsverity_part_end_call, 1, EACH_PART, 0},
+    {"fsverity_join_memory", fsverity_join_memory_call, 1, EACH_PART, 0},
+    {"fsverity_join_begin", fsverity_join_begin_call, 1, EACH_PART, 0},
+    {"fsverity_join_feed", fsverity_join_feed_call, 1, EACH_PART, 0},
+    {"fsverity_join_last_block", fsverity_join_last_block_call, 1, EACH_PART, 0},
+    {"fsverity_join_end", fsverity_join_end_call, 1, EACH_PART, 0},
     {"verity_same_params", verity_same_params_call, 0, ONCE, 0},
     {"verity_hash_area_end", verity_hash_area_end_call, 0, ONCE, 0},
     {"fsverity_tree_size", fsverity_tree_size_call, 1, ONCE, 0},
@@ -303,13 +421,21 @@ static void measure(struct function *function, int must_be_right) {
         function->most = found - empty;
 }
 
+/* The last level at which a function is measured. The parts of the level above are the whole tree. */
+static size_t last_level(const struct function *function, size_t first, size_t last) {
+    return function->times == ONCE ? first : function->times == EACH_LEVEL ? last : last + 1;
+}
+
 /* Measures each function with the arguments as they are, those for one level from a level up to another. */
 static void measure_all(int of_files, size_t first, size_t last, int must_be_right) {
     for (size_t i = 0; i < FUNCTIONS; i++) {
         if (functions[i].of_files != of_files)
             continue;
-        for (at_level = first; at_level <= (functions[i].times == EACH_LEVEL ? last : first); at_level++)
+        for (at_level = first; at_level <= last_level(&functions[i], first, last); at_level++) {
+            if (functions[i].times == EACH_PART)
+                prepare_part(of_files);
             measure(&functions[i], must_be_right);
+        }
     }
 }
 
@@ -373,6 +499,8 @@ static void measure_file(uint8_t *bytes, size_t length) {
         measure_all(of_files, 0, 0, 1);
     measure_all(of_files, 0, 0, 1);
     measure_with_changed((uint8_t *)&memory_length, of_files, 0);
+    measure_with_changed((uint8_t *)&more_memory, of_files, 0);
+    measure_with_changed((uint8_t *)&part_number + 7, of_files, 0);
     measure_with_changed((uint8_t *)&all_bytes, of_files, 0);
     measure_with_changed((uint8_t *)&superblock_length, of_files, 0);
     measure_with_changed((uint8_t *)&descriptor_length, of_files, 0);

@@ -14,7 +14,7 @@ __extension__ typedef unsigned __int128 wide;
 #define MOST_BYTES (((uint64_t)1 << 63) - 1)
 
 uint64_t calls_made;
-bool status_seen[1 - VERITY_WAITING];
+bool status_seen[1 - LEAST_STATUS];
 
 static uint64_t passed;
 static uint64_t failed;
@@ -403,8 +403,8 @@ bool begins_round(struct call *call)
 int answered(const char *call, int round, int first, int status)
 {
     calls_made++;
-    check(status <= VERITY_OK && status >= VERITY_WAITING, "%s: status %d", call, status);
-    if (status <= VERITY_OK && status >= VERITY_WAITING)
+    check(status <= VERITY_OK && status >= LEAST_STATUS, "%s: status %d", call, status);
+    if (status <= VERITY_OK && status >= LEAST_STATUS)
         status_seen[-status] = true;
     check(round == 0 || status == first, "%s: status %d, and again %d", call, first, status);
     return status;

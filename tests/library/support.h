@@ -115,9 +115,12 @@ uint32_t call_version(void);
 /* The longest buffer that a call takes here. */
 #define MOST_BUFFER ((size_t)16 << 20)
 
+/* The lowest status. */
+#define LEAST_STATUS VERITY_NO_SUCH_PART
+
 /* How many calls were made, and whether one of them had the status of this number, taken without its sign. */
 extern uint64_t calls_made;
-extern bool status_seen[1 - VERITY_WAITING];
+extern bool status_seen[1 - LEAST_STATUS];
 
 /*
  * Where a buffer of this kind stands, filled with these bytes: right before or right behind memory that can't be read,

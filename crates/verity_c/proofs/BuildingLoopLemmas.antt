@@ -41,7 +41,7 @@ pub of_plan : (made : Result PlanFields Fault) (p : PlanFields) (holds : PlanFie
 of_plan made p holds is fact = rw is at fact
 
 -- the hash block that a struct hands out, in a list of its own and by itself
-given-by : (fed : VerityFed) → given (hash_block_by fed) ≡ given_by fed
+pub given-by : (fed : VerityFed) → given (hash_block_by fed) ≡ given_by fed
 given-by fed = by_test (fed.block_length == 0)
   where
     by_test : (none : Bool) → given (if none then None else Some (block_of fed))
@@ -49,7 +49,7 @@ given-by fed = by_test (fed.block_length == 0)
     by_test true = refl
     by_test false = refl
 
-handed-by : (fed : VerityFed) (holds : HashBlock → Type 0) → (fed.block_length ≢ 0 → holds (block_of fed))
+pub handed-by : (fed : VerityFed) (holds : HashBlock → Type 0) → (fed.block_length ≢ 0 → holds (block_of fed))
     → (block : HashBlock) → hash_block_by fed ≡ Some block → holds block
 handed-by fed holds stands block is = by_test (fed.block_length == 0) refl is
   where

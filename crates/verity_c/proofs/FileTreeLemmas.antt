@@ -21,6 +21,7 @@ use Rattle.verity_c.specs.declared.fault.Fault.{Fault}
 use Rattle.verity_c.specs.declared.fault.Fault.TheVariants.{Differs, Index, Level, Length, Root, Algorithm, HashType}
 use Rattle.verity_c.specs.declared.fault.Fault.TheVariants.{DataBlockSize, HashBlockSize, SaltSize, HashOffset, NoData}
 use Rattle.verity_c.specs.declared.fault.Fault.TheVariants.{TooLarge, Short, Signature, Version, TooLong, TooShort, Waiting}
+use Rattle.verity_c.specs.declared.fault.Fault.TheVariants.{Part}
 use Rattle.verity_c.specs.declared.parameters.FsverityParams.{FsverityParams}
 use Rattle.verity_c.proofs.BuildingLemmas.{tree-sized}
 
@@ -194,3 +195,4 @@ code-fits Version = refl
 code-fits TooLong = refl
 code-fits TooShort = refl
 code-fits Waiting = refl
+code-fits Part = refl

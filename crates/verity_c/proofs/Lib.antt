@@ -1,9 +1,12 @@
 pub mod BuildingLemmas
 pub mod FileTreeLemmas
 pub mod BuildingLoopLemmas
+pub mod JoinLemmas
 pub mod LevelLemmas
 pub mod LoopEndLemmas
 pub mod MadeLemmas
+pub mod PartLemmas
+pub mod PartsLoopLemmas
 pub mod PathLengthLemmas
 pub mod PathLengthRows
 pub mod ReadBackLemmas

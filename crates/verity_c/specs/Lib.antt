@@ -6,6 +6,8 @@ pub mod TrustedBlocks
 pub mod Building
 pub mod Texts
 pub mod FileTrees
+pub mod Parts
 pub mod Algorithms
 pub mod Same
 pub mod BuildingLoop
+pub mod PartsLoop

@@ -16,6 +16,7 @@ use Rattle.verity_c.specs.declared.fault.Fault.{Fault}
 use Rattle.verity_c.specs.declared.fault.Fault.TheVariants.{Differs, Index, Level, Length, Root, Algorithm, HashType}
 use Rattle.verity_c.specs.declared.fault.Fault.TheVariants.{DataBlockSize, HashBlockSize, SaltSize, HashOffset, NoData}
 use Rattle.verity_c.specs.declared.fault.Fault.TheVariants.{TooLarge, Short, Signature, Version, TooLong, TooShort, Waiting}
+use Rattle.verity_c.specs.declared.fault.Fault.TheVariants.{Part}
 
 -- the status of a call that has done what it is for
 abbrev pub done : ℤ
@@ -46,6 +47,7 @@ code_of Version = minus 16
 code_of TooLong = minus 17
 code_of TooShort = minus 18
 code_of Waiting = minus 19
+code_of Part = minus 20
 
 -- the status of a value or a fault
 abbrev pub status_of : {A : Type 0} → Result A Fault → ℤ

@@ -6,6 +6,7 @@ use Rattle.verity_c.specs.declared.fault.Fault.{Fault}
 use Rattle.verity_c.specs.declared.fault.Fault.TheVariants.{Differs, Index, Level, Length, Root, Algorithm, HashType}
 use Rattle.verity_c.specs.declared.fault.Fault.TheVariants.{DataBlockSize, HashBlockSize, SaltSize, HashOffset, NoData}
 use Rattle.verity_c.specs.declared.fault.Fault.TheVariants.{TooLarge, Short, Signature, Version, TooLong, TooShort, Waiting}
+use Rattle.verity_c.specs.declared.fault.Fault.TheVariants.{Part}
 
 -- what a fault is, in words
 abbrev pub text_of_fault : Fault → List ℕ
@@ -28,6 +29,7 @@ text_of_fault Version = codes "unknown superblock version"
 text_of_fault TooLong = codes "more data than the parameters say"
 text_of_fault TooShort = codes "less data than the parameters say"
 text_of_fault Waiting = codes "a hash block, or the rest of a piece, is still to come"
+text_of_fault Part = codes "no such part"
 
 -- the fault whose status is minus this number, if there is one
 abbrev pub fault_numbered : ℕ → Option Fault
@@ -49,7 +51,8 @@ fault_numbered number = if number == 1 then Some Differs
     else (if number == 16 then Some Version
     else (if number == 17 then Some TooLong
     else (if number == 18 then Some TooShort
-    else (if number == 19 then Some Waiting else None))))))))))))))))))
+    else (if number == 19 then Some Waiting
+    else (if number == 20 then Some Part else None)))))))))))))))))))
 
 -- a status in words: 0 or minus a number
 abbrev pub text_of_fault_or_none : Option Fault → List ℕ

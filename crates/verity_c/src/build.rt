@@ -11,6 +11,34 @@ pub struct VerityBuild {
     pub closed: usize,
 }
 
+/// How far a part of a tree is built: `struct verity_part` of verity.h. Any numbers may stand in it; each call checks
+/// them.
+#[repr(C)]
+#[derive(Clone, Copy)]
+pub struct VerityPart {
+    /// The level whose part it is, counted from 0 next to the data: the part has the levels below.
+    pub level: usize,
+    /// Its number in the level, counted from 0.
+    pub part: u64,
+    /// How many of its bytes were fed.
+    pub fed: u64,
+    /// Of how many levels the hash blocks above the latest byte were handed out since it was fed.
+    pub closed: usize,
+}
+
+/// How far the parts of a level are joined: `struct verity_join` of verity.h. Any numbers may stand in it; each call
+/// checks them.
+#[repr(C)]
+#[derive(Clone, Copy)]
+pub struct VerityJoin {
+    /// The level whose parts are joined, counted from 0 next to the data: the join has this level and those above.
+    pub level: usize,
+    /// How many digests were taken.
+    pub taken: u64,
+    /// Of how many levels the hash blocks above the latest digest were handed out since it was taken.
+    pub closed: usize,
+}
+
 /// How much of a piece was taken, and the hash block that is handed out: `struct verity_fed` of verity.h.
 #[repr(C)]
 #[derive(Clone, Copy)]

@@ -53,6 +53,8 @@ pub(crate) enum Fault {
     TooShort,
     /// A hash block is still to be handed out, or the rest of a piece to be fed.
     Waiting,
+    /// The level has no part of this number.
+    Part,
 }
 
 impl Fault {
@@ -80,6 +82,7 @@ impl Fault {
             Fault::TooLong => -17,
             Fault::TooShort => -18,
             Fault::Waiting => -19,
+            Fault::Part => -20,
         }
     }
 
@@ -107,6 +110,7 @@ impl Fault {
             17 => Some(Fault::TooLong),
             18 => Some(Fault::TooShort),
             19 => Some(Fault::Waiting),
+            20 => Some(Fault::Part),
             _ => None,
         }
     }
@@ -135,6 +139,7 @@ impl Fault {
             Fault::TooLong => "more data than the parameters say",
             Fault::TooShort => "less data than the parameters say",
             Fault::Waiting => "a hash block, or the rest of a piece, is still to come",
+            Fault::Part => "no such part",
         }
     }
 

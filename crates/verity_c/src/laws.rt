@@ -2,9 +2,10 @@
 ghost use Rattle.std.specs.Prelude.{◌≡◌, ◌⊎◌, ℕ, ℤ, ◌+◌, ◌%◌, ◌*◌, ◌≤◌, ◌^◌, ◌<◌, true, List, [], ◌∷◌, ◌++◌, codes, length, Ok};
 ghost use Rattle.std.specs.List.{flat_map};
 ghost use Rattle.verity_format.specs.Superblocks.{IsValidSuperblock, SuperblockFields, superblock_bytes};
-ghost use Rattle.verity_plan.specs.PlanCounts.{level_count_of};
+ghost use Rattle.verity_plan.specs.PlanCounts.{level_count_of, size_under};
 ghost use Rattle.verity_plan.specs.Plans.{PlanFields, plan_at, superblock_size};
 ghost use Rattle.verity_plan.specs.Settings.{TreeSettingsFields};
+ghost use Rattle.verity_tree.specs.Parts.{bytes_of_part};
 ghost use Rattle.verity_c.specs.Answers.{superblock_in};
 ghost use Rattle.verity_c.specs.Statuses.{code_of, done};
 ghost use Rattle.verity_c.specs.Texts.{text_of_fault, text_of_status};
@@ -13,6 +14,8 @@ ghost use Rattle.verity_c.specs.Building.{digest_of_fed, file_memory_length_of, 
 ghost use Rattle.verity_c.specs.BuildingLoop.{AreFedBy, BuildsTree, FedPiece, FeedingCall, FeedsPieces, IsBegun, Kept};
 ghost use Rattle.verity_c.specs.BuildingLoop.{GoesOn, bytes_of, calls_of, taken_by};
 ghost use Rattle.verity_c.specs.Parameters.{fsverity_plan_of, fsverity_tree_of, parameters_of, plan_of, planned};
+ghost use Rattle.verity_c.specs.PartsLoop.{AreCallsOfJoin, AreCallsOfPart, BuildsTreeFromParts, JoinCalls, PartCalls};
+ghost use Rattle.verity_c.specs.PartsLoop.{digests_of};
 ghost use Rattle.verity_c.specs.ReadBack.{HasFields, IsReadBack, read_back};
 ghost use Rattle.verity_c.specs.TrustedBlocks.{FileBlock, IsAcceptedFor, IsBlockOf, ShowsCollision};
 ghost use Rattle.verity_c.specs.declared.parameters.FsverityParams.{FsverityParams};
@@ -105,4 +108,23 @@ pub fn building_loops_end()
     ensures { (params : VerityParams) (p : PlanFields) (kept : Kept) (piece : List ℕ) (calls : List FeedingCall)
         → plan_of params ≡ Ok p → GoesOn params kept piece calls
         → length calls ≤ length piece * (level_count_of p + 1) + level_count_of p }
+{}
+
+/// A tree is built from the parts of a level, each apart from the others, and their join: by any calls of
+/// `verity_part_feed` that take a part's bytes, for each part, and any calls of `verity_join_feed` that take the
+/// digests that `verity_part_end` gives, in the order of the parts, if the last call for each part and the last one for
+/// the join hand out no hash block. The hash blocks may be written in any order. The same holds of a file's tree.
+pub fn calls_build_the_tree_from_parts()
+    ensures verity { (params : VerityParams) (p : PlanFields) (level : ℕ) (bytes : List ℕ) (parts : ℕ → PartCalls)
+        (join : JoinCalls) → plan_of params ≡ Ok p → p.wanted ≤ length bytes
+        → ((number : ℕ) → number < size_under p level
+        → AreCallsOfPart (plan_of params) level number (bytes_of_part p level number bytes) (parts number))
+        → AreCallsOfJoin (plan_of params) level (digests_of (size_under p level) parts) join
+        → BuildsTreeFromParts (plan_of params) p level bytes parts join }
+    ensures fsverity { (params : FsverityParams) (p : PlanFields) (level : ℕ) (bytes : List ℕ) (parts : ℕ → PartCalls)
+        (join : JoinCalls) → fsverity_plan_of params ≡ Ok p → p.wanted ≤ length bytes
+        → ((number : ℕ) → number < size_under p level
+        → AreCallsOfPart (fsverity_plan_of params) level number (bytes_of_part p level number bytes) (parts number))
+        → AreCallsOfJoin (fsverity_plan_of params) level (digests_of (size_under p level) parts) join
+        → BuildsTreeFromParts (fsverity_plan_of params) p level bytes parts join }
 {}

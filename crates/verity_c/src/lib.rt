@@ -12,10 +12,12 @@ mod fault;
 mod file_building;
 mod file_tree_building;
 mod files;
+mod joins;
 pub mod laws;
 mod levels;
 mod links;
 mod parameters;
+mod parts;
 mod plans;
 mod same;
 mod sizes;
@@ -29,7 +31,7 @@ pub use algorithms::{
     verity_digest_length,
 };
 pub use blocks::{fsverity_check_block, verity_check_block};
-pub use build::{VerityBuild, VerityFed};
+pub use build::{VerityBuild, VerityFed, VerityJoin, VerityPart};
 pub use file_building::{
     fsverity_build_begin, fsverity_build_end, fsverity_build_feed, fsverity_build_memory,
 };
@@ -38,12 +40,22 @@ pub use file_tree_building::{
     fsverity_tree_build_feed,
 };
 pub use files::{fsverity_descriptor, fsverity_file_digest};
+pub use joins::{
+    fsverity_join_begin, fsverity_join_end, fsverity_join_feed, fsverity_join_last_block,
+    fsverity_join_memory, verity_join_begin, verity_join_end, verity_join_feed,
+    verity_join_last_block, verity_join_memory,
+};
 pub use levels::{
     fsverity_hash_block_start, fsverity_level_count, fsverity_level_start, verity_hash_block_start,
     verity_level_count, verity_level_start,
 };
 pub use links::{fsverity_check_link, fsverity_check_top, verity_check_link, verity_check_top};
 pub use parameters::{FsverityParams, VerityParams};
+pub use parts::{
+    fsverity_part_begin, fsverity_part_count, fsverity_part_end, fsverity_part_feed,
+    fsverity_part_last_block, fsverity_part_memory, verity_part_begin, verity_part_count,
+    verity_part_end, verity_part_feed, verity_part_last_block, verity_part_memory,
+};
 pub use same::verity_same_params;
 pub use sizes::{fsverity_tree_size, verity_hash_area_end};
 pub use superblock::{verity_read_superblock, verity_write_superblock};

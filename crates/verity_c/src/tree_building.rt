@@ -211,7 +211,7 @@ fn plan_with(params: &VerityParams, room: usize) -> Result<Plan, Fault>
 }
 
 /// What the builder has answered, in numbers.
-fn fed_of(plan: &Plan, answer: &Fed) -> VerityFed
+pub(crate) fn fed_of(plan: &Plan, answer: &Fed) -> VerityFed
     ensures value { result ≡ fed_of plan.now answer.now }
     ensures some { 0 < plan.now.settings.hash_block }
 {

@@ -1,0 +1,237 @@
+-- What the builder of a join has answered is what the library for C says of it.
+use Rattle.std.proofs.Common.{◌≡◌, ◌∙◌, ◌<◌, ◌≤◌, ◌+◌, ◌-◌, ◌^◌, ℕ, false, true, List, Option, Some, None, Result, Ok, Err}
+use Rattle.std.proofs.Common.{IfOk, if◌then◌else◌, arith, ap, inl, inr, refl, subst, sym}
+use Rattle.std.proofs.Math.Nat.{one-le-pow, zero-div, zero-mod}
+use Rattle.std.proofs.lemmas.Bool.Decides.{nat_tests}
+use Rattle.std.proofs.lemmas.Bool.{cases_lt}
+use Rattle.std.specs.Prelude.{◌==◌, ◌||◌, ◌*◌, ◌/◌, ◌%◌, MatchOption, nat_lt, not}
+use Rattle.verity_plan.specs.Plans.{IsPlan, PlanFields, start_byte_of}
+use Rattle.verity_plan.specs.PlanCounts.{level_count_of, size_under}
+use Rattle.verity_plan.specs.Settings.{digest_len, fan}
+use Rattle.verity_plan.proofs.CountLemmas.{div_ceil-pos, mul_le}
+use Rattle.verity_plan.proofs.FitLemmas.{fan-pos}
+use Rattle.verity_tree.proofs.DataBlockLemmas.{blocks-some}
+use Rattle.verity_tree.specs.Parts.{AreDigests, IsHandedOutOfJoin, IsJoined, IsPlacedOfJoin, Joins, TakesOfJoin}
+use Rattle.verity_tree.specs.Parts.{HasLastOfJoin, IsPlacedOfJoin, counts_none_closed, join_fault, part_fault}
+use Rattle.verity_tree.specs.declared.feed_fault.FeedFault.{FeedFault}
+use Rattle.verity_tree.specs.declared.join_builder.JoinBuilder.{JoinBuilder}
+use Rattle.verity_tree.specs.declared.part_builder.PartFault.{PartFault}
+use Rattle.verity_tree.specs.declared.tree_builder.Fed.{Fed}
+use Rattle.verity_tree.specs.declared.tree_builder.HashBlock.{HashBlock}
+use Rattle.verity_c.specs.Building.{fed_by, fed_of, unless}
+use Rattle.verity_c.specs.Parts.{AreNextDigests, HandsOutOfJoin, IsJoinedTo, StandsLastOfJoin, TakesDigests}
+use Rattle.verity_c.specs.Parts.{join_builder_of, last_index_of_join, last_of_join, last_of_join_in, with_digests}
+use Rattle.verity_c.specs.Parts.{with_joined_file, with_parts}
+use Rattle.verity_c.specs.Answers.{value_or}
+use Rattle.verity_c.specs.declared.build.VerityFed.{VerityFed}
+use Rattle.verity_c.specs.declared.build.VerityJoin.{VerityJoin}
+use Rattle.verity_c.specs.declared.fault.Fault.{Fault}
+use Rattle.verity_c.specs.declared.fault.Fault.TheVariants.{Length, Root}
+
+-- the numbers of a builder, of which with its plan it is made
+abbrev pub join_of : JoinBuilder → VerityJoin
+join_of b = record { level = b.level; taken = b.taken; closed = b.closed }
+
+join_builder_of-parts : (p : PlanFields) (b : JoinBuilder) → b.plan ≡ p → b ≡ join_builder_of p (join_of b)
+join_builder_of-parts p b is = ap (λ (q : PlanFields). join_builder_of q (join_of b)) is
+
+-- a level that the tree has, and the one above the top, has a part
+pub no-part_fault : (p : PlanFields) (level : ℕ) (fault : PartFault) → IsPlan p → level ≤ level_count_of p
+    → part_fault p level 0 ≡ Some fault → ⊥
+no-part_fault p level fault planned low is =
+    let some = div_ceil-pos p.blocks (fan p.settings ^ level)
+    (one-le-pow level (fan p.settings) (fan-pos p.settings planned.valid))
+    (blocks-some p planned) in
+    grind (arith, nat_tests, some, low, is)
+
+-- what was joined by a struct was joined by its builder, and the other way round
+pub IsJoinedTo-at : (plan : Result PlanFields Fault) (p : PlanFields) (join : VerityJoin) (b : JoinBuilder)
+    (memory bytes : List ℕ) → plan ≡ Ok p → b ≡ join_builder_of p join → IsJoinedTo plan join memory bytes
+    → IsJoined b memory bytes
+IsJoinedTo-at plan p join b memory bytes made says h =
+    subst (λ (a : JoinBuilder). IsJoined a memory bytes) (sym says)
+    (subst (λ (r : Result PlanFields Fault). IsJoinedTo r join memory bytes) made h)
+
+pub IsJoinedTo-of : (plan : Result PlanFields Fault) (p : PlanFields) (b : JoinBuilder) (memory bytes : List ℕ)
+    → plan ≡ Ok p → b.plan ≡ p → IsJoined b memory bytes → IsJoinedTo plan (join_of b) memory bytes
+IsJoinedTo-of plan p b memory bytes made is h =
+    subst (λ (r : Result PlanFields Fault). IsJoinedTo r (join_of b) memory bytes) (sym made)
+    (subst (λ (a : JoinBuilder). IsJoined a memory bytes) (join_builder_of-parts p b is) h)
+
+-- the digests that come next, by the builder
+pub AreNextDigests-at : (plan : Result PlanFields Fault) (p : PlanFields) (join : VerityJoin) (b : JoinBuilder)
+    (digests bytes : List ℕ) → plan ≡ Ok p → b ≡ join_builder_of p join → AreNextDigests plan join digests bytes
+    → AreDigests b.plan b.level b.taken digests bytes
+AreNextDigests-at plan p join b digests bytes made says h =
+    subst (λ (a : JoinBuilder). AreDigests a.plan a.level a.taken digests bytes) (sym says)
+    (subst (λ (r : Result PlanFields Fault). AreNextDigests r join digests bytes) made h)
+
+-- how many digests were taken, in the numbers of the struct
+TakesDigests-by : (p : PlanFields) (before : VerityJoin) (after : JoinBuilder) (count taken : ℕ)
+    (closed : Option HashBlock) → 0 < p.settings.hash_block
+    → TakesOfJoin (join_builder_of p before) after count (record { taken = taken; hash_block = closed })
+    → TakesDigests p before (join_of after) count (fed_by p.settings.hash_block taken closed)
+TakesDigests-by p before after count taken None some h = record {
+  level_is = h.level_is;
+  taken_is = h.taken_is;
+  whole = h.whole;
+  most = h.most;
+  block_length = inl refl;
+  none = λ _. refl;
+  all = λ _. h.all refl;
+  done = λ _. h.done refl;
+  placed = λ some_block. absurd (some_block refl);
+  within = omega arith;
+  rises = λ some_block. absurd (some_block refl);
+}
+TakesDigests-by p before after count taken (Some block) some h =
+    let moved : IsPlacedOfJoin (join_builder_of p (join_of after)) block =
+    subst (λ (b : JoinBuilder). IsPlacedOfJoin b block) (join_builder_of-parts p after h.plan_is)
+    (h.placed block refl) in
+    let step : block.level - after.level + 1 ≤ level_count_of p - before.level =
+    omega (arith, moved.level_below, moved.level_least, h.level_is) in
+    record {
+      level_is = h.level_is;
+      taken_is = h.taken_is;
+      whole = h.whole;
+      most = h.most;
+      block_length = inr refl;
+      none = λ zero. absurd (omega (arith, some, zero));
+      all = λ zero. absurd (omega (arith, some, zero));
+      done = λ zero. absurd (omega (arith, some, zero));
+      placed = λ _. moved;
+      within = omega (
+        arith,
+        moved.at_is,
+        mul_le (block.level - after.level + 1) (level_count_of p - before.level) p.settings.hash_block step,
+      );
+      rises = λ _. h.rises block refl;
+    }
+
+-- the hash block that is handed out, in the numbers of the struct
+HandsOutOfJoin-by : (p : PlanFields) (before : VerityJoin) (after : JoinBuilder) (bytes memory : List ℕ) (taken : ℕ)
+    (closed : Option HashBlock) → 0 < p.settings.hash_block
+    → Joins (join_builder_of p before) after bytes memory closed
+    → HandsOutOfJoin p before (join_of after) bytes memory (fed_by p.settings.hash_block taken closed)
+HandsOutOfJoin-by p before after bytes memory taken None some h = record {
+  order = h.order;
+  block = λ none. absurd (none refl);
+}
+HandsOutOfJoin-by p before after bytes memory taken (Some block) some h =
+    let stands : (p.settings.hash_block == 0) ≡ false = grind (arith, nat_tests, some) in
+    record {
+      order = rw stands h.order;
+      block = λ _. h.stands block refl;
+    }
+
+-- both, of the plan that parameters make
+pub TakesDigests-at : (plan : Result PlanFields Fault) (p : PlanFields) (join : VerityJoin) (before after : JoinBuilder)
+    (count : ℕ) (answer : Fed) (fed : VerityFed) → plan ≡ Ok p → before ≡ join_builder_of p join → fed ≡ fed_of p answer
+    → 0 < p.settings.hash_block → TakesOfJoin before after count answer
+    → IfOk plan (λ q. TakesDigests q join (join_of after) count fed)
+TakesDigests-at plan p join before after count answer fed made says is some h =
+    subst (λ (r : Result PlanFields Fault). IfOk r (λ q. TakesDigests q join (join_of after) count fed)) (sym made)
+    (subst (λ (f : VerityFed). TakesDigests p join (join_of after) count f) (sym is)
+    (TakesDigests-by p join after count answer.taken answer.hash_block some
+    (subst (λ (b : JoinBuilder). TakesOfJoin b after count answer) says h)))
+
+pub HandsOutOfJoin-at : (plan : Result PlanFields Fault) (p : PlanFields) (join : VerityJoin)
+    (before after : JoinBuilder) (bytes memory : List ℕ) (answer : Fed) (fed : VerityFed) → plan ≡ Ok p
+    → before ≡ join_builder_of p join → fed ≡ fed_of p answer → 0 < p.settings.hash_block
+    → Joins before after bytes memory answer.hash_block
+    → IfOk plan (λ q. HandsOutOfJoin q join (join_of after) bytes memory fed)
+HandsOutOfJoin-at plan p join before after bytes memory answer fed made says is some h =
+    subst (λ (r : Result PlanFields Fault). IfOk r (λ q. HandsOutOfJoin q join (join_of after) bytes memory fed))
+    (sym made)
+    (subst (λ (f : VerityFed). HandsOutOfJoin p join (join_of after) bytes memory f) (sym is)
+    (HandsOutOfJoin-by p join after bytes memory answer.taken answer.hash_block some
+    (subst (λ (b : JoinBuilder). Joins b after bytes memory answer.hash_block) says h)))
+
+-- the hash block that was handed out last, in the numbers of the struct
+StandsLastOfJoin-by : (p : PlanFields) (join : VerityJoin) (bytes memory : List ℕ) (last : Option HashBlock)
+    → 0 < p.settings.hash_block
+    → MatchOption last (join.closed ≡ 0) (λ block. IsHandedOutOfJoin (join_builder_of p join) bytes memory block)
+    → StandsLastOfJoin p join bytes memory (fed_by p.settings.hash_block 0 last)
+StandsLastOfJoin-by p join bytes memory None some h = record {
+  none = λ _. h;
+  block = λ some_block. absurd (some_block refl);
+}
+StandsLastOfJoin-by p join bytes memory (Some block) some h = record {
+  none = λ zero. absurd (omega (arith, some, zero));
+  block = λ _. h;
+}
+
+-- it stands in the memory, by the plan that parameters make
+pub StandsLastOfJoin-at : (plan : Result PlanFields Fault) (p : PlanFields) (join : VerityJoin) (b : JoinBuilder)
+    (bytes memory : List ℕ) (last : Option HashBlock) (fed : VerityFed) → plan ≡ Ok p → b ≡ join_builder_of p join
+    → fed ≡ fed_by p.settings.hash_block 0 last → 0 < p.settings.hash_block
+    → MatchOption last (b.closed ≡ 0) (λ block. IsHandedOutOfJoin b bytes memory block)
+    → IfOk plan (λ q. StandsLastOfJoin q join bytes memory fed)
+StandsLastOfJoin-at plan p join b bytes memory last fed made says is some h =
+    subst (λ (r : Result PlanFields Fault). IfOk r (λ q. StandsLastOfJoin q join bytes memory fed)) (sym made)
+    (subst (λ (f : VerityFed). StandsLastOfJoin p join bytes memory f) (sym is)
+    (StandsLastOfJoin-by p join bytes memory last some (subst (λ (a : JoinBuilder).
+    MatchOption last (a.closed ≡ 0) (λ block. IsHandedOutOfJoin a bytes memory block)) says h)))
+
+-- where there is room for just both, and the join has its root hash, no fault is left
+pub with_joined_file-ok : (p : PlanFields) (join : VerityJoin) (root_room digest_room : ℕ)
+    → root_room ≡ digest_len p.settings → digest_room ≡ digest_len p.settings
+    → join_fault (join_builder_of p join) ≡ None → with_joined_file (Ok p) join root_room digest_room ≡ Ok p
+with_joined_file-ok p join root_room digest_room root_is digest_is none =
+    let one : (root_room == digest_len p.settings) ≡ true = grind (arith, nat_tests, root_is) in
+    let other : (digest_room == digest_len p.settings) ≡ true = grind (arith, nat_tests, digest_is) in
+    let with_fault : Option FeedFault → Result PlanFields Fault = λ fault.
+    if not (root_room == digest_len p.settings) then Err Root
+    else (if not (digest_room == digest_len p.settings) then Err Length else unless fault p) in
+    let left : with_fault None ≡ Ok p = rw (one, other) refl in
+    ap with_fault none ∙ left
+
+-- what a struct names last, by the numbers of the hash block that its builder names
+last_of_join-placed : (p : PlanFields) (join : VerityJoin) (answer : Option HashBlock)
+    → join.taken ≤ size_under p join.level → join.level + join.closed ≤ level_count_of p
+    → MatchOption answer (HasLastOfJoin (join_builder_of p join) → ⊥)
+    (λ block. HasLastOfJoin (join_builder_of p join) × IsPlacedOfJoin (join_builder_of p join) block)
+    → fed_by p.settings.hash_block 0 answer ≡ last_of_join p join
+last_of_join-placed p join None few low none = elim (cases_lt 0 join.taken) [
+  | inl some ↦ elim (cases_lt 0 join.closed) [
+    | inl closed ↦ absurd (none (record { some = some; most = few; closed = closed; levels = low }))
+    | inr unclosed ↦
+        let test : ((join.taken == 0) || (join.closed == 0)) ≡ true = grind (arith, nat_tests, unclosed) in rw test refl
+  ]
+  | inr nothing ↦
+      let test : ((join.taken == 0) || (join.closed == 0)) ≡ true = grind (arith, nat_tests, nothing) in rw test refl
+]
+last_of_join-placed p join (Some block) few low named =
+    let has = named.0 in
+    let placed = named.1 in
+    let size = p.settings.hash_block in
+    let test : ((join.taken == 0) || (join.closed == 0)) ≡ false = grind (arith, nat_tests, has.some, has.closed) in
+    let level : block.level ≡ join.level + join.closed - 1 = omega (arith, placed.level_is) in
+    let own : block.level - join.level ≡ join.closed - 1 = omega (arith, placed.level_is) in
+    let at : block.at ≡ (join.closed - 1) * size = placed.at_is ∙ ap (λ (n : ℕ). n * size) own in
+    let index : block.index ≡ last_index_of_join p join = placed.index_is in
+    let byte : block.byte ≡ start_byte_of p (join.level + join.closed - 1) (last_index_of_join p join) =
+    placed.byte_is ∙ ap (λ (l : ℕ). start_byte_of p l block.index) level
+    ∙ ap (λ (j : ℕ). start_byte_of p (join.level + join.closed - 1) j) index in
+    rw (test, at, byte, index, level) refl
+
+-- the same of the plan that parameters make
+pub last_of_join-at : (plan : Result PlanFields Fault) (p : PlanFields) (join : VerityJoin) (b : JoinBuilder)
+    (answer : Option HashBlock) (old fed : VerityFed) → with_parts plan join.level ≡ Ok p → b ≡ join_builder_of p join
+    → fed ≡ fed_of p (record { taken = 0; hash_block = answer }) → join.level + join.closed ≤ level_count_of p
+    → join.taken ≤ size_under p join.level → counts_none_closed (join_builder_of p join) ≡ false
+    → MatchOption answer (HasLastOfJoin b → ⊥) (λ block. HasLastOfJoin b × IsPlacedOfJoin b block)
+    → fed ≡ value_or old (last_of_join_in (with_digests (with_parts plan join.level) join 0) join)
+last_of_join-at plan p join b answer old fed made says is low few apart named =
+    let levels : nat_lt (level_count_of p) (join.level + join.closed) ≡ false = grind (arith, nat_tests, low) in
+    let none : 0 / digest_len p.settings ≡ 0 = zero-div (digest_len p.settings) in
+    let more : nat_lt (size_under p join.level) (join.taken + 0 / digest_len p.settings) ≡ false =
+    rw none (grind (arith, nat_tests, few)) in
+    let whole : (0 % digest_len p.settings == 0) ≡ true = rw (zero-mod (digest_len p.settings)) (grind (arith, nat_tests)) in
+    let taken : with_digests (Ok p) join 0 ≡ Ok p = rw (whole, levels, apart, more) refl in
+    is
+    ∙ last_of_join-placed p join answer few low
+    (subst (λ (a : JoinBuilder). MatchOption answer (HasLastOfJoin a → ⊥)
+    (λ block. HasLastOfJoin a × IsPlacedOfJoin a block)) says named)
+    ∙ sym (ap (λ (r : Result PlanFields Fault). value_or old (last_of_join_in r join))
+    (ap (λ (r : Result PlanFields Fault). with_digests r join 0) made ∙ taken))

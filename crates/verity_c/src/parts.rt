@@ -1,0 +1,510 @@
+//! Building a part of a tree as pieces of its data come, apart from the other parts, by as many threads, processes or
+//! machines as a caller has.
+ghost use Rattle.std.specs.Prelude.{◌≡◌, ◌≢◌, ◌≤◌, ℕ, List, [], ◌++◌, length, take, IfOk, Ok};
+ghost use Rattle.verity_plan.specs.PlanCounts.{level_count_of};
+ghost use Rattle.verity_tree.specs.Feeding.{feeding_length};
+ghost use Rattle.verity_tree.specs.Parts.{HasPart, piece_fault, plan_of_part};
+ghost use Rattle.verity_c.specs.Answers.{value_or};
+ghost use Rattle.verity_c.specs.Parameters.{fsverity_plan_of, plan_of};
+ghost use Rattle.verity_c.specs.Parts.{HandsOutOfPart, IsDigestOfFed, IsFedPartTo, StandsLastOfPart, TakesPartPiece};
+ghost use Rattle.verity_c.specs.Parts.{begun_part, last_of_part_in, part_builder_of, part_count_in, part_memory_in};
+ghost use Rattle.verity_c.specs.Parts.{part_size_in, with_part, with_part_fed, with_part_memory, with_part_piece};
+ghost use Rattle.verity_c.specs.Parts.{with_parts};
+ghost use Rattle.verity_c.specs.Statuses.{done, status_of};
+
+use crate::build::{VerityFed, VerityPart};
+use crate::fault::{DONE, Fault};
+use crate::files::put_digest;
+use crate::parameters::{FsverityParams, VerityParams};
+use crate::plans::{fsverity_plan_of, plan_of};
+use crate::tree_building::fed_of;
+use verity_plan::Plan;
+use verity_tree::{Fed, FeedFault, PartBuilder};
+
+/// How many parts a level has, and how many data blocks each but the last one, which has what is left, down to a single
+/// one. The part of a level is what stands below one of the digests that the level's hash blocks are made of (Linux
+/// kernel, dm-verity page, "Hash Tree"): level 0 has a part for each data block. The level above the top has one part,
+/// the whole tree; its number is that of `verity_level_count`.
+///
+/// The status is 0, or that of the first fault of the parameters, or of `Level`. Then both numbers stay as they were.
+#[unsafe(no_mangle)]
+pub extern "C" fn verity_part_count(
+    params: &VerityParams,
+    level: usize,
+    parts: &mut u64,
+    blocks: &mut u64,
+) -> i32
+    ensures status { result ≡ status_of (part_count_in (plan_of params.now) level) }
+    ensures parts { parts.new ≡ value_or parts.old (part_count_in (plan_of params.now) level) }
+    ensures blocks { blocks.new ≡ value_or blocks.old (part_size_in (plan_of params.now) level) }
+{
+    put_part_count(plan_of(params), level, parts, blocks)
+}
+
+/// The same of a file's fs-verity tree.
+#[unsafe(no_mangle)]
+pub extern "C" fn fsverity_part_count(
+    params: &FsverityParams,
+    level: usize,
+    parts: &mut u64,
+    blocks: &mut u64,
+) -> i32
+    ensures status { result ≡ status_of (part_count_in (fsverity_plan_of params.now) level) }
+    ensures parts { parts.new ≡ value_or parts.old (part_count_in (fsverity_plan_of params.now) level) }
+    ensures blocks { blocks.new ≡ value_or blocks.old (part_size_in (fsverity_plan_of params.now) level) }
+{
+    put_part_count(fsverity_plan_of(params), level, parts, blocks)
+}
+
+fn put_part_count(plan: Result<Plan, Fault>, level: usize, parts: &mut u64, blocks: &mut u64) -> i32
+    ensures status { result ≡ status_of (part_count_in plan level) }
+    ensures parts { parts.new ≡ value_or parts.old (part_count_in plan level) }
+    ensures blocks { blocks.new ≡ value_or blocks.old (part_size_in plan level) }
+{
+    let plan = match plan_with_level(plan, level) {
+        Ok(plan) => plan,
+        Err(fault) => return fault.code(),
+    };
+    *parts = plan.size_under(level);
+    *blocks = PartBuilder::size(&plan, level);
+    DONE
+}
+
+/// The length of the memory that a part of a level is built in, in bytes: a hash block for each level below, and a
+/// window of up to eight data blocks.
+///
+/// The status is 0, or that of the first fault of the parameters, or of `Level`. Then the length stays as it was.
+#[unsafe(no_mangle)]
+pub extern "C" fn verity_part_memory(params: &VerityParams, level: usize, length: &mut usize) -> i32
+    ensures status { result ≡ status_of (part_memory_in (plan_of params.now) level) }
+    ensures length { length.new ≡ value_or length.old (part_memory_in (plan_of params.now) level) }
+{
+    put_part_memory(plan_of(params), level, length)
+}
+
+/// The same of a file's fs-verity tree.
+#[unsafe(no_mangle)]
+pub extern "C" fn fsverity_part_memory(
+    params: &FsverityParams,
+    level: usize,
+    length: &mut usize,
+) -> i32
+    ensures status { result ≡ status_of (part_memory_in (fsverity_plan_of params.now) level) }
+    ensures length { length.new ≡ value_or length.old (part_memory_in (fsverity_plan_of params.now) level) }
+{
+    put_part_memory(fsverity_plan_of(params), level, length)
+}
+
+fn put_part_memory(plan: Result<Plan, Fault>, level: usize, length: &mut usize) -> i32
+    ensures status { result ≡ status_of (part_memory_in plan level) }
+    ensures length { length.new ≡ value_or length.old (part_memory_in plan level) }
+{
+    let plan = match plan_with_level(plan, level) {
+        Ok(plan) => plan,
+        Err(fault) => return fault.code(),
+    };
+    *length = PartBuilder::memory_length(&plan, level);
+    DONE
+}
+
+/// Begins a part of a level, by its number, counted from 0: nothing was fed yet. What stood in struct and memory
+/// doesn't count. The memory is as long as `verity_part_memory` says, here and in each call below.
+///
+/// The status is 0, or that of the first fault of the parameters, or of `Level`, `Part`, `Length`. Then struct and
+/// memory stay as they were.
+#[unsafe(no_mangle)]
+pub extern "C" fn verity_part_begin(
+    params: &VerityParams,
+    level: usize,
+    number: u64,
+    part: &mut VerityPart,
+    memory: &mut [u8],
+) -> i32
+    ensures status { result ≡ status_of (with_part_memory (plan_of params.now) level number (length memory.old)) }
+    ensures refused { result ≢ done → (part.new ≡ part.old) × (memory.new ≡ memory.old) }
+    ensures begun { result ≡ done → part.new ≡ begun_part level number }
+    ensures fed { result ≡ done → IsFedPartTo (plan_of params.now) part.new memory.new [] }
+{
+    begin_part(plan_of(params), level, number, part, memory)
+}
+
+/// The same of a file's fs-verity tree, whose size is known.
+#[unsafe(no_mangle)]
+pub extern "C" fn fsverity_part_begin(
+    params: &FsverityParams,
+    level: usize,
+    number: u64,
+    part: &mut VerityPart,
+    memory: &mut [u8],
+) -> i32
+    ensures status { result
+        ≡ status_of (with_part_memory (fsverity_plan_of params.now) level number (length memory.old)) }
+    ensures refused { result ≢ done → (part.new ≡ part.old) × (memory.new ≡ memory.old) }
+    ensures begun { result ≡ done → part.new ≡ begun_part level number }
+    ensures fed { result ≡ done → IsFedPartTo (fsverity_plan_of params.now) part.new memory.new [] }
+{
+    begin_part(fsverity_plan_of(params), level, number, part, memory)
+}
+
+fn begin_part(
+    plan: Result<Plan, Fault>,
+    level: usize,
+    number: u64,
+    part: &mut VerityPart,
+    memory: &mut [u8],
+) -> i32
+    ensures status { result ≡ status_of (with_part_memory plan level number (length memory.old)) }
+    ensures refused { result ≢ done → (part.new ≡ part.old) × (memory.new ≡ memory.old) }
+    ensures begun { result ≡ done → part.new ≡ begun_part level number }
+    ensures fed { result ≡ done → IsFedPartTo plan part.new memory.new [] }
+{
+    let plan = match plan_with_memory(plan, level, number, memory.len()) {
+        Ok(plan) => plan,
+        Err(fault) => return fault.code(),
+    };
+    match PartBuilder::begin(&plan, level, number, memory) {
+        Ok(builder) => {
+            *part = VerityPart {
+                level: builder.level,
+                part: builder.part,
+                fed: builder.fed,
+                closed: builder.closed,
+            };
+            DONE
+        }
+        // The plan has the part, so this is never answered.
+        Err(_) => Fault::Part.code(),
+    }
+}
+
+/// Feeds the next piece of the part's data, of any length: all of it, or its bytes up to those with which a hash
+/// block closes, which is handed out with its number and its place in the whole tree (Linux kernel, dm-verity page,
+/// "On-disk format"). It stands in the memory until bytes are taken or the next one is handed out. Then the rest of
+/// the piece, perhaps of no bytes, is fed by further calls, until one hands out none. A hash block that closes with
+/// the last byte of a piece is handed out by the next call with more bytes; with the part's last byte, that call and
+/// the next ones hand out all that are left, one a call. When all bytes were fed, and a call hands out none, each
+/// hash block of the part was handed out once.
+///
+/// The status is 0, or that of the first fault of the parameters, or of `Level`, `Part`, `Length` (the memory's),
+/// `Level` (more levels have closed than the part has), `TooLong`. Then structs and memory stay as they were. The
+/// answer is right where struct and memory are as the call before left them, with the same parameters; others have an
+/// answer too.
+#[unsafe(no_mangle)]
+pub extern "C" fn verity_part_feed(
+    params: &VerityParams,
+    part: &mut VerityPart,
+    memory: &mut [u8],
+    piece: &[u8],
+    fed: &mut VerityFed,
+) -> i32
+    ensures status { result ≡ status_of (with_part_piece
+        (with_part_memory (plan_of params.now) part.old.level part.old.part (length memory.old)) part.old
+        (length piece.now)) }
+    ensures refused { result ≢ done → (part.new ≡ part.old) × (memory.new ≡ memory.old) × (fed.new ≡ fed.old) }
+    ensures takes { result ≡ done
+        → IfOk (plan_of params.now) (λ p. TakesPartPiece p part.old part.new (length piece.now) fed.new) }
+    ensures fed { (bytes : List ℕ) → IsFedPartTo (plan_of params.now) part.old memory.old bytes → result ≡ done
+        → IsFedPartTo (plan_of params.now) part.new memory.new (bytes ++ take fed.new.taken piece.now) }
+    ensures block { (bytes : List ℕ) → IsFedPartTo (plan_of params.now) part.old memory.old bytes → result ≡ done
+        → IfOk (plan_of params.now) (λ p. HandsOutOfPart p part.old part.new (bytes ++ take fed.new.taken piece.now)
+        memory.new fed.new) }
+{
+    feed_part(plan_of(params), part, memory, piece, fed)
+}
+
+/// The same of a file's fs-verity tree. The file's last data block counts with the zeros that fill it (Linux kernel,
+/// fs-verity page, "Merkle tree").
+#[unsafe(no_mangle)]
+pub extern "C" fn fsverity_part_feed(
+    params: &FsverityParams,
+    part: &mut VerityPart,
+    memory: &mut [u8],
+    piece: &[u8],
+    fed: &mut VerityFed,
+) -> i32
+    ensures status { result ≡ status_of (with_part_piece
+        (with_part_memory (fsverity_plan_of params.now) part.old.level part.old.part (length memory.old)) part.old
+        (length piece.now)) }
+    ensures refused { result ≢ done → (part.new ≡ part.old) × (memory.new ≡ memory.old) × (fed.new ≡ fed.old) }
+    ensures takes { result ≡ done
+        → IfOk (fsverity_plan_of params.now) (λ p. TakesPartPiece p part.old part.new (length piece.now) fed.new) }
+    ensures fed { (bytes : List ℕ) → IsFedPartTo (fsverity_plan_of params.now) part.old memory.old bytes
+        → result ≡ done
+        → IsFedPartTo (fsverity_plan_of params.now) part.new memory.new (bytes ++ take fed.new.taken piece.now) }
+    ensures block { (bytes : List ℕ) → IsFedPartTo (fsverity_plan_of params.now) part.old memory.old bytes
+        → result ≡ done
+        → IfOk (fsverity_plan_of params.now) (λ p. HandsOutOfPart p part.old part.new
+        (bytes ++ take fed.new.taken piece.now) memory.new fed.new) }
+{
+    feed_part(fsverity_plan_of(params), part, memory, piece, fed)
+}
+
+fn feed_part(
+    plan: Result<Plan, Fault>,
+    part: &mut VerityPart,
+    memory: &mut [u8],
+    piece: &[u8],
+    fed: &mut VerityFed,
+) -> i32
+    ensures status { result ≡ status_of (with_part_piece
+        (with_part_memory plan part.old.level part.old.part (length memory.old)) part.old (length piece.now)) }
+    ensures refused { result ≢ done → (part.new ≡ part.old) × (memory.new ≡ memory.old) × (fed.new ≡ fed.old) }
+    ensures takes { result ≡ done
+        → IfOk plan (λ p. TakesPartPiece p part.old part.new (length piece.now) fed.new) }
+    ensures fed { (bytes : List ℕ) → IsFedPartTo plan part.old memory.old bytes → result ≡ done
+        → IsFedPartTo plan part.new memory.new (bytes ++ take fed.new.taken piece.now) }
+    ensures block { (bytes : List ℕ) → IsFedPartTo plan part.old memory.old bytes → result ≡ done
+        → IfOk plan
+        (λ p. HandsOutOfPart p part.old part.new (bytes ++ take fed.new.taken piece.now) memory.new fed.new) }
+{
+    let plan = match plan_with_memory(plan, part.level, part.part, memory.len()) {
+        Ok(plan) => plan,
+        Err(fault) => return fault.code(),
+    };
+    let mut builder = builder_of(&plan, part);
+    match builder.feed(memory, piece) {
+        Ok(answer) => {
+            *part = VerityPart {
+                level: builder.level,
+                part: builder.part,
+                fed: builder.fed,
+                closed: builder.closed,
+            };
+            *fed = fed_of(&plan, &answer);
+            DONE
+        }
+        Err(fault) => Fault::of_feed(fault).code(),
+    }
+}
+
+/// The hash block that `verity_part_feed` handed out last, once more. It stands in the memory until bytes are taken or
+/// the next one is handed out: so a part that was stored before it was written can go on. `taken` becomes 0, and so do
+/// the other numbers if no hash block was handed out since the latest byte was fed.
+///
+/// The status is 0, or that of the first fault of the parameters, or of `Level`, `Part`, `Level` (more levels have
+/// closed than the part has), `TooLong`. Then the answer's struct stays as it was. The answer is right where struct and
+/// memory are as a call left them, with the same parameters; others have an answer too.
+#[unsafe(no_mangle)]
+pub extern "C" fn verity_part_last_block(
+    params: &VerityParams,
+    part: &VerityPart,
+    fed: &mut VerityFed,
+) -> i32
+    ensures status { result ≡ status_of (last_of_part_in
+        (with_part_piece (with_part (plan_of params.now) part.now.level part.now.part) part.now 0) part.now) }
+    ensures fed { fed.new ≡ value_or fed.old (last_of_part_in
+        (with_part_piece (with_part (plan_of params.now) part.now.level part.now.part) part.now 0) part.now) }
+    ensures block { (memory bytes : List ℕ) → IsFedPartTo (plan_of params.now) part.now memory bytes → result ≡ done
+        → IfOk (plan_of params.now) (λ p. StandsLastOfPart p part.now bytes memory fed.new) }
+{
+    put_last_of_part(plan_of(params), part, fed)
+}
+
+/// The same of a file's fs-verity tree.
+#[unsafe(no_mangle)]
+pub extern "C" fn fsverity_part_last_block(
+    params: &FsverityParams,
+    part: &VerityPart,
+    fed: &mut VerityFed,
+) -> i32
+    ensures status { result ≡ status_of (last_of_part_in
+        (with_part_piece (with_part (fsverity_plan_of params.now) part.now.level part.now.part) part.now 0) part.now) }
+    ensures fed { fed.new ≡ value_or fed.old (last_of_part_in
+        (with_part_piece (with_part (fsverity_plan_of params.now) part.now.level part.now.part) part.now 0) part.now) }
+    ensures block { (memory bytes : List ℕ) → IsFedPartTo (fsverity_plan_of params.now) part.now memory bytes
+        → result ≡ done → IfOk (fsverity_plan_of params.now) (λ p. StandsLastOfPart p part.now bytes memory fed.new) }
+{
+    put_last_of_part(fsverity_plan_of(params), part, fed)
+}
+
+fn put_last_of_part(plan: Result<Plan, Fault>, part: &VerityPart, fed: &mut VerityFed) -> i32
+    ensures status { result ≡ status_of (last_of_part_in
+        (with_part_piece (with_part plan part.now.level part.now.part) part.now 0) part.now) }
+    ensures fed { fed.new ≡ value_or fed.old (last_of_part_in
+        (with_part_piece (with_part plan part.now.level part.now.part) part.now 0) part.now) }
+    ensures block { (memory bytes : List ℕ) → IsFedPartTo plan part.now memory bytes → result ≡ done
+        → IfOk plan (λ p. StandsLastOfPart p part.now bytes memory fed.new) }
+{
+    let plan = match plan_with_part(plan, part.level, part.part) {
+        Ok(plan) => plan,
+        Err(fault) => return fault.code(),
+    };
+    if let Some(fault) = fault_so_far(&plan, part) {
+        return Fault::of_feed(fault).code();
+    }
+    let answer = Fed {
+        taken: 0,
+        hash_block: builder_of(&plan, part).last_block(),
+    };
+    *fed = fed_of(&plan, &answer);
+    DONE
+}
+
+/// The part's digest, when all its bytes were fed and all its hash blocks handed out: the one that stands for it in
+/// its level (Linux kernel, dm-verity page, "Hash Tree"). The buffer for it is as long as the hash function's
+/// digests. It can be asked for as often as one likes: struct and memory stay those of the same bytes.
+///
+/// The status is 0, or that of the first fault of the parameters, or of `Level`, `Part`, `Length` (the memory's),
+/// `Length` (the buffer's), `Level` (more levels have closed than the part has), `TooLong`, `TooShort`, `Waiting` (a
+/// hash block is still to be handed out). Then memory and buffer stay as they were. The answer is right where struct
+/// and memory are as the call before left them, with the same parameters.
+#[unsafe(no_mangle)]
+pub extern "C" fn verity_part_end(
+    params: &VerityParams,
+    part: &VerityPart,
+    memory: &mut [u8],
+    digest: &mut [u8],
+) -> i32
+    ensures status { result ≡ status_of (with_part_fed
+        (with_part_memory (plan_of params.now) part.now.level part.now.part (length memory.old)) part.now
+        (length digest.old)) }
+    ensures refused { result ≢ done → (memory.new ≡ memory.old) × (digest.new ≡ digest.old) }
+    ensures digest { (bytes : List ℕ) → IsFedPartTo (plan_of params.now) part.now memory.old bytes → result ≡ done
+        → IsDigestOfFed (plan_of params.now) part.now bytes digest.new }
+    ensures stays { (bytes : List ℕ) → IsFedPartTo (plan_of params.now) part.now memory.old bytes
+        → IsFedPartTo (plan_of params.now) part.now memory.new bytes }
+{
+    put_part_digest(plan_of(params), part, memory, digest)
+}
+
+/// The same of a file's fs-verity tree.
+#[unsafe(no_mangle)]
+pub extern "C" fn fsverity_part_end(
+    params: &FsverityParams,
+    part: &VerityPart,
+    memory: &mut [u8],
+    digest: &mut [u8],
+) -> i32
+    ensures status { result ≡ status_of (with_part_fed
+        (with_part_memory (fsverity_plan_of params.now) part.now.level part.now.part (length memory.old)) part.now
+        (length digest.old)) }
+    ensures refused { result ≢ done → (memory.new ≡ memory.old) × (digest.new ≡ digest.old) }
+    ensures digest { (bytes : List ℕ) → IsFedPartTo (fsverity_plan_of params.now) part.now memory.old bytes
+        → result ≡ done → IsDigestOfFed (fsverity_plan_of params.now) part.now bytes digest.new }
+    ensures stays { (bytes : List ℕ) → IsFedPartTo (fsverity_plan_of params.now) part.now memory.old bytes
+        → IsFedPartTo (fsverity_plan_of params.now) part.now memory.new bytes }
+{
+    put_part_digest(fsverity_plan_of(params), part, memory, digest)
+}
+
+fn put_part_digest(
+    plan: Result<Plan, Fault>,
+    part: &VerityPart,
+    memory: &mut [u8],
+    digest: &mut [u8],
+) -> i32
+    ensures status { result ≡ status_of (with_part_fed
+        (with_part_memory plan part.now.level part.now.part (length memory.old)) part.now (length digest.old)) }
+    ensures refused { result ≢ done → (memory.new ≡ memory.old) × (digest.new ≡ digest.old) }
+    ensures digest { (bytes : List ℕ) → IsFedPartTo plan part.now memory.old bytes → result ≡ done
+        → IsDigestOfFed plan part.now bytes digest.new }
+    ensures stays { (bytes : List ℕ) → IsFedPartTo plan part.now memory.old bytes
+        → IsFedPartTo plan part.now memory.new bytes }
+{
+    let plan = match plan_with_memory(plan, part.level, part.part, memory.len()) {
+        Ok(plan) => plan,
+        Err(fault) => return fault.code(),
+    };
+    if digest.len() != plan.digest_len() {
+        return Fault::Length.code();
+    }
+    match builder_of(&plan, part).end(memory) {
+        Ok(answer) => {
+            put_digest(&answer, digest);
+            DONE
+        }
+        Err(fault) => Fault::of_feed(fault).code(),
+    }
+}
+
+/// The plan, if it has this level or one level fewer; or the first fault: that of the plan, `Level`.
+pub(crate) fn plan_with_level(plan: Result<Plan, Fault>, level: usize) -> Result<Plan, Fault>
+    ensures value { result ≡ with_parts plan level }
+    ensures planned { IfOk result (λ p. plan ≡ Ok p) }
+    ensures level { IfOk result (λ p. level ≤ level_count_of p) }
+{
+    match plan {
+        Ok(plan) if level > plan.levels() => Err(Fault::Level),
+        other => other,
+    }
+}
+
+/// The plan, if the level has this part; or the first fault: that of the plan, `Level`, `Part`.
+fn plan_with_part(plan: Result<Plan, Fault>, level: usize, part: u64) -> Result<Plan, Fault>
+    ensures value { result ≡ with_part plan level part }
+    ensures planned { IfOk result (λ p. plan ≡ Ok p) }
+    ensures part { IfOk result (λ p. HasPart p level part) }
+{
+    match plan_with_level(plan, level) {
+        Ok(plan) if part >= plan.size_under(level) => Err(Fault::Part),
+        other => other,
+    }
+}
+
+/// The plan, if the level has this part, and the memory is as long as its builder wants; or the first fault: that of
+/// the plan, `Level`, `Part`, `Length`.
+fn plan_with_memory(
+    plan: Result<Plan, Fault>,
+    level: usize,
+    part: u64,
+    room: usize,
+) -> Result<Plan, Fault>
+    ensures value { result ≡ with_part_memory plan level part room }
+    ensures planned { IfOk result (λ p. plan ≡ Ok p) }
+    ensures part { IfOk result (λ p. HasPart p level part) }
+    ensures memory { IfOk result (λ p. room ≡ feeding_length p.settings level) }
+{
+    match plan_with_part(plan, level, part) {
+        Ok(plan) if room != PartBuilder::memory_length(&plan, level) => Err(Fault::Length),
+        other => other,
+    }
+}
+
+/// The builder that a struct says.
+fn builder_of(plan: &Plan, part: &VerityPart) -> PartBuilder
+    ensures { result ≡ part_builder_of plan.now part.now }
+{
+    PartBuilder {
+        plan: *plan,
+        level: part.level,
+        part: part.part,
+        fed: part.fed,
+        closed: part.closed,
+    }
+}
+
+/// What is wrong with the numbers of a struct: more levels are counted as handed out than the part has, or more bytes
+/// as fed.
+fn fault_so_far(plan: &Plan, part: &VerityPart) -> Option<FeedFault>
+    requires { HasPart plan.now part.now.level part.now.part }
+    ensures { result ≡ piece_fault (part_builder_of plan.now part.now) 0 }
+{
+    let own = own_plan(plan, part.level, part.part);
+    let most = if part.fed < own.wanted() {
+        own.levels()
+    } else {
+        part.level
+    };
+    if part.closed > most {
+        Some(FeedFault::Level)
+    } else if part.fed > own.wanted() {
+        Some(FeedFault::TooLong)
+    } else {
+        None
+    }
+}
+
+/// The plan of the tree above a part's data alone.
+fn own_plan(plan: &Plan, level: usize, part: u64) -> Plan
+    requires { HasPart plan.now level part }
+    ensures { result ≡ plan_of_part plan.now level part }
+{
+    let size = PartBuilder::size(plan, level);
+    let block = plan.data_block() as u64;
+    let wanted = (plan.wanted() - part * size * block).min(size * block);
+    match Plan::for_bytes(plan.settings(), wanted, 0) {
+        Ok(own) => own,
+        // The whole tree has room, so this is never answered.
+        Err(_) => *plan,
+    }
+}
