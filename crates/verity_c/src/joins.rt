@@ -267,6 +267,8 @@ pub extern "C" fn fsverity_join_last_block(
     put_last_of_join(fsverity_plan_of(params), join, fed)
 }
 
+// A part of its callers, since on x86-64 a function that calls no other may write below the stack pointer.
+#[inline(always)]
 fn put_last_of_join(plan: Result<Plan, Fault>, join: &VerityJoin, fed: &mut VerityFed) -> i32
     ensures status { result ≡ status_of (last_of_join_in
         (with_digests (with_parts plan join.now.level) join.now 0) join.now) }
