@@ -134,7 +134,7 @@
  * A part of level 1 has as many data blocks as a hash block has digests (128 with SHA-256 and blocks of 4096 bytes),
  * one of level 2 the square of that. The last part of a level has what is left, but hash blocks of all levels below,
  * even above a single data block. A part hands out a hash block when a byte comes after those below it, or after the
- * part's last byte; a join hands one out at once, by the call that takes the last digest below it.
+ * part's last byte; a join hands one out at once with the last digest below it.
  *
  * A file's tree, of a size that is known, is built from parts in the same way, with the same structs and the first loop
  * above, by the functions whose names begin with fsverity_part_ and fsverity_join_. There block_start is counted from
