@@ -769,9 +769,10 @@ VERITY_MUST_CHECK int fsverity_join_begin(const struct fsverity_params *params, 
 /*
  * Takes the next digests, in the order of their parts, one after another in digests: all of them, or those up to the
  * one with which a hash block closes, which this call hands out: it stands in the memory until digests are taken or the
- * next one is handed out. taken is in bytes. Then the rest is to be fed, perhaps of no bytes, until no hash block is
- * handed out: those that close with the same digest come one a call. So each hash block of this level and above is
- * handed out once, each after those below it. The parameters are those with which the join was begun.
+ * next one is handed out. fed->taken is in bytes, and join->taken counts digests. Then the rest is to be fed, perhaps
+ * of no bytes, until no hash block is handed out: those that close with the same digest come one a call. So each hash
+ * block of this level and above is handed out once, each after those below it. The parameters are those with which the
+ * join was begun.
  *
  * A fault of the parameters, VERITY_NO_SUCH_LEVEL, VERITY_BAD_LENGTH (the memory's, or digests that aren't whole),
  * VERITY_NO_SUCH_LEVEL (more levels are closed than there are, or none after the last digest), VERITY_TOO_LONG (there
