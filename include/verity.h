@@ -644,9 +644,9 @@ VERITY_MUST_CHECK int fsverity_tree_build_end(const struct fsverity_params *para
  * level above the top, whose number is that of verity_level_count, has one part, the whole tree: there blocks is the
  * number of all data blocks.
  *
- * Here and below, the functions whose names begin with fsverity_ do the same for a file whose size is known. A data
- * block is one of the file's blocks then, of which the last may have fewer bytes. A file of no bytes has no parts:
- * VERITY_NO_DATA.
+ * Of all functions of parts and joins, those whose names begin with fsverity_ do the same for a file whose size is
+ * known. A data block is one of the file's blocks then, of which the last may have fewer bytes. A file of no bytes has
+ * no parts: VERITY_NO_DATA.
  *
  * A fault of the parameters, VERITY_NO_SUCH_LEVEL.
  */
