@@ -5,7 +5,6 @@ runs once, and of each the middle of all rounds counts: so what else runs distur
 """
 
 import os
-import resource
 import statistics
 import subprocess
 import sys
@@ -38,6 +37,10 @@ def by_program(program):
     return [program, "format", f"--salt={SALT}", f"--uuid={UUID}", DATA, f"{SCRATCH}/program"]
 
 
+def threads(count):
+    return f"{count} threads" if count > 1 else "1 thread"
+
+
 def show(what, rate, *times):
     print(f"| {what} | {rate:.0f} | " + " | ".join(f"{it:.2f}" for it in times) + " |")
 
@@ -45,7 +48,7 @@ def show(what, rate, *times):
 def main():
     ways = {"bin/veritysetup format": [by_program("bin/veritysetup")], "Debian's": [by_program("veritysetup")]}
     for count in THREADS:
-        ways[f"{count} threads"] = [by_threads(count, "one")]
+        ways[threads(count)] = [by_threads(count, "one")]
         ways[f"{count} runs"] = [by_threads(1, f"run{i}") for i in range(count)]
     taken = {name: [] for name in ways}
     for _ in range(ROUNDS):
@@ -58,26 +61,30 @@ def main():
     for name in ("Debian's", "bin/veritysetup format"):
         print(f"| {name} | {rate[name]:.0f} | {rate[name] / ours:.2f} | {rate[name] / theirs:.2f} | |")
     for count in THREADS:
-        name = f"{count} threads"
+        name = threads(count)
         # Of each round the two are compared, since what else runs changes from one to the next.
-        ratio = statistics.median(
-            len(ways[f"{count} runs"]) ** -1 * side / own for own, side in zip(taken[name], taken[f"{count} runs"])
-        )
+        ratio = statistics.median(side / (count * own) for own, side in zip(taken[name], taken[f"{count} runs"]))
         show(name, rate[name], rate[name] / ours, rate[name] / theirs, ratio)
     joining()
 
 
 def joining():
-    """How long the join takes of a tree whose parts were built by processes, and how much memory a part."""
+    """How long processes take for parts and their join, and how much memory, all in all, each of a part has."""
     folder, image = f"{SCRATCH}/folder", f"{SCRATCH}/joined"
     plan = [f"{SCRATCH}/join_parts", "plan", DATA, image, folder, "16", SALT, UUID]
     parts = int(subprocess.run(plan, capture_output=True, text=True, check=True).stdout)
-    building = sum(seconds([[f"{SCRATCH}/build_part", DATA, image, folder, str(part)]]) for part in range(parts))
-    peak = resource.getrusage(resource.RUSAGE_CHILDREN).ru_maxrss
+    peaks, begun = [], time.monotonic()
+    for part in range(parts):
+        # A process that Python starts would count Python's memory as its own.
+        words = ["/usr/bin/time", "-f", "%M", f"{SCRATCH}/build_part", DATA, image, folder, str(part)]
+        peaks.append(int(subprocess.run(words, capture_output=True, text=True, check=True).stderr))
+    building = time.monotonic() - begun
     joined = seconds([[f"{SCRATCH}/join_parts", "join", image, folder]])
     print()
-    print(f"{parts} parts by a process each take {building:.2f} seconds one after another, the join {joined * 1000:.1f} ms.")
-    print(f"No process took more than {peak} KiB.")
+    print(
+        f"{parts} parts by a process each take {building:.2f} seconds one after another, and {max(peaks)} KiB; "
+        f"the join takes {joined * 1000:.1f} ms."
+    )
 
 
 main()

@@ -1,14 +1,15 @@
 #!/bin/bash
 # Measures examples/parallel_format.c, built with the library for this processor or the one in LIB, by one, two and four
 # threads over one file in the page cache, beside bin/veritysetup and Debian's (package cryptsetup-bin); and beside as
-# many runs by one thread each, side by side, since the processors of a machine may be shared. Then how long joining
-# takes. SIZE=MEBIBYTES and ROUNDS=COUNT change the defaults.
+# many runs by one thread each, side by side, since the processors of a machine may be shared. Then how long processes
+# take for its parts and their join, and how much memory. SIZE=MEBIBYTES and ROUNDS=COUNT change the defaults.
 set -eu
 cd "$(dirname "$0")/.."
 . tests/lib/checks.sh
 has_program veritysetup
 needs gcc gcc
 needs python3 python3
+needs /usr/bin/time time
 needs_other veritysetup cryptsetup-bin
 fitting=lib
 if [ "$(./processor.sh)" = x86-64-v3 ]; then fitting=lib/glibc-hwcaps/x86-64-v3; fi
@@ -21,5 +22,5 @@ gcc -std=c11 -O2 -pthread -Iinclude examples/parallel_format.c "$LIB/libverity.a
 for name in build_part join_parts; do
     gcc -std=c11 -O2 -Iinclude "examples/parts/$name.c" "$LIB/libverity.a" -o "$scratch/$name"
 done
-head -c $((${SIZE:-512} << 20)) /dev/urandom >"$scratch/data"
+head -c $((${SIZE:-1024} << 20)) /dev/urandom >"$scratch/data"
 python3 bench/parallel.py "$scratch"
