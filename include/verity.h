@@ -58,7 +58,7 @@
  * A call takes up to 12 KiB of stack on either target, and one that feeds or ends up to 16 KiB. Those that feed parts
  * take most: verity_part_feed 16312 bytes on x86-64. Measured are 14.4 KiB for feeding a tree, 12.1 for the end of a
  * file, 8.9 for a file digest, 8.3 for a block with its path, and up to 3.1 for those that hash nothing. With
- * libverity-strict-align.a a call that feeds takes up to 17 KiB.
+ * libverity-strict-align.a a call that feeds takes up to 18 KiB.
  *
  * Data that is written, copied or downloaded is fed to a tree as it comes, in pieces of any length, 0 too. The
  * functions whose names have _build_ in them do that, in memory of the caller's, as long as verity_build_memory or
