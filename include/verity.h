@@ -2,18 +2,18 @@
  * verity.h - superblocks, places of hash blocks, checks of blocks and the building of trees of dm-verity and fs-verity.
  *
  * Each function is proved: whatever numbers, bytes and structs it is handed, it returns, and its answer is that of the
- * definitions. Of a tree that is built in pieces, hash blocks, root hash and file digest are so only while its struct
- * and memory stand as the call before left them (what else holds then is said below). The library takes no memory,
- * keeps nothing between calls, opens and prints nothing, and takes no lock: any number of threads may call it at once,
- * but only one at a time with the struct and the memory of one tree, part or join. It calls memcpy, memmove and memset,
- * and nothing else.
+ * definitions. Of a tree that is built in pieces or from parts, hash blocks, digests and root hash are so only while
+ * struct and memory stand as the call before left them, and a join is handed the digests of its parts (what holds
+ * otherwise is said below). The library takes no memory, keeps nothing between calls, opens and prints nothing, and
+ * takes no lock: any number of threads may call it at once, but only one at a time with the struct and the memory of
+ * one tree, part or join. It calls memcpy, memmove and memset, and nothing else.
  *
  * What every caller owes, since it can't be checked here:
  *   - a pointer is not null, not even for a length of 0, and points to as many bytes as the length after it says, or to
  *     a whole struct or number; structs and numbers are aligned;
  *   - what counts has been given a value. No value is needed by what a function only fills, by the padding of structs,
  *     by bytes of a salt after the first salt_size, by a size and a uuid that aren't looked at, and by the memory with
- *     which a tree is begun: nothing depends on what stands there, and it may be as malloc gave it;
+ *     which a tree, a part or a join is begun: nothing depends on what stands there, and it may be as malloc gave it;
  *   - what a function writes to overlaps nothing else that it is handed;
  *   - nothing of it is changed by others while the call runs.
  *
@@ -55,9 +55,10 @@
  * stacks, so that no program is marked that it is linked into. On x86-64 it also jumps by tables, so that it can't run
  * where IBT is on.
  *
- * A call takes up to 12 KiB of stack on either target, and one that feeds or ends up to 16 KiB: measured are 14.4 for
- * feeding, 12.1 for the end of a file, 8.9 for a file digest, 8.3 for a block with its path, and up to 3.1 for those
- * that hash nothing. With libverity-strict-align.a a call that feeds takes up to 17 KiB.
+ * A call takes up to 12 KiB of stack on either target, and one that feeds or ends up to 16 KiB. Those that feed parts
+ * take most: verity_part_feed 16312 bytes on x86-64. Measured are 14.4 KiB for feeding a tree, 12.1 for the end of a
+ * file, 8.9 for a file digest, 8.3 for a block with its path, and up to 3.1 for those that hash nothing. With
+ * libverity-strict-align.a a call that feeds takes up to 17 KiB.
  *
  * Data that is written, copied or downloaded is fed to a tree as it comes, in pieces of any length, 0 too. The
  * functions whose names have _build_ in them do that, in memory of the caller's, as long as verity_build_memory or
@@ -112,44 +113,53 @@
  *     status = fsverity_tree_build_end(&params, &build, memory, memory_length, root, root_length, digest, root_length);
  *     params.size = build.fed;
  *
- * A tree can be built from parts, too, by as many threads, processes or machines as the caller has: the data blocks
- * below one digest of a level, and the hash blocks of the levels below it, need nothing of the others. Each part is
- * built like a tree, by the functions whose names have _part_ in them, and ends with a digest; the functions with
- * _join_ take these digests in order, hand out the hash blocks of the level and above, and end with the root hash.
- * Which part is built when, and where, doesn't matter: each hash block of the tree is handed out once, with its place.
+ * A tree can be built from parts, too, by as many threads, processes or machines as the caller has. A part of a level
+ * is what stands below one of the digests of which the level's hash blocks are made: data blocks, and the hash blocks
+ * of the levels below. It needs nothing of the other parts. Each part is built like a tree, by the functions whose
+ * names have _part_ in them, and ends with a digest; the functions with _join_ take the digests of all parts in order,
+ * hand out the hash blocks of the level and above, and end with the root hash. Which part is built when, and where,
+ * doesn't matter: each hash block of the tree is handed out once, with its place. The memory is as long as
+ * verity_part_memory, or for the join verity_join_memory, says.
  *
  *     status = verity_part_count(&params, level, &parts, &blocks);
  *     for each part, wherever it is built:
  *     status = verity_part_begin(&params, level, number, &part, memory, memory_length);
- *     and for each piece of its data, from data block number * blocks on, the loop above with verity_part_feed; then
+ *     and for each piece of its data, from block number * blocks on, the first loop above with verity_part_feed; then
  *     status = verity_part_end(&params, &part, memory, memory_length, digest, digest_length);
  *     and with all digests:
  *     status = verity_join_begin(&params, level, &join, memory, memory_length);
- *     the loop with verity_join_feed, over the digests one after another; then
+ *     the same loop with verity_join_feed, over the digests one after another; then
  *     status = verity_join_end(&params, &join, memory, memory_length, root, root_length);
  *
  * A part of level 1 has as many data blocks as a hash block has digests (128 with SHA-256 and blocks of 4096 bytes),
- * one of level 2 the square of that. Each part that is built at one time has a struct and a memory of its own. All
- * parts and their join have the same parameters and the same level: the size of a file, too, which has to be known.
- * The library can't know whose digest it is handed: digests of another level, of another tree or in another order
- * give another root hash, and no fault.
+ * one of level 2 the square of that. The last part of a level has what is left, but hash blocks of all levels below,
+ * even above a single data block. A part hands out a hash block when a byte comes after those below it, or after the
+ * part's last byte; a join hands one out at once with the last digest below it.
+ *
+ * A file's tree, of a size that is known, is built from parts in the same way, with the same structs and the first loop
+ * above, by the functions whose names begin with fsverity_part_ and fsverity_join_. There block_start is counted from
+ * the beginning of the tree, and fsverity_join_end gives the file digest, too.
+ *
+ * Each part that is built at one time has a struct and a memory of its own. All parts and their join have the same
+ * level and the same parameters, of a file also the same size. The library can't know whose digest it is handed: with
+ * that of another part, another level or another tree the root hash is another, and there is no fault.
  *
  * An image is checked by parts like this: compare each hash block that is handed out with the one that stands at its
- * place, and of the first differences of all parts and of the join take the earliest, by the data block with which it
- * closes, and of those that close with one data block by the level, from 0 upward. Block number N of level L closes
+ * place, and of the first differences of each part and of the join take the earliest: the one that closes after the
+ * fewest data blocks, and of two that close with the same one that of the lower level. Block number N of level L closes
  * with the last data block of part number N of level L + 1. So, where there is all the data, the difference is the one
- * that `veritysetup verify` names.
+ * that `veritysetup verify` names. If there is none, compare the root hash with the trusted one.
  *
  * Memory and struct hold all that is kept between the calls. The struct is struct verity_build, of a part struct
- * verity_part, of a join struct verity_join, and after fsverity_build_begin struct fsverity_params. They are left alone
- * then, but may be moved and copied, both together: a copy goes on by itself. They may also be stored between any two
- * calls, together with the parameters, and the tree goes on from there, in another process or on another machine, by a
- * library of the same major version. Some of the memory may still be what it was before the tree was begun: clear it
- * first if that is secret. Before they are stored, every hash block that was handed out has to be where it can't be
- * lost (fsync), except the one that a function whose name ends in _last_block names, which stands in the memory; where
- * a file's length isn't known, no function names a block once more. The same holds for the bytes that were fed, if the
- * caller writes them as they come. Whoever goes on writes that hash block first, even if nothing more is to be fed; of
- * parts and joins by their own functions:
+ * verity_part and of a join struct verity_join, also if they are a file's, and after fsverity_build_begin struct
+ * fsverity_params. They are left alone then, but may be moved and copied, both together: a copy goes on by itself. They
+ * may also be stored between any two calls, together with the parameters, and the tree goes on from there, in another
+ * process or on another machine, by a library of the same major version. Some of the memory may still be what it was
+ * before the tree was begun: clear it first if that is secret. Before they are stored, every hash block that was handed
+ * out has to be where it can't be lost (fsync), except the one that a function whose name ends in _last_block names,
+ * which stands in the memory; where a file's length isn't known, no function names a block once more. The same holds
+ * for the bytes that were fed, if the caller writes them as they come. Whoever goes on writes that hash block first,
+ * even if nothing more is to be fed; that of a part or a join is named by the function of its own:
  *
  *     status = verity_build_last_block(&params, &build, &fed);
  *     if (status < 0)
@@ -162,9 +172,10 @@
  * a part from the part's byte part.fed on; and to a join the digests from number join.taken on. If nothing more is
  * left, 0 bytes are fed until no hash block is handed out.
  *
- * If anything else stands in memory and struct, hash blocks, root hash and digest mean nothing. All else holds: a call
- * returns, with the status that is said of the numbers in the struct, it reads and writes nothing but what it is
- * handed, and a hash block that it names is within the memory and, of dm-verity, has the start of one of the tree.
+ * If anything else stands in memory and struct, or a join is handed other digests, hash blocks, digests and root hash
+ * mean nothing. All else holds: a call returns, with the status that is said of the numbers in the struct, it reads and
+ * writes nothing but what it is handed, and a hash block that it names is within the memory and, where the tree's size
+ * is known, has the start of one of the tree.
  *
  * Example: check DATA HASH INDEX ends with 0 if this data block is right, with 1 if it isn't, and with 2 if it can't be
  * checked. The root hash comes from standard input, as bytes. The superblock is trusted here.
@@ -248,11 +259,14 @@ enum verity_status {
     VERITY_DIFFERS = -1,
     /* There is no data block of this number. */
     VERITY_NO_SUCH_BLOCK = -2,
-    /* The tree has no level of this number, or the struct of what is built counts more than there are. */
+    /*
+     * The tree has no level of this number; to parts and joins the number above the top is one, too. Or the struct of
+     * what is built counts more levels than there are, or that of a join none after the last digest.
+     */
     VERITY_NO_SUCH_LEVEL = -3,
     /*
-     * A block, a path, a digest, the memory or a buffer has the wrong length; a root hash and its buffer have the next
-     * status.
+     * A block, a path, a digest, the memory or a buffer has the wrong length, or digests that are joined aren't whole;
+     * a root hash and its buffer have the next status.
      */
     VERITY_BAD_LENGTH = -4,
     /*
@@ -454,8 +468,8 @@ VERITY_MUST_CHECK int fsverity_file_digest(const struct fsverity_params *params,
                                            size_t root_length, uint8_t *digest, size_t digest_length);
 
 /*
- * How far a tree is built: of dm-verity, or of a file whose blocks are handed out. The functions whose names end in
- * _build_begin fill it, and those in _build_feed go on with it.
+ * How far a tree is built: of dm-verity, or of a file whose blocks are handed out. verity_build_begin and
+ * fsverity_tree_build_begin fill it, and verity_build_feed and fsverity_tree_build_feed go on with it.
  */
 struct verity_build {
     uint64_t fed;  /* how many bytes were fed */
@@ -464,7 +478,7 @@ struct verity_build {
 
 /* What a function whose name ends in _feed has done, and what one in _last_block has found. */
 struct verity_fed {
-    size_t taken;         /* how many bytes of the piece were taken */
+    size_t taken;         /* how many bytes of the piece, or of the digests, were taken */
     size_t block_length;  /* of the hash block that is handed out, or was last; 0 if there is none, and so all below */
     size_t block_at;      /* the byte of the memory at which it stands */
     uint64_t block_start; /* the byte of the hash device or the file's tree at which it goes; 0 if that isn't known */
@@ -626,8 +640,13 @@ VERITY_MUST_CHECK int fsverity_tree_build_end(const struct fsverity_params *para
 
 /*
  * The parts of a level: how many there are, and how many data blocks each has but the last one, which has what is left,
- * down to a single one. Level 0 has a part for each data block. The level above the top, whose number is
- * verity_level_count, has one part, the whole tree. So part number N begins with data block N * blocks.
+ * down to a single one. So part number N begins with data block N * blocks. Level 0 has a part for each data block. The
+ * level above the top, whose number is that of verity_level_count, has one part, the whole tree: there blocks is the
+ * number of all data blocks.
+ *
+ * Of all functions of parts and joins, those whose names begin with fsverity_ do the same for a file whose size is
+ * known. A data block is one of the file's blocks then, of which the last may have fewer bytes. A file of no bytes has
+ * no parts: VERITY_NO_DATA.
  *
  * A fault of the parameters, VERITY_NO_SUCH_LEVEL.
  */
@@ -637,7 +656,10 @@ VERITY_MUST_CHECK int fsverity_part_count(const struct fsverity_params *params, 
                                           uint64_t *blocks);
 
 /*
- * How far a part is built. The functions whose names end in _part_begin fill it, and those in _part_feed go on with it.
+ * How far a part is built, of dm-verity or of a file. The functions whose names end in _part_begin fill it, and those
+ * in _part_feed go on with it. closed is at most level, and before the part's last byte no more than a tree above the
+ * part's data alone has levels. That makes a difference for a last part that is short: the hash blocks of its other
+ * levels close with its last byte.
  */
 struct verity_part {
     size_t level;  /* the level whose part it is: its hash blocks are those of the levels below */
@@ -647,8 +669,8 @@ struct verity_part {
 };
 
 /*
- * The length of the memory in which a part of a level is built: a hash block for each level below, and up to eight data
- * blocks, as in verity_build_memory.
+ * The length of the memory in which each part of a level is built: a hash block for each level below, and up to eight
+ * data blocks, as in verity_build_memory. It is no longer than that of the whole tree.
  *
  * A fault of the parameters, VERITY_NO_SUCH_LEVEL.
  */
@@ -656,8 +678,8 @@ VERITY_MUST_CHECK int verity_part_memory(const struct verity_params *params, siz
 VERITY_MUST_CHECK int fsverity_part_memory(const struct fsverity_params *params, size_t level, size_t *length);
 
 /*
- * Begins a part of a level: struct and memory are those of no bytes. What stood in them doesn't count and needs no
- * value.
+ * Begins a part of a level, by its number: struct and memory are those of no bytes. What stood in them doesn't count
+ * and needs no value.
  *
  * A fault of the parameters, VERITY_NO_SUCH_LEVEL, VERITY_NO_SUCH_PART, VERITY_BAD_LENGTH.
  */
@@ -667,12 +689,17 @@ VERITY_MUST_CHECK int fsverity_part_begin(const struct fsverity_params *params, 
                                           struct verity_part *part, uint8_t *memory, size_t memory_length);
 
 /*
- * Feeds a piece of the part's data, as verity_build_feed does with that of a whole tree: all of it, or its bytes up to
- * the next hash block that closes, which is handed out. Its number and its start are those of the whole tree.
+ * Feeds a piece of the part's data: all of it, or its bytes up to the next hash block that closes, which is handed out,
+ * with its number and its start in the whole tree: it stands in the memory until bytes are taken or the next one is
+ * handed out. Then the rest of the piece is to be fed, perhaps of no bytes, until no hash block is handed out. So each
+ * hash block of the part is handed out once, each after those below it. One that closes with the last byte of a piece
+ * is handed out by the next call with more bytes. With the part's last byte, that call and the next ones hand out all
+ * that are left, one a call, and 0 bytes will do. The last part of a file ends with the file: zeros that fill its last
+ * block aren't fed. The parameters are those with which the part was begun.
  *
  * A fault of the parameters, VERITY_NO_SUCH_LEVEL, VERITY_NO_SUCH_PART, VERITY_BAD_LENGTH (the memory's),
- * VERITY_NO_SUCH_LEVEL (more levels are closed than there are), VERITY_TOO_LONG (with the whole piece there would be
- * more bytes than the part has).
+ * VERITY_NO_SUCH_LEVEL (closed is more than is said of the struct), VERITY_TOO_LONG (with the whole piece there would
+ * be more bytes than the part has).
  */
 VERITY_MUST_CHECK int verity_part_feed(const struct verity_params *params, struct verity_part *part, uint8_t *memory,
                                        size_t memory_length, const uint8_t *piece, size_t piece_length,
@@ -682,11 +709,12 @@ VERITY_MUST_CHECK int fsverity_part_feed(const struct fsverity_params *params, s
                                          size_t piece_length, struct verity_fed *fed);
 
 /*
- * The hash block that was handed out last, once more, as verity_build_last_block gives it: for a part that goes on from
- * what was stored.
+ * The hash block of the part that was handed out last, once more: it stands in the memory until bytes are taken or the
+ * next one is handed out. taken becomes 0, and so do the other numbers if none was handed out since the latest byte was
+ * fed. Whoever goes on with a part that was stored calls this first.
  *
- * A fault of the parameters, VERITY_NO_SUCH_LEVEL, VERITY_NO_SUCH_PART, VERITY_NO_SUCH_LEVEL (more levels are closed
- * than there are), VERITY_TOO_LONG (more bytes were fed than the part has).
+ * A fault of the parameters, VERITY_NO_SUCH_LEVEL, VERITY_NO_SUCH_PART, VERITY_NO_SUCH_LEVEL (closed is more than is
+ * said of the struct), VERITY_TOO_LONG (more bytes were fed than the part has).
  */
 VERITY_MUST_CHECK int verity_part_last_block(const struct verity_params *params, const struct verity_part *part,
                                              struct verity_fed *fed);
@@ -694,12 +722,12 @@ VERITY_MUST_CHECK int fsverity_part_last_block(const struct fsverity_params *par
                                                struct verity_fed *fed);
 
 /*
- * The part's digest, when all its data was fed and all its hash blocks were handed out. digest_length is exactly that
- * of the hash function's digests. It can be asked for as often as one likes: struct and memory stay those of the same
- * bytes.
+ * The part's digest, when all its data was fed and all its hash blocks were handed out; before that VERITY_TOO_SHORT or
+ * VERITY_WAITING. digest_length is exactly that of the hash function's digests. It can be asked for as often as one
+ * likes: struct and memory stay those of the same bytes.
  *
  * A fault of the parameters, VERITY_NO_SUCH_LEVEL, VERITY_NO_SUCH_PART, VERITY_BAD_LENGTH (the memory's, or the
- * digest's), VERITY_NO_SUCH_LEVEL (more levels are closed than there are), VERITY_TOO_LONG, VERITY_TOO_SHORT,
+ * digest's), VERITY_NO_SUCH_LEVEL (closed is more than is said of the struct), VERITY_TOO_LONG, VERITY_TOO_SHORT,
  * VERITY_WAITING.
  */
 VERITY_MUST_CHECK int verity_part_end(const struct verity_params *params, const struct verity_part *part,
@@ -707,7 +735,11 @@ VERITY_MUST_CHECK int verity_part_end(const struct verity_params *params, const 
 VERITY_MUST_CHECK int fsverity_part_end(const struct fsverity_params *params, const struct verity_part *part,
                                         uint8_t *memory, size_t memory_length, uint8_t *digest, size_t digest_length);
 
-/* How far the parts of a level are joined. */
+/*
+ * How far the parts of a level are joined, of dm-verity or of a file. The functions whose names end in _join_begin fill
+ * it, and those in _join_feed go on with it. closed is at most the number of levels from this one on. After the last
+ * digest it is at least 1, if there is such a level.
+ */
 struct verity_join {
     size_t level;   /* the level whose parts are joined: the hash blocks are those of this level and above */
     uint64_t taken; /* how many digests were taken */
@@ -725,7 +757,7 @@ VERITY_MUST_CHECK int fsverity_join_memory(const struct fsverity_params *params,
 
 /*
  * Begins to join the parts of a level: no digest was taken. What stood in struct and memory doesn't count and needs no
- * value.
+ * value. The memory is as long as the function above says, here and in those below.
  *
  * A fault of the parameters, VERITY_NO_SUCH_LEVEL, VERITY_BAD_LENGTH.
  */
@@ -736,12 +768,15 @@ VERITY_MUST_CHECK int fsverity_join_begin(const struct fsverity_params *params, 
 
 /*
  * Takes the next digests, in the order of their parts, one after another in digests: all of them, or those up to the
- * next hash block that closes, which is handed out. taken is in bytes. Then the rest is to be fed, perhaps of no bytes,
- * until no hash block is handed out.
+ * one with which a hash block closes, which this call hands out: it stands in the memory until digests are taken or the
+ * next one is handed out. fed->taken is in bytes, and join->taken counts digests. Then the rest is to be fed, perhaps
+ * of no bytes, until no hash block is handed out: those that close with the same digest come one a call. So each hash
+ * block of this level and above is handed out once, each after those below it. The parameters are those with which the
+ * join was begun.
  *
  * A fault of the parameters, VERITY_NO_SUCH_LEVEL, VERITY_BAD_LENGTH (the memory's, or digests that aren't whole),
- * VERITY_NO_SUCH_LEVEL (more levels are closed than there are), VERITY_TOO_LONG (there would be more digests than
- * parts).
+ * VERITY_NO_SUCH_LEVEL (more levels are closed than there are, or none after the last digest), VERITY_TOO_LONG (there
+ * would be more digests than parts).
  */
 VERITY_MUST_CHECK int verity_join_feed(const struct verity_params *params, struct verity_join *join, uint8_t *memory,
                                        size_t memory_length, const uint8_t *digests, size_t digests_length,
@@ -751,10 +786,12 @@ VERITY_MUST_CHECK int fsverity_join_feed(const struct fsverity_params *params, s
                                          size_t digests_length, struct verity_fed *fed);
 
 /*
- * The hash block that was handed out last, once more: for a join that goes on from what was stored.
+ * The hash block of the join that was handed out last, once more: it stands in the memory until digests are taken or
+ * the next one is handed out. taken becomes 0, and so do the other numbers if none was handed out since the latest
+ * digest was taken. Whoever goes on with a join that was stored calls this first.
  *
- * A fault of the parameters, VERITY_NO_SUCH_LEVEL (the level, or more levels are closed than there are),
- * VERITY_TOO_LONG (more digests were taken than there are parts).
+ * A fault of the parameters, VERITY_NO_SUCH_LEVEL (the level; or more levels are closed than there are, or none after
+ * the last digest), VERITY_TOO_LONG (more digests were taken than there are parts).
  */
 VERITY_MUST_CHECK int verity_join_last_block(const struct verity_params *params, const struct verity_join *join,
                                              struct verity_fed *fed);
@@ -763,11 +800,12 @@ VERITY_MUST_CHECK int fsverity_join_last_block(const struct fsverity_params *par
 
 /*
  * The root hash, when the digests of all parts were taken and all hash blocks handed out, and of a file its digest,
- * too. It can be asked for as often as one likes: the memory is only read.
+ * too; before that VERITY_TOO_SHORT or VERITY_WAITING. Their lengths are exactly that of the hash function's digests.
+ * They can be asked for as often as one likes: the memory is only read.
  *
  * A fault of the parameters, VERITY_NO_SUCH_LEVEL, VERITY_BAD_LENGTH (the memory's), VERITY_BAD_ROOT_LENGTH,
- * VERITY_BAD_LENGTH (the file digest's), VERITY_NO_SUCH_LEVEL (more levels are closed than there are), VERITY_TOO_LONG,
- * VERITY_TOO_SHORT, VERITY_WAITING.
+ * VERITY_BAD_LENGTH (the file digest's), VERITY_NO_SUCH_LEVEL (more levels are closed than there are, or none after the
+ * last digest), VERITY_TOO_LONG, VERITY_TOO_SHORT, VERITY_WAITING.
  */
 VERITY_MUST_CHECK int verity_join_end(const struct verity_params *params, const struct verity_join *join,
                                       const uint8_t *memory, size_t memory_length, uint8_t *root, size_t root_length);

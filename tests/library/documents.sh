@@ -255,6 +255,60 @@ sed 's/sizeof memory/512/' file.c >wrong.c
 runs 'docs/LIBRARY.md: with too little memory, it is built' 0 '' '' cc -I"$root/include" wrong.c "$LIB/libverity.a" \
     -o wrong
 runs 'docs/LIBRARY.md: with too little memory' 104 '' '' ./wrong
+
+# Its function for a part, in a program that builds the parts of level 1, the last one first, and joins them. It ends
+# with what the function answers, or with 100 and more for a status: `part DATA HASH` over files that are open for
+# reading and writing, or if words follow for reading alone.
+{
+    printf '%s\n' '#include <fcntl.h>' '#include <unistd.h>' '#include "verity.h"'
+    sed -n '/^    int build_part(/,/^    }/s/^    //p' "$root/docs/LIBRARY.md"
+    cat <<'EOC'
+int main(int count, char **words)
+{
+    static uint8_t memory[9 * 4096], joining[3 * 4096], digests[3 * 32], superblock[512], root[32];
+    struct verity_params params = {.hash_algorithm = VERITY_SHA256, .hash_type = 1, .data_block_size = 4096,
+                                   .hash_block_size = 4096, .data_blocks = 300,
+                                   .uuid = {1, 1, 1, 1, 1, 1, 1, 1, 1, 1, 1, 1, 1, 1, 1, 1}};
+    int data = open(words[1], O_RDONLY), hash = open(words[2], count > 3 ? O_RDONLY : O_RDWR | O_CREAT, 0644);
+    struct verity_join join;
+    struct verity_fed fed;
+    size_t length = 0, at = 0;
+    int ret;
+
+    for (uint64_t number = 3; number-- > 0;) {
+        ret = build_part(&params, data, hash, 1, number, memory, sizeof memory, digests + 32 * number, 32);
+        if (ret != 0)
+            return ret < 0 ? 100 - ret : ret;
+    }
+    if (verity_join_memory(&params, 1, &length) != 0 || length > sizeof joining ||
+        verity_join_begin(&params, 1, &join, joining, length) != 0)
+        return 2;
+    do {
+        if (verity_join_feed(&params, &join, joining, length, digests + at, sizeof digests - at, &fed) != 0 ||
+            pwrite(hash, joining + fed.block_at, fed.block_length, fed.block_start) != (ssize_t)fed.block_length)
+            return 3;
+        at += fed.taken;
+    } while (fed.block_length > 0);
+    if (verity_join_end(&params, &join, joining, length, root, 32) != 0 ||
+        verity_write_superblock(&params, superblock, 512) != 0)
+        return 4;
+    return pwrite(hash, superblock, 512, 0) != 512 || write(1, root, 32) != 32;
+}
+EOC
+} >part.c
+runs 'docs/LIBRARY.md: the function for a part is built' 0 '' '' cc -Wall -Wextra -I"$root/include" part.c \
+    "$LIB/libverity.a" -o part
+rm fed.hash
+./part image.ext4 fed.hash >root
+same 'docs/LIBRARY.md: the parts of an image: status' 0 "$?"
+is_image 'docs/LIBRARY.md: the parts of an image'
+head -c 4096 image.ext4 >short
+runs 'docs/LIBRARY.md: a part whose data is too short' 1 '' '' ./part short other.hash
+runs 'docs/LIBRARY.md: a part whose hash block cannot be written' 1 '' '' ./part image.ext4 fed.hash read
+sed 's/memory\[9/memory[8/' part.c >wrong.c
+runs 'docs/LIBRARY.md: a part with too little memory, it is built' 0 '' '' cc -I"$root/include" wrong.c \
+    "$LIB/libverity.a" -o wrong
+runs 'docs/LIBRARY.md: a part with too little memory' 104 '' '' ./wrong image.ext4 other.hash
 cd "$root" || exit 1
 
 # Header and page have the same functions, statuses and version.

@@ -43,13 +43,13 @@ pub struct VerityJoin {
 #[repr(C)]
 #[derive(Clone, Copy)]
 pub struct VerityFed {
-    /// How many bytes of the piece were taken.
+    /// How many bytes of the piece, or of the digests, were taken.
     pub taken: usize,
     /// The length of the hash block that is handed out, in bytes: 0 if none is, and then the numbers below are 0 too.
     pub block_length: usize,
     /// The byte of the memory at which it stands until bytes are taken or the next one is handed out.
     pub block_at: usize,
-    /// The byte of the hash device at which it goes.
+    /// The byte of the hash device or of the file's tree at which it goes; 0 if that isn't known.
     pub block_start: u64,
     /// Its number in its level, counted from 0.
     pub block_index: u64,

@@ -19,7 +19,8 @@ pub(crate) enum Fault {
     Differs,
     /// There is no data block of this number.
     Index,
-    /// The tree has no level of this number.
+    /// The tree has no level of this number, or a struct counts more levels than can have closed, or that of a join
+    /// none after the last digest.
     Level,
     /// A block, a path, a digest, the memory or a buffer has the wrong length.
     Length,
@@ -47,9 +48,9 @@ pub(crate) enum Fault {
     Signature,
     /// The superblock is of another version.
     Version,
-    /// There are more bytes than the parameters say.
+    /// There are more bytes than the parameters say, or more digests than parts.
     TooLong,
-    /// There are fewer bytes than the parameters say.
+    /// There are fewer bytes than the parameters say, or fewer digests than parts.
     TooShort,
     /// A hash block is still to be handed out, or the rest of a piece to be fed.
     Waiting,

@@ -133,10 +133,10 @@ fn begin_join(
 /// block. When all digests were taken, and a call hands out none, each hash block of this level and above was handed
 /// out once.
 ///
-/// The status is 0, or that of the first fault of the parameters, or of `Level`, `Length` (the memory's), `Length`
-/// (the digests aren't whole), `Level` (more levels have closed than there are), `TooLong` (there would be more
-/// digests than parts). Then structs and memory stay as they were. The answer is right where struct and memory are as
-/// the call before left them, with the same parameters; others have an answer too.
+/// The status is 0, or that of the first fault of the parameters, or of `Level`, `Length` (the memory's), `Length` (the
+/// digests aren't whole), `Level` (more levels have closed than there are, or none after the last digest), `TooLong`
+/// (there would be more digests than parts). Then structs and memory stay as they were. The answer is right where
+/// struct and memory are as the call before left them, with the same parameters; others have an answer too.
 #[unsafe(no_mangle)]
 pub extern "C" fn verity_join_feed(
     params: &VerityParams,
@@ -230,10 +230,10 @@ fn feed_join(
 /// or the next one is handed out: so a join that was stored before it was written can go on. `taken` becomes 0, and
 /// so do the other numbers if no hash block was handed out since the latest digest was taken.
 ///
-/// The status is 0, or that of the first fault of the parameters, or of `Level` (the tree has no such level, or more
-/// levels have closed than there are), `TooLong` (more digests were taken than there are parts). Then the answer's
-/// struct stays as it was. The answer is right where struct and memory are as a call left them, with the same
-/// parameters; others have an answer too.
+/// The status is 0, or that of the first fault of the parameters, or of `Level` (the tree has no such level, more
+/// levels have closed than there are, or none after the last digest), `TooLong` (more digests were taken than there are
+/// parts). Then the answer's struct stays as it was. The answer is right where struct and memory are as a call left
+/// them, with the same parameters; others have an answer too.
 #[unsafe(no_mangle)]
 pub extern "C" fn verity_join_last_block(
     params: &VerityParams,
@@ -267,6 +267,8 @@ pub extern "C" fn fsverity_join_last_block(
     put_last_of_join(fsverity_plan_of(params), join, fed)
 }
 
+// A part of its callers, since on x86-64 a function that calls no other may write below the stack pointer.
+#[inline(always)]
 fn put_last_of_join(plan: Result<Plan, Fault>, join: &VerityJoin, fed: &mut VerityFed) -> i32
     ensures status { result ≡ status_of (last_of_join_in
         (with_digests (with_parts plan join.now.level) join.now 0) join.now) }
@@ -298,9 +300,9 @@ fn put_last_of_join(plan: Result<Plan, Fault>, join: &VerityJoin, fed: &mut Veri
 /// one likes.
 ///
 /// The status is 0, or that of the first fault of the parameters, or of `Level`, `Length` (the memory's), `Root` (the
-/// buffer is shorter or longer), `Level` (more levels have closed than there are), `TooLong`, `TooShort`, `Waiting`
-/// (a hash block is still to be handed out). Then the buffer stays as it was. The answer is right where struct and
-/// memory are as the call before left them, with the same parameters.
+/// buffer is shorter or longer), `Level` (more levels have closed than there are, or none after the last digest),
+/// `TooLong`, `TooShort`, `Waiting` (a hash block is still to be handed out). Then the buffer stays as it was. The
+/// answer is right where struct and memory are as the call before left them, with the same parameters.
 #[unsafe(no_mangle)]
 pub extern "C" fn verity_join_end(
     params: &VerityParams,
@@ -334,8 +336,8 @@ pub extern "C" fn verity_join_end(
 /// hash (Linux kernel, fs-verity page, "File digest computation"). The buffer for it is as long, too.
 ///
 /// The status is 0, or that of the first fault of the parameters, or of `Level`, `Length` (the memory's), `Root` (the
-/// buffer for the root hash is shorter or longer), `Length` (the file digest's), `Level` (more levels have closed
-/// than there are), `TooLong`, `TooShort`, `Waiting`. Then both buffers stay as they were.
+/// buffer for the root hash is shorter or longer), `Length` (the file digest's), `Level` (more levels have closed than
+/// there are, or none after the last digest), `TooLong`, `TooShort`, `Waiting`. Then both buffers stay as they were.
 #[unsafe(no_mangle)]
 pub extern "C" fn fsverity_join_end(
     params: &FsverityParams,

@@ -186,7 +186,7 @@ fn begin_part(
 /// hash block of the part was handed out once.
 ///
 /// The status is 0, or that of the first fault of the parameters, or of `Level`, `Part`, `Length` (the memory's),
-/// `Level` (more levels have closed than the part has), `TooLong`. Then structs and memory stay as they were. The
+/// `Level` (more levels are counted than can have closed), `TooLong`. Then structs and memory stay as they were. The
 /// answer is right where struct and memory are as the call before left them, with the same parameters; others have an
 /// answer too.
 #[unsafe(no_mangle)]
@@ -281,9 +281,9 @@ fn feed_part(
 /// the next one is handed out: so a part that was stored before it was written can go on. `taken` becomes 0, and so do
 /// the other numbers if no hash block was handed out since the latest byte was fed.
 ///
-/// The status is 0, or that of the first fault of the parameters, or of `Level`, `Part`, `Level` (more levels have
-/// closed than the part has), `TooLong`. Then the answer's struct stays as it was. The answer is right where struct and
-/// memory are as a call left them, with the same parameters; others have an answer too.
+/// The status is 0, or that of the first fault of the parameters, or of `Level`, `Part`, `Level` (more levels are
+/// counted than can have closed), `TooLong`. Then the answer's struct stays as it was. The answer is right where struct
+/// and memory are as a call left them, with the same parameters; others have an answer too.
 #[unsafe(no_mangle)]
 pub extern "C" fn verity_part_last_block(
     params: &VerityParams,
@@ -345,7 +345,7 @@ fn put_last_of_part(plan: Result<Plan, Fault>, part: &VerityPart, fed: &mut Veri
 /// digests. It can be asked for as often as one likes: struct and memory stay those of the same bytes.
 ///
 /// The status is 0, or that of the first fault of the parameters, or of `Level`, `Part`, `Length` (the memory's),
-/// `Length` (the buffer's), `Level` (more levels have closed than the part has), `TooLong`, `TooShort`, `Waiting` (a
+/// `Length` (the buffer's), `Level` (more levels are counted than can have closed), `TooLong`, `TooShort`, `Waiting` (a
 /// hash block is still to be handed out). Then memory and buffer stay as they were. The answer is right where struct
 /// and memory are as the call before left them, with the same parameters.
 #[unsafe(no_mangle)]
