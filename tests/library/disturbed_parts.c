@@ -164,7 +164,9 @@ static void check_joined(const struct join_shape *shape, const struct verity_joi
           "%zu bytes of %zu are taken", fed->taken, length);
     check_named(fed, fed->block_length > 0 ? &last : &none, shape->memory_length);
     if (fed->block_length == 0)
-        check(fed->taken == length, "no block is handed out, and %zu bytes of %zu are taken", fed->taken, length);
+        check(fed->taken == length && (after->taken < shape->parts || after->closed == shape->levels),
+              "no block is handed out, %zu bytes of %zu are taken, and %zu levels are closed", fed->taken, length,
+              after->closed);
     else
         check(fed->taken > 0 || after->closed == before->closed + 1,
               "a block of level %zu is handed out, and %zu levels are closed", fed->block_level, after->closed);

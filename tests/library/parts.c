@@ -518,33 +518,33 @@ static void goes_on(struct part_work *part, const struct verity_fed *fed)
     work.fed += taken;
 }
 
-/* One call that feeds. Some are made with everything watched. */
+/* One call that feeds. Some are made with everything watched, and some with none of the bytes that are left. */
 static void feed_part(struct part_work *part)
 {
     struct part_building *building = &part->building;
     uint64_t before = building->part.fed, times = 1 + building->memory_length / 512;
-    struct bytes piece = bytes_of(part->data + part->at, part->left);
+    struct bytes piece = bytes_of(part->data + part->at, once_in(8) ? 0 : part->left);
     struct verity_fed fed;
     int status;
     bool is_stored;
 
     memset(&fed, 0xa5, sizeof fed);
     status = once_in(times) ? call_part_feed(building, piece, &fed) : feed_part_once(building, piece, &fed);
-    if (stops(expect(status == VERITY_OK && fed.taken <= part->left && building->part.fed == before + fed.taken,
-                     "%zu bytes after %" PRIu64 " of part %" PRIu64 ": status %d", part->left, before, part->number,
+    if (stops(expect(status == VERITY_OK && fed.taken <= piece.length && building->part.fed == before + fed.taken,
+                     "%zu bytes after %" PRIu64 " of part %" PRIu64 ": status %d", piece.length, before, part->number,
                      status)))
         return;
     put_last(&part->last, &fed);
     is_stored = is_to_be_stored(building->memory_length);
     if (fed.block_length > 0) {
-        expect(fed.taken < part->left || building->part.fed == part->shape.bytes,
+        expect(fed.taken < piece.length || building->part.fed == part->shape.bytes,
                "a block is handed out with the last byte of a piece");
         note_block_of_part(part, &fed);
         if (!is_stored)
             write_block(&fed, bytes_of(building->memory, building->memory_length), part);
     } else {
-        expect(is_none(&fed) && fed.taken == part->left, "no block, and %zu bytes of %zu are taken", fed.taken,
-               part->left);
+        expect(is_none(&fed) && fed.taken == piece.length, "no block, and %zu bytes of %zu are taken", fed.taken,
+               piece.length);
     }
     goes_on(part, &fed);
     if (is_stored)
