@@ -135,7 +135,7 @@ random_changes() {
             file=$scratch/tree.$chosen
             length=$(stat -c %s "$file")
             if [ "$chosen" = data ]; then
-                flip "$file" $((RANDOM * 32768 % length)) 1
+                flip "$file" $(((RANDOM * 32768 + RANDOM) % length)) 1
             elif [ "$length" -gt 512 ]; then
                 flip "$file" $((512 + (RANDOM * 32768 + RANDOM) % (length - 512))) 1
             fi
