@@ -1,13 +1,17 @@
 # The commands of this project. They need the Rattle toolchain, with `rt` on the PATH; `make help` lists them.
 
-# For which processor programs are built: the one that builds them. CPU=x86-64-v2 makes programs for nearly every x86-64
-# processor.
+# For which processor programs are built: the one that builds them. CPU=any makes programs for every x86-64 processor,
+# which are fast on newer ones, and CPU=x86-64-v2 smaller ones for nearly all.
 CPU = $(shell ./processor.sh)
 
-# TARGET is what the library is built and installed for, x86_64 or aarch64. Its static part is for every x86-64
-# processor, or for CPU if make is called with CPU=..
+# TARGET is what programs and library are built and installed for, x86_64 or aarch64. The library's static part is for
+# every x86-64 processor, or for CPU if make is called with CPU=.. With STATIC=yes the programs need nothing of the
+# system but the kernel.
 TARGET = x86_64
-LIBRARY_CPU = $(if $(filter command,$(origin CPU)),$(CPU))
+STATIC = no
+GIVEN_CPU = $(if $(filter command,$(origin CPU)),$(CPU))
+PROGRAM_CPU = $(if $(filter x86_64,$(TARGET)),$(CPU),$(GIVEN_CPU))
+LIBRARY_CPU = $(filter-out any,$(GIVEN_CPU))
 
 # Where `make install` puts things, what it adds to the programs' names, so that they can stand beside Debian's, and
 # whether what runs is stripped: yes or no.
@@ -22,7 +26,7 @@ INCLUDEDIR = $(PREFIX)/include
 SUFFIX = -proved
 STRIP = no
 
-# Where `make dist` puts the archive.
+# Where `make dist`, `make release` and `make deb` put what they make.
 DIST = dist
 
 # How many seconds `make soak` and `make search` run, and with which seed; without one they draw one and print it.
@@ -31,17 +35,20 @@ SEED =
 
 .PHONY: run programs library libraries test check gate wrong-bodies check-programs check-library out-of-memory interop \
     soak search kernel bench bench-feeding bench-parallel reproducible install uninstall install-library \
-    uninstall-library dist clean help
+    uninstall-library dist release deb clean help
 
 # Proves and builds the one program that this needs, and prints the digest of a real file.
 run:
 	./build.sh fsverity_cli fsverity $(CPU)
 	bin/fsverity digest README.md
 
-# Proves and builds bin/fsverity and bin/veritysetup.
+# Proves and builds bin/fsverity and bin/veritysetup; or those for 64-bit ARM in bin/aarch64, and static ones in
+# bin/static and bin/aarch64/static.
+programs: export TARGET := $(TARGET)
+programs: export STATIC := $(STATIC)
 programs:
-	./build.sh fsverity_cli fsverity $(CPU)
-	./build.sh veritysetup_cli veritysetup $(CPU)
+	./build.sh fsverity_cli fsverity $(PROGRAM_CPU)
+	./build.sh veritysetup_cli veritysetup $(PROGRAM_CPU)
 
 # Proves and builds the library for C: lib/libverity.a and lib/libverity.so.2, with both for x86-64-v3 in
 # lib/glibc-hwcaps; or those for 64-bit ARM in lib/aarch64.
@@ -120,10 +127,12 @@ bench-parallel: programs library
 reproducible: programs
 	tests/reproducible.sh
 
-# Installs programs, manual pages and bash's completion, and the library if it is built; or removes just these. The
-# other two do the same for the library alone, of TARGET. Nothing is built here, so that no proof runs as root.
+# Installs the programs of TARGET and STATIC, manual pages and bash's completion, and the library if it is built; or
+# removes just these. The other two do the same for the library alone. Nothing is built here, so that no proof runs as
+# root.
 INSTALLING = install uninstall install-library uninstall-library
 $(INSTALLING): export TARGET := $(TARGET)
+$(INSTALLING): export STATIC := $(STATIC)
 $(INSTALLING): export PREFIX := $(PREFIX)
 $(INSTALLING): export DESTDIR := $(DESTDIR)
 $(INSTALLING): export BINDIR := $(BINDIR)
@@ -142,6 +151,14 @@ dist: export DIST := $(DIST)
 dist:
 	@./dist.sh
 
+# Makes what is handed out of what is committed: an archive for each target, and that of the sources; or Debian's
+# packages, for both. The same commit gives the same bytes.
+release deb: export DIST := $(DIST)
+release:
+	@./release.sh
+deb:
+	@./deb.sh
+
 # Removes what was built, and what is kept of the proofs, so that all is proved anew.
 clean:
 	rm -rf bin lib crates/*/out
@@ -151,7 +168,7 @@ help:
 	@echo 'In brackets: what you can set, as in: make soak SECONDS=60'
 	@echo
 	@echo 'make run             7 minutes     proves and builds fsverity, and prints the digest of a file'
-	@echo 'make programs        11 minutes    proves and builds bin/fsverity and bin/veritysetup [CPU]'
+	@echo 'make programs        11 minutes    proves and builds bin/fsverity and bin/veritysetup [TARGET, CPU, STATIC=yes]'
 	@echo 'make library         6 minutes     proves and builds the library for C [TARGET, CPU]'
 	@echo 'make test            65 minutes    all tests: gate, the programs as a user runs them, documents, comparisons'
 	@echo 'make check           5 minutes +   all tests but the gate'
@@ -170,10 +187,12 @@ help:
 	@echo 'make bench-parallel  2 minutes +   measures a tree that is built from parts by threads'
 	@echo 'make reproducible    5 minutes +   builds once more in another folder, and compares the programs'
 	@echo 'make install         seconds       installs programs, pages and completion, and the library if it is built'
-	@echo '                                   [PREFIX, DESTDIR, SUFFIX, STRIP=yes, BINDIR, SBINDIR, MANDIR, BASHCOMPDIR,'
-	@echo '                                   LIBDIR, INCLUDEDIR]'
+	@echo '                                   [TARGET, STATIC=yes, PREFIX, DESTDIR, SUFFIX, STRIP=yes, BINDIR, SBINDIR,'
+	@echo '                                   MANDIR, BASHCOMPDIR, LIBDIR, INCLUDEDIR]'
 	@echo 'make uninstall       seconds       removes what make install has installed; give it the same settings'
 	@echo 'make install-library seconds       installs the library alone; make uninstall-library removes it'
 	@echo '                                   [TARGET, PREFIX, DESTDIR, STRIP=yes, MANDIR, LIBDIR, INCLUDEDIR]'
 	@echo 'make dist            seconds       makes an archive of what is committed, with the version in its name [DIST]'
+	@echo 'make release         a minute +    makes an archive of static programs and library for each target [DIST]'
+	@echo 'make deb             a minute +    makes the packages for Debian, for amd64 and arm64 [DIST]'
 	@echo 'make clean           seconds       removes what was built, and what is kept of the proofs'

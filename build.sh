@@ -1,38 +1,144 @@
 #!/bin/bash
-# build.sh CRATE PROGRAM [CPU]: proves and builds the program of crates/CRATE for a processor that `rt run --cpu` takes,
-# x86-64-v2 if none is said, and puts it at bin/PROGRAM. Each crate that had to be proved anew is named once it is.
-# bin/PROGRAM.made keeps for which processor and of what that was built, so that nothing is done if both are the same.
+# build.sh CRATE PROGRAM [CPU]: proves and builds the program of crates/CRATE, and puts it at bin/PROGRAM. Each crate
+# that had to be proved anew is named once it is.
+#
+# CPU is a processor, x86-64, x86-64-v2 or x86-64-v3, or `any`: such a program has code for x86-64 and for x86-64-v3,
+# and chooses when it begins. If none is said it is x86-64-v2. With TARGET=aarch64 the program is for every 64-bit ARM
+# processor, and goes to bin/aarch64. With STATIC=yes it needs nothing of the system that runs it but the kernel, and
+# goes to bin/static or bin/aarch64/static. BIN=FOLDER takes another folder. A dynamic program for one processor of
+# x86-64 is linked by the toolchain, any other by its target's C compiler, of object files that are kept in bin/objects.
+#
+# A file NAME.made beside each program and object file keeps for what and of what it was built, so that nothing is done
+# if both are the same. With OVER_GATE=yes the crates below are those that the gate has just proved; KEPT=FOLDER keeps
+# what is the same for several builds.
 set -euo pipefail
 cd "$(dirname "$0")"
 . ./building.sh
-crate=$1 program=$2 cpu=${3:-x86-64-v2}
-built=crates/$crate/out/$crate
-log=$(mktemp)
-trap 'rm -f "$log"' EXIT
 
-# What programs are built of, before any is: a source that changes meanwhile has changed.
-of=$(sources)
-
-# Prints the processor, what programs are built of, and the sum of the program.
-made() {
-    printf '%s\n' "$cpu" "$of"
-    sha256sum "bin/$program"
+# refuse MESSAGE: ends before anything is built.
+refuse() {
+    echo "build.sh: $1" >&2
+    exit 1
 }
 
-if [ -x "bin/$program" ] && [ -e "bin/$program.made" ] && cmp -s <(made) "bin/$program.made"; then
-    echo "bin/$program: built for $cpu, and nothing has changed"
+crate=$1 program=$2 target=${TARGET:-x86_64} static=${STATIC:-no}
+cpu=${3:-}
+if [ "$target" = x86_64 ]; then cpu=${cpu:-x86-64-v2}; fi
+wrong=$(in_order "$target" "$cpu" "$static") || refuse "$wrong"
+folder=${BIN:-$(place "$target" "$static")}
+prefix=$(prefix_of "$target")
+# For which processors the program has code, and what it is called.
+processors=("${cpu:-$target}") kind=${cpu:-$target}
+if [ "$cpu" = any ]; then processors=("${levels[@]}"); fi
+if [ "$static" = yes ]; then kind+=', static'; fi
+# How the C compiler links it, if it does.
+by_compiler=no linking=(-fPIE -pie)
+if [ "$static" = yes ]; then linking=(-fPIE -static-pie); fi
+linking+=(-O2 -Wl,-z,relro -Wl,-z,now -Wl,-z,noexecstack -Wl,--build-id=sha1)
+if [ "$target:$static" != x86_64:no ] || [ "$cpu" = any ]; then by_compiler=yes; fi
+kit=$(dirname "$(rt doc)")
+scratch=$(mktemp -d)
+trap 'rm -rf "$scratch"' EXIT
+
+# failed WHAT: shows what was said last, and ends.
+failed() {
+    cat "$scratch/said"
+    echo "build.sh: $1" >&2
+    exit 1
+}
+
+# What programs are built of, before any is: a source that changes meanwhile has changed.
+of=$({ sources && cat build.sh building.sh any_processor.c runtime_for_arm.c; } | sha256sum)
+
+# runs CPU: has `rt` prove and build the program, which leaves it with its object file in crates/CRATE/out. `rt run`
+# then runs it. Without arguments the program may refuse: what counts is that it was built.
+runs() {
+    local built=crates/$crate/out/$crate
+    rm -f "$built" "$built.o"
+    (cd "crates/$crate" && rt run "--cpu=$1" </dev/null 2>&1) | tee "$scratch/said" | name_proved || true
+    [ -x "$built" ] || failed "$crate is not proved or not built"
+}
+
+# proves CPU: proves the crate over those below, and compiles it for a processor.
+proves() {
+    over_proved "$crate" "$1" "$scratch/object" "${KEPT:-$scratch/kept}" >"$scratch/said" 2>&1 &&
+        grep -q '^logic=proved ' "$scratch/said" || failed "$crate is not proved or not built for $1"
+    echo "    $crate is proved for $1"
+}
+
+# object CPU: puts the program's object file for a processor into bin/objects, if something has changed. Sets `object`.
+object() {
+    object=bin/objects/$program.$1.o
+    if is_made "$object" "$1"; then return; fi
+    echo "    building for $1"
+    if [ "${OVER_GATE:-no}" = yes ]; then
+        proves "$1"
+    elif [ "$1" = aarch64 ]; then
+        # Only `rt` proves the crates below.
+        runs x86-64
+        proves "$1"
+    else
+        runs "$1"
+        cp "crates/$crate/out/$crate.o" "$scratch/object"
+    fi
+    put "$scratch/object" "$object" "$1"
+}
+
+# links: links the object files, whose names are in `objects`, and leaves the program in $scratch. The program's own
+# main gets another name if C begins it.
+links() {
+    local words=() name
+    case $target,$cpu in
+    x86_64,any)
+        words=(any_processor.c)
+        for name in "${!objects[@]}"; do
+            objcopy --redefine-sym "main=main_for_${processors[name]//-/_}" "${objects[name]}" "$scratch/$name.o"
+            words+=("$scratch/$name.o")
+        done
+        ;;
+    aarch64,*)
+        "${prefix}objcopy" --redefine-sym main=rattle_main "${objects[0]}" "$scratch/0.o"
+        words=(runtime_for_arm.c "$scratch/0.o")
+        ;;
+    *) words=("${objects[@]}") ;;
+    esac
+    if [ "$target" = x86_64 ]; then words+=("$kit/c/libos_c.a" "$kit/c/liblibc_c.a"); fi
+    if [ $by_compiler = yes ]; then
+        "$compiler" "${linking[@]}" -Wall -Wextra -o "$scratch/program" "${words[@]}"
+    else
+        "$kit/bin/rattle-link" --target x86_64-unknown-linux-gnu --toolchain "$kit/toolchain" -o "$scratch/program" \
+            "${words[@]}"
+    fi >"$scratch/said" 2>&1 || failed "$program can't be linked"
+}
+
+# builds: leaves the program in $scratch.
+builds() {
+    local processor objects=() object
+    if [ $by_compiler = no ] && [ "${OVER_GATE:-no}" = no ]; then
+        runs "${processors[0]}"
+        cp "crates/$crate/out/$crate" "$scratch/program"
+        return
+    fi
+    for processor in "${processors[@]}"; do
+        object "$processor"
+        objects+=("$object")
+    done
+    links
+}
+
+compiler=cc
+if [ -n "$prefix" ]; then compiler=${prefix}gcc; fi
+if is_made "$folder/$program" "$kind"; then
+    echo "$folder/$program: built for $kind, and nothing has changed"
     exit
 fi
-echo "bin/$program: proving what has changed, and building for $cpu"
-# `rt run` proves, builds and then runs. Run without arguments the program may refuse: what counts is that it was built.
-rm -f "$built"
-(cd "crates/$crate" && rt run "--cpu=$cpu" </dev/null 2>&1) | tee "$log" | name_proved || true
-if [ ! -x "$built" ]; then
-    cat "$log"
-    echo "build.sh: $crate is not proved or not built" >&2
-    exit 1
+if [ $by_compiler = yes ]; then
+    # Before anything is proved.
+    if ! echo 'int main(void) { return 0; }' | "$compiler" "${linking[@]}" -x c -o "$scratch/empty" - \
+        2>"$scratch/said"; then
+        failed "$compiler isn't installed or can't link such a program"
+    fi
 fi
-mkdir -p bin
-cp "$built" "bin/$program.new"
-mv "bin/$program.new" "bin/$program"
-made >"bin/$program.made"
+echo "$folder/$program: proving what has changed, and building for $kind"
+builds
+put "$scratch/program" "$folder/$program" "$kind"

@@ -1,4 +1,4 @@
-# What build.sh and library.sh share. Sourced at the repository's root, by bash.
+# What build.sh, library.sh and install.sh share. Sourced at the repository's root, by bash.
 
 # sources: prints the sum of the toolchain and of all that the crates are built of.
 sources() {
@@ -15,4 +15,85 @@ name_proved() {
         logic=proved) echo "    $name is proved" ;;
         esac
     done
+}
+
+# made FILE FOR: prints for what a file was built, of what all is built, which is in `of`, and the sum of the file.
+made() {
+    printf '%s\n' "$2" "$of"
+    sha256sum <"$1"
+}
+
+# is_made FILE FOR: whether the file was built for this, and nothing has changed.
+is_made() {
+    [ -e "$1" ] && [ -e "$1.made" ] && cmp -s <(made "$1" "$2") "$1.made"
+}
+
+# put FILE TO FOR: a built file gets its place.
+put() {
+    mkdir -p "$(dirname "$2")"
+    cp "$1" "$2.new"
+    mv "$2.new" "$2"
+    made "$2" "$3" >"$2.made"
+}
+
+# over_proved CRATE CPU TO KEPT [TOOLCHAIN]: proves and compiles a program or a library for C over the crates below as
+# they have been proved, for a processor of x86-64 or with `aarch64` for 64-bit ARM. TO gets a program's object file or
+# the library's archive. What is the same for several processors is proved once, and kept in the folder KEPT. TOOLCHAIN
+# is a folder in place of the toolchain's own. `rt` has no word for another processor than x86-64's, and after the gate
+# it would prove each crate below a second time, so the compiler under it is called.
+over_proved() {
+    local kit root=src/main.rt words=() name folder
+    kit=$(dirname "$(rt doc)")
+    if grep -q "^$1 staticlib:" crates.txt; then root=src/lib.rt words=(--crate-type staticlib); fi
+    case $2 in
+    aarch64) words+=(--target aarch64-unknown-linux-gnu) ;;
+    *) words+=(--cpu="$2") ;;
+    esac
+    for name in std $(sed -nE "s/^$1( staticlib)?: //p" crates.txt); do
+        folder=$kit/rlibs
+        if [ -e "crates/$name" ]; then folder=$PWD/crates/$name/out/rlib; fi
+        words+=(--extern "$name=$folder/$name.rlib")
+    done
+    for folder in "$PWD"/crates/*/out/rlib "$kit/rlibs"; do words+=(-L "dependency=$folder"); done
+    (
+        cd "crates/$1" && "$kit/bin/rattle" build --crate-name "$1" "$root" "${words[@]}" --links "$1=" \
+            --antt-project "$kit/rattle/logic/antt-project.json" --logic-built "$kit/logic_built" \
+            --toolchain "${5:-$kit/toolchain}" --backend llvm --jobs 2 --incremental "$4" -o "$3" </dev/null
+    )
+}
+
+# The programs. A build of them is described by three words: TARGET is x86_64 or aarch64; CPU is a processor of x86-64,
+# or `any` for a program that has code for each of $levels and chooses when it begins, and is empty for aarch64; STATIC
+# is yes or no.
+levels=(x86-64 x86-64-v3)
+
+# in_order TARGET CPU STATIC: says what is wrong with a description, and fails, or says nothing.
+in_order() {
+    case $1 in
+    x86_64)
+        case $2 in
+        x86-64 | x86-64-v2 | x86-64-v3 | any) ;;
+        *) echo 'CPU is x86-64, x86-64-v2, x86-64-v3 or any' && return 1 ;;
+        esac
+        ;;
+    aarch64) if [ -n "$2" ]; then echo 'CPU is for x86_64 alone' && return 1; fi ;;
+    *) echo 'TARGET is x86_64 or aarch64' && return 1 ;;
+    esac
+    case $3 in
+    yes | no) ;;
+    *) echo 'STATIC is yes or no' && return 1 ;;
+    esac
+}
+
+# place TARGET STATIC: prints the folder of programs: bin, bin/static, bin/aarch64 or bin/aarch64/static.
+place() {
+    local folder=bin
+    if [ "$1" = aarch64 ]; then folder+=/aarch64; fi
+    if [ "$2" = yes ]; then folder+=/static; fi
+    echo "$folder"
+}
+
+# prefix_of TARGET: prints what the names of the target's compiler, linker and so on begin with.
+prefix_of() {
+    if [ "$1" = aarch64 ]; then echo aarch64-linux-gnu-; fi
 }

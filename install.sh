@@ -2,14 +2,16 @@
 # install.sh install|uninstall: puts the programs of bin/, their manual pages and bash's completion of their words below
 # DESTDIR and PREFIX, with SUFFIX at the end of their names; or removes just these files. BINDIR, SBINDIR, MANDIR,
 # BASHCOMPDIR, LIBDIR and INCLUDEDIR are folders in place of those below PREFIX, and DESTDIR stands before them too. A
-# folder that is there keeps its mode. With STRIP=yes the programs and the shared libraries are stripped. The pages and
-# the completion speak of the programs by these names. If lib/ has the library for C, that goes there too, by its own
-# names, with its header, its page and what pkg-config says of it. install.sh install-library|uninstall-library does
-# this with the library alone, that of TARGET: x86_64, or aarch64, for which there are no programs. Its page speaks of
-# the programs by their plain names then. One target's library doesn't take the place of another's, and isn't removed in
-# place of it. Nothing is built here, so that no proof runs as root.
+# folder that is there keeps its mode. With STRIP=yes the programs and the shared libraries are stripped. With
+# TARGET=aarch64 it is the programs of bin/aarch64, and with STATIC=yes those of bin/static or bin/aarch64/static. The
+# pages and the completion speak of the programs by these names. If the library for C is built for TARGET, that goes
+# there too, by its own names, with its header, its page and what pkg-config says of it. install.sh
+# install-library|uninstall-library does this with the library alone. Its page speaks of the programs by their plain
+# names then. One target's library doesn't take the place of another's, and isn't removed in place of it. Nothing is
+# built here, so that no proof runs as root.
 set -euo pipefail
 cd "$(dirname "$0")"
+. ./building.sh
 prefix=${PREFIX-/usr/local}
 suffix=${SUFFIX--proved}
 
@@ -24,6 +26,10 @@ case ${STRIP:=no} in
 yes | no) ;;
 *) refuse 'STRIP is yes or no' ;;
 esac
+case ${STATIC:=no} in
+yes | no) ;;
+*) refuse 'STATIC is yes or no' ;;
+esac
 # The files of the library in the folder where it is built, and what links and strips them.
 case ${TARGET:=x86_64} in
 x86_64)
@@ -36,6 +42,7 @@ aarch64)
     ;;
 *) refuse 'TARGET is x86_64 or aarch64' ;;
 esac
+programs=$(place "$TARGET" "$STATIC")
 for name in PREFIX BINDIR SBINDIR MANDIR BASHCOMPDIR LIBDIR INCLUDEDIR; do
     case ${!name-/} in
     '' | /*) ;;
@@ -177,8 +184,10 @@ uninstall_library() {
 }
 
 install_all() {
-    if [ ! -x bin/fsverity ] || [ ! -x bin/veritysetup ]; then refuse "run 'make programs' first"; fi
-    local name section file has_library=no
+    local make='make programs' name section file has_library=no
+    if [ "$TARGET" != x86_64 ]; then make+=" TARGET=$TARGET"; fi
+    if [ "$STATIC" = yes ]; then make+=' STATIC=yes'; fi
+    if [ ! -x "$programs/fsverity" ] || [ ! -x "$programs/veritysetup" ]; then refuse "run '$make' first"; fi
     if ! lacks "${archives[@]}" >/dev/null; then
         if file=$(lacks "${shared[@]}"); then
             echo "$file isn't built, so the library is left out" >&2
@@ -187,8 +196,8 @@ install_all() {
             has_library=yes
         fi
     fi
-    put_built "$bin/fsverity$suffix" <bin/fsverity
-    put_built "$sbin/veritysetup$suffix" <bin/veritysetup
+    put_built "$bin/fsverity$suffix" <"$programs/fsverity"
+    put_built "$sbin/veritysetup$suffix" <"$programs/veritysetup"
     for name in fsverity.1 veritysetup.8; do
         section=${name#*.} name=${name%.*}
         page "man/$name.$section" | put 644 "$pages/man$section/$name$suffix.$section"
@@ -211,12 +220,7 @@ if [[ ${1-} = install* ]] && [ "$STRIP" = yes ] && ! type -P "$strip" >/dev/null
     refuse "$strip isn't installed, which STRIP=yes needs"
 fi
 case ${1-} in
-install | uninstall)
-    if [ "$TARGET" != x86_64 ]; then
-        refuse "there are no programs for $TARGET: use 'make $1-library TARGET=$TARGET'"
-    fi
-    "$1_all"
-    ;;
+install | uninstall) "$1_all" ;;
 install-library | uninstall-library) "${1/-/_}" ;;
 *)
     echo "usage: install.sh install|uninstall|install-library|uninstall-library" >&2

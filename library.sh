@@ -20,7 +20,7 @@
 # Shared libraries, and all in glibc-hwcaps/, are left out if the compiler that links them isn't there. A file NAME.made
 # beside each keeps for what and of what it was built, so that nothing is done if both are the same. LIB=FOLDER takes
 # another folder than lib/, counted from here. With OVER_GATE=yes the crates below are those that the gate has just
-# proved.
+# proved; KEPT=FOLDER keeps what is the same for several builds.
 set -euo pipefail
 cd "$(dirname "$0")"
 . ./building.sh
@@ -56,26 +56,11 @@ scratch=$(mktemp -d)
 trap 'rm -rf "$scratch"' EXIT
 
 # What a library is built of, before one is: a source that changes meanwhile has changed.
-of=$({ sources && cat library.sh clang_for_arm.c; } | sha256sum)
+of=$({ sources && cat library.sh building.sh clang_for_arm.c; } | sha256sum)
 
-# made FILE FOR: prints for what a file was built, what libraries are built of, and the sum of the file.
-made() {
-    printf '%s\n' "$2" "$of"
-    sha256sum <"$1"
-}
-
-# is_made FILE FOR: whether the file was built for this, and nothing has changed.
-is_made() {
-    [ -e "$1" ] && [ -e "$1.made" ] && cmp -s <(made "$1" "$2") "$1.made" &&
-        echo "$1: built for $2, and nothing has changed"
-}
-
-# put FILE TO FOR: a built file gets its place.
-put() {
-    mkdir -p "$(dirname "$2")"
-    cp "$1" "$2.new"
-    mv "$2.new" "$2"
-    made "$2" "$3" >"$2.made"
+# stays FILE FOR: whether the file was built for this, and nothing has changed. Says so.
+stays() {
+    is_made "$1" "$2" && echo "$1: built for $2, and nothing has changed"
 }
 
 # failed WHAT: shows what was said last, and ends.
@@ -90,7 +75,7 @@ failed() {
 stands() {
     local built
     for built in "$folder" "$for_v3"; do
-        if is_made "$built/libverity.a" "$1" >"$scratch/said"; then
+        if is_made "$built/libverity.a" "$1"; then
             cp "$built/libverity.a" "$scratch/$1.a"
             return
         fi
@@ -104,7 +89,7 @@ archive() {
     local to=$scratch/$1.a native=$1
     echo "    building for $1"
     if [ "${OVER_GATE:-no}" = yes ]; then
-        over_proved "$1" "$to"
+        proves "$1" "$to"
         return
     fi
     case $1 in aarch64*) native=x86-64 ;; esac
@@ -114,7 +99,7 @@ archive() {
         [ -e "crates/$crate/out/lib$crate.a" ] || failed 'the library is not proved or not built'
         ran_for=$native
     fi
-    if [ "$1" != "$native" ]; then over_proved "$1" "$to"; else cp "crates/$crate/out/lib$crate.a" "$to"; fi
+    if [ "$1" != "$native" ]; then proves "$1" "$to"; else cp "crates/$crate/out/lib$crate.a" "$to"; fi
 }
 
 # toolchain_for_arm FOLDER FLAG..: makes a folder like the toolchain's, whose clang takes these flags too for 64-bit
@@ -133,36 +118,16 @@ toolchain_for_arm() {
         >"$scratch/said" 2>&1 || failed "clang_for_arm.c can't be compiled"
 }
 
-# over_proved CPU TO: the same over the crates below as they have been proved. `rt` has no word for another processor
-# than x86-64's, so the compiler under it is called, which proves the crate for it. What is the same for several
-# processors is proved once in a run: it is kept in the scratch folder.
-over_proved() {
-    local kit words=(--cpu="$1") tools name folder
-    kit=$(dirname "$(rt doc)")
-    tools=$kit/toolchain
+# proves CPU TO: proves and compiles the library over the crates below as they have been proved.
+proves() {
+    local tools=
+    # x18 is the platform's: U-Boot's `gd`, Android's shadow call stack.
     case $1 in
-    aarch64*)
-        words=(--target aarch64-unknown-linux-gnu)
-        tools=$scratch/$1
-        # x18 is the platform's: U-Boot's `gd`, Android's shadow call stack.
-        case $1 in
-        aarch64) toolchain_for_arm "$tools" -ffixed-x18 ;;
-        *) toolchain_for_arm "$tools" -ffixed-x18 -mstrict-align ;;
-        esac
-        ;;
+    aarch64) tools=$scratch/$1 && toolchain_for_arm "$tools" -ffixed-x18 ;;
+    aarch64-strict-align) tools=$scratch/$1 && toolchain_for_arm "$tools" -ffixed-x18 -mstrict-align ;;
     esac
-    words+=(--extern "std=$kit/rlibs/std.rlib")
-    for name in $(sed -n "s/^$crate staticlib: //p" crates.txt); do
-        words+=(--extern "$name=$PWD/crates/$name/out/rlib/$name.rlib")
-    done
-    for folder in "$PWD"/crates/*/out/rlib "$kit/rlibs"; do words+=(-L "dependency=$folder"); done
-    (
-        cd "crates/$crate"
-        "$kit/bin/rattle" build --crate-type staticlib --crate-name "$crate" src/lib.rt "${words[@]}" \
-            --links "$crate=" --antt-project "$kit/rattle/logic/antt-project.json" --logic-built "$kit/logic_built" \
-            --toolchain "$tools" --jobs 2 --incremental "$scratch/kept" -o "$2"
-    ) >"$scratch/said" 2>&1 </dev/null || failed "the library is not proved or not built for $1"
-    grep -q '^logic=proved ' "$scratch/said" || failed "the library is not proved for $1"
+    over_proved "$crate" "${1%-strict-align}" "$2" "${KEPT:-$scratch/kept}" ${tools:+"$tools"} >"$scratch/said" 2>&1 &&
+        grep -q '^logic=proved ' "$scratch/said" || failed "the library is not proved or not built for $1"
     echo "    $crate is proved for $1"
 }
 
@@ -179,7 +144,7 @@ takes() {
 
 # static FILE CPU: the static library, if something has changed.
 static() {
-    if ! is_made "$1" "$2"; then
+    if ! stays "$1" "$2"; then
         takes "$1" "$2" copying
         put "$scratch/$2.a" "$1" "$2"
     fi
@@ -187,7 +152,7 @@ static() {
 
 # shared FILE CPU: the shared library, if something has changed. It shows the header's functions alone.
 shared() {
-    if ! is_made "$1" "$2"; then
+    if ! stays "$1" "$2"; then
         takes "$1" "$2" linking
         echo 'VERITY_2.0 { global: verity_*; fsverity_*; local: *; };' >"$scratch/shown"
         "$compiler" -shared -nostartfiles -o "$scratch/shared" -Wl,--whole-archive "$scratch/$2.a" \

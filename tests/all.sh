@@ -8,7 +8,9 @@
 # --gate-alone the gate runs, and beside it the wrong bodies.
 set -u
 cd "$(dirname "$0")/.."
+. tests/lib/kinds.sh
 builds=(bin/x86-64-v2)
+kinds=()
 libraries=(lib)
 
 # runs_v3: whether what was built for x86-64-v3 runs here.
@@ -23,8 +25,23 @@ add_programs() {
     feedings=$((1000000 / ${#libraries[@]}))
     # The longest first, so that no processor waits for one at the end.
     parts+=('tests/memory.sh --short' tests/soak.sh tests/search.sh)
+    # What is handed out is made of all kinds of programs.
+    if [ ${#kinds[@]} -gt 0 ]; then parts+=(tests/packages.sh tests/release.sh); fi
     for script in tests/interop/*.sh tests/programs/*.sh tests/processor.sh tests/readme.sh tests/manual.sh; do
         for build in "${builds[@]}"; do
+            parts+=("env BIN=$build $script")
+        done
+    done
+    # Programs for every processor, static ones and those for 64-bit ARM.
+    for build in "${kinds[@]}"; do
+        # A library that refuses memory is loaded before dynamic ones alone.
+        case $build in
+        bin/any) parts+=("env BIN=$build tests/memory.sh --programs" "env BIN=$build tests/processor.sh") ;;
+        bin/static) parts+=("env BIN=$build tests/empty_root.sh" "env BIN=$build tests/processor.sh") ;;
+        */aarch64) parts+=("env BIN=$build tests/memory.sh --programs") ;;
+        */aarch64-static) parts+=('env BIN=bin/aarch64/static tests/empty_root.sh') ;;
+        esac
+        for script in tests/programs/*.sh 'tests/soak.sh SEED=1 SECONDS=15' 'tests/search.sh SEED=1 SECONDS=15'; do
             parts+=("env BIN=$build $script")
         done
     done
@@ -39,7 +56,8 @@ add_programs() {
         esac
         parts+=("$script")
     done
-    parts+=(tests/definitions.sh tests/install.sh tests/completion.sh tests/running.sh)
+    parts+=(tests/definitions.sh tests/install.sh tests/completion.sh tests/running.sh tests/runtime.sh
+        tests/any_processor.sh tests/kinds.sh)
 }
 
 parts=(--beside tests/wrong_bodies.sh tests/gate.sh)
@@ -53,6 +71,7 @@ case ${1:-} in
 '')
     parts+=(tests/built.sh --)
     if runs_v3; then builds+=(bin/x86-64-v3); fi
+    mapfile -t kinds < <(kinds)
     add_programs
     ;;
 *)

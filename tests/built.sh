@@ -1,92 +1,78 @@
 #!/bin/bash
-# Takes the programs that the gate built into bin/x86-64-v2/, and if this processor has all of x86-64-v3 builds them
-# for that into bin/x86-64-v3/. bin/ gets those for this processor, and lib/ the library for C. The gate removes what
-# earlier runs left before it begins, so these are the programs that it has just proved.
+# Takes the programs that the gate built into bin/x86-64-v2/, and builds others over what it has proved:
+#   bin/x86-64-v3/          for that, if this processor has all of it
+#   bin/any/                for every x86-64 processor
+#   bin/static/             the same, static
+#   bin/aarch64/            for 64-bit ARM
+#   bin/aarch64/static/     the same, static
+# bin/ gets those for this processor, and lib/ the library for C. Below bin/imitated/ are commands that begin them by
+# qemu. The gate removes what earlier runs left before it begins, so these are the programs that it has just proved.
 set -u
 cd "$(dirname "$0")/.."
 . tests/lib/checks.sh
+. tests/lib/kinds.sh
 needs rt 'none: the Rattle toolchain'
-kit=$(dirname "$(rt doc)")
+unset BIN LIB TARGET STATIC
+programs=(fsverity veritysetup)
+cpu=$(./processor.sh)
+kinds=" $(kinds | tr '\n' ' ')"
+if [ "$cpu" != x86-64-v3 ]; then echo "left out: programs for x86-64-v3: this processor doesn't have all of it"; fi
+for kind in bin/any:cc bin/imitated/any-max:qemu-x86_64 bin/imitated/aarch64:'aarch64-linux-gnu-gcc or qemu-aarch64'; do
+    if [[ $kinds != *" ${kind%%:*} "* ]]; then echo "left out: programs in ${kind%%:*}: ${kind#*:} is not installed"; fi
+done
+# Over earlier checks, `rt` takes what they have kept; after the gate there is nothing but what that has proved.
+over_gate=yes
+if compgen -G 'crates/*/out/rlib/stamp' >/dev/null; then over_gate=no; fi
+rm -rf bin lib
 
-# put FILE CPU NAME: a built program goes into the folder of its processor.
-put() {
-    mkdir -p "bin/$2"
-    rm -f "bin/$2/$3" "bin/$2/$3.made"
-    if cp "$1" "bin/$2/$3"; then
-        echo "$2" >"bin/$2/$3.made"
-        pass
-    else
-        fail "bin/$2/$3" 'it was not built'
+# built NAME WORD..: builds by build.sh or library.sh, with settings before it. What it says goes to a file of this name
+# in $scratch.
+built() {
+    if env OVER_GATE=$over_gate "${@:2}" >"$scratch/$1.said" 2>&1; then : >"$scratch/$1.built"; fi
+}
+
+# builds PROGRAM: builds all kinds of a program, one after another, since most of their proofs are the same.
+builds() {
+    local build=(KEPT="$scratch/$1.kept" ./build.sh "${1}_cli" "$1")
+    if [ "$cpu" = x86-64-v3 ]; then built "$1.x86-64-v3" BIN=bin/x86-64-v3 "${build[@]}" x86-64-v3; fi
+    if [[ $kinds = *' bin/any '* ]]; then
+        built "$1.any" BIN=bin/any "${build[@]}" any
+        built "$1.static" STATIC=yes "${build[@]}" any
+    fi
+    if [[ $kinds = *' bin/imitated/aarch64 '* ]]; then
+        built "$1.aarch64" TARGET=aarch64 "${build[@]}"
+        built "$1.aarch64.static" TARGET=aarch64 STATIC=yes "${build[@]}"
     fi
 }
 
-# over_gate NAME TO: compiles and links a program for x86-64-v3 as `rt run` does, over the libraries that the gate has
-# proved: `rt run` itself takes none of them, and would prove each a second time. What the compiler says goes to
-# $scratch/NAME.
-over_gate() {
-    local crate=${1}_cli program=$PWD/$2 words=() folder
-    for folder in "$PWD"/crates/*/out/rlib "$kit/rlibs"; do words+=(-L "dependency=$folder"); done
-    (
-        cd "crates/$crate" || exit 1
-        "$kit/bin/rattle" build --crate-name "$crate" src/main.rt --extern "std=$kit/rlibs/std.rlib" \
-            --extern "$1=../$1/out/rlib/$1.rlib" "${words[@]}" --links "$crate=" \
-            --antt-project "$kit/rattle/logic/antt-project.json" --logic-built "$kit/logic_built" \
-            --toolchain "$kit/toolchain" --backend llvm --cpu=x86-64-v3 -o "$program.o" &&
-            "$kit/bin/rattle-link" --target x86_64-unknown-linux-gnu --toolchain "$kit/toolchain" -o "$program" \
-                "$program.o" "$kit/c/libos_c.a" "$kit/c/liblibc_c.a"
-    ) >"$scratch/$1" 2>&1
-}
-
-# over_checks NAME TO: the same by `rt run`, over what earlier checks have proved and kept. If there is such work, the
-# gate has put it back.
-over_checks() {
-    rm -f "crates/${1}_cli/out/${1}_cli"
-    (cd "crates/${1}_cli" && rt run --cpu=x86-64-v3 </dev/null) >"$scratch/$1" 2>&1
-    grep -q '^logic=proved .* cpu=x86-64-v3 ' "$scratch/$1" && cp "crates/${1}_cli/out/${1}_cli" "$2"
-}
-
-for name in fsverity veritysetup; do
-    put "crates/${name}_cli/out/${name}_cli" x86-64-v2 "$name"
+# What the gate built, before anything takes its place.
+for name in "${programs[@]}"; do
+    mkdir -p bin/x86-64-v2
+    if cp "crates/${name}_cli/out/${name}_cli" "bin/x86-64-v2/$name"; then
+        echo x86-64-v2 >"bin/x86-64-v2/$name.made"
+        pass
+    else
+        fail "bin/x86-64-v2/$name" 'it was not built'
+    fi
 done
-cpu=$(./processor.sh)
-if [ "$cpu" = x86-64-v3 ]; then
-    over=over_gate
-    if compgen -G 'crates/*/out/rlib/stamp' >/dev/null; then over=over_checks; fi
-    # Both at once: it takes a minute each.
-    for name in fsverity veritysetup; do
-        rm -f "crates/${name}_cli/out/$name.v3"
-        $over "$name" "crates/${name}_cli/out/$name.v3" &
-    done
-    wait
-    for name in fsverity veritysetup; do
-        if [ ! -e "crates/${name}_cli/out/$name.v3" ]; then cat "$scratch/$name"; fi
-        put "crates/${name}_cli/out/$name.v3" x86-64-v3 "$name"
-    done
-else
-    echo "left out: programs for x86-64-v3: this processor doesn't have all of it"
-fi
-# The library for C, for both targets. The gate proves it, but builds none.
-targets=(x86_64 aarch64)
-rm -rf lib
-
-# library TARGET: builds the libraries of a target. What is said goes to a file named after it, in $scratch.
-library() {
-    env -u LIB ./library.sh "$1" >"$scratch/$1" 2>&1 && : >"$scratch/$1.built"
-}
-
-if compgen -G 'crates/*/out/rlib/stamp' >/dev/null; then
-    for target in "${targets[@]}"; do library "$target"; done
-else
-    # Both at once: each proves the crate for its own processors.
-    for target in "${targets[@]}"; do OVER_GATE=yes library "$target" & done
-    wait
-fi
-for target in "${targets[@]}"; do
-    cat "$scratch/$target"
-    if [ -e "$scratch/$target.built" ]; then pass; else fail "the library for $target" 'it was not built'; fi
+# Side by side: each proves a crate of its own, or for targets of its own. The gate proves the library for C, but builds
+# none.
+jobs=('builds fsverity' 'builds veritysetup' 'built x86_64 ./library.sh x86_64' 'built aarch64 ./library.sh aarch64')
+for job in "${jobs[@]}"; do
+    $job &
+    if [ $over_gate = no ]; then wait; fi
 done
-for name in fsverity veritysetup; do
-    rm -f "bin/$name" "bin/$name.made"
-    cp "bin/$cpu/$name"{,.made} bin
+wait
+for said in "$scratch"/*.said; do
+    cat "$said"
+    if [ -e "${said%.said}.built" ]; then pass; else fail "$(basename "$said" .said)" 'it was not built'; fi
+done
+for name in "${programs[@]}"; do cp "bin/$cpu/$name"{,.made} bin; done
+for kind in $kinds; do
+    case $kind in
+    */any-*) imitated "$kind" bin/any qemu-x86_64 -cpu "${kind##*-}" ;;
+    */imitated/aarch64) imitated "$kind" bin/aarch64 qemu-aarch64 -L /usr/aarch64-linux-gnu ;;
+    */imitated/aarch64-static) imitated "$kind" bin/aarch64/static qemu-aarch64 ;;
+    esac
 done
 finish

@@ -138,8 +138,10 @@ if command -v strip >/dev/null && command -v readelf >/dev/null; then
     runs 'a stripped program' 0 \
         "sha256:bce75948b9e7510293f8f2720412af9697c1479281323f3f220623fb8e94b557 $scratch/one" '' \
         "$scratch/stripped/usr/local/bin/fsverity-proved" digest "$scratch/one"
-    for name in fsverity veritysetup; do
-        same "$name: what docs/BUILDING.md says that it needs" "libc.so.6 GLIBC_2.34" "$(asks_for "bin/$name")"
+    for file in bin/fsverity bin/veritysetup bin/any/* bin/aarch64/{fsverity,veritysetup}; do
+        if [ -x "$file" ]; then
+            same "$file: what docs/BUILDING.md says that it needs" "libc.so.6 GLIBC_2.34" "$(asks_for "$file")"
+        fi
     done
     if is_built x86_64; then is_stripped lib/libverity.so.2 "$scratch/stripped/usr/local/lib/libverity.so.2"; fi
 else
@@ -183,20 +185,10 @@ if is_built x86_64; then
     runs 'make install-library' 0 '' '' make -s --no-print-directory install-library DESTDIR="$scratch/linked"
     same 'make install-library, beside programs' "$installed" "$(listed "$scratch/linked")"
 fi
-# There are no programs for 64-bit ARM: nothing of x86-64 is installed or removed in their place.
-refuses 'make install for 64-bit ARM' "there are no programs for aarch64: use 'make install-library TARGET=aarch64'" \
-    install TARGET=aarch64
-installed=$(listed "$scratch/linked")
-runs 'make uninstall for 64-bit ARM' 2 '' any \
-    make -s --no-print-directory uninstall DESTDIR="$scratch/linked" TARGET=aarch64
-same 'make uninstall for 64-bit ARM: why' \
-    "install.sh: there are no programs for aarch64: use 'make uninstall-library TARGET=aarch64'" \
-    "$(head -n 1 "$scratch/.err")"
-same 'make uninstall for 64-bit ARM: all stays' "$installed" "$(listed "$scratch/linked")"
 # Without programs in bin/ nothing is installed, and without a shared library the programs alone: here, over copies of
 # what makes them.
 mkdir "$scratch/empty"
-cp -r Makefile install.sh include man completions "$scratch/empty"
+cp -r Makefile install.sh building.sh include man completions "$scratch/empty"
 refuses 'without programs' "run 'make programs' first" -C "$scratch/empty" install
 mkdir "$scratch/empty/"{bin,lib}
 cp bin/{fsverity,veritysetup} "$scratch/empty/bin"
@@ -224,6 +216,32 @@ runs 'make uninstall beside the library for 64-bit ARM' 0 '' '' \
     make -s -C "$scratch/empty" --no-print-directory uninstall DESTDIR="$scratch/no_library"
 same 'make uninstall beside the library for 64-bit ARM: what stays' "$(library_files aarch64 usr/local | sort -k 2)" \
     "$(listed "$scratch/no_library")"
+
+# Programs of another target and static ones come from their own folders, with their own library if it is built: here,
+# files in their place.
+kind_installs() {
+    local folder=$1 says=$2 name to
+    shift 2
+    to=$scratch/kinds-${folder//\//-}
+    refuses "$says, not built" "run 'make programs $*' first" -C "$scratch/empty" install "$@"
+    mkdir -p "$scratch/empty/$folder"
+    for name in fsverity veritysetup; do
+        echo "$name of $folder" >"$scratch/empty/$folder/$name"
+        chmod 755 "$scratch/empty/$folder/$name"
+    done
+    runs "$says" 0 '' '' make -s -C "$scratch/empty" --no-print-directory install DESTDIR="$to" "$@"
+    for name in bin/fsverity sbin/veritysetup; do
+        is_text "$says: ${name#*/}" "${name#*/} of $folder" "$to/usr/local/$name-proved"
+    done
+    same "$says: the library" "target=$library_target" "$(grep '^target=' "$to/usr/local/lib/pkgconfig/verity.pc")"
+    runs "$says: make uninstall" 0 '' '' make -s -C "$scratch/empty" --no-print-directory uninstall DESTDIR="$to" "$@"
+    same "$says: what make uninstall leaves" '' "$(listed "$to")"
+}
+library_target=x86_64 kind_installs bin/static 'make install STATIC=yes' STATIC=yes
+library_target=aarch64 kind_installs bin/aarch64 'make install for 64-bit ARM' TARGET=aarch64
+library_target=aarch64 kind_installs bin/aarch64/static 'make install for 64-bit ARM, static' TARGET=aarch64 STATIC=yes
+refuses 'a STATIC that is neither yes nor no' 'STATIC is yes or no' install STATIC=1
+refuses 'another TARGET' 'TARGET is x86_64 or aarch64' install TARGET=arm
 
 # The archive of the sources: the same bytes from a clone, later and with other settings, and what was committed.
 if [ -e .git ] && command -v git >/dev/null; then

@@ -3,14 +3,22 @@
 # crates/memory_tests, by `rt try`, which builds them anew for each number; and of both programs' commands, by a library
 # that is loaded before them. Needs the toolchain and a C compiler. BIN=FOLDER takes the programs of another folder.
 # With --short, as a part of all tests, the run functions have just the requests of a store, of a report and of a line
-# refused, and if there is no C compiler, the programs' commands are left out.
+# refused, and if there is no C compiler, the programs' commands are left out. With --programs it is the programs alone,
+# also such that qemu runs for 64-bit ARM; a static program loads no library.
 set -u
 cd "$(dirname "$0")/.."
 . tests/lib/checks.sh
 . tests/lib/stated_images.sh
-short=no
-if [ "${1:-}" = --short ]; then short=yes; fi
-if [ $short = no ]; then needs cc gcc; fi
+short=no run_functions=run_functions
+case ${1:-} in
+--short) short=yes run_functions=first_requests ;;
+--programs) run_functions= ;;
+esac
+# What compiles the library, and what loads it before a program.
+compiler=cc package=gcc loader=LD_PRELOAD=
+if is_imitated; then loader=QEMU_SET_ENV=LD_PRELOAD=; fi
+if grep -qs '^qemu-aarch64' "$BIN/imitated"; then compiler=aarch64-linux-gnu-gcc package=gcc-aarch64-linux-gnu; fi
+if [ $short = no ]; then needs $compiler $package; fi
 has_program veritysetup
 has_program fsverity
 veritysetup=$BIN/veritysetup
@@ -168,7 +176,7 @@ refuse() {
     mv "$scratch/err" "$scratch/whole_err"
     while [ $number -le $most ]; do
         rm -f "$scratch/told"
-        ending env LD_PRELOAD="$refuser" REFUSED_REQUEST=$number REFUSED_TOLD="$scratch/told" "$@"
+        ending env "$loader$refuser" REFUSED_REQUEST=$number REFUSED_TOLD="$scratch/told" "$@"
         [ -e "$scratch/told" ] || break
         seen="$found $(cat "$scratch/err")"
         case $stage,$seen in
@@ -256,7 +264,7 @@ image=$scratch/image.img
 image_17 "$data" "$image"
 bare_options=(--no-superblock --data-block-size 512 --hash-block-size 512 --salt=-)
 
-if cc -shared -fPIC -O1 -o "$refuser" tests/refuse_memory.c; then
+if "$compiler" -shared -fPIC -O1 -o "$refuser" tests/refuse_memory.c; then
     formats
     verifies
     digests_of_files
@@ -265,5 +273,5 @@ elif [ $short = yes ]; then
 else
     exit 1
 fi
-if [ $short = yes ]; then first_requests; else run_functions; fi
+$run_functions
 finish

@@ -1,6 +1,7 @@
 #!/bin/bash
-# Runs the programs on processors that qemu imitates: on one that lacks what they were built for they end with status 127
-# and say so, and have done nothing. BIN=FOLDER takes the programs of another folder.
+# Runs the programs on processors that qemu imitates: on one that lacks what they were built for they end with status
+# 127 and say so, and have done nothing. Those for every processor run on each, and begin the code for x86-64-v3 exactly
+# where that runs. BIN=FOLDER takes the programs of another folder.
 set -u
 cd "$(dirname "$0")/.."
 . tests/lib/checks.sh
@@ -22,6 +23,28 @@ refused() {
     absent "veritysetup for $cpu on $1" "$scratch/hash"
 }
 
+# begins HALF MODEL [SETTING]: both programs run on a model of a processor, by this one of their halves, as the names of
+# functions tell that qemu comes to.
+begins() {
+    local name other=main_for_x86_64_v3
+    if [ "$1" = $other ]; then other=main_for_x86_64; fi
+    rm -f "$scratch/hash"
+    runs "fsverity for any on $2${3:+ with $3}" 0 "sha256:$digest $scratch/one" '' env -u VERITY_PROCESSOR ${3:+"$3"} \
+        qemu-x86_64 -cpu "$2" -d in_asm -D "$scratch/fsverity.log" "$BIN/fsverity" digest "$scratch/one"
+    runs "veritysetup for any on $2${3:+ with $3}" 0 any '' env -u VERITY_PROCESSOR ${3:+"$3"} \
+        qemu-x86_64 -cpu "$2" -d in_asm -D "$scratch/veritysetup.log" \
+        "$BIN/veritysetup" format "$scratch/data" "$scratch/hash"
+    for name in fsverity veritysetup; do
+        same "$name for any on $2${3:+ with $3}: $1 begins" yes "$(comes_to "$1" $name)"
+        same "$name for any on $2${3:+ with $3}: $other doesn't" no "$(comes_to $other $name)"
+    done
+}
+
+# comes_to FUNCTION PROGRAM: whether the last run of a program has come to a function.
+comes_to() {
+    if grep -qx "IN: $1" "$scratch/$2.log"; then echo yes; else echo no; fi
+}
+
 # Core 2 has less than x86-64-v2, and Nehalem has that and no more.
 case $cpu in
 x86-64-v2)
@@ -34,6 +57,15 @@ x86-64-v2)
 x86-64-v3)
     refused core2duo
     refused Nehalem
+    ;;
+any | any,\ static)
+    for model in core2duo Nehalem max,-avx2 max,-xsave; do begins main_for_x86_64 $model; done
+    begins main_for_x86_64_v3 max
+    begins main_for_x86_64 max VERITY_PROCESSOR=x86-64
+    for value in '' x86-64-v3 x86-64-v2 other; do
+        begins main_for_x86_64_v3 max "VERITY_PROCESSOR=$value"
+        begins main_for_x86_64 core2duo "VERITY_PROCESSOR=$value"
+    done
     ;;
 *)
     echo "$0: built for $cpu, of which nothing is known here"

@@ -8,9 +8,10 @@ cd "$(dirname "$0")/.."
 unset GATE_LOG MAY_BE_LEFT_OUT SAY_EVERY
 top=$PWD
 own_path=$PATH
-mkdir -p "$scratch"/here/{.ci,bin,tests}
+mkdir -p "$scratch"/here/{.ci,bin,tests/lib}
 cp .ci/run "$scratch/here/.ci"
 cp tests/{all,gate,run}.sh "$scratch/here/tests"
+cp tests/lib/kinds.sh "$scratch/here/tests/lib"
 cd "$scratch/here" || exit 1
 
 # part FILE LINE..: makes a part, or another program, of these lines. In them `awaits FILE` waits for a file, for at
@@ -290,7 +291,7 @@ gate_log() {
 # All tests, in name: each script but those that are no part is one, once for each processor if it tests programs, and
 # three of the library.
 all_parts() {
-    local script
+    local script own all
     mkdir -p tests/{interop,programs,library}
     for script in "$top"/tests/{,interop/,programs/,library/}*.sh; do
         case $script in
@@ -299,13 +300,25 @@ all_parts() {
         esac
     done
     part processor.sh 'echo x86-64-v3'
+    for script in cc aarch64-linux-gnu-gcc qemu-x86_64 qemu-aarch64; do part "bin/$script" 'exit 1'; done
     ran 'all tests' 0 tests/all.sh
     sort -u ran | cut -d' ' -f1 | uniq >names
     printf '%s\n' tests/{,interop/,programs/,library/}*.sh | grep -v '/\(all\|run\).sh' | sort >scripts
     same 'scripts that are no part of all tests' 'kernel library no_gate programs reproducible ' \
         "$(comm -13 names scripts | sed 's|.*/||; s|\.sh$||' | tr '\n' ' ')"
-    same 'for which processors programs are tested' '/x86-64-v2 /x86-64-v3 ' \
-        "$(sed -n 's|^tests/programs/format.sh ||p' ran | sort | tr '\n' ' ')"
+    own=$(printf '/imitated/%s ' aarch64 aarch64-static any-Nehalem any-core2duo any-max)
+    for script in programs/format soak search; do
+        all="/any $own/static /x86-64-v2 /x86-64-v3 "
+        # The random runs go over bin/ in place of the programs for one processor.
+        if [ $script != programs/format ]; then all=" /any $own/static "; fi
+        same "which programs $script.sh tests" "$all" "$(sed -n "s|^tests/$script.sh ||p" ran | sort | tr '\n' ' ')"
+    done
+    same 'which programs memory.sh tests' ' /any /imitated/aarch64 ' \
+        "$(sed -n 's|^tests/memory.sh ||p' ran | sort | tr '\n' ' ')"
+    same 'which programs empty_root.sh tests' '/aarch64/static /static ' \
+        "$(sed -n 's|^tests/empty_root.sh ||p' ran | sort | tr '\n' ' ')"
+    same 'which programs processor.sh tests' '/any /static /x86-64-v2 /x86-64-v3 ' \
+        "$(sed -n 's|^tests/processor.sh ||p' ran | sort | tr '\n' ' ')"
     for script in debian_images feeding header parts; do
         same "for which processors $script.sh tests the library" 'lib lib/glibc-hwcaps/x86-64-v3 ' \
             "$(sed -n "s|^tests/library/$script.sh ||p" ran | sort | tr '\n' ' ')"
@@ -316,6 +329,25 @@ all_parts() {
     cp "$top/tests/no_gate.sh" tests
     ran 'all tests without the gate' 0 tests/all.sh --without-gate
     same 'all tests without the gate: what is left out' 1 "$(grep -c '^left out: the gate: ' said)"
+}
+
+# Which kinds of programs there are depends on the compilers and on qemu.
+kinds_of_programs() {
+    # kinds_with TOOL..: what is printed where there are just these tools.
+    kinds_with() {
+        local tool
+        rm -rf few
+        mkdir few
+        for tool; do part "few/$tool" 'exit 1'; done
+        (PATH=$PWD/few && . tests/lib/kinds.sh && kinds | while read -r tool; do printf '%s ' "${tool#bin/}"; done)
+    }
+    same 'kinds without a compiler' '' "$(kinds_with qemu-x86_64 qemu-aarch64)"
+    same 'kinds without qemu' 'any static ' "$(kinds_with cc aarch64-linux-gnu-gcc)"
+    same 'kinds without a compiler for 64-bit ARM' \
+        'any static imitated/any-core2duo imitated/any-Nehalem imitated/any-max ' \
+        "$(kinds_with cc qemu-x86_64 qemu-aarch64)"
+    same 'kinds with a compiler for 64-bit ARM' 'imitated/aarch64 imitated/aarch64-static ' \
+        "$(kinds_with aarch64-linux-gnu-gcc qemu-aarch64)"
 }
 
 # A .ci/run that finds just what stands in tools/, and there tests/all.sh runs the part ./landing. `apt-get` and `sleep`
@@ -429,6 +461,7 @@ left_out
 gate
 gate_log
 all_parts
+kinds_of_programs
 ci_setting
 installs
 installs_headers

@@ -140,9 +140,35 @@ path_without() {
     echo "$to"
 }
 
-# scarce COMMAND..: runs a command in an address space of 3500 KiB, which has no room for blocks of 524288 bytes.
+# is_imitated: whether the programs are run by qemu, on a processor that it imitates (tests/lib/imitated.sh).
+is_imitated() {
+    [ -e "$BIN/imitated" ]
+}
+
+# scarce COMMAND..: runs a command of the programs in an address space that has no room for blocks of 524288 bytes: it
+# is 256 KiB larger than what the program takes with a short file.
 scarce() {
-    (ulimit -v 3500 && exec "$@")
+    (ulimit -v $(($(least_space "$1") + 256)) && exec "$@")
+}
+
+# least_space PROGRAM: prints the least address space in which a program reads an empty file, to 100 KiB.
+least_space() {
+    local least=500 command=(dump /dev/null)
+    if [ "${1##*/}" = fsverity ]; then command=(digest /dev/null); fi
+    until (ulimit -v $least && "$1" "${command[@]}" 2>&1) | grep -qE '^(Superblock is too short\.|sha256:.*)$'; do
+        if [ $((least += 100)) -gt 100000 ]; then break; fi
+    done 2>/dev/null
+    echo $least
+}
+
+# with_scarce_memory NAME STATUS OUT ERR COMMAND..: a command ends in this way where memory is scarce. There is no such
+# case for programs that qemu runs: it takes far more itself, and gives them all that they ask for.
+with_scarce_memory() {
+    if is_imitated; then
+        echo "$1: no case for programs that qemu runs, since their memory can't be limited"
+    else
+        runs "$1" "$2" "$3" "$4" scarce "${@:5}"
+    fi
 }
 
 # sample COUNT: writes so many bytes that follow no short pattern, always the same.

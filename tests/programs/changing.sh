@@ -12,7 +12,10 @@ has_program veritysetup
 
 data=$scratch/data.img
 hash=$scratch/hash.img
-size=$((512 << 20))
+# Zeros: 131072 data blocks, and 1024 and 8 and 1 hash blocks, which hold 128, 128 and 8 digests. What qemu runs takes
+# as long for 16384 data blocks, and 128 and 1 hash blocks.
+size=$((512 << 20)) digests=(128 128 8)
+if is_imitated; then size=$((64 << 20)) digests=(128 128); fi
 block=4096
 options=(--salt=- --uuid "$UUID")
 
@@ -22,13 +25,15 @@ level() {
     zeros $((block - 32 * $1))
 }
 
-# The root hash of so many zeros: 131072 data blocks, 1024 and 8 and 1 hash blocks, which hold 128, 128 and 8 digests.
+# The root hash of so many zeros.
 root_of_zeros() {
-    zeros $block >"$scratch/0"
-    level 128 "$scratch/0" >"$scratch/1"
-    level 128 "$scratch/1" >"$scratch/2"
-    level 8 "$scratch/2" >"$scratch/3"
-    sha256 "$scratch/3"
+    local count
+    zeros $block >"$scratch/block"
+    for count in "${digests[@]}"; do
+        level "$count" "$scratch/block" >"$scratch/above"
+        mv "$scratch/above" "$scratch/block"
+    done
+    sha256 "$scratch/block"
 }
 
 # anew: zeros of the full size, which take no room.
@@ -67,15 +72,18 @@ short='Data ends before the end of block '
 
 shrinks 'format of data that becomes shorter' 4 "$short" . "$BIN/veritysetup" format "${options[@]}" "$data" "$hash"
 if [ -e "$hash" ]; then pass; else fail 'format of data that becomes shorter' 'no HASH is left'; fi
-runs 'format of data that becomes shorter: no superblock' 1 '' 'No verity superblock.' "$BIN/veritysetup" dump "$hash"
+# If nothing had been written yet, HASH is empty.
+none='No verity superblock.'
+if [ ! -s "$hash" ]; then none='Superblock is too short.'; fi
+runs 'format of data that becomes shorter: no superblock' 1 '' "$none" "$BIN/veritysetup" dump "$hash"
 grows 'format of data that becomes longer' "$(report "$hash" $block $block $((size / block)) - "$root")" \
     "$BIN/veritysetup" format "${options[@]}" "$data" "$hash"
 grows 'verify of data that becomes longer' '' "$BIN/veritysetup" verify "$data" "$hash" "$root"
 shrinks 'verify of data that becomes shorter' 4 "$short" . "$BIN/veritysetup" verify "$data" "$hash" "$root"
 
-# has_read_much FILE: the process has read more than 16 MiB of a file, and so has written hash blocks.
+# has_read_much FILE: the process has read more than a 32nd of a file, and so has written hash blocks.
 has_read_much() {
-    is_within "$1" && [ "$at" -gt $((16 << 20)) ]
+    is_within "$1" && [ "$at" -gt $((size / 32)) ]
 }
 
 # at_one_time: a second format over the same HASH runs while the first one is stopped. Both end with 0, and verify finds

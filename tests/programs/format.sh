@@ -188,7 +188,7 @@ outputs() {
 
 memory() {
     zeros 1048576 >"$scratch/large"
-    runs 'no memory for the store' 3 '' 'Out of memory.' scarce "$veritysetup" format --salt=- \
+    with_scarce_memory 'no memory for the store' 3 '' 'Out of memory.' "$veritysetup" format --salt=- \
         --data-block-size 524288 --hash-block-size 524288 "$scratch/large" "$hash"
 }
 

@@ -89,8 +89,8 @@ files_that_fail() {
 
 memory() {
     zeros 1048576 >"$scratch/large"
-    runs 'no memory for the store' 1 '' 'fsverity: out of memory.' \
-        scarce "$fsverity" digest --block-size 524288 "$scratch/large"
+    with_scarce_memory 'no memory for the store' 1 '' 'fsverity: out of memory.' \
+        "$fsverity" digest --block-size 524288 "$scratch/large"
 }
 
 outputs() {

@@ -4,29 +4,16 @@
 set -u
 cd "$(dirname "$0")/../.."
 . tests/lib/checks.sh
+. tests/lib/stack.sh
 has_program fsverity
 has_program veritysetup
-
-stated=$(sed -nE 's/.*The programs need ([0-9]+) KiB of stack, and ([0-9]+) with blocks above ([0-9]+) bytes.*/\1 \2 \3/p' \
-    README.md)
-read -r usual large most <<<"$stated"
-if [ -z "$most" ]; then
-    fail 'README.md' 'it does not say how much stack the programs need'
-    finish
-fi
-stack=$usual
-
-# within COMMAND..: runs a command with the stack for its blocks, and no more.
-within() {
-    (ulimit -S -s "$stack" && "$@")
-}
 
 data=$scratch/data.img
 hash=$scratch/hash.img
 sample 1200000 >"$data"
 for function in sha256 sha512 sha1; do
     for block in 512 4096 16384 32768 65536 131072 262144; do
-        if [ "$block" -gt "$most" ]; then stack=$large; else stack=$usual; fi
+        stack_for "$block"
         rm -f "$hash"
         within "$BIN/veritysetup" format --hash "$function" --data-block-size "$block" --hash-block-size "$block" \
             --salt=abcd "$data" "$hash" >"$scratch/report" 2>&1
@@ -39,7 +26,7 @@ for function in sha256 sha512 sha1; do
             --block-size "$block" --out-merkle-tree "$scratch/tree" --out-descriptor "$scratch/descriptor" "$data"
     done
 done
-stack=$usual
+stack_for 512
 runs 'many words' 0 any '' within "$BIN/fsverity" digest --compact $(yes "$data" | head -n 40)
 runs 'a refused line' 2 '' any within "$BIN/fsverity" digest --no-such-option
 finish

@@ -1,7 +1,7 @@
 #!/bin/bash
 # Runs the programs on a terminal of their own, which `script` makes: long work shows there every 64 MiB how far it
 # is, if there are more than 256 MiB, which is erased before anything else is written; if standard error goes elsewhere,
-# nothing is shown.
+# nothing is shown. For programs that qemu runs, for which all of it takes minutes, there is one case of each command.
 set -u
 cd "$(dirname "$0")/../.."
 . tests/lib/checks.sh
@@ -54,6 +54,10 @@ images() {
     report=$("${format[@]}")
     root=$(sed -n "s/^Root hash: *$TAB//p" <<<"$report")
     terminal 'format of 300 MiB' 0 "$(shown 300 300)" "$report" "${format[@]}"
+    if is_imitated; then
+        terminal 'verify' 0 "$(shown 300 1100)" '' "$veritysetup" verify "$data" "$hash" "$root"
+        return
+    fi
     terminal 'format: the report elsewhere' 0 "$(shown 300 300)" '' "${out_to[@]}" "$scratch/out" "${format[@]}"
     same 'format: the report' "$report" "$(cat "$scratch/out")"
     terminal 'format: messages elsewhere' 0 '' "$report" "${err_to[@]}" "$scratch/err" "${format[@]}"
@@ -73,6 +77,10 @@ images() {
 
 files() {
     local fsverity=$BIN/fsverity line missing="fsverity: cannot open $scratch/missing."
+    if is_imitated; then
+        terminal 'digest of 300 MiB' 0 "$(shown 300 300)" "$("$fsverity" digest "$middle")" "$fsverity" digest "$middle"
+        return
+    fi
     terminal 'digest of 1100 MiB' 0 "$(shown 1100 1100)" "$("$fsverity" digest "$data")" "$fsverity" digest "$data"
     terminal 'digest of 256 MiB' 0 '' "$("$fsverity" digest "$short")" "$fsverity" digest "$short"
     line=$("$fsverity" digest "$middle")

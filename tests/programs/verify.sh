@@ -193,7 +193,8 @@ memory() {
     root=$("$veritysetup" format --salt=- --data-block-size 524288 --hash-block-size 524288 "$large" "$large.hash" |
         sed -n 's/^Root hash: *\t//p')
     runs 'memory for the store' 0 '' '' "$veritysetup" verify "$large" "$large.hash" "$root"
-    runs 'no memory for the store' 3 '' 'Out of memory.' scarce "$veritysetup" verify "$large" "$large.hash" "$root"
+    with_scarce_memory 'no memory for the store' 3 '' 'Out of memory.' \
+        "$veritysetup" verify "$large" "$large.hash" "$root"
 }
 
 # Each option chooses what it is named after, in one word or two, at each place between the files.
