@@ -26,6 +26,10 @@ INCLUDEDIR = $(PREFIX)/include
 SUFFIX = -proved
 STRIP = no
 
+# The interpreter for which the module is installed, and another folder than that where it looks for modules.
+PYTHON = python3
+PYTHONDIR =
+
 # Where `make dist`, `make release` and `make deb` put what they make.
 DIST = dist
 
@@ -34,8 +38,8 @@ SECONDS = 1800
 SEED =
 
 .PHONY: run programs library libraries test check gate wrong-bodies check-programs check-library out-of-memory interop \
-    soak search kernel bench bench-feeding bench-parallel reproducible install uninstall install-library \
-    uninstall-library dist release deb clean help
+    soak search kernel bench bench-feeding bench-parallel bench-bindings reproducible install uninstall \
+    install-library uninstall-library install-python uninstall-python dist release deb clean help
 
 # Proves and builds the one program that this needs, and prints the digest of a real file.
 run:
@@ -123,14 +127,18 @@ bench-feeding: programs library
 bench-parallel: programs library
 	bench/parallel.sh
 
+# Measures the bindings of the library beside calls from C, and hashlib.
+bench-bindings: library
+	bench/bindings.sh
+
 # Builds both programs once more in another folder, and compares their bytes.
 reproducible: programs
 	tests/reproducible.sh
 
 # Installs the programs of TARGET and STATIC, manual pages and bash's completion, and the library if it is built; or
-# removes just these. The other two do the same for the library alone. Nothing is built here, so that no proof runs as
-# root.
-INSTALLING = install uninstall install-library uninstall-library
+# removes just these. The others do the same for the library alone, and for the module of Python. Nothing is built here,
+# so that no proof runs as root.
+INSTALLING = install uninstall install-library uninstall-library install-python uninstall-python
 $(INSTALLING): export TARGET := $(TARGET)
 $(INSTALLING): export STATIC := $(STATIC)
 $(INSTALLING): export PREFIX := $(PREFIX)
@@ -143,6 +151,8 @@ $(INSTALLING): export LIBDIR := $(LIBDIR)
 $(INSTALLING): export INCLUDEDIR := $(INCLUDEDIR)
 $(INSTALLING): export SUFFIX := $(SUFFIX)
 $(INSTALLING): export STRIP := $(STRIP)
+$(INSTALLING): export PYTHON := $(PYTHON)
+$(INSTALLING): export PYTHONDIR := $(PYTHONDIR)
 $(INSTALLING):
 	@./install.sh $@
 
@@ -185,6 +195,7 @@ help:
 	@echo 'make bench           7 minutes +   measures speed and memory, beside bare hashing and the programs of Debian'
 	@echo 'make bench-feeding   2 minutes +   measures the library that is fed with pieces of a file'
 	@echo 'make bench-parallel  2 minutes +   measures a tree that is built from parts by threads'
+	@echo 'make bench-bindings  a minute +    measures the bindings of the library beside calls from C'
 	@echo 'make reproducible    5 minutes +   builds once more in another folder, and compares the programs'
 	@echo 'make install         seconds       installs programs, pages and completion, and the library if it is built'
 	@echo '                                   [TARGET, STATIC=yes, PREFIX, DESTDIR, SUFFIX, STRIP=yes, BINDIR, SBINDIR,'
@@ -192,6 +203,8 @@ help:
 	@echo 'make uninstall       seconds       removes what make install has installed; give it the same settings'
 	@echo 'make install-library seconds       installs the library alone; make uninstall-library removes it'
 	@echo '                                   [TARGET, PREFIX, DESTDIR, STRIP=yes, MANDIR, LIBDIR, INCLUDEDIR]'
+	@echo 'make install-python  seconds       installs the module for Python; make uninstall-python removes it'
+	@echo '                                   [DESTDIR, PYTHON, PYTHONDIR]'
 	@echo 'make dist            seconds       makes an archive of what is committed, with the version in its name [DIST]'
 	@echo 'make release         a minute +    makes an archive of static programs and library for each target [DIST]'
 	@echo 'make deb             a minute +    makes the packages for Debian, for amd64 and arm64 [DIST]'

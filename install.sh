@@ -7,8 +7,9 @@
 # pages and the completion speak of the programs by these names. If the library for C is built for TARGET, that goes
 # there too, by its own names, with its header, its page and what pkg-config says of it. install.sh
 # install-library|uninstall-library does this with the library alone. Its page speaks of the programs by their plain
-# names then. One target's library doesn't take the place of another's, and isn't removed in place of it. Nothing is
-# built here, so that no proof runs as root.
+# names then. One target's library doesn't take the place of another's, and isn't removed in place of it. install.sh
+# install-python|uninstall-python does it with the module of bindings/python, below DESTDIR in PYTHONDIR, or where the
+# interpreter PYTHON looks for what is installed. Nothing is built here, so that no proof runs as root.
 set -euo pipefail
 cd "$(dirname "$0")"
 . ./building.sh
@@ -43,7 +44,7 @@ aarch64)
 *) refuse 'TARGET is x86_64 or aarch64' ;;
 esac
 programs=$(place "$TARGET" "$STATIC")
-for name in PREFIX BINDIR SBINDIR MANDIR BASHCOMPDIR LIBDIR INCLUDEDIR; do
+for name in PREFIX BINDIR SBINDIR MANDIR BASHCOMPDIR LIBDIR INCLUDEDIR PYTHONDIR; do
     case ${!name-/} in
     '' | /*) ;;
     *) refuse "$name has to begin with /" ;;
@@ -183,6 +184,37 @@ uninstall_library() {
     esac
 }
 
+# python_module: prints the folder of the installed module.
+python_module() {
+    local folder=${PYTHONDIR-} python=${PYTHON:-python3}
+    if [ -z "$folder" ]; then
+        folder=$("$python" -c 'import sysconfig; print(sysconfig.get_path("purelib"))' 2>/dev/null) ||
+            refuse "$python doesn't run: PYTHON is the interpreter, or PYTHONDIR the folder of its modules"
+    fi
+    echo "${DESTDIR-}$folder/verity"
+}
+
+install_python() {
+    local module file
+    module=$(python_module)
+    for file in bindings/python/verity/*.py bindings/python/verity/py.typed; do
+        put 644 "$module/${file##*/}" <"$file"
+    done
+}
+
+# What an interpreter has compiled of it goes, too. An empty folder would be a module.
+uninstall_python() {
+    local module file name
+    module=$(python_module)
+    for file in bindings/python/verity/*; do
+        name=${file##*/}
+        rm -f "$module/$name" "$module/__pycache__/${name%.py}".*.pyc
+    done
+    for file in "$module/__pycache__" "$module"; do
+        if [ -d "$file" ]; then rmdir --ignore-fail-on-non-empty "$file"; fi
+    done
+}
+
 install_all() {
     local make='make programs' name section file has_library=no
     if [ "$TARGET" != x86_64 ]; then make+=" TARGET=$TARGET"; fi
@@ -221,9 +253,9 @@ if [[ ${1-} = install* ]] && [ "$STRIP" = yes ] && ! type -P "$strip" >/dev/null
 fi
 case ${1-} in
 install | uninstall) "$1_all" ;;
-install-library | uninstall-library) "${1/-/_}" ;;
+install-library | uninstall-library | install-python | uninstall-python) "${1/-/_}" ;;
 *)
-    echo "usage: install.sh install|uninstall|install-library|uninstall-library" >&2
+    echo "usage: install.sh [un]install|[un]install-library|[un]install-python" >&2
     exit 1
     ;;
 esac

@@ -1,0 +1,349 @@
+"""TreeBuilder, check_block and CheckedFile. Trees are those of tests/lib/trees.py."""
+
+import copy
+import io
+import mmap
+import pickle
+import random
+import threading
+import unittest
+
+import verity
+from trees import Settings, Tree, put
+
+
+class Image:
+    """An image: its parameters, its data, the hash device, and the root hash."""
+
+    def __init__(self, seed, count=300, name="sha256", size=512, hash_size=512, offset=0, bare=False, kind=1):
+        numbers = random.Random(seed)
+        self.params = verity.Params(count, name, kind, size, hash_size, offset, bare, numbers.randbytes(9))
+        base = -(-(offset + 512 * (not bare)) // hash_size)
+        self.data = numbers.randbytes(count * size)
+        settings = Settings(name, size, hash_size, self.params.salt, count, kind)
+        self.tree = Tree(settings, base, self.data)
+        self.hashes = bytes(self.tree.on(bytearray(numbers.randbytes(offset))))
+        self.root = self.tree.root
+
+    def block(self, index):
+        size = self.params.data_block_size
+        return self.data[index * size : (index + 1) * size]
+
+    def path(self, index):
+        params = self.params
+        starts = [params.hash_block_start(index, level) for level in range(params.level_count)]
+        return b"".join(self.hashes[start : start + params.hash_block_size] for start in starts)
+
+    def opened(self, data=None, hashes=None, root=None):
+        changed = data or self.data, self.hashes if hashes is None else hashes, root or self.root
+        return verity.CheckedFile(io.BytesIO(changed[0]), io.BytesIO(changed[1]), self.params, changed[2])
+
+
+def images():
+    """Of no level to four, with blocks of several sizes, of all hash functions and both types."""
+    for number, (count, size, hash_size) in enumerate(
+        ((1, 512, 4096), (2, 4096, 512), (16, 512, 512), (17, 512, 512), (300, 512, 512), (140, 1024, 4096))
+    ):
+        for name in "sha256", "sha512", "sha1":
+            yield Image(number, count, name, size, hash_size, hash_size * number, number % 2 == 1, number // 2 % 2)
+
+
+def flipped(data, at):
+    return data[:at] + bytes([data[at] ^ 1]) + data[at + 1 :]
+
+
+class Building(unittest.TestCase):
+    def test_pieces(self):
+        numbers = random.Random(1)
+        for image in images():
+            for most in 1, 700, 1 << 20:
+                builder, device, at, places = verity.TreeBuilder(image.params), bytearray(), 0, set()
+                while at < len(image.data):
+                    piece = image.data[at : at + numbers.randrange(most + 1)]
+                    at += len(piece)
+                    for block in builder.feed(numbers.choice((bytes, bytearray, memoryview))(piece)):
+                        self.assertEqual(image.tree.levels[block.level][block.index], block.data)
+                        self.assertEqual(len(block.data), image.params.hash_block_size)
+                        self.assertIs(type(block.data), bytes)
+                        places.add((block.level, block.index))
+                        put(device, block.start, block.data)
+                    if most == 1 and at > 2000:
+                        most = 5000
+                self.assertEqual(builder.root_hash(), image.root)
+                self.assertEqual(builder.root_hash(), image.root)
+                self.assertEqual(builder.feed(b""), [])
+                sizes = [len(level) for level in image.tree.levels]
+                self.assertEqual(places, {(level, i) for level, size in enumerate(sizes) for i in range(size)})
+                begin = image.params.hash_area_end - sum(sizes) * image.params.hash_block_size
+                self.assertEqual(device[begin:], image.hashes[begin:])
+                self.assertIs(builder.params, image.params)
+
+    def test_refused(self):
+        image = Image(1)
+        builder = verity.TreeBuilder(image.params)
+        found = builder.feed(image.data[:-1])
+        for _ in range(2):
+            with self.assertRaises(verity.TooShort):
+                builder.root_hash()
+            with self.assertRaises(verity.TooLong):
+                builder.feed(bytes(2))
+            with self.assertRaisesRegex(BufferError, "contiguous"):
+                builder.feed(memoryview(image.data)[::2])
+            with self.assertRaises(TypeError):
+                builder.feed("text")
+        found += builder.feed(image.data[-1:])
+        self.assertEqual(builder.root_hash(), image.root)
+        self.assertEqual(len(found), sum(map(len, image.tree.levels)))
+        with self.assertRaises(verity.TooLong):
+            builder.feed(b"x")
+
+    def test_more_than_32_bits(self):
+        """A length isn't cut: 4 GiB and one block aren't one block."""
+        with mmap.mmap(-1, (4 << 30) + 4096, prot=mmap.PROT_READ) as zeros:
+            with self.assertRaises(verity.TooLong):
+                verity.TreeBuilder(verity.Params(1)).feed(zeros)
+
+    def test_not_copied(self):
+        for make in copy.copy, copy.deepcopy, pickle.dumps:
+            with self.assertRaisesRegex(TypeError, "TreeBuilder can't be pickled or copied"):
+                make(verity.TreeBuilder(verity.Params(1)))
+
+    def test_interrupted(self):
+        """Where hash blocks may be lost, no root hash says that all is well."""
+        image = Image(1)
+        builder = verity.TreeBuilder(image.params)
+        good, builder._state.handed_out = builder._state.handed_out, lambda fed: 1 // 0
+        with self.assertRaises(ZeroDivisionError):
+            builder.feed(image.data)
+        builder._state.handed_out = good
+        for use in lambda: builder.feed(b""), builder.root_hash:
+            with self.assertRaisesRegex(RuntimeError, "interrupted"):
+                use()
+
+    def test_threads(self):
+        """Pieces of zeros from many threads: each hash block once, and the root hash."""
+        params = verity.Params(4096, data_block_size=4096, hash_block_size=512)
+        builder, found, piece = verity.TreeBuilder(params), [], bytes(4096 * 32)
+
+        def work():
+            for _ in range(16):
+                found.extend(builder.feed(piece))
+
+        threads = [threading.Thread(target=work) for _ in range(8)]
+        for thread in threads:
+            thread.start()
+        for thread in threads:
+            thread.join()
+        settings = Settings("sha256", 4096, 512, b"", 4096, 1)
+        tree = Tree(settings, 1, bytes(4096 * 4096))
+        self.assertEqual(builder.root_hash(), tree.root)
+        self.assertEqual(len(found), sum(map(len, tree.levels)))
+        for block in found:
+            self.assertEqual(block.data, tree.levels[block.level][block.index])
+
+
+class Checking(unittest.TestCase):
+    def test_blocks(self):
+        numbers = random.Random(2)
+        for image in images():
+            params = image.params
+            for index in {0, params.data_blocks - 1, numbers.randrange(params.data_blocks)}:
+                block, path = image.block(index), image.path(index)
+                for kind in bytes, bytearray, memoryview:
+                    self.assertIsNone(verity.check_block(params, index, kind(block), kind(path), kind(image.root)))
+                for wrong, level in (
+                    ((index, flipped(block, numbers.randrange(len(block))), path, image.root), 0),
+                    ((index, block, path, flipped(image.root, 3)), params.level_count),
+                    ((index, image.block((index + 1) % params.data_blocks), path, image.root), 0),
+                ):
+                    if wrong[1] != block or wrong[3] != image.root:
+                        with self.assertRaises(verity.Differs) as caught:
+                            verity.check_block(params, *wrong)
+                        self.assertEqual(caught.exception.level, level)
+                for level in range(params.level_count):
+                    # A byte of the slot of another block, or of what is over, differs one level up.
+                    at = level * params.hash_block_size
+                    slot = at + index // image.tree.fan**level % image.tree.fan * image.tree.width
+                    other = at + (slot - at + image.tree.width) % params.hash_block_size
+                    for place, found in (slot, level), (other, level + 1):
+                        with self.assertRaises(verity.Differs) as caught:
+                            verity.check_block(params, index, block, flipped(path, place), image.root)
+                        self.assertEqual(caught.exception.level, found)
+
+    def test_refused(self):
+        image = Image(3)
+        words = {"index": 7, "block": image.block(7), "path": image.path(7), "root_hash": image.root}
+        for word, value, kind in (
+            ("index", 300, verity.NoSuchBlock),
+            ("index", (1 << 64) - 1, verity.NoSuchBlock),
+            ("index", -1, OverflowError),
+            ("index", 7.0, TypeError),
+            ("block", image.block(7)[:-1], verity.BadLength),
+            ("block", image.block(7) + b"x", verity.BadLength),
+            ("block", b"", verity.BadLength),
+            ("path", image.path(7)[:-1], verity.BadLength),
+            ("path", b"", verity.BadLength),
+            ("root_hash", image.root[:-1], verity.BadRootLength),
+            ("root_hash", b"", verity.BadRootLength),
+            ("root_hash", image.root.hex(), TypeError),
+            ("block", memoryview(image.data)[: 512 * 2 : 2], BufferError),
+            ("path", memoryview(image.path(7) * 2)[::2], BufferError),
+        ):
+            with self.assertRaises(kind, msg=word) as caught:
+                verity.check_block(image.params, **{**words, word: value})
+            self.assertIs(type(caught.exception), kind)
+
+
+class Reading(unittest.TestCase):
+    def test_right(self):
+        numbers = random.Random(4)
+        for image in images():
+            file = image.opened()
+            self.assertEqual(file.read(), image.data)
+            self.assertEqual(file.read(), b"")
+            self.assertEqual(image.opened().readall(), image.data)
+            for _ in range(20):
+                begin, count = numbers.randrange(len(image.data) + 10), numbers.randrange(5000)
+                self.assertEqual(file.seek(begin), begin)
+                self.assertEqual(file.read(count), image.data[begin : begin + count])
+                self.assertEqual(file.tell(), max(begin, min(begin + count, len(image.data))))
+            buffered = io.BufferedReader(image.opened(), 1000)
+            self.assertEqual(b"".join(iter(lambda it=buffered: it.read(777), b"")), image.data)
+
+    def test_places(self):
+        file, size = Image(5).opened(), 300 * 512
+        self.assertEqual((file.readable(), file.seekable(), file.writable()), (True, True, False))
+        self.assertEqual(file.seek(-5, io.SEEK_END), size - 5)
+        self.assertEqual((file.seek(3, io.SEEK_CUR), file.tell()), (size - 2, size - 2))
+        self.assertEqual(len(file.read(10)), 2)
+        for words in ((-1,), (-1 - size, io.SEEK_END), (0, 7)):
+            with self.assertRaises(ValueError):
+                file.seek(*words)
+        self.assertEqual(file.tell(), size)
+
+    def refuses(self, image, bad, **changed):
+        """Just these blocks can't be read, in order and at random, with a file for all and a file for each."""
+        size, count = image.params.data_block_size, image.params.data_blocks
+        file = image.opened(**changed)
+        for index in [*range(count), *random.Random(6).choices(range(count), k=50)]:
+            for it in file, image.opened(**changed):
+                room = bytearray(b"?" * 100)
+                it.seek(index * size + 10)
+                if index in bad:
+                    with self.assertRaises(verity.Error):
+                        it.readinto(room)
+                    self.assertEqual((it.tell(), room), (index * size + 10, b"?" * 100))
+                else:
+                    self.assertEqual((it.readinto(room), room), (100, image.block(index)[10:110]))
+
+    def test_changed(self):
+        numbers = random.Random(7)
+        for image in Image(6, 20), Image(7, 40, hash_size=1024, name="sha512", kind=0), Image(8, 1):
+            params, tree = image.params, image.tree
+            every = set(range(params.data_blocks))
+            for index in {0, params.data_blocks - 1}:
+                at = index * params.data_block_size + numbers.randrange(params.data_block_size)
+                self.refuses(image, {index}, data=flipped(image.data, at))
+            for level, blocks in enumerate(tree.levels):
+                below = tree.fan ** (level + 1)
+                for number in {0, len(blocks) - 1}:
+                    start = params.level_start(level)[0] + number * params.hash_block_size
+                    bad = {index for index in every if index // below == number}
+                    at = start + numbers.randrange(params.hash_block_size)
+                    self.refuses(image, bad, hashes=flipped(image.hashes, at))
+            self.refuses(image, every, root=flipped(image.root, 0))
+            self.refuses(image, every, root=image.root + b"x")
+            self.refuses(image, {params.data_blocks - 1}, data=image.data[:-1])
+            if tree.levels:
+                self.refuses(image, every, hashes=b"")
+
+    def test_ends_before_a_bad_block(self):
+        image = Image(9)
+        file = image.opened(data=flipped(image.data, 512 * 3))
+        self.assertEqual(file.read(5000), image.data[: 512 * 3])
+        for _ in range(2):
+            with self.assertRaises(verity.Differs) as caught:
+                file.read(5000)
+            self.assertEqual((caught.exception.level, file.tell()), (0, 512 * 3))
+        with self.assertRaises(verity.Differs):
+            image.opened(data=flipped(image.data, 512 * 3)).readall()
+        buffered = io.BufferedReader(image.opened(data=flipped(image.data, 512 * 3)), 4096)
+        self.assertEqual(buffered.read(1000), image.data[:1000])
+
+    def test_files_that_lie(self):
+        """Bytes that a file changes after it gave them are handed out as they were checked."""
+        image = Image(10)
+
+        class Lying(io.BytesIO):
+            given = []
+
+            def read(self, size=-1):
+                for piece in self.given:
+                    piece[:] = bytes(len(piece))
+                self.given.append(bytearray(super().read(size)))
+                return self.given[-1]
+
+        file = verity.CheckedFile(Lying(image.data), Lying(image.hashes), image.params, bytearray(image.root))
+        self.assertEqual(file.read(), image.data)
+        file.seek(0)
+        self.assertEqual(file.read(), image.data)
+
+        class Short(io.BytesIO):
+            def read(self, size=-1):
+                return super().read(min(size, 100))
+
+        class Long(io.BytesIO):
+            def read(self, size=-1):
+                return super().read(size + 1)
+
+        file = verity.CheckedFile(Short(image.data), Short(image.hashes), image.params, image.root)
+        self.assertEqual(file.read(), image.data)
+        for files in (Long(image.data), io.BytesIO(image.hashes)), (io.BytesIO(image.data), Long(image.hashes)):
+            with self.assertRaises(verity.BadLength):
+                verity.CheckedFile(*files, image.params, image.root).read()
+
+    def test_buffers(self):
+        file = Image(11).opened()
+        data = Image(11).data
+        for buffer in memoryview(bytearray(900)), memoryview(bytearray(900)).cast("B", (30, 30)):
+            file.seek(100)
+            self.assertEqual(file.readinto(buffer), 900)
+            self.assertEqual(buffer.tobytes(), data[100:1000])
+        self.assertEqual(file.readinto(bytearray()), 0)
+        for buffer in bytes(10), memoryview(bytearray(10))[::2], "text":
+            with self.assertRaises(TypeError):
+                file.readinto(buffer)
+        self.assertEqual(file.tell(), 1000)
+
+    def test_closed(self):
+        image = Image(12)
+        data, hashes = io.BytesIO(image.data), io.BytesIO(image.hashes)
+        with verity.CheckedFile(data, hashes, image.params, image.root) as file:
+            file.read(10)
+        self.assertTrue(file.closed)
+        self.assertFalse(data.closed or hashes.closed)
+        for name, words in ("read", (1,)), ("readinto", (bytearray(1),)), ("seek", (0,)), ("tell", ()), ("readall", ()):
+            with self.assertRaises(ValueError):
+                getattr(file, name)(*words)
+
+    def test_threads(self):
+        """One file, read by many threads: each read is of one place, and all together are the data."""
+        image = Image(13)
+        file, found = image.opened(), []
+
+        def work():
+            for piece in iter(lambda: file.read(512 * 3), b""):
+                found.append(piece)
+
+        threads = [threading.Thread(target=work) for _ in range(8)]
+        for thread in threads:
+            thread.start()
+        for thread in threads:
+            thread.join()
+        stated = [image.data[at : at + 512 * 3] for at in range(0, len(image.data), 512 * 3)]
+        self.assertEqual(sorted(found), sorted(stated))
+
+    def test_not_copied(self):
+        for make in copy.copy, copy.deepcopy, pickle.dumps:
+            with self.assertRaisesRegex(TypeError, "CheckedFile can't be pickled or copied"):
+                make(Image(14).opened())

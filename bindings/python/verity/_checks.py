@@ -1,0 +1,147 @@
+"""Checks of the data blocks of a dm-verity image."""
+
+from __future__ import annotations
+
+import io
+import threading
+from ctypes import byref, c_size_t, c_uint64
+from typing import TYPE_CHECKING, Any, Optional, Protocol
+
+from . import _library
+from ._errors import check_at
+from ._library import View, unsigned, whole_bytes
+from ._params import Params
+
+if TYPE_CHECKING:
+    from _typeshed import ReadableBuffer, WriteableBuffer
+
+
+def check_block(
+    params: Params, index: int, block: ReadableBuffer, path: ReadableBuffer, root_hash: ReadableBuffer
+) -> None:
+    """Raises `Differs` unless this is data block `index`. The path is the hash blocks above it, one after another,
+    level 0 first."""
+    level = c_size_t()
+    number = unsigned("index", index, c_uint64)
+    check_at(_checked(params, number, block, path, root_hash, level), level.value)
+
+
+def _checked(
+    params: Params, index: int, block: ReadableBuffer, path: ReadableBuffer, root: ReadableBuffer, level: c_size_t
+) -> int:
+    views = View(block), View(path), View(root)
+    words = [word for view in views for word in (view.at, view.length)]
+    return _library.check_block(params._struct, index, *words, byref(level))
+
+
+class _File(Protocol):
+    def seek(self, offset: int, /) -> Any: ...
+
+    def read(self, size: int, /) -> Optional[bytes]: ...
+
+
+class CheckedFile(io.RawIOBase):
+    """The data of a dm-verity image as a raw file, which hands out only bytes that were checked.
+
+    `data` and `hashes` are files that are open for reading as bytes. As long as this file is read nobody else seeks in
+    them, and they stay open when it is closed. At a block that isn't the image's a read ends, or raises if it would
+    begin there.
+    """
+
+    def __init__(self, data: _File, hashes: _File, params: Params, root_hash: ReadableBuffer) -> None:
+        super().__init__()
+        self._data = data
+        self._hashes = hashes
+        self._params = params
+        self._root = whole_bytes(root_hash)
+        self._size = params.data_blocks * params.data_block_size
+        self._place = 0
+        self._lock = threading.RLock()
+        # The latest hash block of each level that was accepted, with its start; and the latest data block.
+        self._accepted: dict[int, tuple[int, bytes]] = {}
+        self._latest: Optional[tuple[int, bytes]] = None
+
+    def readable(self) -> bool:
+        return True
+
+    def seekable(self) -> bool:
+        return True
+
+    def tell(self) -> int:
+        self._check_open()
+        return self._place
+
+    def seek(self, offset: int, whence: int = io.SEEK_SET, /) -> int:
+        self._check_open()
+        with self._lock:
+            begin = {io.SEEK_SET: 0, io.SEEK_CUR: self._place, io.SEEK_END: self._size}.get(whence)
+            if begin is None or begin + offset < 0:
+                raise ValueError(f"no such place: {offset}, {whence}")
+            self._place = begin + offset
+            return self._place
+
+    def readinto(self, buffer: WriteableBuffer, /) -> int:
+        self._check_open()
+        count = 0
+        with memoryview(buffer).cast("B") as room, self._lock:
+            while count < len(room) and self._place < self._size:
+                index, begin = divmod(self._place, self._params.data_block_size)
+                try:
+                    block = self._block(index)
+                except Exception:
+                    if count > 0:
+                        break
+                    raise
+                piece = block[begin : begin + len(room) - count]
+                room[count : count + len(piece)] = piece
+                count += len(piece)
+                self._place += len(piece)
+        return count
+
+    def __reduce__(self) -> Any:
+        raise TypeError(f"a {type(self).__name__} can't be pickled or copied")
+
+    def _check_open(self) -> None:
+        if self.closed:
+            raise ValueError("the file is closed")
+
+    def _block(self, index: int) -> bytes:
+        """A data block that is the image's."""
+        if self._latest is None or self._latest[0] != index:
+            size = self._params.data_block_size
+            block = _read_at(self._data, index * size, size)
+            self._check(index, block)
+            self._latest = index, block
+        return self._latest[1]
+
+    def _check(self, index: int, block: bytes) -> None:
+        """Checks a data block from the lowest hash block above it that was accepted before, or from the root hash."""
+        struct, size = self._params._struct, self._params.hash_block_size
+        starts = [self._params.hash_block_start(index, level) for level in range(self._params.level_count)]
+        level = 0
+        while level < len(starts) and self._accepted.get(level, (None, b""))[0] != starts[level]:
+            level += 1
+        while level >= 0:
+            # `below` is the block one level below this one, which the block of this level or the root hash stands for.
+            below = block if level == 0 else _read_at(self._hashes, starts[level - 1], size)
+            if level == len(starts):
+                status = _library.check_top(struct, index, below, len(below), self._root, len(self._root))
+            else:
+                above = self._accepted[level][1]
+                status = _library.check_link(struct, index, level, below, len(below), above, len(above))
+            check_at(status, level)
+            level -= 1
+            if level >= 0:
+                self._accepted[level] = starts[level], below
+
+
+def _read_at(file: _File, start: int, length: int) -> bytes:
+    """The bytes from a place on, fewer where the file ends: such a block has a wrong length, and is refused."""
+    file.seek(start)
+    found = b""
+    while len(found) < length:
+        piece = file.read(length - len(found))
+        if not piece:
+            break
+        found += whole_bytes(piece)
+    return found
