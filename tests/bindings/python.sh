@@ -1,7 +1,8 @@
 #!/bin/bash
 # The binding for Python, with the shared library of LIB: its own tests, its types by mypy, the example of its page, a
 # copied tree of files and random settings, images and changed bytes beside Debian's programs, and what is installed, by
-# `make install-python` and by pip. PYTHON=PROGRAM takes another interpreter, SEED=N draws other settings.
+# `make install-python` and by pip. PYTHON=PROGRAM takes another interpreter, SEED=N draws other settings, and HUGE=yes
+# adds more than 4 GiB that are hashed at once.
 set -u
 cd "$(dirname "$0")/../.."
 . tests/lib/checks.sh
@@ -20,6 +21,7 @@ if [[ $LIB = /* ]]; then VERITY_LIBRARY=$LIB/libverity.so.2; fi
 unset LD_LIBRARY_PATH
 
 adds "$binding/tests" "$PYTHON" $binding/tests
+if [ "${HUGE:-}" = yes ]; then adds $binding/tests/huge.py "$PYTHON" $binding/tests/huge.py; fi
 adds 'beside Debian' "$PYTHON" tests/bindings/beside_debian.py "$scratch" "$SEED" 60 40
 
 # ------------------------------------------------ how the library is found ------------------------------------------

@@ -239,21 +239,6 @@ class Buffers(unittest.TestCase):
             data.append(0)
         self.assertEqual(len(data), 4098)
 
-    @unittest.skip("x")
-    def test_longer_than_32_bits(self):
-        """More than 4 GiB at once: zeros, so that each level has few different blocks."""
-        size = (4 << 30) + 4097
-        digest, block = hashlib.sha256(bytes(4096)).digest(), None
-        count, last = -(-size // 4096), digest
-        while count > 1:
-            whole, rest = divmod(count - 1, 128)
-            block = hashlib.sha256((digest * rest + last).ljust(4096, b"\0")).digest()
-            digest, last, count = hashlib.sha256(digest * 128).digest(), block, whole + 1
-        settings = Settings("sha256", 4096, 4096, b"", -(-size // 4096), FS_VERITY)
-        with mmap.mmap(-1, size, prot=mmap.PROT_READ) as zeros:
-            found = verity.FileDigest(zeros).digest()
-        self.assertEqual(found, hashlib.sha256(descriptor(settings, size, last)).digest())
-
 
 class Threads(unittest.TestCase):
     def test_interpreter_goes_on(self):

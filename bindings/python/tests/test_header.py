@@ -91,9 +91,9 @@ class Header(unittest.TestCase):
 
     def test_py_buffer(self):
         """The struct of Python's own header, whose size is in every memoryview."""
-        view = _library.View(b"abc")
-        self.assertEqual((view.length, view.itemsize, view.readonly, view.ndim), (3, 1, 1, 1))
-        self.assertEqual(ctypes.string_at(view.buf, 3), b"abc")
+        view, at, length = _library.view(b"abc")
+        self.assertEqual((length, view.itemsize, view.readonly, view.ndim), (3, 1, 1, 1))
+        self.assertEqual((ctypes.string_at(at, 3), view.obj), (b"abc", id(b"abc")))
 
     def test_version(self):
         words = ["VERITY_VERSION_MAJOR", "VERITY_VERSION_MINOR", "VERITY_VERSION_PATCH"]

@@ -98,10 +98,14 @@ class Building(unittest.TestCase):
             builder.feed(b"x")
 
     def test_more_than_32_bits(self):
-        """A length isn't cut: 4 GiB and one block aren't one block."""
+        """A length isn't cut: 4 GiB and one block aren't one block, and have room for a superblock."""
         with mmap.mmap(-1, (4 << 30) + 4096, prot=mmap.PROT_READ) as zeros:
             with self.assertRaises(verity.TooLong):
                 verity.TreeBuilder(verity.Params(1)).feed(zeros)
+            with self.assertRaises(verity.BadLength):
+                verity.check_block(verity.Params(1), 0, zeros, b"", bytes(32))
+            with memoryview(zeros)[: (4 << 30) + 5] as cut, self.assertRaises(verity.BadSignature):
+                verity.Params.from_superblock(cut)
 
     def test_not_copied(self):
         for make in copy.copy, copy.deepcopy, pickle.dumps:

@@ -9,7 +9,7 @@ from typing import TYPE_CHECKING, Any, Optional, Protocol
 
 from . import _library
 from ._errors import check_at
-from ._library import View, unsigned, whole_bytes
+from ._library import unsigned, view, whole_bytes
 from ._params import Params
 
 if TYPE_CHECKING:
@@ -29,8 +29,8 @@ def check_block(
 def _checked(
     params: Params, index: int, block: ReadableBuffer, path: ReadableBuffer, root: ReadableBuffer, level: c_size_t
 ) -> int:
-    views = View(block), View(path), View(root)
-    words = [word for view in views for word in (view.at, view.length)]
+    views = view(block), view(path), view(root)
+    words = [word for _view, at, length in views for word in (at, length)]
     return _library.check_block(params._struct, index, *words, byref(level))
 
 

@@ -9,7 +9,7 @@ from typing import TYPE_CHECKING, Any, Optional, Protocol, TypeVar
 from . import _library
 from ._algorithms import algorithm_name, algorithm_number, digest_size
 from ._errors import check
-from ._library import FsverityParams, View, unsigned, whole_bytes
+from ._library import FsverityParams, file_feed, unsigned, view, whole_bytes
 
 if TYPE_CHECKING:
     from _typeshed import ReadableBuffer
@@ -39,13 +39,10 @@ class _State:
         return cls(params, memory)
 
     def feed(self, data: ReadableBuffer) -> int:
-        # A view ends with this call, before an exception is made that would keep it.
-        if type(data) is bytes:
-            with self.lock:
-                return _library.file_feed(self.params, self.memory, self.length, data, len(data))
-        view = View(data)
+        """Feeds a piece, and answers the status: the view ends before there is an exception that would keep it."""
+        _view, at, length = view(data)
         with self.lock:
-            return _library.file_feed(self.params, self.memory, self.length, view.at, view.length)
+            return file_feed(self.params, self.memory, self.length, at, length)
 
     def end(self, size: int) -> bytes:
         root, digest = create_string_buffer(size), create_string_buffer(size)

@@ -5,7 +5,7 @@ from __future__ import annotations
 import ctypes
 import operator
 import os
-from ctypes import POINTER, Structure, byref, c_char_p, c_int, c_size_t, c_ssize_t, c_uint8, c_uint32, c_uint64
+from ctypes import POINTER, Structure, c_char_p, c_int, c_size_t, c_ssize_t, c_uint8, c_uint32, c_uint64
 from ctypes import c_void_p
 from typing import TYPE_CHECKING, Any, Callable
 
@@ -122,16 +122,9 @@ file_begin = _function("fsverity_build_begin", _FILE, *_BYTES)
 file_feed = _function("fsverity_build_feed", _FILE, *_BYTES, *_BYTES)
 file_end = _function("fsverity_build_end", _FILE, *_BYTES, *_BYTES, *_BYTES)
 
-# Functions of their own: those that are attributes of pythonapi are everybody's, with their types. They are called with
-# the interpreter's lock, and raise the interpreter's exceptions.
-_get_buffer = ctypes.pythonapi["PyObject_GetBuffer"]
-_release_buffer = ctypes.pythonapi["PyBuffer_Release"]
-_SIMPLE = 0
-
 
 class View(Structure):
-    """Py_buffer: the bytes of an object, none of them copied. As long as a view lives they stay where they are, and the
-    object can't be resized. An object whose bytes don't stand one after another is refused by a BufferError."""
+    """Py_buffer, which `view` fills."""
 
     _fields_ = [
         ("buf", c_void_p),
@@ -147,22 +140,28 @@ class View(Structure):
         ("internal", c_void_p),
     ]
 
-    def __init__(self, data: ReadableBuffer) -> None:
-        _get_buffer(data, byref(self), _SIMPLE)
-
     def __del__(self) -> None:
-        _release_buffer(byref(self))
-
-    @property
-    def at(self) -> Any:
-        # The library wants an address for no bytes, too, and an exporter may have none.
-        return self.buf or b""
+        _release_buffer(self)
 
 
+# Functions of their own: those that are attributes of pythonapi are everybody's, with their types. They are called with
+# the interpreter's lock, and raise its exceptions.
+_get_buffer = ctypes.pythonapi["PyObject_GetBuffer"]
 _get_buffer.argtypes = (ctypes.py_object, POINTER(View), c_int)
-_get_buffer.restype = c_int
+_release_buffer = ctypes.pythonapi["PyBuffer_Release"]
 _release_buffer.argtypes = (POINTER(View),)
 _release_buffer.restype = None
+_SIMPLE = 0
+
+
+def view(data: ReadableBuffer) -> tuple[View, Any, int]:
+    """The bytes of an object, none of them copied: where they stand, and how many they are. As long as the view lives,
+    which comes first, they stay there, and the object can't be resized. An object whose bytes don't stand one after
+    another is refused by a BufferError."""
+    found = View()
+    _get_buffer(data, found, _SIMPLE)
+    # The library wants an address for no bytes, too, and an object may give none.
+    return found, found.buf or b"", found.length
 
 
 def whole_bytes(data: ReadableBuffer) -> bytes:

@@ -9,7 +9,7 @@ from typing import TYPE_CHECKING
 from . import _library
 from ._algorithms import algorithm_name, algorithm_number, digest_size
 from ._errors import check
-from ._library import SUPERBLOCK_SIZE, VerityParams, View, unsigned, whole_bytes
+from ._library import SUPERBLOCK_SIZE, VerityParams, unsigned, view, whole_bytes
 
 if TYPE_CHECKING:
     from _typeshed import ReadableBuffer
@@ -116,5 +116,5 @@ class Params:
 
 
 def _read(data: ReadableBuffer, hash_offset: int, struct: VerityParams) -> int:
-    view = View(data)
-    return _library.read_superblock(view.at, view.length, hash_offset, struct)
+    _view, at, length = view(data)
+    return _library.read_superblock(at, length, hash_offset, struct)

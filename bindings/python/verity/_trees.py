@@ -9,7 +9,7 @@ from typing import TYPE_CHECKING, Any
 
 from . import _library
 from ._errors import check
-from ._library import VerityBuild, VerityFed, View
+from ._library import VerityBuild, VerityFed, view
 from ._params import Params
 
 if TYPE_CHECKING:
@@ -66,20 +66,20 @@ class _State:
 
     def feed(self, data: ReadableBuffer, found: list[HashBlock]) -> int:
         """Feeds the whole piece, and answers the status. A view ends with this call."""
-        view, fed = View(data), VerityFed()
-        at, left = view.buf, view.length
+        _view, at, left = view(data)
+        fed = VerityFed()
         with self.lock:
             self.check_whole()
             self.is_cut = True
             while True:
-                piece = view.at if at is None else at
                 status = _library.build_feed(
-                    self.params._struct, self.build, self.memory, len(self.memory), piece, left, fed
+                    self.params._struct, self.build, self.memory, len(self.memory), at, left, fed
                 )
                 if status or fed.block_length == 0:
                     break
                 found.append(self.handed_out(fed))
-                at, left = at and at + fed.taken, left - fed.taken
+                if fed.taken:
+                    at, left = at + fed.taken, left - fed.taken
             # What is refused is refused at the first call, and then nothing has changed.
             self.is_cut = bool(status and found)
         return status
