@@ -84,7 +84,7 @@ class Habits(unittest.TestCase):
         numbers = random.Random(3)
         for name in "sha256", "sha512":
             for block in (128 if name == "sha512" else 64), 1024, 65536, 524288:
-                for length in 0, 1, 31, 32:
+                for length in (0, 1, 31, 32) if block < 65536 else (32,):
                     data, salt = numbers.randbytes(numbers.randrange(3 * block)), numbers.randbytes(length)
                     digest = verity.FileDigest(data, name=name, block_size=block, salt=bytearray(salt))
                     self.assertEqual(digest.hexdigest(), expected(data, name, block, salt), (name, block, length))
@@ -274,13 +274,19 @@ class Threads(unittest.TestCase):
         def work():
             for turn in range(turns):
                 digest.update(piece if turn % 2 else bytearray(piece))
-                if turn % 4 == 0:
-                    faults.extend(it for it in (digest.hexdigest(), digest.copy().hexdigest()) if it not in known)
 
+        def watch(look):
+            while any(thread.is_alive() for thread in threads):
+                # It comes back while another thread hashes.
+                time.sleep(0.0001)
+                faults.extend({look()} - known.keys())
+
+        looks = (digest.hexdigest, lambda: digest.copy().hexdigest())
         threads = [threading.Thread(target=work) for _ in range(count)]
-        for thread in threads:
+        watching = [threading.Thread(target=watch, args=(look,)) for look in looks]
+        for thread in threads + watching:
             thread.start()
-        for thread in threads:
+        for thread in threads + watching:
             thread.join()
         self.assertEqual(faults, [])
         self.assertEqual(known.get(digest.hexdigest()), turns * count)

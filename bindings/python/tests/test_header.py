@@ -70,15 +70,16 @@ class Header(unittest.TestCase):
         self.assertEqual(said(words), [_library.MAJOR, _library.MAX_TEXT_SIZE])
 
     def test_structs(self):
+        words, found = [], []
         for name, kind in STRUCTS.items():
             fields = declared(f"struct {name}", r"(\w+)(?:\[\d+\])?;")
             self.assertEqual(fields, [field for field, _ in kind._fields_])
-            words = [f"sizeof(struct {name})", f"_Alignof(struct {name})"]
-            found = [ctypes.sizeof(kind), ctypes.alignment(kind)]
+            words += [f"sizeof(struct {name})", f"_Alignof(struct {name})"]
+            found += [ctypes.sizeof(kind), ctypes.alignment(kind)]
             for field in fields:
                 words += [f"offsetof(struct {name}, {field})", f"sizeof ((struct {name} *)0)->{field}"]
                 found += [getattr(kind, field).offset, getattr(kind, field).size]
-            self.assertEqual(said(words), found, name)
+        self.assertEqual(dict(enumerate(said(words))), dict(enumerate(found)))
 
     def test_functions(self):
         stated = {}

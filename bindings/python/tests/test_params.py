@@ -58,6 +58,17 @@ class Faults(unittest.TestCase):
         for words in {"data_blocks": 1.0}, {"data_blocks": "1"}, {"salt": 5}, {"salt": "ab"}, {"uuid": 16}:
             with self.assertRaises(TypeError, msg=words):
                 verity.Params(**{**FIRST, **words})
+
+        class Lying(bytes):
+            def __len__(self):
+                return 1 << 40
+
+        class Name(str):
+            def encode(self, *words):
+                return Lying(b"sha256")
+
+        self.assertEqual(verity.Params(1, Name("sha512"), salt=Lying(b"ab")).superblock()[32:38], b"sha512")
+        self.assertEqual(verity.Params(1, salt=Lying(b"ab")), verity.Params(1, salt=b"ab"))
         for uuid in bytes(15), bytes(17):
             with self.assertRaisesRegex(ValueError, "16 bytes"):
                 verity.Params(1, uuid=uuid)
@@ -72,6 +83,7 @@ class Values(unittest.TestCase):
         with self.assertRaises(dataclasses.FrozenInstanceError):
             params.salt = b""
         self.assertEqual(params, verity.Params(1, salt=b"salt"))
+        self.assertIs(type(verity.Params(True).data_blocks), int)
         self.assertNotEqual(params, verity.Params(1, salt=b"tlas"))
         self.assertEqual(len({params, verity.Params(1, salt=b"salt")}), 1)
 

@@ -223,6 +223,9 @@ class Reading(unittest.TestCase):
         for words in ((-1,), (-1 - size, io.SEEK_END), (0, 7)):
             with self.assertRaises(ValueError):
                 file.seek(*words)
+        for words in ((1.0,), ("1",)):
+            with self.assertRaises(TypeError):
+                file.seek(*words)
         self.assertEqual(file.tell(), size)
 
     def refuses(self, image, bad, **changed):

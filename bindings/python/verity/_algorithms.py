@@ -9,7 +9,8 @@ from ._errors import check
 
 
 def algorithm_number(name: str) -> int:
-    letters, number = name.encode(), c_uint32()
+    # What a subclass of str would give needn't be as long as it says.
+    letters, number = str.encode(name), c_uint32()
     check(_library.algorithm_by_name(letters, len(letters), byref(number)))
     return number.value
 

@@ -3,6 +3,7 @@
 from __future__ import annotations
 
 import io
+import operator
 import threading
 from ctypes import byref, c_size_t, c_uint64
 from typing import TYPE_CHECKING, Any, Optional, Protocol
@@ -75,9 +76,9 @@ class CheckedFile(io.RawIOBase):
         self._check_open()
         with self._lock:
             begin = {io.SEEK_SET: 0, io.SEEK_CUR: self._place, io.SEEK_END: self._size}.get(whence)
-            if begin is None or begin + offset < 0:
+            if begin is None or begin + operator.index(offset) < 0:
                 raise ValueError(f"no such place: {offset}, {whence}")
-            self._place = begin + offset
+            self._place = begin + operator.index(offset)
             return self._place
 
     def readinto(self, buffer: WriteableBuffer, /) -> int:
