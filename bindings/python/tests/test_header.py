@@ -95,6 +95,8 @@ class Header(unittest.TestCase):
         view, at, length = _library.view(b"abc")
         self.assertEqual((length, view.itemsize, view.readonly, view.ndim), (3, 1, 1, 1))
         self.assertEqual((ctypes.string_at(at, 3), view.obj), (b"abc", id(b"abc")))
+        # The library is never handed a null pointer, not even for no bytes.
+        self.assertEqual(_library.view((ctypes.c_char * 0).from_address(0))[1:], (b"", 0))
 
     def test_version(self):
         words = ["VERITY_VERSION_MAJOR", "VERITY_VERSION_MINOR", "VERITY_VERSION_PATCH"]
