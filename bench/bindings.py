@@ -47,7 +47,8 @@ def main():
             for file in DATA, EMPTY:
                 seconds, said = run(WAYS[name], file)
                 least[name, file] = min(least[name, file], seconds)
-                if "hashlib" not in name and digests.setdefault(file, said) != said:
+                digest = said.split()[0].rpartition(b":")[2]
+                if "hashlib" not in name and digests.setdefault(file, digest) != digest:
                     sys.exit(f"{name}: another digest")
     size = os.path.getsize(DATA) / 2**20
     rate = {name: size / (least[name, DATA] - least[name, EMPTY]) for name in WAYS}

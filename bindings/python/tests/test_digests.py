@@ -137,6 +137,11 @@ class Habits(unittest.TestCase):
             with self.assertRaises(kind, msg=words) as caught:
                 verity.FileDigest(**words)
             self.assertIs(type(caught.exception), kind)
+        # Nobody feeds so many bytes.
+        digest = verity.FileDigest(b"abc")
+        digest._state.params.size = (1 << 63) - 2
+        with self.assertRaises(verity.TooLarge):
+            digest.update(b"abc")
         with self.assertRaises(verity.Error) as caught:
             verity.FileDigest(name="md5")
         self.assertEqual(caught.exception.status, -6)
@@ -263,7 +268,8 @@ class Threads(unittest.TestCase):
 
     def test_one_object(self):
         """Pieces of the same bytes, from many threads, with digests and copies meanwhile."""
-        piece, turns, count = random.Random(5).randbytes(65536 + 100), 40, 8
+        # So long that each has several hash blocks: then a copy of a state that is being changed is noticed.
+        piece, turns, count = random.Random(5).randbytes((1 << 20) + 100), 4, 8
         digest, faults = verity.FileDigest(), []
         known = {}
         whole = verity.FileDigest()
