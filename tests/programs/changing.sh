@@ -117,4 +117,16 @@ grows 'digest of a file that becomes longer' "sha256:$(digest "$root" $size) $da
     "$BIN/fsverity" digest "$data"
 shrinks 'digest of a file that becomes shorter' 1 'fsverity: file ends before the end of block ' ": $data." \
     "$BIN/fsverity" digest "$data"
+
+# With output files: a part of the tree may be there, but no descriptor is written.
+tree=$scratch/tree
+made=$scratch/made
+shrinks 'a tree of a file that becomes shorter' 1 'fsverity: file ends before the end of block ' ": $data." \
+    "$BIN/fsverity" digest --out-merkle-tree "$tree" "$data"
+shrinks 'output files of a file that becomes shorter' 1 'fsverity: file ends before the end of block ' ": $data." \
+    "$BIN/fsverity" digest --out-merkle-tree "$tree" --out-descriptor "$made" "$data"
+is_text 'output files of a file that becomes shorter: the descriptor' '' "$made"
+shrinks 'a descriptor of a file that becomes shorter' 1 'fsverity: file ends before the end of block ' ": $data." \
+    "$BIN/fsverity" digest --out-descriptor "$made" "$data"
+is_text 'a descriptor of a file that becomes shorter: it' '' "$made"
 finish

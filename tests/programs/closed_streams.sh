@@ -1,6 +1,7 @@
 #!/bin/bash
 # Runs both programs with each combination of closed standard streams: what they leave in files is the same, and nothing
-# meant for a stream lands in a file.
+# meant for a stream lands in a file. And where they may have only so many files open, the null devices in place of the
+# streams among them.
 set -u
 cd "$(dirname "$0")/../.."
 . tests/lib/checks.sh
@@ -83,6 +84,53 @@ hash_devices() {
     same_bytes "$name: the image" "$scratch/image_before" "$image"
 }
 
+# ends_in_turn NAME ENDS COMMAND..: the command ends in these ways, one after another, the more files it may have open.
+# An end is what it prints, and a line with its status. A loader that can't open a library ends with 127.
+ends_in_turn() {
+    local name=$1 expected=$2 found='' now last='' count
+    shift 2
+    for ((count = 3; count < 16; count++)); do
+        now=$( (ulimit -n $count && exec "$@") 2>&1 </dev/null || echo "status $?")
+        if [[ $now != *'status 127' && $now != "$last" ]]; then
+            found+=$now$'\n'
+            last=$now
+        fi
+    done
+    same "few open files: $name" "$expected" "${found%$'\n'}"
+}
+
+# unopened TEXT STATUS FILE..: the ends of a program that names the first file that it can't open.
+unopened() {
+    printf "$1 %s.\nstatus $2\n" /dev/null "${@:3}"
+}
+
+few_open_files() {
+    local wrong tree=$scratch/tree made=$scratch/made
+    if is_imitated; then
+        echo 'few open files: no case for programs that qemu runs, since it may wait without end there'
+        return
+    fi
+    wrong=$(printf '%064d' 0)
+    ends_in_turn verify "$(unopened 'Cannot open' 4 "$data" "$image")
+Verification failed: root hash is $root.
+status 2" "$veritysetup" verify "$data" "$image" "$wrong"
+    ends_in_turn 'verify without a superblock' "$(unopened 'Cannot open' 4 "$data" "$image")
+Verification failed: root hash is $root.
+status 2" "$veritysetup" verify --no-superblock --data-block-size 512 --hash-block-size 512 --hash-offset 512 --salt=- \
+        "$data" "$image" "$wrong"
+    ends_in_turn dump "$(unopened 'Cannot open' 4 "$image")
+$(report "$image" 512 512 17 -)" "$veritysetup" dump "$image"
+    ends_in_turn format "$(unopened 'Cannot open' 4 "$data" "$hash")
+$(report "$hash" 512 512 17 - "$root")" "$veritysetup" format "${image_17_options[@]}" "$data" "$hash"
+    same_bytes 'few open files: format: the hash file' "$image" "$hash"
+    ends_in_turn digest "$(unopened 'fsverity: cannot open' 1 "$file")
+$line" "$fsverity" digest "$file"
+    ends_in_turn 'output files' "$(unopened 'fsverity: cannot open' 1 "$file" "$tree" "$made")
+$line" "$fsverity" digest --out-merkle-tree "$tree" --out-descriptor "$made" "$file"
+    same_bytes 'few open files: the tree' "$scratch/tree_expected" "$tree"
+    same_bytes 'few open files: the descriptor' "$scratch/descriptor_expected" "$made"
+}
+
 for closed in '' 0 1 2 '0 1' '0 2' '1 2' '0 1 2'; do
     for outputs in '' tree made 'tree made'; do
         rm -f "$scratch/tree" "$scratch/made"
@@ -95,4 +143,5 @@ for closed in '' 0 1 2 '0 1' '0 2' '1 2' '0 1 2'; do
     digests_to tree made
     hash_devices
 done
+few_open_files
 finish

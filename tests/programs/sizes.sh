@@ -34,13 +34,13 @@ large_image() {
     zeros "$block" >"$scratch/other"
     : >"$tree"
     counts=()
-    digest_size=$(digests "$scratch/last" "$block" ${ALGORITHM}sum | wc -c)
+    digest_size=$(digests "$scratch/last" "$block" "${ALGORITHM}sum" | wc -c)
     fan=$((block / digest_size))
     # All blocks of a level but the last one are the same.
     while [ "$count" -gt 1 ]; do
         above=$(((count + fan - 1) / fan))
-        digests "$scratch/other" "$block" ${ALGORITHM}sum >"$scratch/other_digest"
-        digests "$scratch/last" "$block" ${ALGORITHM}sum >"$scratch/last_digest"
+        digests "$scratch/other" "$block" "${ALGORITHM}sum" >"$scratch/other_digest"
+        digests "$scratch/last" "$block" "${ALGORITHM}sum" >"$scratch/last_digest"
         repeated $fan "$scratch/other_digest" >"$scratch/other"
         repeated $((count - (above - 1) * fan - 1)) "$scratch/other_digest" | cat - "$scratch/last_digest" |
             filled "$block" >"$scratch/last"
@@ -130,7 +130,7 @@ many_levels() {
 much_data() {
     local count=262145
     if is_imitated; then
-        echo 'much data: no case for programs that qemu runs, since they take long for 1 GiB'
+        echo 'more than 1 GiB: no case for programs that qemu runs, since they would take minutes'
         return
     fi
     large_image 4096 $count
@@ -141,7 +141,8 @@ much_data() {
 
 # Files of any size: a changed first block ends verify, and missing blocks end format, before more is read.
 large_files() {
-    local size count
+    local size count root
+    root=$(printf '%064d' 0)
     for size in $(((16 << 20) + 512)) $(((1 << 30) + 512)) $(((1 << 32) + 512)) $((1 << 40)); do
         count=$((size / 512))
         rm -f "$data" "$hash"

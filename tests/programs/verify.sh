@@ -94,6 +94,50 @@ areas() {
         "$veritysetup" verify "${options[@]}" --salt x "$scratch/missing" "$tree" "$root"
 }
 
+# Data and hash area in one file, by whichever names, with and without a superblock: what is wrong there is found.
+one_file() {
+    local both=$scratch/both name bare=(--no-superblock --data-block-size 512 --hash-block-size 512 --salt=-)
+    cat "$data" "$image" >"$both"
+    ln -s both "$scratch/both_soft"
+    ln "$both" "$scratch/both_hard"
+    for name in "$both" "$scratch/./both" "$scratch/both_soft" "$scratch/both_hard"; do
+        in_one_file 0 ''
+        flip "$both" 8703 1
+        in_one_file 2 'Verification failed: level 0 block 1, child 16.'
+        flip "$both" 8703 1
+        flip "$both" $((8704 + 1024)) 1
+        in_one_file 2 'Verification failed: level 0 block 0, child 0.'
+        flip "$both" $((8704 + 1024)) 1
+    done
+    runs 'one file without a superblock: no offset' 2 '' 'Verification failed: level 0 block 0, child 0.' \
+        "$veritysetup" verify "${bare[@]}" --data-blocks 17 "$both" "$both" "$root"
+}
+
+# in_one_file STATUS TEXT: verify of this file and this name of it, by the superblock and by options.
+in_one_file() {
+    runs "one file, as $name: $2" "$1" '' "$2" "$veritysetup" verify --hash-offset 8704 "$both" "$name" "$root"
+    runs "one file without a superblock, as $name: $2" "$1" '' "$2" "$veritysetup" verify "${bare[@]}" \
+        --data-blocks 17 --hash-offset 9216 "$both" "$name" "$root"
+}
+
+# Data without a whole block is refused without a superblock, and too short for one.
+no_data() {
+    local size file bare=(--no-superblock --data-block-size 512 --hash-block-size 512 --salt=-)
+    tail -c +513 "$image" >"$scratch/tree"
+    for size in 0 1 511; do
+        file=$scratch/data.$size
+        head -c "$size" "$data" >"$file"
+        names "$size bytes of data" 'Data ends before the end of block 0.' 4 "$file" "$image"
+        runs "verify without a superblock: $size bytes of data" 1 '' 'No data blocks.' \
+            "$veritysetup" verify "${bare[@]}" "$file" "$scratch/tree" "$root"
+        runs "verify without a superblock: 17 blocks of $size bytes" 4 '' 'Data ends before the end of block 0.' \
+            "$veritysetup" verify "${bare[@]}" --data-blocks 17 "$file" "$scratch/tree" "$root"
+    done
+    names 'the null device as data' 'Data ends before the end of block 0.' 4 /dev/null "$image"
+    runs 'verify without a superblock: the null device as data' 1 '' 'No data blocks.' \
+        "$veritysetup" verify "${bare[@]}" /dev/null "$scratch/tree" "$root"
+}
+
 # names NAME TEXT STATUS DATA HASH [ROOT]: verify ends with a message.
 names() {
     runs "verify: $1" "$3" '' "$2" "$veritysetup" verify "$4" "$5" "${6:-$root}"
@@ -234,8 +278,10 @@ verifies_at_each_place() {
 
 superblocks
 areas
+one_file
 trees
 lengths
+no_data
 files
 outputs
 memory
