@@ -14,11 +14,11 @@ veritysetup=$(realpath "$BIN/veritysetup")
 cd "$scratch" || exit 1
 image_17 17.data 17.hash
 # One data block of an fs-verity tree, and part of another.
-sample 5000 >5000
-{ cat 5000 && zeros 3192; } >8192
-hash_blocks 8192 4096 4096 >5000.tree
-line=sha256:$(digest "$(root 5000)" 5000)
-mv descriptor 5000.descriptor
+sample 5000 >input
+{ cat input && zeros 3192; } >blocks
+hash_blocks blocks 4096 4096 >input.tree
+line=sha256:$(digest "$(root input)" 5000)
+mv descriptor input.descriptor
 plain=(data hash file tree made)
 for name in "${plain[@]}"; do sample 600 >$name; done
 bare=(--no-superblock --hash-offset 512 --data-block-size 512 --hash-block-size 512)
@@ -27,7 +27,7 @@ bare=(--no-superblock --hash-offset 512 --data-block-size 512 --hash-block-size 
 with_blank() {
     local data=$2data$2 hash=$2hash$2 file=$2file$2 tree=$2tree$2 made=$2made$2 missing=$2missing$2 text option
     cp 17.data "$data"
-    cp 5000 "$file"
+    cp input "$file"
     runs "$1: format" 0 "$(report "$hash" 512 512 17 - "$root")" '' \
         "$veritysetup" format "${image_17_options[@]}" "$data" "$hash"
     same_bytes "$1: format: the hash file" 17.hash "$hash"
@@ -42,8 +42,8 @@ with_blank() {
     runs "$1: digest" 0 "$line $file" '' "$fsverity" digest "$file"
     runs "$1: digest with output files" 0 "$line $file" '' \
         "$fsverity" digest --out-merkle-tree "$tree" --out-descriptor "$made" "$file"
-    same_bytes "$1: the tree" 5000.tree "$tree"
-    same_bytes "$1: the descriptor" 5000.descriptor "$made"
+    same_bytes "$1: the tree" input.tree "$tree"
+    same_bytes "$1: the descriptor" input.descriptor "$made"
     runs "$1: digest of a missing file" 1 '' "fsverity: cannot open $missing." "$fsverity" digest "$missing"
 
     for option in hash=sha256 format=1 data-block-size=512 hash-block-size=512 data-blocks=17 salt=ab uuid="$UUID" \
