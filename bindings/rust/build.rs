@@ -1,4 +1,4 @@
-//! Finds the library: in the folder VERITY_LIB_DIR, or else by pkg-config. With VERITY_STATIC=1 the static one is linked.
+//! Finds the library: in the folder VERITY_LIB_DIR, or else by pkg-config. VERITY_STATIC=1 links the static one.
 use std::path::{Path, PathBuf};
 use std::process::{exit, Command};
 use std::{env, fs};
@@ -46,12 +46,12 @@ fn by_pkg_config() -> Vec<PathBuf> {
             .split_whitespace()
             .filter_map(|word| word.strip_prefix("-L").map(PathBuf::from))
             .collect(),
-        _ => stop("set VERITY_LIB_DIR to the folder of libverity.so.2 and libverity.a: pkg-config doesn't find `verity >= 2`"),
+        _ => stop("pkg-config doesn't find `verity >= 2`: set VERITY_LIB_DIR to the folder of libverity.so.2"),
     }
 }
 
-/// A folder with the shared library alone, under the names that linker and loader want: the folder of a library that was
-/// built and not installed lacks the first, and cargo hands the loader no folder but those in its own.
+/// A folder with the shared library alone, under the names that linker and loader want: the folder of a library that
+/// was built and not installed lacks the first, and cargo hands the loader no folder but those in its own.
 fn linked(folders: &[PathBuf]) -> PathBuf {
     let found = folders.iter().map(|folder| folder.join("libverity.so.2")).find(|file| file.exists());
     let library = match found.and_then(|file| fs::canonicalize(file).ok()) {

@@ -75,7 +75,8 @@ in_static tests 'static, without std' 6 --no-default-features --lib --tests
 # tell the loader of examples where the library is.
 mkdir "$scratch/.loaded"
 cp "$LIB/libverity.so.2" "$scratch/.loaded"
-LD_LIBRARY_PATH=$scratch/.loaded RUSTC_BOOTSTRAP=1 CARGO_TARGET_DIR=$scratch/promises tests 'examples of the documentation, and promises' 22 --doc
+LD_LIBRARY_PATH=$scratch/.loaded RUSTC_BOOTSTRAP=1 CARGO_TARGET_DIR=$scratch/promises \
+    tests 'examples of the documentation, and promises' 22 --doc
 RUSTDOCFLAGS='-D warnings' runs 'the documentation' 0 '' '' cargo doc "${manifest[@]}" --locked --no-deps
 runs 'the documentation is there' 0 any '' ls "$CARGO_TARGET_DIR/doc/verity/struct.Block.html"
 
@@ -84,7 +85,7 @@ no_std() {
     mkdir -p "$scratch/no_std/src"
     printf '%s\n' '[package]' 'name = "no_std"' 'version = "1.0.0"' 'edition = "2021"' '[dependencies.verity]' \
         "path = \"$crate\"" 'default-features = false' "features = [$1]" >"$scratch/no_std/Cargo.toml"
-    printf '%s\n' '#![no_std]' '#[panic_handler]' 'fn panic(_: &core::panic::PanicInfo<'"'_"'>) -> ! { loop {} }' \
+    printf '%s\n' '#![no_std]' '#[panic_handler]' "fn panic(_: &core::panic::PanicInfo<'_>) -> ! { loop {} }" \
         'pub fn text(digest: &mut verity::FileDigest) -> Result<verity::Digest, verity::Error> { digest.digest() }' \
         >"$scratch/no_std/src/lib.rs"
     cargo build --quiet --offline --manifest-path "$scratch/no_std/Cargo.toml" >"$scratch/.no_std" 2>&1
@@ -92,11 +93,13 @@ no_std() {
 no_std ''
 same 'without std' 0 $?
 no_std '"std"'
-same 'with std there are two panic handlers' yes "$(grep -q '^error\[E0152\].*panic_impl' "$scratch/.no_std" && echo yes)"
+same 'with std there are two panic handlers' yes \
+    "$(grep -q '^error\[E0152\].*panic_impl' "$scratch/.no_std" && echo yes)"
 
 # valgrind sees what the library reads and writes, which a sanitizer sees only where it has compiled the code.
 if command -v valgrind >/dev/null; then
-    CASES=3 tests 'under valgrind' 8 --lib --tests --config "target.$host.runner=['valgrind', '-q', '--error-exitcode=9']"
+    CASES=3 tests 'under valgrind' 8 --lib --tests \
+        --config "target.$host.runner=['valgrind', '-q', '--error-exitcode=9']"
 else
     echo 'left out: valgrind over the tests: it is not installed'
 fi
@@ -178,9 +181,9 @@ builds_not() {
     fi
 }
 sed -i 's/^Version: .*/Version: 1.4.0/' "$PKG_CONFIG_LIBDIR/verity.pc"
-builds_not 'a library that is too old' 'set VERITY_LIB_DIR' "${user[@]}"
+builds_not 'a library that is too old' "pkg-config doesn't find" "${user[@]}"
 export PKG_CONFIG_LIBDIR=$scratch/none
-builds_not 'no library' 'set VERITY_LIB_DIR' "${user[@]}"
+builds_not 'no library' "pkg-config doesn't find" "${user[@]}"
 VERITY_LIB_DIR=$scratch builds_not 'a folder without the library' 'libverity.so.2 is not in' "${user[@]}"
 VERITY_LIB_DIR=$LIB VERITY_STATIC=yes builds_not 'VERITY_STATIC=yes' 'VERITY_STATIC is 1 or 0' "${user[@]}"
 finish

@@ -245,8 +245,18 @@ mod tests {
         let file = FileParams { hash_algorithm: 0, block_size: 0, size: 0, salt_size: 0, salt: [0; 32] };
         let fed = Fed { taken: 0, block_length: 0, block_at: 0, block_start: 0, block_index: 0, block_level: 0 };
         shows!(
-            "verity_params", params, hash_algorithm, hash_type, data_block_size, hash_block_size, data_blocks,
-            hash_offset, no_superblock, salt_size, salt, uuid
+            "verity_params",
+            params,
+            hash_algorithm,
+            hash_type,
+            data_block_size,
+            hash_block_size,
+            data_blocks,
+            hash_offset,
+            no_superblock,
+            salt_size,
+            salt,
+            uuid
         );
         shows!("fsverity_params", file, hash_algorithm, block_size, size, salt_size, salt);
         shows!("verity_build", Build { fed: 0, closed: 0 }, fed, closed);

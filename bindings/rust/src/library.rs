@@ -3,8 +3,8 @@
 //! What verity.h asks of every caller holds for each call by the types of its wrapper:
 //!   - a reference or a slice is not null, not even an empty one, is aligned, points to a whole struct or to as many
 //!     bytes as its length says, and all of it has a value;
-//!   - what is written to is a `&mut` or a local variable, so it overlaps nothing else, and nobody else changes or reads
-//!     it; what is read is a `&` of plain numbers, which nobody changes while it is there;
+//!   - what is written to is a `&mut` or a local variable, so it overlaps nothing else, and nobody else changes or
+//!     reads it; what is read is a `&` of plain numbers, which nobody changes while it is there;
 //!   - the library keeps no pointer after a call.
 //!
 //! The lengths in what a feeding answers are used by safe code alone, which checks them once more.
@@ -85,23 +85,15 @@ macro_rules! calls {
 
             fn check_top(&self, index: u64, levels: usize, block: &[u8], root: &[u8]) -> Result<(), Error> {
                 // SAFETY: each pointer with the length of its own slice; nothing is written.
-                let status = unsafe {
-                    ffi::$check_top(self, index, block.as_ptr(), block.len(), root.as_ptr(), root.len())
-                };
+                let status =
+                    unsafe { ffi::$check_top(self, index, block.as_ptr(), block.len(), root.as_ptr(), root.len()) };
                 checked(status, levels)
             }
         }
     };
 }
 
-calls!(
-    Params,
-    verity_level_count,
-    verity_hash_block_start,
-    verity_check_block,
-    verity_check_link,
-    verity_check_top
-);
+calls!(Params, verity_level_count, verity_hash_block_start, verity_check_block, verity_check_link, verity_check_top);
 calls!(
     FileParams,
     fsverity_level_count,
@@ -126,8 +118,7 @@ const NO_PARAMS: Params = Params {
 };
 
 /// Nothing taken and nothing handed out: to be filled.
-const NOTHING_FED: Fed =
-    Fed { taken: 0, block_length: 0, block_at: 0, block_start: 0, block_index: 0, block_level: 0 };
+const NOTHING_FED: Fed = Fed { taken: 0, block_length: 0, block_at: 0, block_start: 0, block_index: 0, block_level: 0 };
 
 pub fn read_superblock(bytes: &[u8], hash_offset: u64) -> Result<Params, Error> {
     let mut params = NO_PARAMS;
@@ -165,9 +156,7 @@ pub fn tree_size(params: &FileParams) -> Result<u64, Error> {
 
 pub fn file_digest(params: &FileParams, root: &[u8], digest: &mut [u8]) -> Result<(), Error> {
     // SAFETY: a whole struct, and two slices with their lengths; nothing else can name the one that is written.
-    answer(unsafe {
-        ffi::fsverity_file_digest(params, root.as_ptr(), root.len(), digest.as_mut_ptr(), digest.len())
-    })
+    answer(unsafe { ffi::fsverity_file_digest(params, root.as_ptr(), root.len(), digest.as_mut_ptr(), digest.len()) })
 }
 
 pub fn build_memory(params: &Params) -> Result<usize, Error> {
@@ -188,15 +177,7 @@ pub fn build_feed(params: &Params, build: &mut Build, memory: &mut [u8], piece: 
     let mut fed = NOTHING_FED;
     // SAFETY: whole structs and slices with their lengths; nothing else can name those that are written.
     answer(unsafe {
-        ffi::verity_build_feed(
-            params,
-            build,
-            memory.as_mut_ptr(),
-            memory.len(),
-            piece.as_ptr(),
-            piece.len(),
-            &mut fed,
-        )
+        ffi::verity_build_feed(params, build, memory.as_mut_ptr(), memory.len(), piece.as_ptr(), piece.len(), &mut fed)
     })?;
     Ok(fed)
 }
@@ -229,17 +210,10 @@ pub fn file_build_begin(params: &mut FileParams, memory: &mut [u8]) -> Result<()
 
 pub fn file_build_feed(params: &mut FileParams, memory: &mut [u8], piece: &[u8]) -> Result<(), Error> {
     // SAFETY: a whole struct and two slices with their lengths; nothing else can name those that are written.
-    answer(unsafe {
-        ffi::fsverity_build_feed(params, memory.as_mut_ptr(), memory.len(), piece.as_ptr(), piece.len())
-    })
+    answer(unsafe { ffi::fsverity_build_feed(params, memory.as_mut_ptr(), memory.len(), piece.as_ptr(), piece.len()) })
 }
 
-pub fn file_build_end(
-    params: &FileParams,
-    memory: &mut [u8],
-    root: &mut [u8],
-    digest: &mut [u8],
-) -> Result<(), Error> {
+pub fn file_build_end(params: &FileParams, memory: &mut [u8], root: &mut [u8], digest: &mut [u8]) -> Result<(), Error> {
     // SAFETY: a whole struct and three slices with their lengths that nothing else can name.
     answer(unsafe {
         ffi::fsverity_build_end(

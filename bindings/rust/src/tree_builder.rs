@@ -81,8 +81,8 @@ impl TreeBuilder {
         Ok(TreeBuilder { params: params.clone(), build, memory, is_left: false })
     }
 
-    /// Feeds the next bytes of the data, all of them, and hands `take` each hash block that closes. If `take` fails, the
-    /// bytes up to that hash block were fed: the next call hands it out first, and is to go on with byte
+    /// Feeds the next bytes of the data, all of them, and hands `take` each hash block that closes. If `take` fails,
+    /// the bytes up to that hash block were fed: the next call hands it out first, and is to go on with byte
     /// [`TreeBuilder::fed`] of the data.
     pub fn update<E, F>(&mut self, mut piece: &[u8], mut take: F) -> Result<(), E>
     where
@@ -103,11 +103,7 @@ impl TreeBuilder {
         }
     }
 
-    fn hand_out<E>(
-        &mut self,
-        fed: &ffi::Fed,
-        take: &mut impl FnMut(HashBlock<'_>) -> Result<(), E>,
-    ) -> Result<(), E> {
+    fn hand_out<E>(&mut self, fed: &ffi::Fed, take: &mut impl FnMut(HashBlock<'_>) -> Result<(), E>) -> Result<(), E> {
         // It stays so if `take` fails or panics.
         self.is_left = true;
         take(HashBlock {

@@ -61,8 +61,8 @@ fn superblocks() {
         Params::from_trusted_superblock(&bytes, 0)
     };
     assert_eq!(read(&|_| ()), Ok(params.clone()));
-    // The places of fields are those of the format: signature 0, version 8, hash type 12, algorithm 32, sizes 64 and 68,
-    // data blocks 72, salt size 80.
+    // The places of fields are those of the format: signature 0, version 8, hash type 12, algorithm 32, sizes 64 and
+    // 68, data blocks 72, salt size 80.
     assert_eq!(read(&|bytes| bytes[0] ^= 1), Err(Error::BadSignature));
     assert_eq!(read(&|bytes| bytes[8] = 2), Err(Error::BadVersion));
     assert_eq!(read(&|bytes| bytes[12] = 2), Err(Error::BadHashType));
@@ -84,11 +84,29 @@ fn texts() {
     // The only text that verity.h states.
     assert_eq!(Error::NoSuchBlock.to_string(), "no such data block");
     let all = [
-        Error::OtherParams, Error::NoSuchBlock, Error::NoSuchLevel, Error::BadLength, Error::BadRootLength,
-        Error::BadHashAlgorithm, Error::BadHashType, Error::BadDataBlockSize, Error::BadHashBlockSize,
-        Error::BadSaltSize, Error::BadHashOffset, Error::NoData, Error::TooLarge, Error::ShortSuperblock,
-        Error::BadSignature, Error::BadVersion, Error::TooLong, Error::TooShort, Error::Waiting, Error::BadText,
-        Error::Differs { level: 1 }, Error::Differs { level: 2 }, Error::Status(-99),
+        Error::OtherParams,
+        Error::NoSuchBlock,
+        Error::NoSuchLevel,
+        Error::BadLength,
+        Error::BadRootLength,
+        Error::BadHashAlgorithm,
+        Error::BadHashType,
+        Error::BadDataBlockSize,
+        Error::BadHashBlockSize,
+        Error::BadSaltSize,
+        Error::BadHashOffset,
+        Error::NoData,
+        Error::TooLarge,
+        Error::ShortSuperblock,
+        Error::BadSignature,
+        Error::BadVersion,
+        Error::TooLong,
+        Error::TooShort,
+        Error::Waiting,
+        Error::BadText,
+        Error::Differs { level: 1 },
+        Error::Differs { level: 2 },
+        Error::Status(-99),
     ];
     let mut texts: Vec<String> = all.iter().map(Error::to_string).collect();
     assert_eq!(texts[texts.len() - 1], "unknown status -99");
@@ -104,7 +122,7 @@ fn hashes() {
     for (name, length) in [("sha256", 32), ("sha512", 64), ("sha1", 20), ("sha224", 28), ("sha384", 48)] {
         let algorithm: Algorithm = name.parse().unwrap();
         assert_eq!((algorithm.to_string(), algorithm.digest_length()), (name.into(), length));
-        let bytes: Vec<u8> = (0..length).map(|byte| byte as u8 * 37 + 1).collect();
+        let bytes: Vec<u8> = (0..length).map(|byte| (byte as u8).wrapping_mul(37) + 1).collect();
         let text: String = bytes.iter().map(|byte| format!("{byte:02x}")).collect();
         let root = Root::new(&bytes).unwrap();
         assert_eq!((root.as_bytes(), root.to_string()), (&bytes[..], text.clone()));
