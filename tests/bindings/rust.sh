@@ -24,6 +24,7 @@ manifest=(--quiet --offline --manifest-path "$crate/Cargo.toml")
 # What the user has set changes nothing here.
 unset RUSTC RUSTDOC RUSTC_WRAPPER RUSTDOCFLAGS RUSTC_BOOTSTRAP VERITY_STATIC CARGO_BUILD_TARGET LD_LIBRARY_PATH
 export CARGO_HOME=$scratch/cargo CARGO_TARGET_DIR=$scratch/shared VERITY_LIB_DIR=$LIB RUSTFLAGS='-D warnings' SEED
+export CARGO_INCREMENTAL=0 CARGO_PROFILE_DEV_DEBUG=0
 host=$(rustc -vV | sed -n 's/^host: //p')
 echo "$(cargo --version), $(rustc --version)"
 
@@ -44,6 +45,15 @@ tests() {
     else
         fail "$name" "status $status, $passed tests passed, of at least $least" "$(tail -n 60 "$scratch/.tests")"
     fi
+}
+
+# package NAME SOURCE [LINE..]: makes a package that uses the crate, of one source, which comes from standard input. The
+# lines are added to the dependency.
+package() {
+    mkdir -p "$scratch/$1/src"
+    printf '%s\n' '[package]' "name = \"$1\"" 'version = "1.0.0"' 'edition = "2021"' '[dependencies.verity]' \
+        "path = \"$crate\"" "${@:3}" >"$scratch/$1/Cargo.toml"
+    cat >"$scratch/$1/src/$2"
 }
 
 # needed FILE: whether a program needs the shared library, as `yes` or `no`.
@@ -67,9 +77,9 @@ same 'each unsafe has its reason' "$(grep -c 'unsafe {' "$crate/src/library.rs")
 
 # --------------------------------------------------- Tests ----------------------------------------------------
 
-tests 'shared, with std' 8 --lib --tests
+tests 'shared, with std' 9 --lib --tests
 tests 'shared, without std' 6 --no-default-features --lib --tests
-CASES=15 in_static tests 'static, with std' 8 --lib --tests
+CASES=8 in_static tests 'static, with std' 9 --lib --tests
 in_static tests 'static, without std' 6 --no-default-features --lib --tests
 # Which error a program that doesn't compile has is compared only where unstable features may be used. Cargo doesn't
 # tell the loader of examples where the library is.
@@ -82,12 +92,18 @@ runs 'the documentation is there' 0 any '' ls "$CARGO_TARGET_DIR/doc/verity/stru
 
 # no_std FEATURES: compiles a program that has its own panic handler, as one with std can't.
 no_std() {
-    mkdir -p "$scratch/no_std/src"
-    printf '%s\n' '[package]' 'name = "no_std"' 'version = "1.0.0"' 'edition = "2021"' '[dependencies.verity]' \
-        "path = \"$crate\"" 'default-features = false' "features = [$1]" >"$scratch/no_std/Cargo.toml"
-    printf '%s\n' '#![no_std]' '#[panic_handler]' "fn panic(_: &core::panic::PanicInfo<'_>) -> ! { loop {} }" \
-        'pub fn text(digest: &mut verity::FileDigest) -> Result<verity::Digest, verity::Error> { digest.digest() }' \
-        >"$scratch/no_std/src/lib.rs"
+    package no_std lib.rs 'default-features = false' "features = [$1]" <<'EOR'
+#![no_std]
+
+#[panic_handler]
+fn panic(_: &core::panic::PanicInfo<'_>) -> ! {
+    loop {}
+}
+
+pub fn digest_of(file: &mut verity::FileDigest) -> Result<verity::Digest, verity::Error> {
+    file.digest()
+}
+EOR
     cargo build --quiet --offline --manifest-path "$scratch/no_std/Cargo.toml" >"$scratch/.no_std" 2>&1
 }
 no_std ''
@@ -97,8 +113,30 @@ same 'with std there are two panic handlers' yes \
     "$(grep -q '^error\[E0152\].*panic_impl' "$scratch/.no_std" && echo yes)"
 
 # valgrind sees what the library reads and writes, which a sanitizer sees only where it has compiled the code.
+# That it sees such a read in a program of Rust is shown first: what is said to be a root hash of 64 bytes has fewer.
 if command -v valgrind >/dev/null; then
-    CASES=3 tests 'under valgrind' 8 --lib --tests \
+    package overrun main.rs <<'EOR'
+use verity as _;
+
+extern "C" {
+    fn fsverity_file_digest(params: *const u64, root: *const u8, length: usize, digest: *mut u8, size: usize) -> i32;
+}
+
+fn main() {
+    let missing: usize = std::env::args().nth(1).unwrap().parse().unwrap();
+    // struct fsverity_params: SHA-512, blocks and a size of 4096 bytes, no salt.
+    let params = [2 | 4096 << 32, 4096, 0, 0, 0, 0, 0];
+    let (root, mut digest) = (vec![1; 64 - missing], [0; 64]);
+    let status = unsafe { fsverity_file_digest(params.as_ptr(), root.as_ptr(), 64, digest.as_mut_ptr(), 64) };
+    assert_eq!(status, 0);
+}
+EOR
+    runs 'a program that reads too far' 0 '' '' \
+        cargo build --quiet --offline --manifest-path "$scratch/overrun/Cargo.toml"
+    watched=(env "LD_LIBRARY_PATH=$scratch/.loaded" valgrind -q --error-exitcode=9 "$CARGO_TARGET_DIR/debug/overrun")
+    runs 'all of a root hash, under valgrind' 0 '' '' "${watched[@]}" 0
+    runs 'a root hash that lacks a byte, under valgrind' 9 '' any "${watched[@]}" 1
+    CASES=2 tests 'under valgrind' 9 --lib --tests \
         --config "target.$host.runner=['valgrind', '-q', '--error-exitcode=9']"
 else
     echo 'left out: valgrind over the tests: it is not installed'
@@ -106,9 +144,9 @@ fi
 
 # -------------------------------------------------- Programs --------------------------------------------------
 
-cargo build "${manifest[@]}" --locked --release --examples
-in_static cargo build "${manifest[@]}" --locked --release --examples
-programs=("$scratch/shared/release/examples" "$scratch/static/release/examples")
+cargo build "${manifest[@]}" --locked --examples
+in_static cargo build "${manifest[@]}" --locked --examples
+programs=("$scratch/shared/debug/examples" "$scratch/static/debug/examples")
 same 'linked with the shared library' yes "$(needed "${programs[0]}/digest")"
 same 'linked with the static library' no "$(needed "${programs[1]}/digest")"
 
@@ -152,13 +190,11 @@ runs 'copy_tree: a link' 1 any any "${programs[0]}/copy_tree" "$scratch/from" "$
 unset LD_LIBRARY_PATH
 
 # README's example, in a package of its own. The library is the one that pkg-config names.
-mkdir -p "$scratch/user/src" "$scratch/installed/lib/pkgconfig"
+mkdir -p "$scratch/installed/lib/pkgconfig"
 cp "$LIB/libverity.a" "$LIB/libverity.so.2" "$scratch/installed/lib"
 printf '%s\n' "prefix=$scratch/installed" 'Name: libverity' 'Description: as installed' 'Version: 2.0.0' \
     'Libs: -L"${prefix}/lib" -lverity' >"$scratch/installed/lib/pkgconfig/verity.pc"
-sed -n '/^```rust$/,/^```$/p' "$crate/README.md" | sed '1d;$d' >"$scratch/user/src/main.rs"
-printf '%s\n' '[package]' 'name = "user"' 'version = "1.0.0"' 'edition = "2021"' '[dependencies.verity]' \
-    "path = \"$crate\"" >"$scratch/user/Cargo.toml"
+sed -n '/^```rust$/,/^```$/p' "$crate/README.md" | sed '1d;$d' | package user main.rs
 user=(cargo run --quiet --offline --manifest-path "$scratch/user/Cargo.toml" -- "$scratch/from/z")
 unset VERITY_LIB_DIR
 export PKG_CONFIG_LIBDIR=$scratch/installed/lib/pkgconfig

@@ -198,10 +198,10 @@ extern "C" {
 
 #[cfg(test)]
 mod tests {
-    extern crate std;
     use super::*;
-    use core::mem::{align_of, size_of};
-    use std::{println, ptr};
+    use core::mem::{align_of_val, size_of_val};
+    use core::ptr;
+    use std::println;
 
     /// Prints a struct's size and alignment, and the place and size of each field.
     macro_rules! shows {
@@ -216,14 +216,6 @@ mod tests {
                 size_of_val(&value.$field),
             );)*
         };
-    }
-
-    fn size_of_val<T>(_: &T) -> usize {
-        size_of::<T>()
-    }
-
-    fn align_of_val<T>(_: &T) -> usize {
-        align_of::<T>()
     }
 
     /// What a program in C says of the header, which the script compares with this.

@@ -4,6 +4,7 @@
 
 mod support;
 
+use std::cell::Cell;
 use std::io::{self, copy, Cursor, Read, Seek, SeekFrom};
 
 use support::{fsverity, veritysetup, Random};
@@ -246,7 +247,7 @@ fn builds(random: &mut Random, params: &Params, data: &[u8], device: &mut [u8]) 
 #[test]
 fn images() {
     let mut random = Random::of_seed();
-    for _ in 0..support::count(40) {
+    for _ in 0..support::count(24) {
         let salt = random.some(&[0, 1, 32, 256, 77]);
         let sizes = [512, 1024, 2048, 4096];
         let (data_size, hash_size) = (sizes[random.below(4)], sizes[random.below(4)]);
@@ -318,7 +319,7 @@ fn images() {
 #[test]
 fn files() {
     let mut random = Random::of_seed();
-    for _ in 0..support::count(40) {
+    for _ in 0..support::count(24) {
         let salt = random.some(&[0, 1, 16, 32]);
         let block_size = [1024, 2048, 4096][random.below(3)];
         let settings =
@@ -375,4 +376,45 @@ fn files() {
         made.paths(&mut random);
         made.readers(&mut random);
     }
+}
+
+/// A device that counts how often it is read.
+struct Counted<'a>(Cursor<&'a [u8]>, &'a Cell<u64>);
+
+impl Read for Counted<'_> {
+    fn read(&mut self, to: &mut [u8]) -> io::Result<usize> {
+        self.1.set(self.1.get() + 1);
+        self.0.read(to)
+    }
+}
+
+impl Seek for Counted<'_> {
+    fn seek(&mut self, to: SeekFrom) -> io::Result<u64> {
+        self.0.seek(to)
+    }
+}
+
+/// In order each hash block is read once, of more than a reader keeps; in any order none is taken for another.
+#[test]
+fn kept() {
+    let settings = Settings { data_block_size: 512, hash_block_size: 512, data_blocks: 2000, ..Settings::default() };
+    let mut random = Random::of_seed();
+    let data = random.bytes(512 * 2000);
+    let (root, hashes) = veritysetup(&settings, &data);
+    let params = Params::new(&settings).unwrap();
+    let reads = Cell::new(0);
+    let device = Counted(Cursor::new(&hashes), &reads);
+    let mut reader = CheckedReader::new(params, root.parse().unwrap(), Cursor::new(&data), device).unwrap();
+    let mut all = Vec::new();
+    reader.read_to_end(&mut all).unwrap();
+    assert!(all == data);
+    // 16 digests in each: 125 hash blocks, 8 above them, and one above these.
+    assert_eq!(reads.get(), 134);
+    assert!(reader.block(1999).is_ok() && reader.block(1984).is_ok());
+    assert_eq!(reads.get(), 134);
+    for _ in 0..1000 {
+        let index = random.below(2000);
+        assert!(reader.block(index as u64).unwrap().as_bytes() == &data[512 * index..][..512]);
+    }
+    assert!(reads.get() > 134);
 }
