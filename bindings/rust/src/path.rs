@@ -1,5 +1,6 @@
 use alloc::vec;
 use alloc::vec::Vec;
+use core::fmt;
 use core::ops::Deref;
 
 use crate::error::Error;
@@ -96,6 +97,12 @@ impl<'a, T: Tree> Path<'a, T> {
     pub fn check<'b>(&self, root: &Root, block: &'b [u8]) -> Result<Block<'b>, Error> {
         self.tree.raw().check_block(self.index, block, &self.bytes, root.as_bytes())?;
         Ok(Block::accepted(self.tree, self.index, block))
+    }
+}
+
+impl<T> fmt::Debug for Path<'_, T> {
+    fn fmt(&self, to: &mut fmt::Formatter<'_>) -> fmt::Result {
+        to.debug_struct("Path").field("index", &self.index).finish_non_exhaustive()
     }
 }
 
