@@ -136,8 +136,8 @@ EOR
     watched=(env "LD_LIBRARY_PATH=$scratch/.loaded" valgrind -q --error-exitcode=9 "$CARGO_TARGET_DIR/debug/overrun")
     runs 'all of a root hash, under valgrind' 0 '' '' "${watched[@]}" 0
     runs 'a root hash that lacks a byte, under valgrind' 9 '' any "${watched[@]}" 1
-    CASES=2 tests 'under valgrind' 9 --lib --tests \
-        --config "target.$host.runner=['valgrind', '-q', '--error-exitcode=9']"
+    CASES=1 tests 'under valgrind' 8 --lib --tests \
+        --config "target.$host.runner=['valgrind', '-q', '--error-exitcode=9']" -- --skip kept
 else
     echo 'left out: valgrind over the tests: it is not installed'
 fi
