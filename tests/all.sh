@@ -56,7 +56,7 @@ add_programs() {
         esac
         parts+=("$script")
     done
-    parts+=(tests/definitions.sh tests/install.sh tests/completion.sh tests/running.sh tests/runtime.sh
+    parts+=(tests/bindings/*.sh tests/definitions.sh tests/install.sh tests/completion.sh tests/running.sh tests/runtime.sh
         tests/any_processor.sh tests/kinds.sh)
 }
 

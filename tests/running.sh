@@ -292,8 +292,8 @@ gate_log() {
 # three of the library.
 all_parts() {
     local script own all
-    mkdir -p tests/{interop,programs,library}
-    for script in "$top"/tests/{,interop/,programs/,library/}*.sh; do
+    mkdir -p tests/{interop,programs,library,bindings}
+    for script in "$top"/tests/{,interop/,programs/,library/,bindings/}*.sh; do
         case $script in
         */all.sh | */run.sh) ;;
         *) part "${script#"$top/"}" 'echo "$0 ${BIN#bin}${LIB:-}" >>ran' 'echo "1 passed, 0 failed"' ;;
@@ -303,7 +303,7 @@ all_parts() {
     for script in cc aarch64-linux-gnu-gcc qemu-x86_64 qemu-aarch64; do part "bin/$script" 'exit 1'; done
     ran 'all tests' 0 tests/all.sh
     sort -u ran | cut -d' ' -f1 | uniq >names
-    printf '%s\n' tests/{,interop/,programs/,library/}*.sh | grep -v '/\(all\|run\).sh' | sort >scripts
+    printf '%s\n' tests/{,interop/,programs/,library/,bindings/}*.sh | grep -v '/\(all\|run\).sh' | sort >scripts
     same 'scripts that are no part of all tests' 'kernel library no_gate programs reproducible ' \
         "$(comm -13 names scripts | sed 's|.*/||; s|\.sh$||' | tr '\n' ' ')"
     own=$(printf '/imitated/%s ' aarch64 aarch64-static any-Nehalem any-core2duo any-max)
@@ -369,7 +369,7 @@ ci_setting() {
 # landing NAME STATUS USER: .ci/run ends with this status for a user of this number.
 landing() {
     : >calls
-    ran "$1" "$2" env PATH="$PWD/tools" USER_ID="$3" .ci/run
+    ran "$1" "$2" env PATH="$PWD/tools" PYTHON=python3 USER_ID="$3" .ci/run
 }
 
 installs() {
@@ -408,6 +408,10 @@ installs_headers() {
     landing 'the C library for 64-bit ARM is missing' 0 0
     same 'the C library for 64-bit ARM is missing' libc6-dev-arm64-cross "$(sed -n 1p calls)"
     cp tools/git tools/aarch64-linux-gnu-gcc
+    part tools/python3 'exit 1'
+    landing 'modules of Python are missing' 0 0
+    same 'modules of Python are missing' 'python3-pip python3-setuptools python3-wheel' "$(sed -n 1p calls)"
+    cp tools/git tools/python3
 }
 
 # What may be left out where a change lands says some script, and nothing else passes.
