@@ -140,9 +140,9 @@ path_without() {
     echo "$to"
 }
 
-# is_imitated: whether the programs are run by qemu, on a processor that it imitates (tests/lib/imitated.sh).
+# is_imitated: whether the programs are run by qemu, on a processor that it imitates (tests/lib/kinds.sh).
 is_imitated() {
-    [ -e "$BIN/imitated" ]
+    [ -f "$BIN/imitated" ]
 }
 
 # scarce COMMAND..: runs a command of the programs in an address space that has no room for blocks of 524288 bytes: it
