@@ -96,7 +96,7 @@ is_found() {
 
 version=$(sed -nE 's/^## ([0-9.]+) .*/\1/p' CHANGELOG.md | head -n 1)
 mkdir "$scratch/alone"
-cp -r Makefile install.sh include man lib "$scratch/alone"
+cp -r Makefile install.sh building.sh include man lib "$scratch/alone"
 goal=uninstall-library
 installs_library x86_64 plain usr/local
 links plain usr/local cc env LD_LIBRARY_PATH="$scratch/plain/usr/local/lib"
@@ -149,7 +149,7 @@ for goal in install uninstall install-library uninstall-library; do
     refuses "make $goal for another target" 'TARGET is x86_64 or aarch64' $goal TARGET=riscv64
 done
 mkdir -p "$scratch/empty/lib/"{aarch64,glibc-hwcaps/x86-64-v3}
-cp -r Makefile install.sh include man "$scratch/empty"
+cp -r Makefile install.sh building.sh include man "$scratch/empty"
 for target in x86_64 aarch64; do
     folder=$scratch/empty/$(built_in $target) make='make library' compiler=cc
     if [ $target = aarch64 ]; then make+=' TARGET=aarch64' compiler=aarch64-linux-gnu-gcc; fi
