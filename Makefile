@@ -180,7 +180,7 @@ help:
 	@echo 'make run             7 minutes     proves and builds fsverity, and prints the digest of a file'
 	@echo 'make programs        11 minutes    proves and builds bin/fsverity and bin/veritysetup [TARGET, CPU, STATIC=yes]'
 	@echo 'make library         6 minutes     proves and builds the library for C [TARGET, CPU]'
-	@echo 'make test            65 minutes    all tests: gate, the programs as a user runs them, documents, comparisons'
+	@echo 'make test            80 minutes    all tests: gate, the programs as a user runs them, documents, comparisons'
 	@echo 'make check           5 minutes +   all tests but the gate'
 	@echo 'make gate            60 minutes    every proof from nothing, tests of the crates, wrong bodies to be refused'
 	@echo 'make wrong-bodies    40 minutes +  sees each wrong body refused in its own function [CRATE, ANEW]'
