@@ -184,11 +184,13 @@ uninstall_library() {
     esac
 }
 
+python_files=(bindings/python/verity/*.py bindings/python/verity/py.typed)
+
 # python_module: prints the folder of the installed module.
 python_module() {
     local folder=${PYTHONDIR-} python=${PYTHON:-python3}
     if [ -z "$folder" ]; then
-        folder=$("$python" -c 'import sysconfig; print(sysconfig.get_path("purelib"))' 2>/dev/null) ||
+        folder=$("$python" -I -c 'import sysconfig; print(sysconfig.get_path("purelib"))' 2>/dev/null) ||
             refuse "$python doesn't run: PYTHON is the interpreter, or PYTHONDIR the folder of its modules"
     fi
     echo "${DESTDIR-}$folder/verity"
@@ -197,7 +199,7 @@ python_module() {
 install_python() {
     local module file
     module=$(python_module)
-    for file in bindings/python/verity/*.py bindings/python/verity/py.typed; do
+    for file in "${python_files[@]}"; do
         put 644 "$module/${file##*/}" <"$file"
     done
 }
@@ -206,7 +208,7 @@ install_python() {
 uninstall_python() {
     local module file name
     module=$(python_module)
-    for file in bindings/python/verity/*; do
+    for file in "${python_files[@]}"; do
         name=${file##*/}
         rm -f "$module/$name" "$module/__pycache__/${name%.py}".*.pyc
     done

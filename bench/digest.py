@@ -7,6 +7,8 @@ import sys
 import verity
 
 way, name = sys.argv[1:]
+if way not in ("update", "file_digest", "sha256"):
+    sys.exit(f"digest.py: no such way: {way}")
 with open(name, "rb", buffering=0) as file:
     if way == "file_digest":
         digest = verity.file_digest(file)

@@ -19,6 +19,11 @@ export PYTHONDONTWRITEBYTECODE=1 PYTHONPATH=$PWD/$binding
 export VERITY_LIBRARY=$PWD/$LIB/libverity.so.2
 if [[ $LIB = /* ]]; then VERITY_LIBRARY=$LIB/libverity.so.2; fi
 unset LD_LIBRARY_PATH
+# left: what building and running may leave in the repository.
+left() {
+    find $binding tests/bindings -name '__pycache__' -o -name build -o -name '*.egg-info' | sort
+}
+left >"$scratch/left"
 
 adds "$binding/tests" "$PYTHON" $binding/tests
 if [ "${HUGE:-}" = yes ]; then adds $binding/tests/huge.py "$PYTHON" $binding/tests/huge.py; fi
@@ -100,6 +105,22 @@ same "the example: Debian's root hash" "$root" \
     "$(veritysetup format --salt=73616c74 "$scratch/page/image" "$scratch/page/other" | sed -n 's/^Root hash:\s*//p')"
 runs "the example: Debian's program takes the image" 0 '' '' \
     veritysetup verify "$scratch/page/image" "$scratch/page/image.hash" "$root"
+# The page's way to an image that is there, with the hash device of Debian's program.
+sed -n '/^    from verity import/,/^[^ ]/p' $binding/README.md | sed -n 's/^    //p; s/^$//p' >"$scratch/page/reading.py"
+cat >>"$scratch/page/reading.py" <<'END'
+import sys
+with open("image", "rb") as image, open("other", "rb") as hashes:
+    trusted = Params(300, salt=sys.argv[1].encode())
+    sys.stdout.buffer.write(opened(image, hashes, trusted, bytes.fromhex(sys.argv[2])).read())
+END
+(cd "$scratch/page" && "$PYTHON" reading.py salt "$root" >read 2>said)
+same 'an image that is there: status' 0 $?
+same_bytes 'an image that is there: bytes' "$scratch/page/image" "$scratch/page/read"
+(cd "$scratch/page" && "$PYTHON" reading.py other "$root" >read 2>said)
+same 'other trusted parameters: status' 1 $?
+same 'other trusted parameters: why' 'verity._errors.Differs: block, root hash or parameters differ' \
+    "$(tail -n 1 "$scratch/page/said")"
+is_text 'other trusted parameters: bytes' '' "$scratch/page/read"
 
 # A copied tree of files.
 mkdir -p "$scratch/tree/deep/deeper" "$scratch/tree/empty folder"
@@ -122,7 +143,7 @@ same 'copy_tree.py: the other copy stays' '' "$(diff -r "$scratch/tree" "$scratc
 # ------------------------------------------------ what is installed -------------------------------------------------
 
 unset PYTHONPATH
-modules=$(cd $binding && printf '644 %s\n' verity/*)
+modules=$(cd $binding && printf '644 %s\n' verity/*.py verity/py.typed)
 
 # installed NAME FOLDER: the module in this folder can be used; it is what an interpreter imports elsewhere.
 installed() {
@@ -131,7 +152,7 @@ print(verity.__file__, verity.FileDigest(b"a").hexdigest())' >said 2>&1)
     same "$1: used from there" "$2/verity/__init__.py $digest" "$(cat "$scratch/said")"
 }
 
-to=$("$PYTHON" -c 'import sysconfig; print(sysconfig.get_path("purelib"))')
+to=$("$PYTHON" -I -c 'import sysconfig; print(sysconfig.get_path("purelib"))')
 words=(make -s --no-print-directory PYTHON="$PYTHON" DESTDIR="$scratch/made")
 runs 'make install-python' 0 '' '' "${words[@]}" install-python
 same 'make install-python: files' "$modules" "$(cd "$scratch/made$to" && find . -type f -printf '%m %P\n' | sort -k 2)"
@@ -148,6 +169,17 @@ installed 'make install-python, another folder' "$scratch/made/opt/our modules"
 runs 'make uninstall-python, another folder' 0 '' '' "${words[@]}" PYTHONDIR='/opt/our modules' uninstall-python
 same 'make uninstall-python, another folder: what is left' "$scratch/made/opt/our modules/verity/other" \
     "$(find "$scratch/made" -type f)"
+# What was compiled in the sources isn't installed, and is no hindrance.
+mkdir -p "$scratch/sources/bindings"
+cp Makefile ./*.sh "$scratch/sources"
+cp -r $binding "$scratch/sources/bindings"
+(cd "$scratch" && PYTHONPATH=$scratch/sources/$binding PYTHONDONTWRITEBYTECODE='' "$PYTHON" -c 'import verity')
+same 'compiled sources: they are compiled' yes "$([ -e "$scratch/sources/$binding/verity/__pycache__" ] && echo yes)"
+words=(make -s --no-print-directory -C "$scratch/sources" PYTHON="$PYTHON" DESTDIR="$scratch/compiled")
+runs 'compiled sources: make install-python' 0 '' '' "${words[@]}" install-python
+same 'compiled sources: files' "$modules" "$(cd "$scratch/compiled$to" && find . -type f -printf '%m %P\n' | sort -k 2)"
+runs 'compiled sources: make uninstall-python' 0 '' '' "${words[@]}" uninstall-python
+same 'compiled sources: what is left' '' "$(find "$scratch/compiled" -type f -o -name 'verity')"
 runs 'make install-python without an interpreter' 2 '' any \
     make -s --no-print-directory PYTHON=/nowhere/python3 DESTDIR="$scratch/none" install-python
 same 'make install-python without an interpreter: why' \
@@ -168,5 +200,5 @@ if "$PYTHON" -c 'import setuptools, wheel, pip' 2>/dev/null; then
 else
     echo "left out: pip: pip, setuptools or wheel is not installed (Debian: python3-pip, python3-setuptools, python3-wheel)"
 fi
-same 'the repository stays as it is' '' "$(find $binding tests/bindings -name '__pycache__' -o -name build -o -name '*.egg-info')"
+same 'nothing is left in the repository' "$(cat "$scratch/left")" "$(left)"
 finish

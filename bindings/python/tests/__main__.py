@@ -15,4 +15,4 @@ if __name__ == "__main__":
     bad = result.failures + result.errors
     passed = result.testsRun - len(result.skipped) - len(bad)
     print(f"{passed} passed, {len(bad)} failed")
-    sys.exit(not result.wasSuccessful())
+    sys.exit(passed == 0 or not result.wasSuccessful())

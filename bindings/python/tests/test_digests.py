@@ -10,6 +10,7 @@ import mmap
 import os
 import pickle
 import random
+import signal
 import tempfile
 import threading
 import time
@@ -17,6 +18,7 @@ import tracemalloc
 import unittest
 
 import verity
+from handlers import interrupted, with_handler
 from layouts import descriptor
 from trees import FS_VERITY, Settings, Tree
 
@@ -48,10 +50,9 @@ class Habits(unittest.TestCase):
         self.assertIsNone(digest.update(b"a"))
 
     def test_twice_and_on(self):
-        data, digest = random.Random(1).randbytes(70000), verity.FileDigest()
+        data = random.Random(1).randbytes(70000)
         for end in 0, 1, 4096, 4097, 70000:
-            done = len(data[:end]) if end else 0
-            digest = verity.FileDigest(data[:done])
+            digest = verity.FileDigest(data[:end])
             for _ in range(2):
                 self.assertEqual(digest.hexdigest(), expected(data[:end]))
             digest.update(b"")
@@ -311,6 +312,56 @@ class Threads(unittest.TestCase):
         for thread in threads:
             thread.join()
         self.assertEqual(found, [expected(data[number:]) for number in range(8)])
+
+
+class Handlers(unittest.TestCase):
+    def test_calls_within_calls(self):
+        """What a handler of a signal feeds comes before a piece or after it, and its digests and copies are right."""
+        known = {expected(bytes(count)): count for count in range(1000)}
+        for make in bytes, bytearray, lambda count: memoryview(bytes(count)):
+            digest, found, count = verity.FileDigest(), [], [0]
+
+            def handler():
+                digest.update(b"\0")
+                count[0] += 1
+                found.extend((digest.hexdigest(), digest.copy().hexdigest()))
+
+            for _ in range(3):
+                with_handler(lambda: digest.update(make(7)), handler)
+                copied = with_handler(digest.copy, handler)
+                found += [copied.hexdigest(), with_handler(digest.hexdigest, handler)]
+            self.assertGreater(count[0], 30)
+            self.assertLessEqual(set(found), set(known))
+            self.assertEqual(known[digest.hexdigest()], 21 + count[0])
+
+    def test_a_signal(self):
+        """A signal while the library works: its handler runs once the piece is hashed."""
+        data, digest = bytes(64 << 20), verity.FileDigest()
+        known = {verity.FileDigest(data + tail).hexdigest() for tail in (b"x", b"xx", b"xxx")}
+        before = signal.signal(signal.SIGALRM, lambda *_: digest.update(b"x"))
+        try:
+            signal.setitimer(signal.ITIMER_REAL, 0.02)
+            digest.update(data)
+        finally:
+            signal.setitimer(signal.ITIMER_REAL, 0)
+            signal.signal(signal.SIGALRM, before)
+        self.assertIn(digest.hexdigest(), known)
+
+    def test_interrupted(self):
+        """Before each line: the interrupt comes through, nothing stays locked, and a piece was fed or wasn't."""
+        for make in bytearray, lambda data: memoryview(bytearray(data)).toreadonly():
+            line = 0
+            while True:
+                data, digest = make(b"a"), verity.FileDigest()
+                if not interrupted(lambda: digest.update(data), line):
+                    break
+                self.assertIn(digest.hexdigest(), (A, EMPTY))
+                if isinstance(data, bytearray):
+                    data.append(0)
+                else:
+                    data.release()
+                line += 1
+            self.assertGreater(line, 5)
 
 
 class Files(unittest.TestCase):

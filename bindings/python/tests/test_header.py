@@ -91,12 +91,38 @@ class Header(unittest.TestCase):
             self.assertEqual(list(types), stated[name], name)
 
     def test_py_buffer(self):
-        """The struct of Python's own header, whose size is in every memoryview."""
-        view, at, length = _library.view(b"abc")
-        self.assertEqual((length, view.itemsize, view.readonly, view.ndim), (3, 1, 1, 1))
-        self.assertEqual((ctypes.string_at(at, 3), view.obj), (b"abc", id(b"abc")))
-        # The library is never handed a null pointer, not even for no bytes.
-        self.assertEqual(_library.view((ctypes.c_char * 0).from_address(0))[1:], (b"", 0))
+        """The interpreter writes each field of the struct, and nothing behind it."""
+
+        class Longer(_library.View):
+            _fields_ = [("behind", ctypes.c_uint8 * 64)]
+
+        found, data = Longer(), b"abc"
+        ctypes.memset(ctypes.addressof(found), 0xA5, ctypes.sizeof(found))
+        _library._get_buffer(data, found, _library._SIMPLE)
+        fields = {name: getattr(found, name) for name, _ in _library.View._fields_}
+        self.assertEqual(ctypes.string_at(fields.pop("buf"), 4), b"abc\0")
+        self.assertEqual((fields.pop("obj"), fields.pop("length"), fields.pop("itemsize")), (id(data), 3, 1))
+        self.assertEqual((fields.pop("readonly"), fields.pop("ndim")), (1, 1))
+        nothing = ("format", "shape", "strides", "suboffsets", "internal")
+        self.assertEqual(fields, dict.fromkeys(nothing))
+        self.assertEqual(bytes(found.behind), b"\xa5" * 64)
+
+    def test_view(self):
+        for data in b"abc", bytearray(b"abc"), memoryview(b"abc"), memoryview(bytearray(b"abc")):
+            _whole, at, length = _library.view(data)
+            self.assertEqual(ctypes.string_at(at, length), b"abc")
+
+    def test_no_address(self):
+        """The library is never handed a null pointer, not even for no bytes."""
+        for read_only in False, True:
+            for length in 0, 3:
+                data = memoryview((ctypes.c_char * length).from_address(0))
+                data = data.toreadonly() if read_only else data
+                if length == 0:
+                    self.assertEqual(_library.view(data)[1:], (b"", 0))
+                else:
+                    with self.assertRaisesRegex(BufferError, "no address"):
+                        _library.view(data)
 
     def test_version(self):
         words = ["VERITY_VERSION_MAJOR", "VERITY_VERSION_MINOR", "VERITY_VERSION_PATCH"]

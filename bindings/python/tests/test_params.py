@@ -84,6 +84,10 @@ class Values(unittest.TestCase):
             params.salt = b""
         self.assertEqual(params, verity.Params(1, salt=b"salt"))
         self.assertIs(type(verity.Params(True).data_blocks), int)
+        other = verity.Params(1, type("Name", (str,), {"__eq__": None})("sha256"), no_superblock=5)
+        self.assertEqual(other, verity.Params(1, no_superblock=True))
+        self.assertEqual((type(other.hash_algorithm), other.no_superblock), (str, True))
+        self.assertEqual(repr(other), repr(verity.Params(1, no_superblock=True)))
         self.assertNotEqual(params, verity.Params(1, salt=b"tlas"))
         self.assertEqual(len({params, verity.Params(1, salt=b"salt")}), 1)
 

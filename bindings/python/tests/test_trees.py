@@ -9,6 +9,7 @@ import threading
 import unittest
 
 import verity
+from handlers import with_handler
 from trees import Settings, Tree, put
 
 
@@ -123,6 +124,25 @@ class Building(unittest.TestCase):
         for use in lambda: builder.feed(b""), builder.root_hash:
             with self.assertRaisesRegex(RuntimeError, "interrupted"):
                 use()
+
+    def test_handlers(self):
+        """A handler that feeds as well, before each line: it is refused, or comes before the piece or after it."""
+        image, turns, refused = Image(1), 0, []
+
+        def handler():
+            nonlocal turns
+            turns += 1
+            try:
+                assert builder.feed(b"") == []
+            except RuntimeError as fault:
+                refused.append(str(fault))
+
+        builder = verity.TreeBuilder(image.params)
+        found = with_handler(lambda: builder.feed(image.data), handler)
+        self.assertEqual(with_handler(builder.root_hash, handler), image.root)
+        self.assertEqual(len(found), sum(map(len, image.tree.levels)))
+        self.assertGreater(turns, len(refused))
+        self.assertEqual(set(refused), {"a call to feed was interrupted, or isn't over: begin the tree anew"})
 
     def test_threads(self):
         """Pieces of zeros from many threads: each hash block once, and the root hash."""
@@ -259,7 +279,9 @@ class Reading(unittest.TestCase):
                     at = start + numbers.randrange(params.hash_block_size)
                     self.refuses(image, bad, hashes=flipped(image.hashes, at))
             self.refuses(image, every, root=flipped(image.root, 0))
-            self.refuses(image, every, root=image.root + b"x")
+            for root in image.root + b"x", image.root[:-1], b"":
+                with self.assertRaises(verity.BadRootLength):
+                    verity.CheckedFile(io.BytesIO(image.data), io.BytesIO(image.hashes), params, root)
             self.refuses(image, {params.data_blocks - 1}, data=image.data[:-1])
             if tree.levels:
                 self.refuses(image, every, hashes=b"")
@@ -308,6 +330,80 @@ class Reading(unittest.TestCase):
         for files in (Long(image.data), io.BytesIO(image.hashes)), (io.BytesIO(image.data), Long(image.hashes)):
             with self.assertRaises(verity.BadLength):
                 verity.CheckedFile(*files, image.params, image.root).read()
+
+    def test_calls_within_calls(self):
+        """A file that reads the checked file itself is refused, and what it has read meanwhile passes for nothing."""
+        image, evil = Image(15), [False]
+        # Blocks 0 to 15 and the hash block above them are those of 256 to 271, which would be accepted one level up.
+        start = image.params.level_start(0)[0]
+        moved = bytearray(image.hashes)
+        moved[start : start + 512] = moved[start + 16 * 512 : start + 17 * 512]
+        refused = []
+
+        class Reading(io.BytesIO):
+            def read(self, size=-1):
+                at, found = self.tell(), super().read(size)
+                if evil[0] and at == start:
+                    evil[0] = False
+                    place = file.tell()
+                    for name, word in ("seek", 280 * 512), ("readinto", bytearray(512)), ("read", 9):
+                        try:
+                            getattr(file, name)(word)
+                        except RuntimeError as fault:
+                            refused.append(str(fault))
+                    self.seek(at + len(found))
+                    assert file.tell() == place
+                return found
+
+        data = io.BytesIO(image.data[256 * 512 : 272 * 512] + image.data[16 * 512 :])
+        file = verity.CheckedFile(data, Reading(moved), image.params, image.root)
+        evil[0] = True
+        with self.assertRaises(verity.Differs):
+            file.read(16 * 512)
+        self.assertEqual(refused, ["the file is already being read, by a call that isn't over"] * 3)
+        file.seek(280 * 512)
+        self.assertEqual(file.read(512), image.block(280))
+        file.seek(5 * 512)
+        with self.assertRaises(verity.Differs):
+            file.read(512)
+
+    def test_handlers(self):
+        """A handler that reads elsewhere, before each line: it is refused, or reads what is there. So does the call."""
+        image, turn = Image(16), [0]
+        file = image.opened()
+        done = {True: 0, False: 0}
+
+        def handler():
+            turn[0] += 1
+            place, index = file.tell(), turn[0] * 37 % 300
+            try:
+                file.seek(index * 512)
+            except RuntimeError:
+                done[False] += 1
+            else:
+                done[True] += 1
+                self.assertEqual(file.read(512), image.block(index))
+                file.seek(place)
+
+        for index in range(0, 300, 7):
+            file.seek(index * 512)
+            found = with_handler(lambda: file.read(1024), handler)
+            self.assertEqual(found, image.data[index * 512 : index * 512 + 1024])
+        self.assertGreater(min(done.values()), 100)
+
+    def test_no_bytes_yet(self):
+        image, silent = Image(17, 20), [False]
+
+        class Silent(io.BytesIO):
+            def read(self, size=-1):
+                return None if silent[0] else super().read(size)
+
+        for files in (Silent(image.data), io.BytesIO(image.hashes)), (io.BytesIO(image.data), Silent(image.hashes)):
+            file, silent[0] = verity.CheckedFile(*files, image.params, image.root), True
+            with self.assertRaises(BlockingIOError):
+                file.read(100)
+            silent[0] = False
+            self.assertEqual(file.read(), image.data)
 
     def test_buffers(self):
         file = Image(11).opened()

@@ -9,7 +9,7 @@ from ctypes import byref, c_size_t, c_uint64
 from typing import TYPE_CHECKING, Any, Optional, Protocol
 
 from . import _library
-from ._errors import check_at
+from ._errors import BadRootLength, check_at, error
 from ._library import unsigned, view, whole_bytes
 from ._params import Params
 
@@ -46,7 +46,7 @@ class CheckedFile(io.RawIOBase):
 
     `data` and `hashes` are files that are open for reading as bytes. As long as this file is read nobody else seeks in
     them, and they stay open when it is closed. At a block that isn't the image's a read ends, or raises if it would
-    begin there.
+    begin there. Another thread needs another one, with files of its own.
     """
 
     def __init__(self, data: _File, hashes: _File, params: Params, root_hash: ReadableBuffer) -> None:
@@ -55,8 +55,11 @@ class CheckedFile(io.RawIOBase):
         self._hashes = hashes
         self._params = params
         self._root = whole_bytes(root_hash)
+        if len(self._root) != params.digest_size:
+            raise error(BadRootLength.status)
         self._size = params.data_blocks * params.data_block_size
         self._place = 0
+        self._is_reading = False
         self._lock = threading.RLock()
         # The latest hash block of each level that was accepted, with its start; and the latest data block.
         self._accepted: dict[int, tuple[int, bytes]] = {}
@@ -74,30 +77,24 @@ class CheckedFile(io.RawIOBase):
 
     def seek(self, offset: int, whence: int = io.SEEK_SET, /) -> int:
         self._check_open()
+        offset = operator.index(offset)
         with self._lock:
+            self._check_idle()
             begin = {io.SEEK_SET: 0, io.SEEK_CUR: self._place, io.SEEK_END: self._size}.get(whence)
-            if begin is None or begin + operator.index(offset) < 0:
+            if begin is None or begin + offset < 0:
                 raise ValueError(f"no such place: {offset}, {whence}")
-            self._place = begin + operator.index(offset)
+            self._place = begin + offset
             return self._place
 
     def readinto(self, buffer: WriteableBuffer, /) -> int:
         self._check_open()
-        count = 0
         with memoryview(buffer).cast("B") as room, self._lock:
-            while count < len(room) and self._place < self._size:
-                index, begin = divmod(self._place, self._params.data_block_size)
-                try:
-                    block = self._block(index)
-                except Exception:
-                    if count > 0:
-                        break
-                    raise
-                piece = block[begin : begin + len(room) - count]
-                room[count : count + len(piece)] = piece
-                count += len(piece)
-                self._place += len(piece)
-        return count
+            self._check_idle()
+            try:
+                self._is_reading = True
+                return self._fill(room)
+            finally:
+                self._is_reading = False
 
     def __reduce__(self) -> Any:
         raise TypeError(f"a {type(self).__name__} can't be pickled or copied")
@@ -106,34 +103,62 @@ class CheckedFile(io.RawIOBase):
         if self.closed:
             raise ValueError("the file is closed")
 
+    def _check_idle(self) -> None:
+        """The lock keeps other threads away. A handler of a signal, or what reads the files, could still come here, and
+        would take the files from under the read that isn't over."""
+        if self._is_reading:
+            raise RuntimeError("the file is already being read, by a call that isn't over")
+
+    def _fill(self, room: memoryview) -> int:
+        place, count = self._place, 0
+        while count < len(room) and place + count < self._size:
+            index, begin = divmod(place + count, self._params.data_block_size)
+            try:
+                block = self._block(index)
+            except Exception:
+                if count > 0:
+                    break
+                raise
+            piece = block[begin : begin + len(room) - count]
+            room[count : count + len(piece)] = piece
+            count += len(piece)
+        self._place = place + count
+        return count
+
     def _block(self, index: int) -> bytes:
         """A data block that is the image's."""
-        if self._latest is None or self._latest[0] != index:
-            size = self._params.data_block_size
-            block = _read_at(self._data, index * size, size)
-            self._check(index, block)
-            self._latest = index, block
-        return self._latest[1]
+        latest = self._latest
+        if latest is not None and latest[0] == index:
+            return latest[1]
+        size = self._params.data_block_size
+        block = _read_at(self._data, index * size, size)
+        self._check(index, block)
+        self._latest = index, block
+        return block
 
     def _check(self, index: int, block: bytes) -> None:
         """Checks a data block from the lowest hash block above it that was accepted before, or from the root hash."""
         struct, size = self._params._struct, self._params.hash_block_size
         starts = [self._params.hash_block_start(index, level) for level in range(self._params.level_count)]
-        level = 0
-        while level < len(starts) and self._accepted.get(level, (None, b""))[0] != starts[level]:
-            level += 1
+        above, level = self._root, len(starts)
+        for lowest, start in enumerate(starts):
+            accepted = self._accepted.get(lowest)
+            if accepted is not None and accepted[0] == start:
+                above, level = accepted[1], lowest
+                break
+        # Both blocks of a check are held here, so that nothing can take their place.
         while level >= 0:
             # `below` is the block one level below this one, which the block of this level or the root hash stands for.
             below = block if level == 0 else _read_at(self._hashes, starts[level - 1], size)
             if level == len(starts):
-                status = _library.check_top(struct, index, below, len(below), self._root, len(self._root))
+                status = _library.check_top(struct, index, below, len(below), above, len(above))
             else:
-                above = self._accepted[level][1]
                 status = _library.check_link(struct, index, level, below, len(below), above, len(above))
             check_at(status, level)
             level -= 1
             if level >= 0:
                 self._accepted[level] = starts[level], below
+            above = below
 
 
 def _read_at(file: _File, start: int, length: int) -> bytes:
@@ -142,6 +167,8 @@ def _read_at(file: _File, start: int, length: int) -> bytes:
     found = b""
     while len(found) < length:
         piece = file.read(length - len(found))
+        if piece is None:
+            raise BlockingIOError("the file has no bytes yet")
         if not piece:
             break
         found += whole_bytes(piece)

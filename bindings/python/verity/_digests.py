@@ -3,7 +3,7 @@
 from __future__ import annotations
 
 import threading
-from ctypes import byref, c_size_t, c_uint32, create_string_buffer
+from ctypes import addressof, byref, c_size_t, c_uint32, create_string_buffer, sizeof
 from typing import TYPE_CHECKING, Any, Optional, Protocol, TypeVar
 
 from . import _library
@@ -20,27 +20,34 @@ _Self = TypeVar("_Self", bound="FileDigest")
 
 class _State:
     """Parameters and memory of one tree, which only fit each other, and the lock of both: while the library works on
-    them, other threads run."""
+    them, other threads run. A handler of a signal runs before or after a call to the library, never meanwhile; so that
+    the two still fit, they are copied by a single call."""
 
-    __slots__ = ("params", "memory", "length", "lock")
+    __slots__ = ("whole", "params", "memory", "length", "lock")
 
-    def __init__(self, params: FsverityParams, memory: Any) -> None:
-        self.params = params
-        self.memory = memory
-        self.length = len(memory)
+    def __init__(self, whole: bytes) -> None:
+        self.whole = create_string_buffer(whole, len(whole))
+        self.params = FsverityParams.from_buffer(self.whole)
+        self.memory = addressof(self.whole) + sizeof(self.params)
+        self.length = len(whole) - sizeof(self.params)
         self.lock = threading.RLock()
 
     @classmethod
     def begun(cls, params: FsverityParams) -> _State:
         length = c_size_t()
         check(_library.file_memory(byref(params), byref(length)))
-        memory = create_string_buffer(length.value)
-        check(_library.file_begin(byref(params), memory, length))
-        return cls(params, memory)
+        state = cls(bytes(params) + bytes(length.value))
+        check(_library.file_begin(state.params, state.memory, state.length))
+        return state
 
     def feed(self, data: ReadableBuffer) -> int:
         """Feeds a piece, and answers the status: the view ends before there is an exception that would keep it."""
-        _view, at, length = view(data)
+        at: Any
+        if type(data) is bytes:
+            # The same in less time.
+            at, length = data, len(data)
+        else:
+            _view, at, length = view(data)
         with self.lock:
             return file_feed(self.params, self.memory, self.length, at, length)
 
@@ -52,8 +59,8 @@ class _State:
 
     def copy(self) -> _State:
         with self.lock:
-            memory = type(self.memory).from_buffer_copy(self.memory)
-            return _State(FsverityParams.from_buffer_copy(self.params), memory)
+            whole = self.whole.raw
+        return _State(whole)
 
 
 class FileDigest:

@@ -5,8 +5,8 @@ from __future__ import annotations
 import ctypes
 import operator
 import os
-from ctypes import POINTER, Structure, c_char_p, c_int, c_size_t, c_ssize_t, c_uint8, c_uint32, c_uint64
-from ctypes import c_void_p
+from ctypes import POINTER, Structure, addressof, c_char, c_char_p, c_int, c_size_t, c_ssize_t, c_uint8, c_uint32
+from ctypes import c_uint64, c_void_p
 from typing import TYPE_CHECKING, Any, Callable
 
 if TYPE_CHECKING:
@@ -123,6 +123,15 @@ file_feed = _function("fsverity_build_feed", _FILE, *_BYTES, *_BYTES)
 file_end = _function("fsverity_build_end", _FILE, *_BYTES, *_BYTES, *_BYTES)
 
 
+# Functions of their own: those that are attributes of pythonapi are everybody's, with their types. They are called with
+# the interpreter's lock, and raise its exceptions.
+_method = ctypes.pythonapi["PyInstanceMethod_New"]
+_method.argtypes = (ctypes.py_object,)
+_method.restype = ctypes.py_object
+_release_buffer = ctypes.pythonapi["PyBuffer_Release"]
+_release_buffer.restype = None
+
+
 class View(Structure):
     """Py_buffer, which `view` fills."""
 
@@ -140,28 +149,38 @@ class View(Structure):
         ("internal", c_void_p),
     ]
 
-    def __del__(self) -> None:
-        _release_buffer(self)
+    # No code of Python: there a Ctrl-C would be swallowed, and the object would stay locked.
+    __del__ = _method(_release_buffer)
 
 
-# Functions of their own: those that are attributes of pythonapi are everybody's, with their types. They are called with
-# the interpreter's lock, and raise its exceptions.
 _get_buffer = ctypes.pythonapi["PyObject_GetBuffer"]
 _get_buffer.argtypes = (ctypes.py_object, POINTER(View), c_int)
-_release_buffer = ctypes.pythonapi["PyBuffer_Release"]
 _release_buffer.argtypes = (POINTER(View),)
-_release_buffer.restype = None
 _SIMPLE = 0
+_pinned = (c_char * 0).from_buffer
 
 
-def view(data: ReadableBuffer) -> tuple[View, Any, int]:
-    """The bytes of an object, none of them copied: where they stand, and how many they are. As long as the view lives,
-    which comes first, they stay there, and the object can't be resized. An object whose bytes don't stand one after
-    another is refused by a BufferError."""
-    found = View()
-    _get_buffer(data, found, _SIMPLE)
+def view(data: ReadableBuffer) -> tuple[Any, Any, int]:
+    """The bytes of an object, none of them copied: where they stand, and how many they are. As long as the first of the
+    three lives, they stay there, and the object can't be resized. An object whose bytes don't stand one after another
+    is refused by a BufferError."""
+    found: Any
+    whole = memoryview(data)
+    length = whole.nbytes
+    if whole.readonly or not whole.c_contiguous:
+        found = View()
+        _get_buffer(whole, found, _SIMPLE)
+        at = found.buf
+    else:
+        # The same in less time.
+        found = _pinned(whole)
+        at = addressof(found)
     # The library wants an address for no bytes, too, and an object may give none.
-    return found, found.buf or b"", found.length
+    if not length:
+        return found, b"", 0
+    if not at:
+        raise BufferError("the bytes have no address")
+    return found, at, length
 
 
 def whole_bytes(data: ReadableBuffer) -> bytes:

@@ -48,9 +48,11 @@ class Params:
         struct.uuid[:] = uuid
         count = c_size_t()
         check(_library.level_count(byref(struct), byref(count)))
-        # These are what was checked, whatever kind of numbers and bytes was handed in.
+        # These are what was checked, whatever kind of numbers, text and bytes was handed in.
         for name in "hash_type", "data_block_size", "hash_block_size", "data_blocks", "hash_offset":
             object.__setattr__(self, name, getattr(struct, name))
+        object.__setattr__(self, "hash_algorithm", algorithm_name(struct.hash_algorithm))
+        object.__setattr__(self, "no_superblock", bool(struct.no_superblock))
         object.__setattr__(self, "salt", salt)
         object.__setattr__(self, "uuid", uuid)
         self.__dict__["_struct"] = struct

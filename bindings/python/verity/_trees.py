@@ -81,7 +81,7 @@ class _State:
                 if fed.taken:
                     at, left = at + fed.taken, left - fed.taken
             # What is refused is refused at the first call, and then nothing has changed.
-            self.is_cut = bool(status and found)
+            self.is_cut = False
         return status
 
     def handed_out(self, fed: VerityFed) -> HashBlock:
@@ -101,4 +101,4 @@ class _State:
 
     def check_whole(self) -> None:
         if self.is_cut:
-            raise RuntimeError("a call to feed was interrupted, so hash blocks may be lost: begin the tree anew")
+            raise RuntimeError("a call to feed was interrupted, or isn't over: begin the tree anew")
