@@ -1,5 +1,5 @@
 #!/bin/bash
-# The binding for Python, with the shared library of LIB: its own tests, its types by mypy, the example of its page, a
+# The binding for Python, with the shared library of LIB: its own tests, its types by mypy, the examples of its page, a
 # copied tree of files and random settings, images and changed bytes beside Debian's programs, and what is installed, by
 # `make install-python` and by pip. PYTHON=PROGRAM takes another interpreter, SEED=N draws other settings, and HUGE=yes
 # adds more than 4 GiB that are hashed at once.
@@ -52,8 +52,9 @@ cp "$VERITY_LIBRARY" "$scratch/loaded"
 same 'by the loader' "loader: 0 $digest" "$(imports loader -u VERITY_LIBRARY LD_LIBRARY_PATH="$scratch/loaded")"
 same 'an empty variable' "empty: 0 $digest" "$(imports empty VERITY_LIBRARY= LD_LIBRARY_PATH="$scratch/loaded")"
 missing=$scratch/missing/libverity.so.2
-same 'no library' "missing: 1 ImportError: verity needs the library libverity.so.2, by the loader or at VERITY_LIBRARY: \
-$missing: cannot open shared object file: No such file or directory" "$(imports missing VERITY_LIBRARY="$missing")"
+same 'no library' "missing: 1 ImportError: verity needs the library libverity.so.2, by the loader or at \
+VERITY_LIBRARY: $missing: cannot open shared object file: No such file or directory" \
+    "$(imports missing VERITY_LIBRARY="$missing")"
 library older 'unsigned verity_version(void) { return 10400; }'
 older=$scratch/older/libverity.so.2
 same 'an older library' "older: 1 ImportError: verity needs version 2 of libverity.so.2, and $older has version 1" \
@@ -106,7 +107,8 @@ same "the example: Debian's root hash" "$root" \
 runs "the example: Debian's program takes the image" 0 '' '' \
     veritysetup verify "$scratch/page/image" "$scratch/page/image.hash" "$root"
 # The page's way to an image that is there, with the hash device of Debian's program.
-sed -n '/^    from verity import/,/^[^ ]/p' $binding/README.md | sed -n 's/^    //p; s/^$//p' >"$scratch/page/reading.py"
+sed -n '/^    from verity import/,/^[^ ]/p' $binding/README.md |
+    sed -n 's/^    //p; s/^$//p' >"$scratch/page/reading.py"
 cat >>"$scratch/page/reading.py" <<'END'
 import sys
 with open("image", "rb") as image, open("other", "rb") as hashes:
@@ -156,7 +158,8 @@ to=$("$PYTHON" -I -c 'import sysconfig; print(sysconfig.get_path("purelib"))')
 words=(make -s --no-print-directory PYTHON="$PYTHON" DESTDIR="$scratch/made")
 runs 'make install-python' 0 '' '' "${words[@]}" install-python
 same 'make install-python: files' "$modules" "$(cd "$scratch/made$to" && find . -type f -printf '%m %P\n' | sort -k 2)"
-same 'make install-python: nothing else' "$scratch/made$to/verity" "$(find "$scratch/made" -type f -printf '%h\n' | sort -u)"
+same 'make install-python: nothing else' "$scratch/made$to/verity" \
+    "$(find "$scratch/made" -type f -printf '%h\n' | sort -u)"
 installed 'make install-python' "$scratch/made$to"
 (cd "$scratch" && PYTHONPATH=$scratch/made$to PYTHONDONTWRITEBYTECODE='' "$PYTHON" -c 'import verity')
 same 'make install-python: it is compiled' yes "$([ -e "$scratch/made$to/verity/__pycache__" ] && echo yes)"
@@ -198,7 +201,8 @@ if "$PYTHON" -c 'import setuptools, wheel, pip' 2>/dev/null; then
         "$(cd "$scratch/pip" && find verity -type f ! -name '*.pyc' | sort)"
     installed 'pip install' "$scratch/pip"
 else
-    echo "left out: pip: pip, setuptools or wheel is not installed (Debian: python3-pip, python3-setuptools, python3-wheel)"
+    echo "left out: pip: it, setuptools or wheel is not installed (Debian: python3-pip, python3-setuptools, \
+python3-wheel)"
 fi
 same 'nothing is left in the repository' "$(cat "$scratch/left")" "$(left)"
 finish
