@@ -186,6 +186,7 @@ class Buffers(unittest.TestCase):
         for buffer, kind, why in (
             (memoryview(bytes(10))[::2], BufferError, "contiguous"),
             (memoryview(bytes(10))[::-1], BufferError, "contiguous"),
+            (memoryview(bytearray(10))[::2], BufferError, "contiguous"),
             (rows[::2], BufferError, "contiguous"),
             ("text", TypeError, "bytes-like"),
             (None, TypeError, "bytes-like"),
