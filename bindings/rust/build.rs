@@ -13,6 +13,10 @@ fn main() {
         Ok(other) => stop(&format!("VERITY_STATIC is 1 or 0, not {other}")),
     };
     let folders = match env::var_os("VERITY_LIB_DIR") {
+        // Cargo runs this in the folder of the crate, which the user needn't know.
+        Some(folder) if Path::new(&folder).is_relative() => {
+            stop(&format!("VERITY_LIB_DIR is an absolute path, not {}", folder.to_string_lossy()))
+        }
         Some(folder) => vec![PathBuf::from(folder)],
         None => by_pkg_config(),
     };

@@ -72,21 +72,21 @@ if compiles "$scratch/layout" cc "$scratch/layout.c"; then
     same_bytes 'the places of fields' "$scratch/layout.c" "$scratch/layout.rust"
 fi
 same 'files with unsafe' "$crate/src/library.rs" "$(grep -rlE 'unsafe (\{|fn|impl|extern|trait)' "$crate" | sort)"
-same 'each unsafe has its reason' "$(grep -c 'unsafe {' "$crate/src/library.rs")" \
-    "$(grep -c '// SAFETY: ' "$crate/src/library.rs")"
+# Directly above the statement, which may go on in the next line.
+same 'unsafe without its reason' '' "$(awk '/unsafe \{/ && !has_reason { print FNR ": " $0 }
+    /\/\/ SAFETY: / { has_reason = 1 } !/^ *\/\/|=$/ { has_reason = 0 }' "$crate/src/library.rs")"
 
 # --------------------------------------------------- Tests ----------------------------------------------------
 
-tests 'shared, with std' 9 --lib --tests
-tests 'shared, without std' 6 --no-default-features --lib --tests
-CASES=8 in_static tests 'static, with std' 9 --lib --tests
-in_static tests 'static, without std' 6 --no-default-features --lib --tests
+tests 'shared, with std' 11 --lib --tests
+tests 'shared, without std' 7 --no-default-features --test refused
+CASES=8 in_static tests 'static' 3 --test debian
 # Which error a program that doesn't compile has is compared only where unstable features may be used. Cargo doesn't
 # tell the loader of examples where the library is.
 mkdir "$scratch/.loaded"
 cp "$LIB/libverity.so.2" "$scratch/.loaded"
 LD_LIBRARY_PATH=$scratch/.loaded RUSTC_BOOTSTRAP=1 CARGO_TARGET_DIR=$scratch/promises \
-    tests 'examples of the documentation, and promises' 22 --doc
+    tests 'examples of the documentation, and promises' 26 --doc
 RUSTDOCFLAGS='-D warnings' runs 'the documentation' 0 '' '' cargo doc "${manifest[@]}" --locked --no-deps
 runs 'the documentation is there' 0 any '' ls "$CARGO_TARGET_DIR/doc/verity/struct.Block.html"
 
@@ -136,7 +136,7 @@ EOR
     watched=(env "LD_LIBRARY_PATH=$scratch/.loaded" valgrind -q --error-exitcode=9 "$CARGO_TARGET_DIR/debug/overrun")
     runs 'all of a root hash, under valgrind' 0 '' '' "${watched[@]}" 0
     runs 'a root hash that lacks a byte, under valgrind' 9 '' any "${watched[@]}" 1
-    CASES=1 tests 'under valgrind' 8 --lib --tests \
+    CASES=1 tests 'under valgrind' 10 --lib --tests \
         --config "target.$host.runner=['valgrind', '-q', '--error-exitcode=9']" -- --skip kept
 else
     echo 'left out: valgrind over the tests: it is not installed'
@@ -182,6 +182,7 @@ for folder in "${programs[@]}"; do
     done
 done
 rm -rf "$scratch/to"
+runs 'copy_tree: an unknown option' 2 '' any "${programs[0]}/copy_tree" --block-sise=1024 "$scratch/from" "$scratch/to"
 runs 'copy_tree: a block size of 63' 1 '' 'copy_tree: invalid data block size' "${programs[0]}/copy_tree" \
     --block-size=63 "$scratch/from" "$scratch/to"
 ln -s z "$scratch/from/link"
@@ -220,6 +221,7 @@ sed -i 's/^Version: .*/Version: 1.4.0/' "$PKG_CONFIG_LIBDIR/verity.pc"
 builds_not 'a library that is too old' "pkg-config doesn't find" "${user[@]}"
 export PKG_CONFIG_LIBDIR=$scratch/none
 builds_not 'no library' "pkg-config doesn't find" "${user[@]}"
+VERITY_LIB_DIR=lib builds_not 'a relative folder' 'VERITY_LIB_DIR is an absolute path, not lib' "${user[@]}"
 VERITY_LIB_DIR=$scratch builds_not 'a folder without the library' 'libverity.so.2 is not in' "${user[@]}"
 VERITY_LIB_DIR=$LIB VERITY_STATIC=yes builds_not 'VERITY_STATIC=yes' 'VERITY_STATIC is 1 or 0' "${user[@]}"
 finish

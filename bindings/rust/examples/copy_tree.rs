@@ -62,6 +62,7 @@ fn main() {
             Some(("--hash-alg", name)) => settings.algorithm = name.parse().unwrap_or_else(|_| usage()),
             Some(("--block-size", size)) => settings.block_size = size.parse().unwrap_or_else(|_| usage()),
             Some(("--salt", hex)) => salt = bytes_of(hex).unwrap_or_else(|| usage()),
+            _ if word.starts_with("--") => usage(),
             _ => names.push(word),
         }
     }

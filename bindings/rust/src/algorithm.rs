@@ -4,7 +4,7 @@ use crate::error::Error;
 use crate::{ffi, library};
 
 /// The hash functions of `enum verity_hash_algorithm`. Their names are written and read as the library has them.
-#[derive(Clone, Copy, Debug, PartialEq, Eq)]
+#[derive(Clone, Copy, Debug, PartialEq, Eq, PartialOrd, Ord, Hash)]
 #[allow(missing_docs)]
 pub enum Algorithm {
     Sha256,

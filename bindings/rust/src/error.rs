@@ -50,7 +50,7 @@ pub enum Error {
     TooShort,
     /// `VERITY_WAITING`
     Waiting,
-    /// A text isn't that of a root hash or a digest.
+    /// A text isn't that of a root hash or a file digest.
     BadText,
     /// A status that this crate doesn't know.
     Status(i32),
@@ -79,7 +79,7 @@ const STATUSES: [(i32, Error); 18] = [
 ];
 
 impl Error {
-    /// Of a status that isn't `VERITY_OK`. What `VERITY_DIFFERS` is said of, its caller knows.
+    /// The error of a status that isn't `VERITY_OK`. What `VERITY_DIFFERS` is said of, its caller knows.
     pub(crate) fn of_status(status: i32) -> Error {
         let found = STATUSES.iter().find(|(number, _)| *number == status);
         found.map_or(Error::Status(status), |(_, error)| *error)
@@ -97,7 +97,7 @@ impl Error {
 impl fmt::Display for Error {
     fn fmt(&self, to: &mut fmt::Formatter<'_>) -> fmt::Result {
         if *self == Error::BadText {
-            return to.write_str("no text of a digest");
+            return to.write_str("not a root hash or file digest in hexadecimal");
         }
         let mut room = [0; ffi::MAX_TEXT_SIZE];
         let length = library::status_text(self.status(), &mut room).unwrap_or(0);
@@ -115,10 +115,15 @@ impl std::error::Error for Error {}
 
 #[cfg(feature = "std")]
 impl From<Error> for std::io::Error {
-    /// The error can be found again by `get_ref`.
+    /// The kind is `InvalidData` for what only bytes that were read can have, and else `InvalidInput`. The error can be
+    /// found again by `get_ref`.
     fn from(error: Error) -> std::io::Error {
         let kind = match error {
-            Error::Differs { .. } | Error::OtherParams => std::io::ErrorKind::InvalidData,
+            Error::Differs { .. }
+            | Error::OtherParams
+            | Error::ShortSuperblock
+            | Error::BadSignature
+            | Error::BadVersion => std::io::ErrorKind::InvalidData,
             _ => std::io::ErrorKind::InvalidInput,
         };
         std::io::Error::new(kind, error)

@@ -28,7 +28,7 @@ pub struct FileDigest {
 }
 
 impl FileDigest {
-    /// Of no bytes.
+    /// Begins with no bytes.
     pub fn new(settings: &FileSettings<'_>) -> Result<FileDigest, Error> {
         let mut params = settings.with_size(0);
         let mut memory = vec![0; library::file_build_memory(&params)?];
@@ -51,7 +51,7 @@ impl FileDigest {
         self.end().map(|(_, digest)| digest)
     }
 
-    /// The root hash of the bytes so far, in the same way.
+    /// The root hash of the bytes so far, in the same way: it is stored beside the file's tree.
     pub fn root(&mut self) -> Result<Root, Error> {
         self.end().map(|(root, _)| root)
     }

@@ -5,7 +5,7 @@ use crate::error::Error;
 use crate::ffi::MAX_DIGEST_SIZE;
 
 /// As many bytes as a digest of the hash function has; zeros after them.
-#[derive(Clone, Copy, PartialEq, Eq)]
+#[derive(Clone, Copy, PartialEq, Eq, PartialOrd, Ord, Hash)]
 struct Hash {
     algorithm: Algorithm,
     length: usize,
@@ -52,45 +52,77 @@ impl fmt::Display for Hash {
 }
 
 /// A root hash. It is shown and read as hexadecimal digits.
-#[derive(Clone, Copy, PartialEq, Eq)]
+#[derive(Clone, Copy, PartialEq, Eq, PartialOrd, Ord, Hash)]
 pub struct Root(Hash);
 
 /// An fs-verity file digest. It is shown and read as `fsverity digest` writes it, as `sha256:` and hexadecimal digits.
-#[derive(Clone, Copy, PartialEq, Eq)]
+#[derive(Clone, Copy, PartialEq, Eq, PartialOrd, Ord, Hash)]
 pub struct Digest(Hash);
 
 impl Root {
-    /// Of bytes as long as the digests of one of the hash functions, or [`Error::BadRootLength`].
+    /// Takes bytes as long as the digests of one of the hash functions; others are [`Error::BadRootLength`].
     pub fn new(bytes: &[u8]) -> Result<Root, Error> {
         Hash::of_bytes(bytes).map(Root).ok_or(Error::BadRootLength)
-    }
-
-    pub(crate) fn zeros(algorithm: Algorithm) -> Root {
-        Root(Hash::zeros(algorithm))
-    }
-
-    pub(crate) fn as_mut(&mut self) -> &mut [u8] {
-        self.0.as_mut()
-    }
-
-    /// Its bytes.
-    pub fn as_bytes(&self) -> &[u8] {
-        self.0.as_ref()
     }
 }
 
 impl Digest {
-    pub(crate) fn zeros(algorithm: Algorithm) -> Digest {
-        Digest(Hash::zeros(algorithm))
+    /// Takes bytes as long as the digests of this hash function; others are [`Error::BadLength`].
+    pub fn new(algorithm: Algorithm, bytes: &[u8]) -> Result<Digest, Error> {
+        let hash = Hash::of_bytes(bytes).filter(|hash| hash.algorithm == algorithm);
+        hash.map(Digest).ok_or(Error::BadLength)
     }
+}
 
-    pub(crate) fn as_mut(&mut self) -> &mut [u8] {
-        self.0.as_mut()
+/// What both have.
+macro_rules! has_bytes {
+    ($name:ident) => {
+        impl $name {
+            pub(crate) fn zeros(algorithm: Algorithm) -> $name {
+                $name(Hash::zeros(algorithm))
+            }
+
+            pub(crate) fn as_mut(&mut self) -> &mut [u8] {
+                self.0.as_mut()
+            }
+
+            /// The hash function whose digests are so long.
+            pub fn algorithm(&self) -> Algorithm {
+                self.0.algorithm
+            }
+
+            /// Its bytes.
+            pub fn as_bytes(&self) -> &[u8] {
+                self.0.as_ref()
+            }
+        }
+
+        impl AsRef<[u8]> for $name {
+            fn as_ref(&self) -> &[u8] {
+                self.as_bytes()
+            }
+        }
+
+        impl fmt::Debug for $name {
+            fn fmt(&self, to: &mut fmt::Formatter<'_>) -> fmt::Result {
+                write!(to, "{}({self})", stringify!($name))
+            }
+        }
+    };
+}
+
+has_bytes!(Root);
+has_bytes!(Digest);
+
+impl fmt::Display for Root {
+    fn fmt(&self, to: &mut fmt::Formatter<'_>) -> fmt::Result {
+        self.0.fmt(to)
     }
+}
 
-    /// Its bytes.
-    pub fn as_bytes(&self) -> &[u8] {
-        self.0.as_ref()
+impl fmt::Display for Digest {
+    fn fmt(&self, to: &mut fmt::Formatter<'_>) -> fmt::Result {
+        write!(to, "{}:{}", self.0.algorithm, self.0)
     }
 }
 
@@ -107,35 +139,7 @@ impl str::FromStr for Digest {
 
     fn from_str(text: &str) -> Result<Digest, Error> {
         let (name, digits) = text.split_once(':').ok_or(Error::BadText)?;
-        let hash = Hash::of_hex(digits).ok_or(Error::BadText)?;
-        if name.parse() == Ok(hash.algorithm) {
-            Ok(Digest(hash))
-        } else {
-            Err(Error::BadText)
-        }
-    }
-}
-
-impl fmt::Display for Root {
-    fn fmt(&self, to: &mut fmt::Formatter<'_>) -> fmt::Result {
-        self.0.fmt(to)
-    }
-}
-
-impl fmt::Debug for Root {
-    fn fmt(&self, to: &mut fmt::Formatter<'_>) -> fmt::Result {
-        write!(to, "Root({self})")
-    }
-}
-
-impl fmt::Display for Digest {
-    fn fmt(&self, to: &mut fmt::Formatter<'_>) -> fmt::Result {
-        write!(to, "{}:{}", self.0.algorithm, self.0)
-    }
-}
-
-impl fmt::Debug for Digest {
-    fn fmt(&self, to: &mut fmt::Formatter<'_>) -> fmt::Result {
-        write!(to, "Digest({self})")
+        let hash = Hash::of_hex(digits).filter(|hash| name.parse() == Ok(hash.algorithm));
+        hash.map(Digest).ok_or(Error::BadText)
     }
 }

@@ -1,6 +1,16 @@
 //! Checks blocks of dm-verity and fs-verity before they are handed out, and builds their trees as data comes, by the
-//! proved C library libverity. What each of its functions answers, and what it is proved to do, is said in
-//! `include/verity.h` and in verity(3); here stand its names. README.md begins with an example.
+//! proved C library libverity. What each of its functions answers, what it is proved to do, and how much stack a call
+//! takes, is said in `include/verity.h` and in verity(3); here stand its names. This prints a file's digest:
+//!
+//! ```
+//! use std::{fs::File, io};
+//! use verity::{FileDigest, FileSettings};
+//!
+//! let mut digest = FileDigest::new(&FileSettings::default())?;
+//! io::copy(&mut File::open("Cargo.toml")?, &mut digest)?;
+//! println!("{}", digest.digest()?);
+//! # Ok::<(), io::Error>(())
+//! ```
 //!
 //! - [`Params`] and [`FileParams`] are checked when they are made, of a superblock or of [`Settings`] and
 //!   [`FileSettings`]. Together with a [`Root`] they are what has to be trusted.

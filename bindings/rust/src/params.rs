@@ -4,7 +4,7 @@ use crate::ffi;
 use crate::hash::{Digest, Root};
 use crate::library::{self, Calls};
 
-/// The parts of a dm-verity tree's parameters: `struct verity_params`.
+/// A dm-verity tree's settings, not checked: `struct verity_params`.
 ///
 /// The default is that of `veritysetup format`, without salt, UUID and a number of data blocks:
 ///
@@ -45,8 +45,8 @@ impl Default for Settings<'_> {
     }
 }
 
-/// The parts of an fs-verity tree's parameters but the file's size: `struct fsverity_params`. The default is that of
-/// `fsverity digest`.
+/// An fs-verity tree's settings, not checked and without the file's size: `struct fsverity_params`. The default is that
+/// of `fsverity digest`.
 #[derive(Clone, Copy, Debug, PartialEq, Eq)]
 #[allow(missing_docs)]
 pub struct FileSettings<'a> {
@@ -83,7 +83,8 @@ impl FileSettings<'_> {
     }
 }
 
-/// Parameters of a dm-verity tree that no function refuses.
+/// Parameters of a dm-verity tree that no function refuses. `==` compares all settings, [`Params::are_same`] those that
+/// the root hash needs.
 #[derive(Clone)]
 pub struct Params {
     pub(crate) raw: ffi::Params,
@@ -92,7 +93,7 @@ pub struct Params {
 }
 
 impl Params {
-    /// Of their parts.
+    /// Checks these settings.
     pub fn new(settings: &Settings<'_>) -> Result<Params, Error> {
         let (salt_size, salt) = salt_of(settings.salt);
         Params::checked(ffi::Params {
@@ -109,8 +110,9 @@ impl Params {
         })
     }
 
-    /// Of a superblock that may be an attacker's, which stands at `hash_offset`: if they are the trusted ones
-    /// (`verity_read_superblock`, `verity_same_params`); else [`Error::OtherParams`].
+    /// Reads a superblock that stands at `hash_offset` (`verity_read_superblock`): call this where others may have
+    /// written it. [`Error::OtherParams`] if its parameters aren't the trusted ones, as [`Params::are_same`] compares
+    /// them.
     pub fn from_superblock(bytes: &[u8], hash_offset: u64, trusted: &Params) -> Result<Params, Error> {
         let params = Params::from_trusted_superblock(bytes, hash_offset)?;
         if params.are_same(trusted) {
@@ -120,7 +122,7 @@ impl Params {
         }
     }
 
-    /// Of a superblock that nobody else can have written (`verity_read_superblock`).
+    /// Reads a superblock that nobody else can have written (`verity_read_superblock`).
     pub fn from_trusted_superblock(bytes: &[u8], hash_offset: u64) -> Result<Params, Error> {
         Params::checked(library::read_superblock(bytes, hash_offset)?)
     }
@@ -130,12 +132,14 @@ impl Params {
         Ok(Params { raw, algorithm: Algorithm::of_number(raw.hash_algorithm)?, levels })
     }
 
-    /// Whether they are the trusted ones (`verity_same_params`).
+    /// Whether they are the trusted ones in all that the root hash needs; hash offset, UUID and whether there is a
+    /// superblock aren't compared (`verity_same_params`). Call this before parameters are used that others may have
+    /// written.
     pub fn are_same(&self, trusted: &Params) -> bool {
         library::same_params(&self.raw, &trusted.raw) == Ok(true)
     }
 
-    /// Their parts.
+    /// Their settings.
     pub fn settings(&self) -> Settings<'_> {
         Settings {
             algorithm: self.algorithm,
@@ -150,11 +154,14 @@ impl Params {
         }
     }
 
-    /// `verity_write_superblock`.
-    pub fn superblock(&self) -> Result<[u8; 512], Error> {
+    /// `verity_write_superblock`; `None` if the settings say that there is no superblock.
+    pub fn superblock(&self) -> Option<[u8; 512]> {
+        if self.raw.no_superblock != 0 {
+            return None;
+        }
         let mut bytes = [0; 512];
-        library::write_superblock(&self.raw, &mut bytes)?;
-        Ok(bytes)
+        library::write_superblock(&self.raw, &mut bytes).expect("the parameters were checked");
+        Some(bytes)
     }
 
     /// `verity_level_count`.
@@ -163,8 +170,8 @@ impl Params {
     }
 
     /// `verity_hash_area_end`.
-    pub fn hash_area_end(&self) -> Result<u64, Error> {
-        library::hash_area_end(&self.raw)
+    pub fn hash_area_end(&self) -> u64 {
+        library::hash_area_end(&self.raw).expect("the parameters were checked")
     }
 }
 
@@ -177,13 +184,13 @@ pub struct FileParams {
 }
 
 impl FileParams {
-    /// Of their parts and the file's size.
+    /// Checks these settings with the file's size.
     pub fn new(settings: &FileSettings<'_>, size: u64) -> Result<FileParams, Error> {
         let raw = settings.with_size(size);
         Ok(FileParams { raw, algorithm: settings.algorithm, levels: raw.level_count()? })
     }
 
-    /// Their parts, without the size.
+    /// Their settings, without the size.
     pub fn settings(&self) -> FileSettings<'_> {
         let salt = salt_in(&self.raw.salt, self.raw.salt_size);
         FileSettings { algorithm: self.algorithm, block_size: self.raw.block_size, salt }
@@ -194,7 +201,8 @@ impl FileParams {
         self.raw.size
     }
 
-    /// `fsverity_file_digest`: parameters and root hash are right if this is the trusted digest.
+    /// `fsverity_file_digest`: parameters and root hash are right if this is the trusted digest. So a root hash that is
+    /// stored beside the tree needn't be trusted, as `CheckedReader` shows.
     pub fn digest(&self, root: &Root) -> Result<Digest, Error> {
         let mut digest = Digest::zeros(self.algorithm);
         library::file_digest(&self.raw, root.as_bytes(), digest.as_mut())?;
@@ -207,8 +215,8 @@ impl FileParams {
     }
 
     /// `fsverity_tree_size`.
-    pub fn tree_size(&self) -> Result<u64, Error> {
-        library::tree_size(&self.raw)
+    pub fn tree_size(&self) -> u64 {
+        library::tree_size(&self.raw).expect("the parameters were checked")
     }
 }
 
@@ -217,6 +225,8 @@ impl PartialEq for Params {
         self.settings() == other.settings()
     }
 }
+
+impl Eq for Params {}
 
 impl core::fmt::Debug for Params {
     fn fmt(&self, to: &mut core::fmt::Formatter<'_>) -> core::fmt::Result {
@@ -230,6 +240,8 @@ impl PartialEq for FileParams {
     }
 }
 
+impl Eq for FileParams {}
+
 impl core::fmt::Debug for FileParams {
     fn fmt(&self, to: &mut core::fmt::Formatter<'_>) -> core::fmt::Result {
         to.debug_tuple("FileParams").field(&self.settings()).field(&self.size()).finish()
@@ -237,80 +249,68 @@ impl core::fmt::Debug for FileParams {
 }
 
 /// Parameters of either kind of tree: [`Params`] or [`FileParams`].
-pub trait Tree: sealed::Sealed {}
+pub trait Tree: sealed::Sealed {
+    /// The size of the data, in bytes.
+    fn data_size(&self) -> u64 {
+        self.shape().data_size
+    }
+
+    /// The hash function.
+    fn algorithm(&self) -> Algorithm {
+        self.shape().algorithm
+    }
+
+    /// How many data blocks there are, with the last one of a file.
+    fn data_blocks(&self) -> u64 {
+        let (size, block_size) = (self.shape().data_size, self.shape().data_block_size as u64);
+        size / block_size + u64::from(size % block_size > 0)
+    }
+}
 
 impl Tree for Params {}
 impl Tree for FileParams {}
 
 pub(crate) mod sealed {
-    use super::{Calls, FileParams, Params};
+    use super::{Algorithm, Calls, FileParams, Params};
 
-    /// What paths and readers need of both. It can't be named outside of the crate.
+    /// It can't be named outside of the crate, and what it answers has nothing there.
     pub trait Sealed {
-        type Raw: Calls;
+        fn shape(&self) -> Shape<'_>;
+    }
 
-        fn raw(&self) -> &Self::Raw;
-        fn level_count(&self) -> usize;
-        fn digest_length(&self) -> usize;
-        fn data_block_size(&self) -> usize;
-        fn hash_block_size(&self) -> usize;
-        /// The size of the data, in bytes.
-        fn data_size(&self) -> u64;
+    /// What paths and readers need of both kinds of tree.
+    pub struct Shape<'a> {
+        pub(crate) calls: &'a dyn Calls,
+        pub(crate) algorithm: Algorithm,
+        pub(crate) levels: usize,
+        pub(crate) data_block_size: usize,
+        pub(crate) hash_block_size: usize,
+        pub(crate) data_size: u64,
     }
 
     impl Sealed for Params {
-        type Raw = crate::ffi::Params;
-
-        fn raw(&self) -> &Self::Raw {
-            &self.raw
-        }
-
-        fn level_count(&self) -> usize {
-            self.levels
-        }
-
-        fn digest_length(&self) -> usize {
-            self.algorithm.digest_length()
-        }
-
-        fn data_block_size(&self) -> usize {
-            self.raw.data_block_size as usize
-        }
-
-        fn hash_block_size(&self) -> usize {
-            self.raw.hash_block_size as usize
-        }
-
-        fn data_size(&self) -> u64 {
-            self.raw.data_blocks * u64::from(self.raw.data_block_size)
+        fn shape(&self) -> Shape<'_> {
+            Shape {
+                calls: &self.raw,
+                algorithm: self.algorithm,
+                levels: self.levels,
+                data_block_size: self.raw.data_block_size as usize,
+                hash_block_size: self.raw.hash_block_size as usize,
+                data_size: self.raw.data_blocks * u64::from(self.raw.data_block_size),
+            }
         }
     }
 
     impl Sealed for FileParams {
-        type Raw = crate::ffi::FileParams;
-
-        fn raw(&self) -> &Self::Raw {
-            &self.raw
-        }
-
-        fn level_count(&self) -> usize {
-            self.levels
-        }
-
-        fn digest_length(&self) -> usize {
-            self.algorithm.digest_length()
-        }
-
-        fn data_block_size(&self) -> usize {
-            self.raw.block_size as usize
-        }
-
-        fn hash_block_size(&self) -> usize {
-            self.raw.block_size as usize
-        }
-
-        fn data_size(&self) -> u64 {
-            self.raw.size
+        fn shape(&self) -> Shape<'_> {
+            Shape {
+                calls: &self.raw,
+                algorithm: self.algorithm,
+                levels: self.levels,
+                data_block_size: self.raw.block_size as usize,
+                hash_block_size: self.raw.block_size as usize,
+                data_size: self.raw.size,
+            }
         }
     }
 }

@@ -5,11 +5,11 @@ use core::ops::Deref;
 
 use crate::error::Error;
 use crate::hash::Root;
-use crate::library::Calls;
 use crate::params::Tree;
 
-/// A data block that was checked. Only a check makes one, and while it is there, its bytes can't change. The last block
-/// of a file has the file's bytes alone, without the zeros that fill it.
+/// A data block that was checked, by the parameters and root hash of whoever had it checked; the type doesn't say
+/// which. Only a check makes one, and while it is there, its bytes can't change. The last block of a file has the
+/// file's bytes alone, without the zeros that fill it.
 #[derive(Clone, Copy, Debug, PartialEq, Eq)]
 pub struct Block<'a> {
     index: u64,
@@ -17,7 +17,7 @@ pub struct Block<'a> {
 }
 
 impl<'a> Block<'a> {
-    /// Of the bytes of a whole block that was accepted.
+    /// Takes the bytes of a whole block that was accepted.
     pub(crate) fn accepted(tree: &impl Tree, index: u64, whole: &'a [u8]) -> Block<'a> {
         Block { index, bytes: &whole[..length_of(tree, index)] }
     }
@@ -41,15 +41,20 @@ impl Deref for Block<'_> {
     }
 }
 
+impl AsRef<[u8]> for Block<'_> {
+    fn as_ref(&self) -> &[u8] {
+        self.bytes
+    }
+}
+
 /// How many bytes of a data block are the data's: all but in the last block of a file.
 pub(crate) fn length_of(tree: &impl Tree, index: u64) -> usize {
-    let size = tree.data_block_size();
+    let size = tree.shape().data_block_size;
     let left = tree.data_size().saturating_sub(index.saturating_mul(size as u64));
     usize::try_from(left).map_or(size, |left| left.min(size))
 }
 
 /// The hash blocks above a data block, level 0 first. They needn't be right: [`Path::check`] finds that.
-#[derive(Clone)]
 pub struct Path<'a, T> {
     tree: &'a T,
     index: u64,
@@ -77,17 +82,18 @@ impl<'a, T: Tree> Path<'a, T> {
         F: FnMut(u64, &mut [u8]) -> Result<(), E>,
     {
         has_block(tree, index)?;
-        let mut bytes = vec![0; tree.level_count() * tree.hash_block_size()];
-        for (level, block) in bytes.chunks_exact_mut(tree.hash_block_size()).enumerate() {
-            read(tree.raw().hash_block_start(index, level)?, block)?;
+        let shape = tree.shape();
+        let mut bytes = vec![0; shape.levels * shape.hash_block_size];
+        for (level, block) in bytes.chunks_exact_mut(shape.hash_block_size).enumerate() {
+            read(shape.calls.hash_block_start(index, level)?, block)?;
         }
         Ok(Path { tree, index, bytes })
     }
 
-    /// Of their bytes, one after another.
+    /// Takes their bytes, one after another.
     pub fn new(tree: &'a T, index: u64, bytes: Vec<u8>) -> Result<Path<'a, T>, Error> {
         has_block(tree, index)?;
-        if bytes.len() != tree.level_count() * tree.hash_block_size() {
+        if bytes.len() != tree.shape().levels * tree.shape().hash_block_size {
             return Err(Error::BadLength);
         }
         Ok(Path { tree, index, bytes })
@@ -95,8 +101,14 @@ impl<'a, T: Tree> Path<'a, T> {
 
     /// Checks the data block (`verity_check_block`, `fsverity_check_block`).
     pub fn check<'b>(&self, root: &Root, block: &'b [u8]) -> Result<Block<'b>, Error> {
-        self.tree.raw().check_block(self.index, block, &self.bytes, root.as_bytes())?;
+        self.tree.shape().calls.check_block(self.index, block, &self.bytes, root.as_bytes())?;
         Ok(Block::accepted(self.tree, self.index, block))
+    }
+}
+
+impl<T> Clone for Path<'_, T> {
+    fn clone(&self) -> Self {
+        Path { tree: self.tree, index: self.index, bytes: self.bytes.clone() }
     }
 }
 

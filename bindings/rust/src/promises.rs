@@ -85,7 +85,7 @@ struct Changed;
 /// ```
 struct Overwritten;
 
-/// Parts that weren't checked aren't parameters.
+/// Settings that weren't checked aren't parameters.
 ///
 /// ```
 /// use verity::{Error, Params, Settings, TreeBuilder};
@@ -100,7 +100,7 @@ struct Overwritten;
 ///     TreeBuilder::new(settings)
 /// }
 /// ```
-struct UncheckedParts;
+struct UncheckedSettings;
 
 /// A superblock is compared with trusted parameters, or named trusted.
 ///
@@ -156,6 +156,23 @@ struct Confused;
 /// }
 /// ```
 struct Kept;
+
+/// What a tree says to paths and readers isn't said outside.
+///
+/// ```
+/// use verity::Tree;
+/// fn run(tree: &impl Tree) -> u64 {
+///     tree.data_blocks()
+/// }
+/// ```
+///
+/// ```compile_fail,E0616
+/// use verity::Tree;
+/// fn run(tree: &impl Tree) -> usize {
+///     tree.shape().levels
+/// }
+/// ```
+struct Unsealed;
 
 /// The library isn't called around the types.
 ///

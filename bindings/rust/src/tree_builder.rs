@@ -47,13 +47,19 @@ impl Deref for HashBlock<'_> {
     }
 }
 
+impl AsRef<[u8]> for HashBlock<'_> {
+    fn as_ref(&self) -> &[u8] {
+        self.bytes
+    }
+}
+
 /// A dm-verity tree, while its data comes: `verity_build_begin`, `verity_build_feed` and `verity_build_end`. A clone
 /// goes on by itself.
 ///
 /// ```
 /// use verity::{Error, Params, Settings, TreeBuilder};
 /// let params = Params::new(&Settings { data_blocks: 130, has_superblock: false, ..Settings::default() })?;
-/// let mut device = vec![0; params.hash_area_end()? as usize];
+/// let mut device = vec![0; params.hash_area_end() as usize];
 /// let mut builder = TreeBuilder::new(&params)?;
 /// for _ in 0..130 {
 ///     builder.update(&[7; 4096], |block| {
@@ -74,7 +80,7 @@ pub struct TreeBuilder {
 }
 
 impl TreeBuilder {
-    /// Of no data.
+    /// Begins with no data.
     pub fn new(params: &Params) -> Result<TreeBuilder, Error> {
         let mut memory = vec![0; library::build_memory(&params.raw)?];
         let build = library::build_begin(&params.raw, &mut memory)?;

@@ -6,6 +6,7 @@ mod support;
 
 use std::cell::Cell;
 use std::io::{self, copy, Cursor, Read, Seek, SeekFrom};
+use std::panic::{catch_unwind, resume_unwind, AssertUnwindSafe};
 
 use support::{fsverity, veritysetup, Random};
 use verity::{
@@ -34,6 +35,42 @@ fn flipped(random: &mut Random, bytes: &[u8]) -> Vec<u8> {
     let at = random.below(bytes.len());
     other[at] ^= 1 << random.below(8);
     other
+}
+
+/// A device of these bytes; `change` has the last word on what is read at a place.
+struct Device<'a, F>(Cursor<&'a [u8]>, F);
+
+impl<'a, F: FnMut(usize, &mut [u8]) -> io::Result<()>> Device<'a, F> {
+    fn new(bytes: &'a [u8], change: F) -> Self {
+        Device(Cursor::new(bytes), change)
+    }
+}
+
+impl<F: FnMut(usize, &mut [u8]) -> io::Result<()>> Read for Device<'_, F> {
+    fn read(&mut self, to: &mut [u8]) -> io::Result<usize> {
+        let start = self.0.position() as usize;
+        let count = self.0.read(to)?;
+        (self.1)(start, &mut to[..count])?;
+        Ok(count)
+    }
+}
+
+impl<F> Seek for Device<'_, F> {
+    fn seek(&mut self, to: SeekFrom) -> io::Result<u64> {
+        self.0.seek(to)
+    }
+}
+
+/// A device that gives each byte once as it is, and with a bit flipped from then on.
+fn changing(bytes: &[u8]) -> impl Read + Seek + '_ {
+    let mut given = vec![0; bytes.len()];
+    Device::new(bytes, move |start, read| {
+        for (byte, flip) in read.iter_mut().zip(&mut given[start..]) {
+            *byte ^= *flip;
+            *flip = 1;
+        }
+        Ok(())
+    })
 }
 
 /// What holds of either kind of tree: `data` and `hashes` are what Debian's program has read and written, and `size`
@@ -116,8 +153,11 @@ impl<T: Tree + Clone> Made<'_, T> {
     fn readers(&self, random: &mut Random) {
         let count = self.count();
         let mut all = Vec::new();
-        self.reader(self.data, self.hashes).read_to_end(&mut all).unwrap();
+        let mut reader = self.reader(self.data, self.hashes);
+        assert_eq!((reader.tree().data_size(), reader.tree().data_blocks()), (self.data.len() as u64, count));
+        reader.read_to_end(&mut all).unwrap();
         assert!(all == self.data);
+        assert_eq!(*reader.into_inner().0.get_ref(), self.data);
 
         // From anywhere, and block by block in any order.
         let mut reader = self.reader(self.data, self.hashes);
@@ -140,12 +180,13 @@ impl<T: Tree + Clone> Made<'_, T> {
         assert_eq!(reader.read(&mut [0]).unwrap(), 0);
         assert_eq!(reader.block(count).unwrap_err().kind(), io::ErrorKind::InvalidInput);
 
-        // A changed bit of the data: that block alone, each time it is asked for.
+        // A changed bit of the data: that block alone, each time it is asked for, and what was accepted before it is
+        // right after it.
         let wrong = flipped(random, self.data);
         let changed = (0..wrong.len()).find(|at| wrong[*at] != self.data[*at]).unwrap() / self.size;
         let level = if self.levels == 0 { self.levels } else { 0 };
         let mut reader = self.reader(&wrong, self.hashes);
-        for index in [changed as u64, count - 1, changed as u64, 0, changed as u64] {
+        for index in [changed as u64, count - 1, changed as u64, count - 1, 0, changed as u64, 0] {
             match reader.block(index) {
                 Ok(block) => assert!(index != changed as u64 && block.as_bytes() == self.data(index)),
                 Err(fault) => assert_eq!((index, level_of(&fault)), (changed as u64, Some(level))),
@@ -180,7 +221,7 @@ impl<T: Tree + Clone> Made<'_, T> {
             }
         }
 
-        // What has changed or is gone after it was accepted is refused, or hasn't to be read again.
+        // Another root hash, and devices that end too soon.
         let root = Root::new(&flipped(random, self.root.as_bytes())).unwrap();
         let reader = CheckedReader::new(self.tree.clone(), root, Cursor::new(self.data), Cursor::new(self.hashes));
         assert_eq!(level_of(&reader.unwrap().block(0).unwrap_err()), Some(self.levels));
@@ -194,6 +235,51 @@ impl<T: Tree + Clone> Made<'_, T> {
             let root = Root::new(&vec![0; length]).unwrap();
             let reader = CheckedReader::new(self.tree.clone(), root, io::empty(), io::empty());
             assert_eq!(reader.err(), Some(Error::BadRootLength).filter(|_| length != self.root.as_bytes().len()));
+        }
+    }
+
+    /// Devices that give something else each time, or fail: what is handed out is the data.
+    fn devices(&self, random: &mut Random) {
+        // In order each block is read once, so that all are right.
+        let count = self.count();
+        let (data, hashes) = (changing(self.data), changing(self.hashes));
+        let mut reader = CheckedReader::new(self.tree.clone(), self.root, data, hashes).unwrap();
+        for index in 0..count {
+            assert!(reader.block(index).unwrap().as_bytes() == self.data(index));
+        }
+        // The last one was accepted, and the others are read again.
+        assert!(reader.block(count - 1).unwrap().as_bytes() == self.data(count - 1));
+        for _ in 0..count.min(5) {
+            let index = random.below(count as usize) as u64;
+            if index < count - 1 {
+                assert_eq!(reader.block(index).unwrap_err().kind(), io::ErrorKind::InvalidData);
+            }
+        }
+
+        // A device that fails or panics when other bytes were read. A reader goes on with what it has accepted.
+        for panics in [false, true] {
+            let is_broken = Cell::new(false);
+            let data = Device::new(self.data, |_, read| {
+                if !is_broken.get() {
+                    return Ok(());
+                }
+                read.iter_mut().for_each(|byte| *byte ^= 1);
+                if panics {
+                    resume_unwind(Box::new("the device"));
+                }
+                Err(io::ErrorKind::TimedOut.into())
+            });
+            let mut reader = CheckedReader::new(self.tree.clone(), self.root, data, Cursor::new(self.hashes)).unwrap();
+            for index in 1..count.min(3) {
+                assert!(reader.block(0).unwrap().as_bytes() == self.data(0));
+                is_broken.set(true);
+                match catch_unwind(AssertUnwindSafe(|| reader.block(index).unwrap_err().kind())) {
+                    Ok(kind) => assert!(!panics && kind == io::ErrorKind::TimedOut),
+                    Err(what) => assert!(panics && what.is::<&str>()),
+                }
+                is_broken.set(false);
+                assert!(reader.block(0).unwrap().as_bytes() == self.data(0));
+            }
         }
     }
 }
@@ -270,9 +356,11 @@ fn images() {
         let params = Params::new(&settings).unwrap();
         assert_eq!(params.settings(), settings);
 
-        let start = settings.hash_offset as usize;
-        if has_superblock {
-            let superblock = params.superblock().unwrap();
+        let (start, end) = (settings.hash_offset as usize, params.hash_area_end() as usize);
+        let mut device = vec![0; end];
+        assert_eq!(params.superblock().is_some(), has_superblock);
+        if let Some(superblock) = params.superblock() {
+            device[start..][..512].copy_from_slice(&superblock);
             assert!(superblock[..] == hashes[start..][..512]);
             let read = Params::from_trusted_superblock(&superblock, settings.hash_offset).unwrap();
             assert_eq!(read, params);
@@ -294,9 +382,6 @@ fn images() {
             assert!(params.are_same(&elsewhere) && params != elsewhere);
         }
 
-        let end = params.hash_area_end().unwrap() as usize;
-        let mut device = hashes[..end.min(start + 512).min(hashes.len())].to_vec();
-        device.resize(end, 0);
         assert_eq!(builds(&mut random, &params, &data, &mut device).to_string(), root);
         // A single data block has no hash block: then the device may end before.
         assert!(device[..hashes.len().min(end)] == hashes[..hashes.len().min(end)]);
@@ -313,6 +398,7 @@ fn images() {
         };
         made.paths(&mut random);
         made.readers(&mut random);
+        made.devices(&mut random);
     }
 }
 
@@ -363,7 +449,7 @@ fn files() {
         let params = FileParams::new(&settings, size as u64).unwrap();
         assert_eq!((params.settings(), params.size()), (settings, size as u64));
         assert_eq!(params.digest(&root).unwrap().to_string(), digest);
-        assert_eq!(params.tree_size().unwrap(), tree.len() as u64);
+        assert_eq!(params.tree_size(), tree.len() as u64);
         let made = Made {
             tree: &params,
             data: &data,
@@ -375,22 +461,7 @@ fn files() {
         };
         made.paths(&mut random);
         made.readers(&mut random);
-    }
-}
-
-/// A device that counts how often it is read.
-struct Counted<'a>(Cursor<&'a [u8]>, &'a Cell<u64>);
-
-impl Read for Counted<'_> {
-    fn read(&mut self, to: &mut [u8]) -> io::Result<usize> {
-        self.1.set(self.1.get() + 1);
-        self.0.read(to)
-    }
-}
-
-impl Seek for Counted<'_> {
-    fn seek(&mut self, to: SeekFrom) -> io::Result<u64> {
-        self.0.seek(to)
+        made.devices(&mut random);
     }
 }
 
@@ -403,7 +474,10 @@ fn kept() {
     let (root, hashes) = veritysetup(&settings, &data);
     let params = Params::new(&settings).unwrap();
     let reads = Cell::new(0);
-    let device = Counted(Cursor::new(&hashes), &reads);
+    let device = Device::new(&hashes, |_, _| {
+        reads.set(reads.get() + 1);
+        Ok(())
+    });
     let mut reader = CheckedReader::new(params, root.parse().unwrap(), Cursor::new(&data), device).unwrap();
     let mut all = Vec::new();
     reader.read_to_end(&mut all).unwrap();

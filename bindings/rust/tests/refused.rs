@@ -1,10 +1,11 @@
 //! Each error, by a case that has just this one; texts; and what the types are.
 
+use std::collections::{BTreeSet, HashSet};
 use std::panic::{catch_unwind, AssertUnwindSafe};
 
 use verity::{
     Algorithm, Block, Digest, Error, FileDigest, FileParams, FileSettings, HashBlock, Params, Path, Root, Settings,
-    TreeBuilder,
+    Tree, TreeBuilder,
 };
 
 fn usual() -> Settings<'static> {
@@ -127,9 +128,19 @@ fn hashes() {
         let root = Root::new(&bytes).unwrap();
         assert_eq!((root.as_bytes(), root.to_string()), (&bytes[..], text.clone()));
         assert_eq!((text.parse(), text.to_uppercase().parse()), (Ok(root), Ok(root)));
+        assert_eq!((root.as_ref(), root.algorithm()), (&bytes[..], algorithm));
         let digest: Digest = format!("{name}:{text}").parse().unwrap();
+        assert_eq!((digest.as_ref(), digest.algorithm()), (&bytes[..], algorithm));
+        assert_eq!(Digest::new(algorithm, &bytes), Ok(digest));
+        assert_eq!(Digest::new(algorithm, &bytes[1..]), Err(Error::BadLength));
+        let mut last = bytes.clone();
+        last[length - 1] ^= 1;
+        let last = Root::new(&last).unwrap();
+        assert_eq!([root, last, root].into_iter().collect::<HashSet<Root>>().len(), 2);
+        assert_eq!([digest, digest].into_iter().collect::<BTreeSet<Digest>>().len(), 1);
         assert_eq!((digest.as_bytes(), digest.to_string()), (&bytes[..], format!("{name}:{text}")));
         let other = if name == "sha1" { "sha256" } else { "sha1" };
+        assert_eq!(Digest::new(other.parse().unwrap(), &bytes), Err(Error::BadLength));
         for wrong in [format!("{other}:{text}"), text.clone(), format!("{name}:{text}0"), format!("{name}:")] {
             assert_eq!(wrong.parse::<Digest>(), Err(Error::BadText));
         }
@@ -166,6 +177,39 @@ fn panics() {
     let mut whole = TreeBuilder::new(&params).unwrap();
     whole.update(&data, |_| Ok::<(), Error>(())).unwrap();
     assert_eq!(builder.root().unwrap(), whole.root().unwrap());
+}
+
+/// What only bytes that were read can have has a kind of its own.
+#[cfg(feature = "std")]
+#[test]
+fn kinds() {
+    use std::io::{self, ErrorKind};
+    for error in [
+        Error::Differs { level: 1 },
+        Error::OtherParams,
+        Error::ShortSuperblock,
+        Error::BadSignature,
+        Error::BadVersion,
+    ] {
+        let fault = io::Error::from(error);
+        assert_eq!(fault.kind(), ErrorKind::InvalidData);
+        assert_eq!(fault.get_ref().unwrap().downcast_ref(), Some(&error));
+    }
+    for error in [Error::NoSuchBlock, Error::BadLength, Error::BadHashType, Error::Waiting, Error::BadText] {
+        assert_eq!(io::Error::from(error).kind(), ErrorKind::InvalidInput);
+    }
+}
+
+/// A path of parameters that aren't known to have a clone has one.
+#[test]
+fn clones() {
+    fn twice<'a, T: Tree>(path: &Path<'a, T>) -> Path<'a, T> {
+        path.clone()
+    }
+    let params = Params::new(&Settings { data_blocks: 1, ..usual() }).unwrap();
+    let path = twice(&Path::new(&params, 0, Vec::new()).unwrap());
+    let root = Root::new(&[0; 32]).unwrap();
+    assert_eq!(path.check(&root, &[1; 4096]), Err(Error::Differs { level: 0 }));
 }
 
 /// Each type may go to another thread and be looked at by several.
