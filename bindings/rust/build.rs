@@ -4,7 +4,7 @@ use std::process::{exit, Command};
 use std::{env, fs};
 
 fn main() {
-    for name in ["VERITY_LIB_DIR", "VERITY_STATIC", "PKG_CONFIG_PATH"] {
+    for name in ["VERITY_LIB_DIR", "VERITY_STATIC", "PKG_CONFIG_PATH", "PKG_CONFIG_LIBDIR"] {
         println!("cargo:rerun-if-env-changed={name}");
     }
     let is_static = match env::var("VERITY_STATIC").as_deref() {

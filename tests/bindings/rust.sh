@@ -217,7 +217,10 @@ builds_not() {
         same "$name" yes "$(grep -qF "verity: $text" "$scratch/.built" && echo yes)"
     fi
 }
-sed -i 's/^Version: .*/Version: 1.4.0/' "$PKG_CONFIG_LIBDIR/verity.pc"
+# In a folder of its own: cargo asks pkg-config again where a variable is another.
+mkdir "$scratch/old"
+sed 's/^Version: .*/Version: 1.4.0/' "$PKG_CONFIG_LIBDIR/verity.pc" >"$scratch/old/verity.pc"
+export PKG_CONFIG_LIBDIR=$scratch/old
 builds_not 'a library that is too old' "pkg-config doesn't find" "${user[@]}"
 export PKG_CONFIG_LIBDIR=$scratch/none
 builds_not 'no library' "pkg-config doesn't find" "${user[@]}"
