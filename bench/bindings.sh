@@ -1,8 +1,8 @@
 #!/bin/bash
-# Measures the bindings of the library beside bare calls from C, over one file in the page cache, by the fs-verity digest
-# with SHA-256 and blocks of 4096 bytes, and beside hashlib's SHA-256. All of them take one shared library, the one for
-# this processor or that in LIB. What isn't there is left out. SIZE=MEBIBYTES and ROUNDS=COUNT change the defaults, and
-# PYTHON=PROGRAM is another interpreter.
+# Measures the bindings of the library beside bare calls from C, over one file in the page cache, by the fs-verity
+# digest with SHA-256 and blocks of 4096 bytes, and beside hashlib's SHA-256. All of them take one shared library, the
+# one for this processor or that in LIB. What isn't there is left out. SIZE=MEBIBYTES and ROUNDS=COUNT change the
+# defaults, and PYTHON=PROGRAM is another interpreter.
 set -eu
 cd "$(dirname "$0")/.."
 . tests/lib/checks.sh

@@ -1,6 +1,6 @@
 /*
- * digest.c - digest FILE prints the fs-verity digest of a file, fed to the library in pieces of 64 KiB: what the bindings
- * are measured beside.
+ * digest.c - digest FILE prints the fs-verity digest of a file, fed to the library in pieces of 64 KiB: what the
+ * bindings are measured beside.
  */
 #include <fcntl.h>
 #include <stdio.h>

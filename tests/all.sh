@@ -56,8 +56,8 @@ add_programs() {
         esac
         parts+=("$script")
     done
-    parts+=(tests/bindings/*.sh tests/definitions.sh tests/install.sh tests/completion.sh tests/running.sh tests/runtime.sh
-        tests/any_processor.sh tests/kinds.sh)
+    parts+=(tests/bindings/*.sh tests/definitions.sh tests/install.sh tests/completion.sh tests/running.sh
+        tests/runtime.sh tests/any_processor.sh tests/kinds.sh)
 }
 
 parts=(--beside tests/wrong_bodies.sh tests/gate.sh)
