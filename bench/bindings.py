@@ -16,6 +16,7 @@ DATA, EMPTY = f"{SCRATCH}/data", f"{SCRATCH}/empty"
 WAYS = {
     "C, pieces of 64 KiB": [f"{SCRATCH}/digest"],
     "Python, `update` with pieces of 64 KiB": [PYTHON, "bench/digest.py", "update"],
+    "Python, `update` with slices of a buffer of 64 KiB": [PYTHON, "bench/digest.py", "slices"],
     "Python, `file_digest`": [PYTHON, "bench/digest.py", "file_digest"],
     "Python, `hashlib.sha256` with pieces of 64 KiB": [PYTHON, "bench/digest.py", "sha256"],
 }

@@ -165,7 +165,7 @@ def view(data: ReadableBuffer) -> tuple[Any, Any, int]:
     three lives, they stay there, and the object can't be resized. An object whose bytes don't stand one after another
     is refused by a BufferError."""
     found: Any
-    whole = memoryview(data)
+    whole = data if type(data) is memoryview else memoryview(data)
     length = whole.nbytes
     if whole.readonly or not whole.c_contiguous:
         found = View()
