@@ -30,9 +30,12 @@ mod algorithm;
 #[cfg(feature = "std")]
 mod checked_reader;
 mod error;
+// Without `std` there is no reader, which alone checks links.
+#[cfg_attr(not(feature = "std"), allow(dead_code))]
 mod ffi;
 mod file_digest;
 mod hash;
+#[cfg_attr(not(feature = "std"), allow(dead_code))]
 mod library;
 mod params;
 mod path;
