@@ -1,4 +1,4 @@
-#!/bin/bash
+#!/usr/bin/env bash
 # What a reader has to believe of status 0 doesn't grow unseen: the files whose definitions its clauses speak of, as
 # tests/definitions.py finds them, are those that docs/DEFINITIONS.md lists first, and their definitions are no longer.
 set -u

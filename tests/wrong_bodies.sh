@@ -1,4 +1,4 @@
-#!/bin/bash
+#!/usr/bin/env bash
 # Each wrong body is refused, for a contract that it doesn't meet (tests/wrong_bodies/wrong_bodies.py). First it is seen
 # that a body which shows nothing counts as failed, unless words are given.
 set -u
@@ -29,7 +29,7 @@ done <"$scratch/expected"
 # the number of bodies.
 same 'bodies that show nothing: lines' "$(wc -l <"$scratch/expected")" "$(grep -cE '^(refused|caught|FAILED) ' "$scratch/said")"
 failures=$(grep -c '^FAILED ' "$scratch/expected")
-passes=$(($(grep -cv '^FAILED ' "$scratch/expected") + 12))
+passes=$(($(grep -cv '^FAILED ' "$scratch/expected") + 13))
 same 'bodies that show nothing: counts' "$passes passed, $failures failed" "$(tail -n 1 "$scratch/said")"
 if [ "$failed" -gt 0 ]; then cat "$scratch/said"; fi
 if said=$(tests/wrong_bodies/lines.py); then pass; else fail 'what is read off lines' "$said"; fi

@@ -1,4 +1,4 @@
-#!/bin/bash
+#!/usr/bin/env bash
 # Names, root hashes and values of options with a blank at their ends: a name is taken with it, although there is a file
 # of the name without it, and all others are refused.
 set -u

@@ -1,4 +1,4 @@
-#!/bin/bash
+#!/usr/bin/env bash
 # Files that become shorter or longer while the programs read them, and two runs over one HASH. The programs are stopped
 # by a signal meanwhile, so it is known how much they have read.
 set -u

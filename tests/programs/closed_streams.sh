@@ -1,4 +1,4 @@
-#!/bin/bash
+#!/usr/bin/env bash
 # Runs both programs with each combination of closed standard streams: what they leave in files is the same, and nothing
 # meant for a stream lands in a file. And where they may have only so many files open, the null devices in place of the
 # streams among them.

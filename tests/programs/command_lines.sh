@@ -1,4 +1,4 @@
-#!/bin/bash
+#!/usr/bin/env bash
 # Runs bin/veritysetup with command lines that it refuses: clap's whole text, and the usage.
 set -u
 cd "$(dirname "$0")/../.."

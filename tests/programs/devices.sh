@@ -1,4 +1,4 @@
-#!/bin/bash
+#!/usr/bin/env bash
 # Runs the programs over block devices: loop devices over files of this script, and further nodes of the same devices.
 set -u
 cd "$(dirname "$0")/../.."

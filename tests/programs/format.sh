@@ -1,4 +1,4 @@
-#!/bin/bash
+#!/usr/bin/env bash
 # Runs bin/veritysetup format as a user would: images, files, memory and streams.
 set -u
 cd "$(dirname "$0")/../.."

@@ -1,4 +1,4 @@
-#!/bin/bash
+#!/usr/bin/env bash
 # Runs bin/veritysetup format as a user would: options and drawn values.
 set -u
 cd "$(dirname "$0")/../.."

@@ -1,4 +1,4 @@
-#!/bin/bash
+#!/usr/bin/env bash
 # Runs bin/fsverity as a user would: files, output files, memory and streams, with SHA-256, blocks of 4096 and no salt.
 set -u
 cd "$(dirname "$0")/../.."

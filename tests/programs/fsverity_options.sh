@@ -1,4 +1,4 @@
-#!/bin/bash
+#!/usr/bin/env bash
 # Runs bin/fsverity as a user would: options, forms of the line, and command lines.
 set -u
 cd "$(dirname "$0")/../.."

@@ -1,4 +1,4 @@
-#!/bin/bash
+#!/usr/bin/env bash
 # Runs of bin/veritysetup format that a signal ends: a fresh hash file has no superblock then, and an older image keeps
 # its superblock, on a tree of which verify names the first block that is not its own.
 set -u

@@ -1,4 +1,4 @@
-#!/bin/bash
+#!/usr/bin/env bash
 # Runs the programs where there are no device files, as in a container without any: /dev is an empty folder there.
 set -u
 cd "$(dirname "$0")/../.."

@@ -1,4 +1,4 @@
-#!/bin/bash
+#!/usr/bin/env bash
 # Runs both programs with SHA-512 as a user would: an image of 17 data blocks in each hash type, and digests with and
 # without a salt, whose bytes come from sha512sum.
 set -u

@@ -1,4 +1,4 @@
-#!/bin/bash
+#!/usr/bin/env bash
 # Runs the programs at the sizes that users have: many blocks and levels, large files, far offsets and many names. Most
 # of the data are zeros, so files are sparse, and few digests make a whole tree.
 set -u

@@ -1,4 +1,4 @@
-#!/bin/bash
+#!/usr/bin/env bash
 # Both programs do their work within the stack that README.md names: all commands, with blocks that are read into each
 # window, also at their largest, and with blocks that are hashed one by one.
 set -u

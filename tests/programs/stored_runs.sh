@@ -1,4 +1,4 @@
-#!/bin/bash
+#!/usr/bin/env bash
 # Runs both programs as the gate does: on the words and the input that stand in their crates, with the output and the
 # status that stand there too.
 set -u

@@ -1,4 +1,4 @@
-#!/bin/bash
+#!/usr/bin/env bash
 # Runs bin/veritysetup dump and verify as a user would.
 set -u
 cd "$(dirname "$0")/../.."

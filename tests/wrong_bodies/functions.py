@@ -28,13 +28,20 @@ def without_generics(text):
 
 def head_name(head):
     """The name that a check gives an impl's or a trait's functions: the type's, with the trait's after it, and the names of
-    the trait's arguments that are no parameters of the impl."""
+    the trait's arguments that are no parameters of the impl. If an argument of the type itself is no parameter, the names
+    of all of its arguments stand after it, each after a plus sign."""
     text = head.split(" where ")[0].strip()
-    parts = re.split(r"\bfor\b(?!\s*<)", without_parameters(text))
+    rest = without_parameters(text)
+    parts = re.split(r"\bfor\b(?!\s*<)", rest)
     names = [re.findall(r"\w+", without_generics(it))[-1:] for it in parts]
     if len(parts) > 1:
         names[0] += [it for it in re.findall(r"(\w+)\s*[,>]", parts[0]) if len(it) > 1]
-    return "".join(it for name in reversed(names) for it in name)
+        return "".join(it for name in reversed(names) for it in name)
+    parameters = re.findall(r"[<,]\s*(?:const\s+)?(\w+)", text[:len(text) - len(rest)])
+    arguments = re.findall(r"(?<!')\b\w+", rest.partition("<")[2])
+    if set(arguments) <= set(parameters):
+        arguments = []
+    return "+".join([*names[0], *arguments])
 
 
 def without_parameters(text):
@@ -81,7 +88,10 @@ def functions_in(path, text, types):
                 opened.append(None)
             else:
                 name = head[3] if head[0] in ("fn", "mod") else head_name(text[head[2]:it.start()])
-                opened.append((head[0], head[1], it.end(), types.get(name, name) if head[0] == "impl" else name))
+                if head[0] == "impl":
+                    own, plus, arguments = name.partition("+")
+                    name = types.get(own, own) + plus + arguments
+                opened.append((head[0], head[1], it.end(), name))
                 head = None
             is_clause = False
         elif word == "}" and opened:

@@ -234,6 +234,22 @@ pub fn minimum(x: u8, y: u8) -> u8
 {
     if x < y { x } else { y }
 }
+
+/// Something beside a number.
+#[derive(Clone, Copy)]
+pub struct Beside<T> {
+    other: T,
+    beside: u8,
+}
+
+impl Beside<Least> {
+    /// The number that isn't the least.
+    pub fn number_beside(self) -> u8
+        ensures { result ≡ self.beside }
+    {
+        self.beside
+    }
+}
 END
 }
 
@@ -296,6 +312,11 @@ new: Least::number((at_most(one, other), Least::of(one, other)).0)
 old: errors.saturating_add(1)
 new: errors.saturating_add((1, 2).1)
 # right: errors.saturating_add((1, 2).0)
+
+# least_in_place_of_the_number_beside
+old:         self.beside
+new:         (self.beside, self.other.number).1
+# right:         (self.beside, self.other.number).0
 
 # means_the_same
 old: if x < y
@@ -425,6 +446,7 @@ refused small is_refused_in_a_second_function_too: one_more: returns
 refused small two_functions_and_the_right_one: same: returns
 refused small error_counted_twice_with_its_twin: count_error: returns-then-is_err-clause-count (open at a limit of the search)
 refused small number_in_place_of_the_least: src/lib.rt:33:
+refused small least_in_place_of_the_number_beside: Beside+Least::number_beside: returns
 caught small zero_of_the_tests: the_lesser_is_at_most_each of small_tests
 caught small refused_and_caught: the_lesser_is_at_most_each of small_tests
 FAILED small means_the_same: minimum is still proved

@@ -5,4 +5,5 @@ pub mod Writing
 pub mod NullFiles
 pub mod SystemWords
 pub mod InnerStreams
+pub mod Progress
 pub mod FileIdentities

@@ -2,3 +2,4 @@ pub mod RunLemmas
 pub mod DigestLemmas
 pub mod FileLemmas
 pub mod FormLemmas
+pub mod OutcomeLemmas

@@ -2,7 +2,7 @@
 use Rattle.std.proofs.Common.{◌≡◌, ◌≢◌, ℕ, zero, suc, ◌+◌, ◌<◌, ◌≤◌, List, [], ◌∷◌, ◌++◌, length, take, Bool, true}
 use Rattle.std.proofs.Common.{false, inl, inr, Option, Some, None, Result, Ok, Err, refl, ap, sym, subst, ◌∙◌, not}
 use Rattle.std.proofs.Common.{add-one, append-nil, arith}
-use Rattle.std.specs.Prelude.{◌↔◌, ◌⊎◌, IfErr, IsErr, IsErrAnd, OnOk, slice_get}
+use Rattle.std.specs.Prelude.{◌↔◌, ◌⊎◌, IfErr, IsErr, IsErrAnd, IsOk, OnOk, slice_get}
 use Rattle.std.proofs.lemmas.Option.{get_or_from_slice_get}
 use Rattle.std.specs.List.{prefix_len}
 use Rattle.std.specs.Io.KnownBytes.{Appends, Keeps}
@@ -161,22 +161,22 @@ stops_run s run step f NotWritten told same index within le after one =
     λ t. before_first_without_digest s run.files f (rw (same, index) at (one (told.0 t))) (within t)
 
 -- what holds of a run that is done
-pub of_done : {P : Type 0} (outcome : Result (Unit {0}) Fault) → outcome ≡ Ok tt → OnOk outcome P → P
-of_done (Ok unit) done holds = holds
-of_done (Err fault) done holds = cc
+pub of_done : {X P : Type 0} (outcome : Result X Fault) → IsOk outcome → OnOk outcome P → P
+of_done (Ok done) ok holds = holds
+of_done (Err fault) ok holds = cc
 
 -- a run whose faults are failures is done or failed
-pub status_either : (outcome : Result (Unit {0}) Fault) → IfErr outcome (λ fault. status_of fault ≡ status_failed) →
+pub status_either : {X : Type 0} (outcome : Result X Fault) → IfErr outcome (λ fault. status_of fault ≡ status_failed) →
     (result_status outcome ≡ 0) ⊎ (result_status outcome ≡ 1)
-status_either (Ok unit) fails = inl refl
+status_either (Ok done) fails = inl refl
 status_either (Err fault) fails = inr fails
 
 -- a run that ended early did so at a file, with the message of its fault
-pub ended_with : (run : DigestInput) (opener : OpenerChange) (out out' msgs msgs' : Option (List ℕ))
-    (outcome : Result (Unit {0}) Fault) (status : ℕ) → status ≡ result_status outcome → status ≡ 1 →
+pub ended_with : {X : Type 0} (run : DigestInput) (opener : OpenerChange) (out out' msgs msgs' : Option (List ℕ))
+    (outcome : Result X Fault) (status : ℕ) → status ≡ result_status outcome → status ≡ 1 →
     IfErr outcome (StopsRun run opener out out') →
     IsTold outcome msgs msgs' → EndsAt run opener out out' msgs msgs'
-ended_with run opener out out' msgs msgs' (Ok unit) status is one stops message =
+ended_with run opener out out' msgs msgs' (Ok done) status is one stops message =
     let none : status ≡ 0 = is in
     absurd (omega (arith, none, one))
 ended_with run opener out out' msgs msgs' (Err (ending.Words cause)) status is one stops message = absurd stops

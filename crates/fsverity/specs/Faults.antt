@@ -70,11 +70,11 @@ side_of (fault.Outputs cause name) = output_side cause
 side_of cause = None
 
 -- the status of a run, by how it ended
-abbrev pub result_status : Result (Unit {0}) Fault → ℕ
+abbrev pub result_status : {X : Type 0} → Result X Fault → ℕ
 result_status (Ok done) = status_done
 result_status (Err cause) = status_of cause
 
 -- what a run tells, by how it ended: nothing if all is done, and otherwise the fault's message, or its first bytes
-abbrev pub IsTold : Result (Unit {0}) Fault → Option (List ℕ) → Option (List ℕ) → Type 0
+abbrev pub IsTold : {X : Type 0} → Result X Fault → Option (List ℕ) → Option (List ℕ) → Type 0
 IsTold (Ok done) before after = Keeps before after
 IsTold (Err cause) before after = IfSome (message_of cause) (λ text. AppendsPrefix text before after)

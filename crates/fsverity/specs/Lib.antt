@@ -5,3 +5,4 @@ pub mod Runs
 pub mod Texts
 pub mod Faults
 pub mod Program
+pub mod OutputFiles

@@ -1,11 +1,17 @@
--- The program over any runtime: the settings that a command line chooses, and what one without output files prints.
+-- The program over any runtime: the settings that a command line chooses, what it prints, and what a value says of it
+-- that a step answers.
 -- For the private steps; not needed to read a public contract.
-use Rattle.std.specs.Prelude.{◌||◌, Bool, ℕ, List, [], Option, Result, is_some, length, map, option_map, string_bytes}
+use Rattle.std.specs.Prelude.{◌≡◌, ◌≢◌, ◌||◌, Bool, true, ℕ, List, [], ◌∷◌, Option, Result, is_some, length, map}
+use Rattle.std.specs.Prelude.{option_copied, option_map, string_bytes}
 use Rattle.std.specs.Io.KnownBytes.{Appends}
 use Rattle.verity_plan.specs.Settings.{TreeSettingsFields}
 use Rattle.fsverity.specs.Options.Settings.{digest_settings}
 use Rattle.fsverity.specs.Runs.Digested.{AreLines}
 use Rattle.fsverity.specs.Texts.Lines.{form_of}
+use Rattle.fsverity.specs.declared.program.done.Done.{Done}
+use Rattle.fsverity.specs.declared.program.done.Done.TheVariants.{Printed, Written}
+use Rattle.fsverity.specs.declared.program.printed_files.PrintedFiles.{PrintedFiles}
+use Rattle.fsverity.specs.declared.program.output_files.written_files.WrittenFiles.{WrittenFiles}
 use Rattle.fsverity.specs.declared.options.option_fault.FsOptionFault.{FsOptionFault}
 use Rattle.fsverity.specs.declared.texts.digest_lines.Form.{Form}
 use Rattle.fsverity.specs.declared.words.line.Line.{Line}
@@ -25,6 +31,30 @@ PrintsLines s form names out out' = (lines : List ℕ)
     × AreLines (record { settings = s; form = form; names = names }) ⊥ [] (length names) lines
     × Appends out out' lines
 
--- what a command line without output files asks for: each file that it names has its line, in its form
+-- what a command line asks to be printed: each file that it names has its line, in its form
 abbrev pub CarriesOut : TreeSettingsFields → Line → Option (List ℕ) → Option (List ℕ) → Type 0
 CarriesOut s line = PrintsLines s (form_of line.compact line.for_builtin_sig) (map string_bytes line.files.items)
+
+-- the value says that by these settings and in the line's form as many lines were written as the line names files, and
+-- that it names no output file of one of them
+pub record SaysPrintedFor (s : TreeSettingsFields) (line : Line) (done : PrintedFiles) : Type 0 where
+  pub settings : done.printed.settings ≡ s
+  pub form : done.printed.form ≡ form_of line.compact line.for_builtin_sig
+  pub lines : done.printed.lines ≡ length line.files.items
+  pub no_output : names_output line ≡ true → length line.files.items ≢ 1
+
+-- the value says that all that the line asks for was written: of its one file, by these settings and in its form, to
+-- the output files that it names
+pub record SaysWrittenFor (s : TreeSettingsFields) (line : Line) (done : WrittenFiles) : Type 0 where
+  pub settings : done.written.task.settings ≡ s
+  pub form : done.written.task.form ≡ form_of line.compact line.for_builtin_sig
+  pub name : done.written.task.name.now ∷ [] ≡ map string_bytes line.files.items
+  pub wants_tree : done.written.task.wants_tree ≡ is_some line.out_merkle_tree
+  pub wants_descriptor : done.written.task.wants_descriptor ≡ is_some line.out_descriptor
+  pub tree : option_copied done.names.tree ≡ option_map string_bytes line.out_merkle_tree
+  pub descriptor : option_copied done.names.descriptor ≡ option_map string_bytes line.out_descriptor
+
+-- the value says that what the line asks for was done
+abbrev pub SaysDone : TreeSettingsFields → Line → Done → Type 0
+SaysDone s line (Printed done) = SaysPrintedFor s line done
+SaysDone s line (Written done) = SaysWrittenFor s line done

@@ -1,10 +1,11 @@
 //! Every way in which a run ends early, with its status and its message.
-ghost use Rattle.std.specs.Prelude.{◌≡◌, ◌<◌, Ok, IfSome, IsTrue};
+ghost use Rattle.std.specs.Prelude.{◌≡◌, ◌<◌, IfSome, IsOk, IsTrue};
 ghost use Rattle.std.specs.Io.KnownBytes.{Appends};
 ghost use Rattle.command_line.specs.Writing.{AppendsPrefix};
 ghost use Rattle.fsverity.specs.Faults.{IsStatus, IsTold, message_of, result_status, status_of};
 ghost use Rattle.fsverity.specs.Texts.Messages.{digest_message, output_fault_message, run_fault_message};
 
+use crate::runs::completed::Completed;
 use crate::texts::messages::{CANNOT_OPEN, DESCRIPTOR_UNWRITTEN, OUTPUT_UNWRITTEN};
 use crate::words::usage::USAGE;
 use crate::{
@@ -140,16 +141,20 @@ fn write_digest_message<M: Write>(
 }
 
 /// Ends a run: writes the message of its fault, if there is one, as far as memory and `msgs` allow, and gives the
-/// status.
-pub(crate) fn end_run<M: Write>(alloc: Global, outcome: Result<(), Fault<'_>>, msgs: &mut M) -> u8
+/// status. All is done only where the outcome holds what a run has answered.
+pub(crate) fn end_run<T: Completed + Drop, M: Write>(
+    alloc: Global,
+    outcome: Result<T, Fault<'_>>,
+    msgs: &mut M,
+) -> u8
     ensures status { result ≡ result_status outcome.entry }
     ensures message { IsTold outcome.entry (M.contents msgs.old) (M.contents msgs.new) }
     ensures known { IsStatus result }
-    ensures done { result ≡ 0 → outcome.entry ≡ Ok tt }
+    ensures done { result ≡ 0 → IsOk outcome.entry }
     ensures quiet { result ≡ 0 → msgs.new ≡ msgs.old }
 {
     match outcome {
-        Ok(()) => STATUS_DONE,
+        Ok(_) => STATUS_DONE,
         Err(fault) => {
             fault.write_message(alloc, msgs);
             fault.status()

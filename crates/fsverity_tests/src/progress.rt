@@ -36,18 +36,26 @@ fn written(alloc: Global, run: Run, step: Option<u64>) -> io::Result<(Vec<u8>, u
     Ok((disk.standard_error()?, disk.looks()?, is_done))
 }
 
-/// Runs, how many progress lines they show of how many MiB, and how their other output begins.
-const RUNS: [(Run, (u64, u64), &str); 9] = [
-    (("fsverity digest small", 0, false), (0, 0), "sha256:"),
-    (("fsverity digest long", 0, false), (16, 1), "sha256:"),
+/// How many hundredths are done after each 64 KiB of the file large.
+const OF_LARGE: [u64; 4] = [24, 49, 74, 99];
+
+/// The same of the file long.
+const OF_LONG: [u64; 16] = [
+    6, 12, 18, 24, 31, 37, 43, 49, 56, 62, 68, 74, 81, 87, 93, 99,
+];
+
+/// Runs, the hundredths in their lines and of how many MiB, and how their other output begins.
+const RUNS: [(Run, (&[u64], u64), &str); 9] = [
+    (("fsverity digest small", 0, false), (&[], 0), "sha256:"),
+    (("fsverity digest long", 0, false), (&OF_LONG, 1), "sha256:"),
     (
         ("fsverity digest large missing", 0, false),
-        (4, 0),
+        (&OF_LARGE, 0),
         "sha256:",
     ),
     (
         ("fsverity digest large --out-descriptor made", 0, false),
-        (4, 0),
+        (&OF_LARGE, 0),
         "sha256:",
     ),
     (
@@ -56,15 +64,15 @@ const RUNS: [(Run, (u64, u64), &str); 9] = [
             9,
             false,
         ),
-        (1, 0),
+        (&[24], 0),
         "fsverity: cannot write tree block 8 of level 0.\n",
     ),
-    (("fsverity digest two empty", 0, false), (0, 0), "sha256:"),
-    (("fsverity digest large", 0, true), (4, 0), ""),
-    (("fsverity digest empty large", 0, true), (4, 0), ""),
+    (("fsverity digest two empty", 0, false), (&[], 0), "sha256:"),
+    (("fsverity digest large", 0, true), (&OF_LARGE, 0), ""),
+    (("fsverity digest empty large", 0, true), (&OF_LARGE, 0), ""),
     (
         ("fsverity digest large --out-descriptor made", 0, true),
-        (4, 0),
+        (&OF_LARGE, 0),
         "",
     ),
 ];
@@ -72,10 +80,10 @@ const RUNS: [(Run, (u64, u64), &str); 9] = [
 #[test]
 fn a_terminal_is_told_how_far_it_is(rt: HostRuntime) -> Result<(), Fail> {
     let alloc = rt.alloc();
-    for &(run, (count, total), start) in &RUNS {
+    for &(run, (hundredths, total), start) in &RUNS {
         let (plain, _, _) = written(alloc, run, None)?;
         let (shown, looks, is_done) = written(alloc, run, Some(STEP))?;
-        let expected = shown_before(alloc, count, total, plain.as_slice())?;
+        let expected = shown_before(alloc, hundredths, total, plain.as_slice())?;
         let found = (is_plain(plain.as_slice(), start), is_done, looks, shown);
         assert_eq!(rt; found, (true, true, 1, expected), "at {}", run.0);
     }

@@ -88,24 +88,27 @@ pub handed-out-stays : (p : PlanFields) (levels level : ℕ) (fed more opened : 
 handed-out-stays p levels level fed more opened planned h most =
     closed-stays p levels level fed more opened planned h.ends h.closed most
 
--- after one call the bytes are those before it and those that are fed with it
+-- after one call the settings are those before it, and the bytes those before it and those that are fed with it
 call-fed : (b after : FileBuilder) (memory room fed : List ℕ) (call : FileCall) → IsAfterCall b memory call after room
-    → IsFedFile b memory fed → IsFedFile after room (fed ++ bytes_fed call)
-call-fed b after memory room fed (feeds piece) step h = step fed h
-call-fed b after memory room fed asks step h = rw (append-nil, step.0) (step.1 fed h)
+    → IsFedFile b memory fed → (after.settings ≡ b.settings) × IsFedFile after room (fed ++ bytes_fed call)
+call-fed b after memory room fed (feeds piece) step h = (step.0, step.1 fed h)
+call-fed b after memory room fed asks step h = rw (append-nil, step.0) (refl, step.1 fed h)
 
 -- and after several
 pub asked-joined : (b after : FileBuilder) (memory room fed : List ℕ) (calls : List FileCall) → IsFedFile b memory fed
-    → IsAfterCalls b memory calls after room → IsFedFile after room (fed ++ flat_map bytes_fed calls)
+    → IsAfterCalls b memory calls after room
+    → (after.settings ≡ b.settings) × IsFedFile after room (fed ++ flat_map bytes_fed calls)
 unfolding IsAfterCalls
-asked-joined b after memory room fed [] h calls = rw (append-nil, calls.1, calls.0) h
+asked-joined b after memory room fed [] h calls = rw (append-nil, calls.1, calls.0) (refl, h)
 asked-joined b after memory room fed (call ∷ rest) h calls =
-    rw (← append_assoc) (asked-joined calls.0 after calls.1 room (fed ++ bytes_fed call) rest
-    (call-fed b calls.0 memory calls.1 fed call calls.2 h) calls.3)
+    let first = call-fed b calls.0 memory calls.1 fed call calls.2 h in
+    let others = asked-joined calls.0 after calls.1 room (fed ++ bytes_fed call) rest first.1 calls.3 in
+    rw (← append_assoc) (others.0 ∙ first.0, others.1)
 
 -- pieces are fed one after another
 pub pieces-joined : (b after : FileBuilder) (memory room fed : List ℕ) (pieces : List (List ℕ)) → IsFedFile b memory fed
-    → FeedsPieces b memory pieces after room → IsFedFile after room (fed ++ flat_map (λ piece. piece) pieces)
+    → FeedsPieces b memory pieces after room
+    → (after.settings ≡ b.settings) × IsFedFile after room (fed ++ flat_map (λ piece. piece) pieces)
 pieces-joined b after memory room fed pieces h calls =
     rw (← flat_map-map bytes_fed feeds pieces) (asked-joined b after memory room fed (map feeds pieces) h calls)
 

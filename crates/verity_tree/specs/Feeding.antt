@@ -134,11 +134,11 @@ abbrev pub bytes_fed : FileCall → List ℕ
 bytes_fed (feeds piece) = piece
 bytes_fed asks = []
 
--- builder and memory after it: `feed` appends the piece to what was fed, and `end` leaves that, and the builder,
--- as they were
+-- builder and memory after it: `feed` appends the piece to what was fed and keeps the settings, and `end` leaves that,
+-- and the builder, as they were
 abbrev pub IsAfterCall : FileBuilder → List ℕ → FileCall → FileBuilder → List ℕ → Type 0
-IsAfterCall b memory (feeds piece) after memory_after =
-    (fed : List ℕ) → IsFedFile b memory fed → IsFedFile after memory_after (fed ++ piece)
+IsAfterCall b memory (feeds piece) after memory_after = (after.settings ≡ b.settings)
+    × ((fed : List ℕ) → IsFedFile b memory fed → IsFedFile after memory_after (fed ++ piece))
 IsAfterCall b memory asks after memory_after =
     (after ≡ b) × ((fed : List ℕ) → IsFedFile b memory fed → IsFedFile b memory_after fed)
 

@@ -152,17 +152,20 @@ pub fn accepted_links_are_true()
         ⊎ IsCollision p.settings block (true_chain p.settings (data_blocks p bytes) i (level_count_of p)) }
 {}
 
-/// A file that is fed in pieces, whatever they are, is their bytes joined; so `end` answers its root hash.
+/// A file that is fed in pieces, whatever they are, is their bytes joined, and the settings stay; so `end` answers its
+/// root hash by the settings at the beginning.
 pub fn any_pieces_are_the_file()
     ensures { (b after : FileBuilder) (memory memory_after : List ℕ) (pieces : List (List ℕ)) → IsFedFile b memory []
         → FeedsPieces b memory pieces after memory_after
-        → IsFedFile after memory_after (flat_map (λ piece. piece) pieces) }
+        → (after.settings ≡ b.settings) × IsFedFile after memory_after (flat_map (λ piece. piece) pieces) }
 {}
 
-/// Where the root hash is asked for between pieces, as often as one likes, the file is still their bytes joined.
+/// Where the root hash is asked for between pieces, as often as one likes, the file is still their bytes joined, and the
+/// settings stay.
 pub fn asking_between_pieces_changes_nothing()
     ensures { (b after : FileBuilder) (memory memory_after : List ℕ) (calls : List FileCall) → IsFedFile b memory []
-        → IsAfterCalls b memory calls after memory_after → IsFedFile after memory_after (flat_map bytes_fed calls) }
+        → IsAfterCalls b memory calls after memory_after
+        → (after.settings ≡ b.settings) × IsFedFile after memory_after (flat_map bytes_fed calls) }
 {}
 
 /// A tree that is built in any calls is what `build` leaves on the device: its data are the bytes that were taken, joined,

@@ -53,7 +53,7 @@ without-superblock s blocks before none = rw none refl
 -- ---- the tree
 
 -- the superblock ends before the hash area
-superblock-before : (s : SettingsFields) → AreWhole s → s.superblock ≡ true
+pub superblock-before : (s : SettingsFields) → AreWhole s → s.superblock ≡ true
     → s.offset + 512 ≤ s.plan.base * s.plan.settings.hash_block
 superblock-before s whole has =
     let size = s.plan.settings.hash_block in
@@ -117,14 +117,14 @@ within_false first end i e = elim (cases_lt i first) [
 ]
 
 -- a byte that isn't written is outside the tree's range
-beside-tree : (s : SettingsFields) (i : ℕ) → is_written s i ≡ false
+pub beside-tree : (s : SettingsFields) (i : ℕ) → is_written s i ≡ false
     → (i < s.plan.base * s.plan.settings.hash_block) ⊎ (end_place_of s.plan * s.plan.settings.hash_block ≤ i)
 beside-tree s i miss =
     within_false (s.plan.base * s.plan.settings.hash_block) (end_place_of s.plan * s.plan.settings.hash_block) i
     (both_false _ _ miss).1
 
 -- and outside the superblock
-beside-superblock : (s : SettingsFields) (i : ℕ) → s.superblock ≡ true → is_written s i ≡ false
+pub beside-superblock : (s : SettingsFields) (i : ℕ) → s.superblock ≡ true → is_written s i ≡ false
     → (i < s.offset) ⊎ (s.offset + 512 ≤ i)
 beside-superblock s i has miss =
     let outside : (s.superblock && is_within s.offset (s.offset + 512) i) ≡ false = (both_false _ _ miss).0 in
@@ -144,7 +144,7 @@ formatted-superblock s blocks before whole has =
     (sym (length-superblock_bytes v (superblock-valid s whole)))
     ∙ put-here tree s.offset (superblock_bytes v)
 
-formatted-others : (s : SettingsFields) (source before : List ℕ) → AreWhole s → (i : ℕ) → is_written s i ≡ false
+pub formatted-others : (s : SettingsFields) (source before : List ℕ) → AreWhole s → (i : ℕ) → is_written s i ≡ false
     → get_or (formatted_device s (data_blocks s.plan source) before) i 0 ≡ get_or before i 0
 formatted-others s source before whole i miss = by_test s.superblock refl
   where
@@ -166,7 +166,7 @@ formatted-others s source before whole i miss = by_test s.superblock refl
         ∙ put-byte tree s.offset bytes i outside
         ∙ tree-byte s.plan source before i whole.planned (beside-tree s i miss)
 
-formatted-no_shorter : (s : SettingsFields) (blocks : List (List ℕ)) (before : List ℕ)
+pub formatted-no_shorter : (s : SettingsFields) (blocks : List (List ℕ)) (before : List ℕ)
     → length before ≤ length (formatted_device s blocks before)
 formatted-no_shorter s blocks before = by_test s.superblock refl
   where
@@ -203,7 +203,7 @@ block-before s i whole none l j here =
           ]
     ]
 
-formatted-no_longer : (s : SettingsFields) (source before : List ℕ) → AreWhole s → (i : ℕ) → length before ≤ i
+pub formatted-no_longer : (s : SettingsFields) (source before : List ℕ) → AreWhole s → (i : ℕ) → length before ≤ i
     → ((j : ℕ) → i ≤ j → is_written s j ≡ false)
     → length (formatted_device s (data_blocks s.plan source) before) ≤ i
 formatted-no_longer s source before whole i past none = by_test s.superblock refl

@@ -1,3 +1,9 @@
 pub mod PrintingLemmas
 pub mod FormattedLemmas
+pub mod InputLemmas
 pub mod AcceptedLemmas
+pub mod VerdictLemmas
+pub mod ResumedLemmas
+pub mod OptionLemmas
+pub mod PrintedLemmas
+pub mod LineLemmas

@@ -25,7 +25,7 @@ WritesText-grows (Err Memory) text before after printed = Keeps-grows before aft
 WritesText-grows (Err (Output count)) text before after printed = (take count text, printed.1)
 
 -- what a run of format prints is added to what the writer held
-pub PrintsReport-grows : (report : List ℕ) (outcome : Result (Unit {0}) Fault) (before after : Option (List ℕ))
+pub PrintsReport-grows : {X : Type 0} (report : List ℕ) (outcome : Result X Fault) (before after : Option (List ℕ))
     → PrintsReport report outcome before after → Grows before after
 PrintsReport-grows report (Ok done) before after printed = (report, printed)
 PrintsReport-grows report (Err (fault.Report cause)) before after printed =

@@ -3,3 +3,4 @@ pub mod OptionTexts
 pub mod Choices
 pub mod Settings
 pub mod Uuids
+pub mod PrintedOptions

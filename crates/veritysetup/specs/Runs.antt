@@ -9,3 +9,5 @@ pub mod VerifySteps
 pub mod HashDevice
 pub mod StoredSuperblock
 pub mod OnlyRead
+pub mod Resumed
+pub mod SameVerdicts

@@ -6,6 +6,7 @@ ghost use Rattle.veritysetup.specs.Faults.{IsStatus, IsTold, compare_status, mes
 ghost use Rattle.veritysetup.specs.Faults.{status_of};
 
 use crate::options::option_fault::OptionFault;
+use crate::runs::completed::Completed;
 use crate::texts::messages::{
     CANNOT_OPEN, CANNOT_WRITE, INCOMPLETE_LINE, LINE_END, NO_RANDOM_BYTES, OUT_OF_MEMORY,
     OUTPUT_UNWRITTEN, SUPERBLOCK_UNREAD, SUPERBLOCK_UNWRITTEN, build_message, compare_message,
@@ -158,15 +159,20 @@ fn print_message(fault: &PrintFault) -> &'static str
 }
 
 /// Ends a run: writes the message of its fault, if there is one, as far as `msgs` takes it, and gives the status.
-pub(crate) fn end_run<M: Write>(alloc: Global, outcome: Result<(), Fault<'_>>, msgs: &mut M) -> u8
+/// All is done only where the outcome holds what a run has answered.
+pub(crate) fn end_run<T: Completed + Drop, M: Write>(
+    alloc: Global,
+    outcome: Result<T, Fault<'_>>,
+    msgs: &mut M,
+) -> u8
     ensures status { result ≡ result_status outcome.entry }
     ensures message { IsTold outcome.entry (M.contents msgs.old) (M.contents msgs.new) }
     ensures known { IsStatus result }
-    ensures done { result ≡ 0 → outcome.entry ≡ Ok tt }
+    ensures done { result ≡ 0 → (value : T) × (outcome.entry ≡ Ok value) }
     ensures quiet { result ≡ 0 → Keeps (M.contents msgs.old) (M.contents msgs.new) }
 {
     match outcome {
-        Ok(()) => STATUS_DONE,
+        Ok(_) => STATUS_DONE,
         Err(fault) => {
             fault.write_message(alloc, msgs);
             fault.status()

@@ -258,6 +258,25 @@ fn the_folder_of_a_new_file_is_synced(rt: HostRuntime) -> Result<(), Fail> {
     Ok(())
 }
 
+/// HASH, which is there or is new, and the number of the sync that fails: of the file, or of its folder.
+const UNSYNCED: [(&str, u64); 3] = [("hash.img", 1), ("hash", 1), ("hash", 2)];
+
+#[test]
+fn a_hash_device_that_is_not_synced_is_a_fault(rt: HostRuntime) -> Result<(), Fail> {
+    let alloc = rt.alloc();
+    for &(path, number) in &UNSYNCED {
+        let disk = disk_of(alloc, &[5; 8192])?;
+        disk.make("hash.img", [0; 8192].to_vec(alloc)?)?;
+        disk.fail(Call::Sync, number)?;
+        let words = format!(in alloc; "veritysetup format data {path}")?;
+        let output = run(alloc, &disk, words.as_str(), None);
+        let message = format!(in alloc; "Cannot write {path}.\n")?;
+        let found = (output.status, output.msgs.as_slice());
+        assert_eq!(rt; found, (4, message.as_bytes()), "sync {number} of {path}");
+    }
+    Ok(())
+}
+
 /// HASH is there, and the system doesn't say so when it is asked. DATA is asked first, when it is opened.
 #[test]
 fn a_file_of_which_the_system_says_nothing_counts_as_new(rt: HostRuntime) -> Result<(), Fail> {

@@ -38,58 +38,74 @@ fn written(
 /// How a report begins.
 const REPORT: &str = "VERITY header information for ";
 
-/// Words of runs one after another, their status, how many lines they show of how many MiB, and how their other output
-/// begins. The files are those of `disk_of_files`, and those that earlier runs have made. The root hashes are those of
-/// 65 and of 256 blocks of 4096 bytes that are all 5, as sha256sum gives them. The number of MiB is that of the covered
-/// data, or, if a superblock says how much is covered, the length of DATA.
-const RUNS: [(&str, u8, (u64, u64), &str); 9] = [
-    ("veritysetup format --salt=- data hash", 0, (4, 0), REPORT),
+/// How many hundredths are done after each 64 KiB of the first file of `disk_of_files`.
+const OF_DATA: [u64; 4] = [24, 49, 73, 98];
+
+/// The same of 256 blocks of 4096 bytes.
+const OF_BLOCKS: [u64; 16] = [
+    6, 12, 18, 25, 31, 37, 43, 50, 56, 62, 68, 75, 81, 87, 93, 100,
+];
+
+/// The same, up to there, of the second file.
+const OF_LONG: [u64; 16] = [3, 6, 9, 12, 15, 18, 21, 24, 28, 31, 34, 37, 40, 43, 46, 49];
+
+/// Words of runs one after another, their status, the hundredths in their lines and of how many MiB, and how their
+/// other output begins. The files are those of `disk_of_files`, and those that earlier runs have made. The root hashes
+/// are those of 65 and of 256 blocks of 4096 bytes that are all 5, as sha256sum gives them. The number of MiB is that
+/// of the covered data, or, if a superblock says how much is covered, the length of DATA.
+const RUNS: [(&str, u8, (&[u64], u64), &str); 9] = [
+    (
+        "veritysetup format --salt=- data hash",
+        0,
+        (&OF_DATA, 0),
+        REPORT,
+    ),
     (
         "veritysetup format --no-superblock --salt=- data bare",
         0,
-        (4, 0),
+        (&OF_DATA, 0),
         REPORT,
     ),
     (
         "veritysetup format --data-blocks 64 data new",
         0,
-        (0, 0),
+        (&[], 0),
         REPORT,
     ),
     (
         "veritysetup verify data hash 0e0e46f77feb0782af54de6ce5d5e6a7afd0e63af7343fb86d0211f7fdec0376",
         0,
-        (4, 0),
+        (&OF_DATA, 0),
         "",
     ),
     (
         "veritysetup verify --no-superblock --salt=- data bare 6881a5bf401df8c8bdfee1513551604b5bfd1ca11a663405395b6c1192552774",
         2,
-        (4, 0),
+        (&OF_DATA, 0),
         "Verification failed: root hash is 0e0e46f77feb0782af54de6ce5d5e6a7afd0e63af7343fb86d0211f7fdec0376.\n",
     ),
     (
         "veritysetup format --salt=- --data-blocks 256 long hash_long",
         0,
-        (16, 1),
+        (&OF_BLOCKS, 1),
         REPORT,
     ),
     (
         "veritysetup format --no-superblock --salt=- --data-blocks 256 long bare_long",
         0,
-        (16, 1),
+        (&OF_BLOCKS, 1),
         REPORT,
     ),
     (
         "veritysetup verify --no-superblock --salt=- --data-blocks 256 long bare_long 6881a5bf401df8c8bdfee1513551604b5bfd1ca11a663405395b6c1192552774",
         0,
-        (16, 1),
+        (&OF_BLOCKS, 1),
         "",
     ),
     (
         "veritysetup verify long hash_long 6881a5bf401df8c8bdfee1513551604b5bfd1ca11a663405395b6c1192552774",
         0,
-        (16, 2),
+        (&OF_LONG, 2),
         "",
     ),
 ];
@@ -107,10 +123,10 @@ fn disk_of_files(alloc: Global) -> io::Result<Disk> {
 fn a_terminal_is_told_how_far_it_is(rt: HostRuntime) -> Result<(), Fail> {
     let alloc = rt.alloc();
     let disk = disk_of_files(alloc)?;
-    for &(words, status, (count, total), start) in &RUNS {
+    for &(words, status, (hundredths, total), start) in &RUNS {
         let (piped, plain) = written(alloc, &disk, words, None)?;
         let (ended, shown) = written(alloc, &disk, words, Some(STEP))?;
-        let expected = shown_before(alloc, count, total, plain.as_slice())?;
+        let expected = shown_before(alloc, hundredths, total, plain.as_slice())?;
         let plain = is_plain(plain.as_slice(), start);
         let found = (piped, ended, plain, shown.as_slice());
         assert_eq!(rt;
@@ -136,7 +152,7 @@ impl Read for Endless {
 
 /// What a terminal gets during the reading of 5000 MiB, if the line comes every 1200 MiB.
 const LINES: &str =
-    "\r1200 of 5000 MiB, 2400 MiB/s\x1b[K\r2400 of 5000 MiB, 2400 MiB/s\x1b[K\r3600 of 5000 MiB, 2400 MiB/s\x1b[K\r4800 of 5000 MiB, 2400 MiB/s\x1b[K";
+    "\r24%, 1200 of 5000 MiB, 2400 MiB/s\x1b[K\r48%, 2400 of 5000 MiB, 2400 MiB/s\x1b[K\r72%, 3600 of 5000 MiB, 2400 MiB/s\x1b[K\r96%, 4800 of 5000 MiB, 2400 MiB/s\x1b[K";
 
 /// Reads 5000 MiB, which are stored nowhere, 8 MiB in each call.
 #[test]

@@ -1,4 +1,4 @@
-//! What the progress line counts, and what it says without a clock.
+//! What the progress line counts, and what it says of the time, with a clock and without.
 use command_line::{ProgressReader, ProgressRuntime};
 use memory_runtime::{Disk, MemoryRuntime};
 use std::alloc::Global;
@@ -44,7 +44,7 @@ fn read<R: ProgressRuntime>(alloc: Global, runtime: &R, count: usize) -> io::Res
 /// What a terminal gets during nine reads, if the line comes every 3 MiB: 2 MiB are read at a time, and none by the
 /// fourth. Half a second passes between two readings of the clock.
 const LINES: &str =
-    "\r4 of 20 MiB, 8 MiB/s\x1b[K\r8 of 20 MiB, 8 MiB/s\x1b[K\r12 of 20 MiB, 8 MiB/s\x1b[K\r16 of 20 MiB, 8 MiB/s\x1b[K";
+    "\r20%, 4 of 20 MiB, 8 MiB/s\x1b[K\r40%, 8 of 20 MiB, 8 MiB/s\x1b[K\r60%, 12 of 20 MiB, 8 MiB/s\x1b[K\r80%, 16 of 20 MiB, 8 MiB/s\x1b[K";
 
 #[test]
 fn bytes_that_were_read_are_counted(rt: HostRuntime) -> Result<(), Fail> {
@@ -57,20 +57,24 @@ fn bytes_that_were_read_are_counted(rt: HostRuntime) -> Result<(), Fail> {
     Ok(())
 }
 
-/// A runtime whose clock can be read this many times over a disk, and no more.
+/// A runtime over a disk, whose clock goes on by so many milliseconds at each reading, and can be read this many times
+/// and no more.
 #[derive(Drop)]
-struct Clockless<'a> {
+struct OddClock<'a> {
     runtime: MemoryRuntime<'a>,
     disk: &'a Disk,
+    millis: u64,
     readings: u64,
 }
 
-impl Clock for Clockless<'_> {
+impl Clock for OddClock<'_> {
     fn monotonic(&self) -> io::Result<Duration> {
         if self.disk.clock_reads()? >= self.readings {
             return Err(io::Error::from(ErrorKind::Unsupported));
         }
-        self.runtime.monotonic()
+        self.runtime.monotonic()?;
+        let reads = self.disk.clock_reads()?;
+        Ok(Duration::from_millis(reads.saturating_mul(self.millis)))
     }
 
     fn since_1970(&self) -> io::Result<Duration> {
@@ -78,7 +82,7 @@ impl Clock for Clockless<'_> {
     }
 }
 
-impl Eprint for Clockless<'_> {
+impl Eprint for OddClock<'_> {
     fn eprint<D: Display + Drop>(&self, value: D) -> io::Result<()> {
         self.runtime.eprint(value)
     }
@@ -88,40 +92,63 @@ impl Eprint for Clockless<'_> {
     }
 }
 
-impl ProgressRuntime for Clockless<'_> {
+impl ProgressRuntime for OddClock<'_> {
     fn step(&self) -> Option<u64> {
         Some(3 << 20)
     }
 }
 
-/// How often the clock can be read, and what a terminal gets during nine reads: without a clock, or if it fails later,
-/// the line has no rate.
-const CLOCKLESS: [(u64, &str); 2] = [
+/// By how many milliseconds the clock goes on, how often it can be read, and what a terminal gets during nine reads:
+/// without a clock, or if it fails later, the line has no rate, and from ten seconds on it has the time left.
+const CLOCKS: [(u64, u64, &str); 6] = [
     (
+        500,
         0,
-        "\r4 of 20 MiB\x1b[K\r8 of 20 MiB\x1b[K\r12 of 20 MiB\x1b[K\r16 of 20 MiB\x1b[K",
+        "\r20%, 4 of 20 MiB\x1b[K\r40%, 8 of 20 MiB\x1b[K\r60%, 12 of 20 MiB\x1b[K\r80%, 16 of 20 MiB\x1b[K",
     ),
     (
+        500,
         2,
-        "\r4 of 20 MiB, 8 MiB/s\x1b[K\r8 of 20 MiB\x1b[K\r12 of 20 MiB\x1b[K\r16 of 20 MiB\x1b[K",
+        "\r20%, 4 of 20 MiB, 8 MiB/s\x1b[K\r40%, 8 of 20 MiB\x1b[K\r60%, 12 of 20 MiB\x1b[K\r80%, 16 of 20 MiB\x1b[K",
+    ),
+    (
+        9_999,
+        9,
+        "\r20%, 4 of 20 MiB, 0 MiB/s\x1b[K\r40%, 8 of 20 MiB, 0 MiB/s, 0:29 left\x1b[K\r60%, 12 of 20 MiB, 0 MiB/s, 0:19 left\x1b[K\r80%, 16 of 20 MiB, 0 MiB/s, 0:09 left\x1b[K",
+    ),
+    (
+        10_000,
+        9,
+        "\r20%, 4 of 20 MiB, 0 MiB/s, 0:40 left\x1b[K\r40%, 8 of 20 MiB, 0 MiB/s, 0:30 left\x1b[K\r60%, 12 of 20 MiB, 0 MiB/s, 0:20 left\x1b[K\r80%, 16 of 20 MiB, 0 MiB/s, 0:10 left\x1b[K",
+    ),
+    (
+        900_000,
+        9,
+        "\r20%, 4 of 20 MiB, 0 MiB/s, 1:00:00 left\x1b[K\r40%, 8 of 20 MiB, 0 MiB/s, 45:00 left\x1b[K\r60%, 12 of 20 MiB, 0 MiB/s, 30:00 left\x1b[K\r80%, 16 of 20 MiB, 0 MiB/s, 15:00 left\x1b[K",
+    ),
+    (
+        40_000_000,
+        4,
+        "\r20%, 4 of 20 MiB, 0 MiB/s, 44:26:40 left\x1b[K\r40%, 8 of 20 MiB, 0 MiB/s, 33:20:00 left\x1b[K\r60%, 12 of 20 MiB, 0 MiB/s, 22:13:20 left\x1b[K\r80%, 16 of 20 MiB\x1b[K",
     ),
 ];
 
 #[test]
-fn without_a_clock_no_rate_is_shown(rt: HostRuntime) -> Result<(), Fail> {
+fn rate_and_time_left_go_by_the_clock(rt: HostRuntime) -> Result<(), Fail> {
     let alloc = rt.alloc();
-    for &(readings, lines) in &CLOCKLESS {
+    for &(millis, readings, lines) in &CLOCKS {
         let disk = Disk::new(alloc);
-        let runtime = Clockless {
+        let runtime = OddClock {
             runtime: MemoryRuntime::new(alloc, &disk, ""),
             disk: &disk,
+            millis,
             readings,
         };
         read(alloc, &runtime, 9)?;
         assert_eq!(rt;
             disk.standard_error()?.as_slice(),
             lines.as_bytes(),
-            "at {readings}"
+            "at {millis} and {readings}"
         );
     }
     Ok(())

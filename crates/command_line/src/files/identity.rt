@@ -1,6 +1,7 @@
 //! Which file a path or an opened file is, so that two names of one file are recognized.
-ghost use Rattle.std.specs.Prelude.{◌≡◌, ◌↔◌, None, false, IsSome, IsTrue};
+ghost use Rattle.std.specs.Prelude.{◌≡◌, ◌↔◌, ℕ, List, Option, None, false, IsSome, IsTrue};
 ghost use Rattle.command_line.specs.FileIdentities.{PathsAreSameFile, identity_of};
+ghost use Rattle.command_line.specs.declared.files.identity.FileIdentity.{FileIdentity};
 
 use std::fs::{Metadata, OpenFile};
 use std::os::unix::fs::{FileTypeExt, MetadataExt};
@@ -71,12 +72,21 @@ impl FileIdentity {
 
 /// A runtime whose system says which file a path or an opened file is. Asking neither opens nor creates a file.
 pub trait Identities: Files {
+    /// Whether the system may give this answer for a path. Nothing is known of it, so a contract that speaks of it says
+    /// that the system was asked.
+    ghost path_is: { Self → List ℕ → Option FileIdentity → Type 0 } = { λ _ _ _. Unit {0} };
+
+    /// The same for an opened file.
+    ghost file_is: { Self → Self.File → Option FileIdentity → Type 0 } = { λ _ _ _. Unit {0} };
+
     /// The file that a path leads to, through symbolic links. `None` if there is none yet, if it is neither a regular
     /// file nor a block device, or if the system doesn't say.
-    fn path_identity(&self, path: &str) -> Option<FileIdentity>;
+    fn path_identity(&self, path: &str) -> Option<FileIdentity>
+        ensures { path_is self.now path.now result };
 
     /// The file that was opened. `None` as for a path.
-    fn file_identity(&self, file: &Self::File) -> Option<FileIdentity>;
+    fn file_identity(&self, file: &Self::File) -> Option<FileIdentity>
+        ensures { file_is self.now file.now result };
 }
 
 impl Identities for HostRuntime {

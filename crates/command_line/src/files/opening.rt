@@ -1,5 +1,5 @@
 //! Opening files.
-ghost use Rattle.std.specs.Prelude.{◌≡◌, OnErr, OnOk, true};
+ghost use Rattle.std.specs.Prelude.{◌≡◌, IfOk, OnErr, OnOk, true};
 ghost use Rattle.std.specs.Fs.{IsDir, file_type, new_options, with_create, with_read, with_write};
 
 use std::fs::{File, Metadata, OpenFile, OpenOptions};
@@ -7,25 +7,94 @@ use std::io;
 use std::io::{ErrorKind, Seek, SeekFrom};
 use std::rt::Files;
 
+/// A file that was opened, with the path that it was asked for by. Only the functions of this module make one, so that
+/// no caller can say of a file that another path led to it.
+#[derive(Drop)]
+pub struct OpenedFile<'a, F> {
+    file: F,
+    path: &'a str,
+}
+
+impl<'a, F> OpenedFile<'a, F> {
+    /// The path.
+    pub fn path(&self) -> &'a str
+        ensures { result ≡ self.now.path }
+    {
+        self.path
+    }
+
+    /// The file.
+    pub fn file(&self) -> &F
+        ensures { result.now ≡ self.now.file }
+    {
+        &self.file
+    }
+
+    /// The file by itself.
+    pub fn into_file(self) -> F
+        ensures { result ≡ self.entry.file }
+    {
+        self.file
+    }
+}
+
+/// A file that was opened for reading, with its length in bytes, as `open_measured` found it. Only that function makes
+/// one, so that no caller can say another length.
+#[derive(Drop)]
+pub struct MeasuredFile<'a, F> {
+    opened: OpenedFile<'a, F>,
+    length: u64,
+}
+
+impl<'a, F> MeasuredFile<'a, F> {
+    /// The file, with its path.
+    pub fn opened(&self) -> &OpenedFile<'a, F>
+        ensures { result.now ≡ self.now.opened }
+    {
+        &self.opened
+    }
+
+    /// The length.
+    pub fn length(&self) -> u64
+        ensures { result ≡ self.now.length }
+    {
+        self.length
+    }
+
+    /// The file by itself, with its path.
+    pub fn into_opened(self) -> OpenedFile<'a, F>
+        ensures { result ≡ self.entry.opened }
+    {
+        self.opened
+    }
+}
+
 /// A file opened for reading. A folder is refused: some systems open one, and then let nobody read it.
-pub fn open_readable<R: Files>(rt: &R, path: &str) -> io::Result<R::File> {
+pub fn open_readable<'a, R: Files>(rt: &R, path: &'a str) -> io::Result<OpenedFile<'a, R::File>>
+    ensures { IfOk result (λ opened. opened.path ≡ path.entry) }
+{
     let file = File::open(rt, path)?;
     refuse_folder(&file.metadata()?)?;
-    Ok(file)
+    Ok(OpenedFile { file, path })
 }
 
 /// A file opened for reading, with its length in bytes, which is found by seeking to its end. A folder is refused, and
 /// so is a file that can't be sought in, as a pipe.
-pub fn open_measured<R: Files>(rt: &R, path: &str) -> io::Result<(R::File, u64)> {
-    let mut file = open_readable(rt, path)?;
-    let length = file.seek(SeekFrom::End(0))?;
-    file.rewind()?;
-    Ok((file, length))
+pub fn open_measured<'a, R: Files>(rt: &R, path: &'a str) -> io::Result<MeasuredFile<'a, R::File>>
+    ensures { IfOk result (λ measured. measured.opened.path ≡ path.entry) }
+{
+    let mut opened = open_readable(rt, path)?;
+    let length = opened.file.seek(SeekFrom::End(0))?;
+    opened.file.rewind()?;
+    Ok(MeasuredFile { opened, length })
 }
 
 /// A file opened for reading and writing. It is created if it is missing, and never truncated.
-pub fn open_writable<R: Files>(rt: &R, path: &str) -> io::Result<R::File> {
-    writable_options().open(rt, path)
+pub fn open_writable<'a, R: Files>(rt: &R, path: &'a str) -> io::Result<OpenedFile<'a, R::File>>
+    ensures { IfOk result (λ opened. opened.path ≡ path.entry) }
+{
+    let file = writable_options().open(rt, path)?;
+    Ok(OpenedFile { file, path })
 }
 
 /// The options for reading and writing a file that is created if it is missing. A new one has the permissions that the

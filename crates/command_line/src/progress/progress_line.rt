@@ -2,6 +2,7 @@
 ghost use Rattle.std.specs.Prelude.{◌≡◌};
 ghost use Rattle.command_line.specs.InnerStreams.{inner_writer};
 
+use crate::progress::estimates::{TimeLeft, percent_of};
 use crate::progress::progress_runtime::ProgressRuntime;
 use std::cell::Cell;
 use std::io;
@@ -46,20 +47,30 @@ impl<'a, R: ProgressRuntime> ProgressLine<'a, R> {
         Instant::now(self.rt).ok()
     }
 
-    /// Writes the line over the one that is shown. Without a clock it has no rate.
+    /// Writes the line over the one that is shown. Without a clock it has neither a rate nor the time left.
     pub(crate) fn show(&self, done: u64, total: u64, start: Option<Instant>) {
         self.is_shown.set(true);
+        let percent = percent_of(done, total);
+        let millis = self.millis_since(start);
+        let left = TimeLeft::estimated(done, total, millis.unwrap_or(0));
         let (done, total) = (done >> 20, total >> 20);
-        let _ = match self.rate(done, start) {
-            Some(rate) => eprint!(self.rt; "\r{done} of {total} MiB, {rate} MiB/s\x1b[K"),
-            None => eprint!(self.rt; "\r{done} of {total} MiB\x1b[K"),
+        let rate = millis.and_then(|millis| (done as u128 * 1000).checked_div(millis as u128));
+        let _ = match (rate, left) {
+            (None, _) => eprint!(self.rt; "\r{percent}%, {done} of {total} MiB\x1b[K"),
+            (Some(rate), None) => {
+                eprint!(self.rt; "\r{percent}%, {done} of {total} MiB, {rate} MiB/s\x1b[K")
+            }
+            (Some(rate), Some(left)) => {
+                eprint!(self.rt;
+                    "\r{percent}%, {done} of {total} MiB, {rate} MiB/s, {left} left\x1b[K"
+                )
+            }
         };
     }
 
-    /// How many MiB were done in a second, on average since the start.
-    fn rate(&self, done: u64, start: Option<Instant>) -> Option<u64> {
-        let millis = start?.elapsed(self.rt).ok()?.as_millis();
-        u64::try_from((done as u128 * 1000).checked_div(millis)?).ok()
+    /// How many milliseconds have passed since the start.
+    fn millis_since(&self, start: Option<Instant>) -> Option<u64> {
+        u64::try_from(start?.elapsed(self.rt).ok()?.as_millis()).ok()
     }
 }
 

@@ -9,7 +9,7 @@ use Rattle.fsverity.specs.declared.runs.outputs.OutputTask.{OutputTask as Given}
 
 -- a task, without the references that it holds
 abbrev pub task_of : Given → OutputTask
-task_of task = output_task task.settings.now task.form task.name.now task.size task.wants_tree task.wants_descriptor
+task_of task = output_task task.settings task.form task.name.now task.size task.wants_tree task.wants_descriptor
 
 -- the descriptor's bytes are added if they are wanted, or only the first of them if a write fails
 abbrev pub PutsDescriptor : List ℕ → Bool → Result (Unit {0}) PutFault → Option (List ℕ) → Option (List ℕ) → Type 0

@@ -54,7 +54,7 @@ named_outcome name (Ok unit) = Ok unit
 named_outcome name (Err fault) = Err (ending.Outputs fault name)
 
 -- the digest's part of an outcome
-abbrev pub digest_result : Outcome → Result (Unit {0}) DigestFault
+abbrev pub digest_result : {X : Type 0} → Result X OutputFault → Result (Unit {0}) DigestFault
 digest_result (Err (Digest fault)) = Err fault
 digest_result outcome = Ok tt
 
@@ -80,8 +80,9 @@ AddsPrefix task root count before after = MatchBool task.wants_descriptor
     × Appends before after (take count (descriptor_bytes (descriptor_of task.settings task.size root)))) ⊥
 
 -- what is added to the descriptor's writer
-abbrev pub WritesDescriptor : OutputTask → List ℕ → Outcome → Option (List ℕ) → Option (List ℕ) → Type 0
-WritesDescriptor task root (Ok unit) before after = AddsDescriptor task root before after
+abbrev pub WritesDescriptor : {X : Type 0} → OutputTask → List ℕ → Result X OutputFault → Option (List ℕ)
+    → Option (List ℕ) → Type 0
+WritesDescriptor task root (Ok done) before after = AddsDescriptor task root before after
 WritesDescriptor task root (Err (Digest fault)) before after = Keeps before after
 WritesDescriptor task root (Err (Descriptor count)) before after = AddsPrefix task root count before after
 WritesDescriptor task root (Err (Line fault)) before after = AddsDescriptor task root before after
@@ -92,15 +93,16 @@ line_of_root task root =
     line task.form task.settings.algorithm (digest_of_file (descriptor_of task.settings task.size root)) task.name
 
 -- what is added to out: the line, or only its first bytes if a write fails
-abbrev pub WritesLine : OutputTask → List ℕ → Outcome → Option (List ℕ) → Option (List ℕ) → Type 0
-WritesLine task root (Ok unit) before after = WritesText (Ok tt) (line_of_root task root) before after
+abbrev pub WritesLine : {X : Type 0} → OutputTask → List ℕ → Result X OutputFault → Option (List ℕ) → Option (List ℕ)
+    → Type 0
+WritesLine task root (Ok done) before after = WritesText (Ok tt) (line_of_root task root) before after
 WritesLine task root (Err (Line fault)) before after = WritesText (Err fault) (line_of_root task root) before after
 WritesLine task root outcome before after = Keeps before after
 
 -- the descriptor and the line have one root hash, of the settings' length; it is the file's if the source tells its
 -- bytes
-pub record WritesOutputs (task : OutputTask) (outcome : Outcome) (told : Type 0) (bytes : List ℕ)
-    (outputs : OutputChange) : Type 0 where
+pub record WritesOutputs {X : Type 0} (task : OutputTask) (outcome : Result X OutputFault) (told : Type 0)
+    (bytes : List ℕ) (outputs : OutputChange) : Type 0 where
   pub root : List ℕ
   pub root_length : length root ≡ digest_len task.settings
   pub root_is : told → root ≡ root_of_file task.settings task.size bytes

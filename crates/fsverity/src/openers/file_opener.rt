@@ -1,10 +1,12 @@
 //! An opener over files of the system.
-ghost use Rattle.std.specs.Prelude.{◌≡◌, ◌≤◌, ◌+◌, ℕ, List, [], length};
+ghost use Rattle.std.specs.Prelude.{◌≡◌, ◌≤◌, ◌+◌, ◌<◌, ℕ, List, [], Some, length, slice_get, IfOk, OnErr};
+ghost use Rattle.fsverity.specs.Openers.Opening.{CountsOpening, FailsFor, IsFileAt, SameFiles};
 
+use crate::openers::input_file::InputFile;
 use crate::openers::opener::Opener;
 use command_line::{ProgressLine, ProgressReader, ProgressRuntime, open_measured};
 use std::rt::Files;
-use verity_tree::{Failed, FileSource};
+use verity_tree::{Failed, FileSource, Source};
 
 /// Opens files of the system by their names, and shows the progress of reading each. It doesn't tell them.
 #[derive(Drop)]
@@ -19,6 +21,7 @@ pub struct FileOpener<'a, R> {
 impl<'a, R: Files + ProgressRuntime> FileOpener<'a, R> {
     /// An opener of the files of these names. None of them is opened yet.
     pub fn new(rt: &'a R, progress: &'a ProgressLine<'a, R>, names: &'a [&'a str]) -> Self
+        ensures names { result.names.now ≡ names.now }
         ensures count { ⟦<FileOpener<'a, R> as Opener>⟧.count result ≡ length names.now }
         ensures next { ⟦<FileOpener<'a, R> as Opener>⟧.next result ≡ 0 }
         ensures failures { ⟦<FileOpener<'a, R> as Opener>⟧.failures result ≡ 0 }
@@ -34,7 +37,7 @@ impl<'a, R: Files + ProgressRuntime> FileOpener<'a, R> {
 }
 
 impl<'a, R: Files + ProgressRuntime> Opener for FileOpener<'a, R> {
-    type Stream = FileSource<ProgressReader<'a, R, R::File>>;
+    type Stream = InputFile<'a, FileSource<ProgressReader<'a, R, R::File>>>;
 
     ghost count = { λ o. length o.names.now };
 
@@ -48,13 +51,37 @@ impl<'a, R: Files + ProgressRuntime> Opener for FileOpener<'a, R> {
 
     ghost counted = { λ _ untold. absurd untold };
 
-    fn start(&mut self) -> Result<(u64, FileSource<ProgressReader<'a, R, R::File>>), Failed> {
+    fn start(
+        &mut self,
+    ) -> Result<
+        (
+            u64,
+            InputFile<'a, FileSource<ProgressReader<'a, R, R::File>>>,
+        ),
+        Failed,
+    >
+        requires { self.old.next < length self.old.names.now }
+        ensures next { self.new.next ≡ self.old.next + 1 }
+        ensures same { SameFiles (λ _. ⊥) (λ _. []) (λ o. length o.names.now) self.old self.new }
+        ensures fresh { IfOk result (λ opened.
+            ⟦<InputFile<'a, FileSource<ProgressReader<'a, R, R::File>>> as Source>⟧.failures opened.1 ≡ 0) }
+        ensures ok { ⊥ → IfOk result (λ opened.
+            ⟦<InputFile<'a, FileSource<ProgressReader<'a, R, R::File>>> as Source>⟧.tells opened.1
+            × IsFileAt [] self.old.next opened.0
+            (⟦<InputFile<'a, FileSource<ProgressReader<'a, R, R::File>>> as Source>⟧.remaining opened.1)) }
+        ensures failures { CountsOpening self.old.failures self.new.failures result }
+        ensures failed { OnErr result (FailsFor ⊥ [] self.old.next self.old.failures self.new.failures) }
+
+        // What is opened was asked for by the next name, and has the length that was found at opening.
+        ensures named { IfOk result (λ opened. slice_get self.old.names.now self.old.next ≡ Some opened.1.name) }
+        ensures measured { IfOk result (λ opened. opened.0 ≡ opened.1.length) }
+    {
         let name = self.names[self.next];
         self.next += 1;
         match open_measured(self.rt, name) {
-            Ok((file, length)) => {
-                let shown = ProgressReader::new(file, length, self.progress);
-                Ok((length, FileSource::new(shown, length)))
+            Ok(measured) => {
+                let input = InputFile::of(measured, self.progress);
+                Ok((input.length(), input))
             }
             Err(_) => {
                 self.failures = self.failures.saturating_add(1);
@@ -63,7 +90,7 @@ impl<'a, R: Files + ProgressRuntime> Opener for FileOpener<'a, R> {
         }
     }
 
-    fn end(&mut self, stream: FileSource<ProgressReader<'a, R, R::File>>) {
+    fn end(&mut self, stream: InputFile<'a, FileSource<ProgressReader<'a, R, R::File>>>) {
         self.failures = self.failures.saturating_add(stream.failures());
     }
 }

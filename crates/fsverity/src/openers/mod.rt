@@ -2,5 +2,6 @@
 
 pub(crate) mod file_opener;
 pub(crate) mod fused_opener;
+pub(crate) mod input_file;
 pub(crate) mod memory_opener;
 pub(crate) mod opener;

@@ -1,11 +1,12 @@
 //! The program fsverity, over any runtime.
-ghost use Rattle.std.specs.Prelude.{◌≡◌, ◌≤◌, Err, IfErr, IfOk, OnOk, false};
+ghost use Rattle.std.specs.Prelude.{◌≡◌, ◌≤◌, Err, IfErr, IfOk, OnOk};
 ghost use Rattle.fsverity.specs.Faults.{status_failed, status_of};
-ghost use Rattle.fsverity.specs.Program.{CarriesOut, line_settings, names_output};
+ghost use Rattle.fsverity.specs.Program.{CarriesOut, SaysDone, line_settings};
 ghost use Rattle.fsverity.specs.declared.fault.Fault.TheVariants as ending;
 
 use crate::fault::{Fault, end_run};
 use crate::program::digest::digest_files_of_line;
+use crate::program::done::Done;
 use crate::{Line, digest_settings, read_words};
 use command_line::{Identities, ProgressLine, ProgressRuntime, WordsFault, given_words, texts_of};
 use std::env::Env;
@@ -26,7 +27,10 @@ pub fn run_program<R: Identities + ProgressRuntime + Env + AllocGlobal, O: Write
 {
     let status = match read_line(rt) {
         Ok(line) => end_run(rt.alloc(), run_line(rt, progress, &line, out), msgs),
-        Err(fault) => end_run(rt.alloc(), Err(fault), msgs),
+        Err(fault) => {
+            let refused: Result<Done<'_>, Fault<'_>> = Err(fault);
+            end_run(rt.alloc(), refused, msgs)
+        }
     };
     progress.erase();
     status
@@ -54,14 +58,15 @@ fn run_line<'a, R: Identities + ProgressRuntime + AllocGlobal, O: Write>(
     progress: &ProgressLine<'_, R>,
     line: &'a Line,
     out: &mut O,
-) -> Result<(), Fault<'a>>
+) -> Result<Done<'a>, Fault<'a>>
     ensures refused { IfErr (line_settings line.now) (λ fault.
         (result ≡ Err (ending.Option fault)) × (out.new ≡ out.old)) }
     ensures accepted { IfOk (line_settings line.now) (λ _. IfErr result (λ fault. status_of fault ≡ status_failed)) }
 
-    // Done, without output files: each file has its line.
-    ensures printed { IfOk (line_settings line.now) (λ settings. OnOk result (names_output line.now ≡ false
-        → CarriesOut settings line.now (O.contents out.old) (O.contents out.new))) }
+    // Done: each file has its line, and the value says that what the output files are to hold was written.
+    ensures printed { IfOk (line_settings line.now) (λ settings.
+        OnOk result (CarriesOut settings line.now (O.contents out.old) (O.contents out.new))) }
+    ensures value { IfOk (line_settings line.now) (λ settings. IfOk result (SaysDone settings line.now)) }
 {
     match digest_settings(&line.options()) {
         Ok(settings) => digest_files_of_line(rt, progress, &settings, line, out),

@@ -1,12 +1,19 @@
 //! The output files of a run.
-ghost use Rattle.std.specs.Prelude.{◌≡◌, ◌⊎◌, ◌||◌, None, Some, IfErr, IfOk, IfSome, is_some};
+
+pub(crate) mod written_files;
+
+ghost use Rattle.std.specs.Prelude.{◌≡◌, ◌⊎◌, ◌||◌, None, Some, IfErr, IfOk, IfSome, OnOk, is_some};
 ghost use Rattle.std.specs.Prelude.{option_map, option_copied, string_bytes, true};
 ghost use Rattle.std.specs.Fs.{new_options, with_create, with_truncate, with_write};
+ghost use Rattle.verity_io.specs.Moving.{file_of};
+ghost use Rattle.fsverity.specs.OutputFiles.{FoundBySystem, IsAnswer, names_of};
 
 use crate::Line;
 use command_line::{FileIdentity, Identities, are_same_file, is_folder, text_of};
 use std::fs::OpenOptions;
+use std::io::{Read, Seek, Write};
 use std::rt::Files;
+use verity_tree::FileDevice;
 
 /// The names of the output files; `None` if one is not given.
 #[derive(Clone, Copy)]
@@ -35,25 +42,69 @@ impl<'a> OutputNames<'a> {
     }
 }
 
-/// The opened output files; `None` for one that is not named.
+/// An output file, or the device over it, with the name that the file was asked for by. Only this module makes one, and
+/// nobody else puts another file in its place.
 #[derive(Drop)]
-pub(crate) struct OutputFiles<F> {
-    pub tree: Option<F>,
-    pub descriptor: Option<F>,
+pub(crate) struct OutputFile<'a, F> {
+    name: &'a str,
+    file: F,
 }
 
-impl<F> OutputFiles<F> {
+impl<'a, F: Read + Write + Seek> OutputFile<'a, F> {
+    /// The device over the file.
+    fn into_device(self) -> OutputFile<'a, FileDevice<F>>
+        ensures name { result.name ≡ self.entry.name }
+        ensures file { file_of result.file ≡ self.entry.file }
+    {
+        OutputFile {
+            name: self.name,
+            file: FileDevice::new(self.file),
+        }
+    }
+}
+
+/// The output files; `None` for one that is not named. What was opened last is closed first.
+#[derive(Drop)]
+pub(crate) struct OutputFiles<'a, D, W> {
+    descriptor: Option<OutputFile<'a, W>>,
+    tree: Option<OutputFile<'a, D>>,
+}
+
+impl<'a, D, W> OutputFiles<'a, D, W> {
+    /// The names that they were asked for by.
+    pub(crate) fn names(&self) -> OutputNames<'a>
+        ensures { result ≡ names_of self.now }
+    {
+        OutputNames {
+            tree: name_of(&self.tree),
+            descriptor: name_of(&self.descriptor),
+        }
+    }
+}
+
+/// The name of an output file, if there is one.
+fn name_of<'a, F>(file: &Option<OutputFile<'a, F>>) -> Option<&'a str>
+    ensures { result ≡ option_map (λ f. f.name) file.now }
+{
+    match file {
+        Some(file) => Some(file.name),
+        None => None,
+    }
+}
+
+impl<'a, F: Read + Write + Seek + Drop> OutputFiles<'a, FileDevice<F>, F> {
     /// Opens the output files, the tree's and then the descriptor's: each is created or truncated. The error is the
     /// name of the first that is refused. Nobody loses a file that is named twice: if the system says that an output
     /// file is the input file or the other output file, it is refused before anything is truncated. So is a folder.
-    pub(crate) fn open<'a, R: Identities<File = F>>(
+    pub(crate) fn open<R: Identities<File = F>>(
         rt: &R,
         input: &F,
         names: OutputNames<'a>,
-    ) -> Result<OutputFiles<F>, &'a str>
-        ensures tree { IfOk result (λ files. is_some files.tree ≡ is_some names.entry.tree) }
-        ensures descriptor { IfOk result (λ files. is_some files.descriptor ≡ is_some names.entry.descriptor) }
-        ensures named { IfErr result (λ name. (names.entry.tree ≡ Some name) ⊎ (names.entry.descriptor ≡ Some name)) }
+    ) -> Result<Self, &'a str>
+        ensures names { IfOk result (λ files. names_of files ≡ names.entry) }
+        ensures distinct { OnOk result
+            (FoundBySystem (R.path_is rt.now) (R.file_is rt.now input.now) names.entry None) }
+        ensures refused { IfErr result (λ name. (names.entry.tree ≡ Some name) ⊎ (names.entry.descriptor ≡ Some name)) }
     {
         if let Some(name) = folder_among(rt, names) {
             return Err(name);
@@ -64,12 +115,15 @@ impl<F> OutputFiles<F> {
         let tree = open_output(rt, names.tree)?;
         // The file exists now, so the system can say whether the other name leads to it too.
         if let (Some(file), Some(name)) = (&tree, names.descriptor)
-            && are_same_file(rt.file_identity(file), rt.path_identity(name))
+            && are_same_file(rt.file_identity(&file.file), rt.path_identity(name))
         {
             return Err(name);
         }
         let descriptor = open_output(rt, names.descriptor)?;
-        Ok(OutputFiles { tree, descriptor })
+        Ok(OutputFiles {
+            tree: over_device(tree),
+            descriptor,
+        })
     }
 }
 
@@ -100,7 +154,7 @@ fn file_named_twice<'a, R: Identities>(
     input: &R::File,
     names: OutputNames<'a>,
 ) -> Option<&'a str>
-    ensures { IfSome result (λ name. (names.entry.tree ≡ Some name) ⊎ (names.entry.descriptor ≡ Some name)) }
+    ensures { FoundBySystem (R.path_is rt.now) (R.file_is rt.now input.now) names.entry result }
 {
     let opened = rt.file_identity(input);
     let tree = identity_of(rt, names.tree);
@@ -116,20 +170,38 @@ fn file_named_twice<'a, R: Identities>(
 
 /// The file that a name leads to; `None` if no name is given or the system doesn't say.
 fn identity_of<R: Identities>(rt: &R, name: Option<&str>) -> Option<FileIdentity>
-    ensures { name.entry ≡ None → result ≡ None }
+    ensures { IsAnswer (R.path_is rt.now) name.entry result }
 {
-    rt.path_identity(name?)
+    match name {
+        Some(name) => rt.path_identity(name),
+        None => None,
+    }
+}
+
+/// The device over an output file, if there is one.
+fn over_device<F: Read + Write + Seek>(
+    file: Option<OutputFile<'_, F>>,
+) -> Option<OutputFile<'_, FileDevice<F>>>
+    ensures { option_map (λ f. f.name) result ≡ option_map (λ f. f.name) file.entry }
+{
+    match file {
+        Some(file) => Some(file.into_device()),
+        None => None,
+    }
 }
 
 /// The output file of a name, created or truncated. The error is the name.
-fn open_output<'a, R: Files>(rt: &R, name: Option<&'a str>) -> Result<Option<R::File>, &'a str>
-    ensures named { IfOk result (λ file. is_some file ≡ is_some name.entry) }
+fn open_output<'a, R: Files>(
+    rt: &R,
+    name: Option<&'a str>,
+) -> Result<Option<OutputFile<'a, R::File>>, &'a str>
+    ensures named { IfOk result (λ file. option_map (λ f. f.name) file ≡ name.entry) }
     ensures error { IfErr result (λ refused. name.entry ≡ Some refused) }
 {
     match name {
         None => Ok(None),
         Some(name) => match output_options().open(rt, name) {
-            Ok(file) => Ok(Some(file)),
+            Ok(file) => Ok(Some(OutputFile { name, file })),
             Err(_) => Err(name),
         },
     }

@@ -12,11 +12,23 @@ ghost use Rattle.fsverity.specs.Texts.Lines.{line};
 ghost use Rattle.fsverity.specs.declared.runs.run_fault.RunFault.TheVariants.{NotWritten};
 
 use crate::fault::{Fault, end_run};
+use crate::runs::completed::Completed;
 use crate::texts::line_writing::write_line;
 use crate::{DigestFault, FileDigest, Form, Opener, PrintFault, RunFault, digest_file};
 use std::alloc::Global;
 use std::io::Write;
 use verity_tree::TreeSettings;
+
+/// The lines of all files of a run are written: so many, by these settings and in this form. Only `write_lines` makes
+/// one.
+#[derive(Drop)]
+pub(crate) struct Printed {
+    settings: TreeSettings,
+    form: Form,
+    lines: usize,
+}
+
+impl Completed for Printed {}
 
 /// The digest of the opener's next file.
 fn next_digest<O: Opener>(
@@ -89,7 +101,7 @@ pub(crate) fn write_lines<'a, O: Opener, W: Write>(
     names: &[&'a str],
     opener: &mut O,
     out: &mut W,
-) -> Result<(), Fault<'a>>
+) -> Result<Printed, Fault<'a>>
     requires settings { settings.now.rule ≡ PaddedBefore }
     requires names { length names.now ≡ O.count opener.old }
     requires first { O.next opener.old ≡ 0 }
@@ -106,6 +118,8 @@ pub(crate) fn write_lines<'a, O: Opener, W: Write>(
         (opener_change O.tells O.files O.next O.failures opener.old opener.new)
         (W.contents out.old) (W.contents out.new)) }
     ensures failed { IfErr result (λ fault. status_of fault ≡ status_failed) }
+    ensures value { IfOk result (λ done. (done.settings ≡ settings.now) × (done.form ≡ form)
+        × (done.lines ≡ length names.now)) }
 {
     for name in names {
         match write_next_line(alloc, settings, form, name, opener, out) {
@@ -113,7 +127,11 @@ pub(crate) fn write_lines<'a, O: Opener, W: Write>(
             Err(fault) => return Err(Fault::File(fault, name)),
         }
     }
-    Ok(())
+    Ok(Printed {
+        settings: *settings,
+        form,
+        lines: names.len(),
+    })
 }
 
 /// Writes the line of each file to `out`, in the order of their names (fsverity(1), "fsverity digest"). The status is 0

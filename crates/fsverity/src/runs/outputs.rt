@@ -13,6 +13,7 @@ ghost use Rattle.fsverity.specs.Runs.OutputSteps.{PutsDescriptor, task_of};
 ghost use Rattle.fsverity.specs.declared.runs.digest_fault.DigestFault.TheVariants.{TooLarge};
 
 use crate::fault::{Fault, end_run};
+use crate::runs::completed::Completed;
 use crate::texts::line_writing::write_line;
 use crate::{DigestFault, FileDigest, Form, OutputFault, digest_file, digest_file_with_tree};
 use std::alloc::Global;
@@ -23,13 +24,37 @@ use verity_tree::{Device, Source, TreeSettings};
 /// What a run is asked for: the digest and the line of a file, and its tree and its descriptor if they are wanted.
 #[derive(Drop)]
 pub(crate) struct OutputTask<'a> {
-    pub settings: &'a TreeSettings,
+    pub settings: TreeSettings,
     pub form: Form,
     pub name: &'a str,
     pub size: u64,
     pub wants_tree: bool,
     pub wants_descriptor: bool,
 }
+
+impl<'a> OutputTask<'a> {
+    /// The same task once more.
+    fn copied(&self) -> OutputTask<'a>
+        ensures { result ≡ self.now }
+    {
+        OutputTask {
+            settings: self.settings,
+            form: self.form,
+            name: self.name,
+            size: self.size,
+            wants_tree: self.wants_tree,
+            wants_descriptor: self.wants_descriptor,
+        }
+    }
+}
+
+/// All that a task asks for is written. Only `write_outputs` makes one.
+#[derive(Drop)]
+pub(crate) struct Written<'a> {
+    task: OutputTask<'a>,
+}
+
+impl Completed for Written<'_> {}
 
 /// The digest of a file. Its tree is written if it is wanted.
 fn digest_for_task<S: Source, D: Device>(
@@ -38,25 +63,25 @@ fn digest_for_task<S: Source, D: Device>(
     source: &mut S,
     tree: &mut D,
 ) -> Result<FileDigest, DigestFault>
-    requires { task.now.settings.now.rule ≡ PaddedBefore }
+    requires { task.now.settings.rule ≡ PaddedBefore }
     ensures source_told { S.tells source.old → S.tells source.new }
     ensures tree_told { D.tells tree.old → D.tells tree.new }
     ensures kept { task.now.wants_tree ≡ false → tree.new ≡ tree.old }
-    ensures too_large { (result ≡ Err TooLarge) ↔ IsTrue (is_too_large task.now.settings.now task.now.size) }
+    ensures too_large { (result ≡ Err TooLarge) ↔ IsTrue (is_too_large task.now.settings task.now.size) }
     ensures described { IfOk result
-        (IsDigestOfSource task.now.settings.now task.now.size (S.tells source.old) (S.remaining source.old)) }
-    ensures length { IfOk result (λ made. length made.digest ≡ digest_len task.now.settings.now) }
+        (IsDigestOfSource task.now.settings task.now.size (S.tells source.old) (S.remaining source.old)) }
+    ensures length { IfOk result (λ made. length made.digest ≡ digest_len task.now.settings) }
     ensures source_count { Counts (failed_at side_of TheSource result) (S.failures source.old) (S.failures source.new) }
     ensures tree_count { Counts (failed_at side_of TheDevice result) (D.failures tree.old) (D.failures tree.new) }
     ensures bytes { S.tells source.old
-        → GivesDigest task.now.settings.now task.now.size result (S.remaining source.old) (S.remaining source.new) }
+        → GivesDigest task.now.settings task.now.size result (S.remaining source.old) (S.remaining source.new) }
     ensures stands { S.tells source.old → D.tells tree.old
         → WritesTree (task_of task.now) (S.remaining source.old) result (D.content tree.old) (D.content tree.new) }
 {
     if task.wants_tree {
-        digest_file_with_tree(alloc, task.settings, task.size, source, tree)
+        digest_file_with_tree(alloc, &task.settings, task.size, source, tree)
     } else {
-        digest_file(alloc, task.settings, task.size, source)
+        digest_file(alloc, &task.settings, task.size, source)
     }
 }
 
@@ -78,21 +103,21 @@ fn put_descriptor<W: Write>(
 }
 
 /// Writes the tree, the descriptor and the line of a file, in this order, up to the first fault.
-pub(crate) fn write_outputs<S: Source, D: Device, W: Write, O: Write>(
+pub(crate) fn write_outputs<'a, S: Source, D: Device, W: Write, O: Write>(
     alloc: Global,
-    task: &OutputTask<'_>,
+    task: &OutputTask<'a>,
     source: &mut S,
     tree: &mut D,
     descriptor: &mut W,
     out: &mut O,
-) -> Result<(), OutputFault>
-    requires { task.now.settings.now.rule ≡ PaddedBefore }
+) -> Result<Written<'a>, OutputFault>
+    requires { task.now.settings.rule ≡ PaddedBefore }
     ensures source_told { S.tells source.old → S.tells source.new }
     ensures tree_told { D.tells tree.old → D.tells tree.new }
     ensures tree_kept { task.now.wants_tree ≡ false → tree.new ≡ tree.old }
     ensures descriptor_kept { task.now.wants_descriptor ≡ false → descriptor.new ≡ descriptor.old }
     ensures too_large { (digest_result result ≡ Err TooLarge)
-        ↔ IsTrue (is_too_large task.now.settings.now task.now.size) }
+        ↔ IsTrue (is_too_large task.now.settings task.now.size) }
     ensures read { S.tells source.old
         → Reads (task_of task.now) (digest_result result) (S.remaining source.old) (S.remaining source.new) }
     ensures stands { S.tells source.old → D.tells tree.old
@@ -100,6 +125,7 @@ pub(crate) fn write_outputs<S: Source, D: Device, W: Write, O: Write>(
         (D.content tree.old) (D.content tree.new) }
     ensures written { WritesOutputs (task_of task.now) result (S.tells source.old) (S.remaining source.old)
         (output_change W.contents O.contents descriptor.old descriptor.new out.old out.new) }
+    ensures value { IfOk result (λ written. written.task ≡ task.now) }
     ensures source_count { Counts (failed_at output_side TheSource result) (S.failures source.old) (S.failures source.new) }
     ensures tree_count { Counts (failed_at output_side TheDevice result) (D.failures tree.old) (D.failures tree.new) }
 {
@@ -111,8 +137,10 @@ pub(crate) fn write_outputs<S: Source, D: Device, W: Write, O: Write>(
         Ok(()) => {}
         Err(PutFault(count)) => return Err(OutputFault::Descriptor(count)),
     }
-    match write_line(alloc, task.settings, task.form, task.name, &made, out) {
-        Ok(()) => Ok(()),
+    match write_line(alloc, &task.settings, task.form, task.name, &made, out) {
+        Ok(()) => Ok(Written {
+            task: task.copied(),
+        }),
         Err(fault) => Err(OutputFault::Line(fault)),
     }
 }
@@ -165,7 +193,7 @@ pub fn run_digest_to<S: Source, D: Device, W: Write, O: Write, M: Write>(
         }) }
 {
     let task = OutputTask {
-        settings,
+        settings: *settings,
         form,
         name,
         size,
@@ -173,7 +201,10 @@ pub fn run_digest_to<S: Source, D: Device, W: Write, O: Write, M: Write>(
         wants_descriptor: want_descriptor,
     };
     match write_outputs(alloc, &task, source, tree, descriptor, out) {
-        Ok(()) => end_run(alloc, Ok(()), msgs),
-        Err(fault) => end_run(alloc, Err(Fault::Outputs(fault, name)), msgs),
+        Ok(written) => end_run(alloc, Ok(written), msgs),
+        Err(fault) => {
+            let failed: Result<Written<'_>, Fault<'_>> = Err(Fault::Outputs(fault, name));
+            end_run(alloc, failed, msgs)
+        }
     }
 }

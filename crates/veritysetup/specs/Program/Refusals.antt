@@ -13,9 +13,9 @@ abbrev pub line_offset : Line → Result ℕ OptionFault
 line_offset line = offset_of (option_map string_bytes line.hash_offset)
 
 -- the command ends with the fault of the option
-abbrev pub EndsRefused : Result (Unit {0}) Fault → OptionFault → Type 0
+abbrev pub EndsRefused : {X : Type 0} → Result X Fault → OptionFault → Type 0
 EndsRefused result cause = result ≡ Err (fault.Option cause)
 
 -- the command ends with the fault that this data block is not whole
-abbrev pub EndsShort : Result (Unit {0}) Fault → ℕ → Type 0
+abbrev pub EndsShort : {X : Type 0} → Result X Fault → ℕ → Type 0
 EndsShort result block = result ≡ Err (fault.Build (build.SourceShort block))

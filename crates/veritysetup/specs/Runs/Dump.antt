@@ -11,6 +11,7 @@ use Rattle.veritysetup.specs.Runs.HashDevice.{superblock_at}
 use Rattle.veritysetup.specs.Runs.StoredSuperblock.{IsSuperblockFault, ReadsSuperblock}
 use Rattle.veritysetup.specs.declared.fault.Fault.{Fault}
 use Rattle.veritysetup.specs.declared.fault.Fault.TheVariants as fault
+use Rattle.veritysetup.specs.declared.runs.dump.Dumped.{Dumped}
 use Rattle.command_line.specs.declared.writing.print_fault.PrintFault.{PrintFault}
 
 -- the report of the superblock at an offset of the device is printed, without a root hash
@@ -22,7 +23,7 @@ ReportsSuperblock offset path device result before after = (v : SuperblockFields
 
 -- what is printed of a device with the superblock at an offset. The superblock's faults and those of the report are the
 -- only ones of dump
-abbrev pub DumpsTo : ℕ → List ℕ → Change → Result (Unit {0}) Fault → Option (List ℕ) → Option (List ℕ) → Type 0
+abbrev pub DumpsTo : {X : Type 0} → ℕ → List ℕ → Change → Result X Fault → Option (List ℕ) → Option (List ℕ) → Type 0
 DumpsTo offset path device (Ok done) before after = ReportsSuperblock offset path device (Ok tt) before after
 DumpsTo offset path device (Err (fault.Report cause)) before after =
     ReportsSuperblock offset path device (Err cause) before after
@@ -31,7 +32,7 @@ DumpsTo offset path device (Err cause) before after = IsSuperblockFault cause
 
 -- a run on a device with the superblock at an offset: one outcome says what became of each
 pub record DumpRun (offset : ℕ) (path : List ℕ) (status : ℕ) (device : Change) (texts : TextChange) : Type 0 where
-  pub outcome : Result (Unit {0}) Fault
+  pub outcome : Result Dumped Fault
   pub status_is : status ≡ result_status outcome
   pub printed : DumpsTo offset path device outcome texts.out_before texts.out_after
   pub message : IsTold outcome texts.msgs_before texts.msgs_after

@@ -1,6 +1,6 @@
 -- How a run of format ends (veritysetup(8), "format"; statuses and messages are this project's own). If it stops at a
 -- fault, nothing that comes later has been done: the superblock is written after all hash blocks, the report last.
-use Rattle.std.specs.Prelude.{◌≡◌, ℕ, List, Result, Ok, Err, if◌then◌else◌, Option}
+use Rattle.std.specs.Prelude.{◌≡◌, ℕ, true, List, Result, Ok, Err, if◌then◌else◌, Option}
 use Rattle.std.specs.Io.KnownBytes.{Appends, Keeps}
 use Rattle.verity_io.specs.Counting.{Change, Counts, TheDevice, TheSource, failed_at}
 use Rattle.verity_io.specs.Writing.{put, Spoiled}
@@ -16,6 +16,7 @@ use Rattle.veritysetup.specs.Texts.TextChanges.{TextChange}
 use Rattle.command_line.specs.Writing.{WritesText}
 use Rattle.veritysetup.specs.declared.fault.Fault.{Fault}
 use Rattle.veritysetup.specs.declared.fault.Fault.TheVariants as fault
+use Rattle.veritysetup.specs.declared.runs.format.Formatted.{Formatted}
 use Rattle.veritysetup.specs.Runs.Formatted.{root_above, format_report}
 use Rattle.verity_format.specs.Superblocks.{superblock_bytes}
 
@@ -28,21 +29,21 @@ abbrev pub formatted_device : SettingsFields → List (List ℕ) → List ℕ �
 formatted_device s blocks before = with_superblock s (tree_on_device s.plan blocks before)
 
 -- how much was read of the source: once the tree is built, the bytes of all data blocks
-abbrev pub Reads : SettingsFields → Result (Unit {0}) Fault → List ℕ → List ℕ → Type 0
+abbrev pub Reads : {X : Type 0} → SettingsFields → Result X Fault → List ℕ → List ℕ → Type 0
 Reads s (Err fault.Store) before after = after ≡ before
 Reads s (Err (fault.Build cause)) before after = Builds s.plan (Err cause) before after
 Reads s outcome before after = HasRead s.plan.wanted before after
 
 -- what stands on the device: once the superblock is written, all that format leaves
-abbrev pub Writes : SettingsFields → List (List ℕ) → Result (Unit {0}) Fault → List ℕ → List ℕ → Type 0
+abbrev pub Writes : {X : Type 0} → SettingsFields → List (List ℕ) → Result X Fault → List ℕ → List ℕ → Type 0
 Writes s blocks (Err fault.Store) before after = after ≡ before
 Writes s blocks (Err (fault.Build cause)) before after = BuildsOnDevice s.plan blocks (Err cause) before after
 Writes s blocks (Err fault.SuperblockUnwritten) before after =
-    Spoiled (tree_on_device s.plan blocks before) s.offset superblock_size after
+    (s.superblock ≡ true) × Spoiled (tree_on_device s.plan blocks before) s.offset superblock_size after
 Writes s blocks outcome before after = after ≡ formatted_device s blocks before
 
 -- what is added to out: the report, or its first bytes if a write fails. No other fault is one of format
-abbrev pub PrintsReport : List ℕ → Result (Unit {0}) Fault → Option (List ℕ) → Option (List ℕ) → Type 0
+abbrev pub PrintsReport : {X : Type 0} → List ℕ → Result X Fault → Option (List ℕ) → Option (List ℕ) → Type 0
 PrintsReport report (Ok done) before after = Appends before after report
 PrintsReport report (Err (fault.Report cause)) before after = WritesText (Err cause) report before after
 PrintsReport report (Err fault.Store) before after = Keeps before after
@@ -53,7 +54,7 @@ PrintsReport report (Err other) before after = ⊥
 -- a run: one outcome says what became of the source, the device and the writers
 pub record FormatRun (s : SettingsFields) (path : List ℕ) (status : ℕ) (source device : Change) (texts : TextChange)
     : Type 0 where
-  pub outcome : Result (Unit {0}) Fault
+  pub outcome : Result Formatted Fault
   pub status_is : status ≡ result_status outcome
   pub read : source.told → Reads s outcome source.before source.after
   pub stands : source.told → device.told

@@ -13,6 +13,7 @@ use Rattle.veritysetup.specs.Runs.StoredSuperblock.{IsSuperblockFault, ReadsSupe
 use Rattle.veritysetup.specs.declared.fault.Fault.{Fault}
 use Rattle.veritysetup.specs.declared.fault.Fault.TheVariants as fault
 use Rattle.veritysetup.specs.declared.options.option_fault.OptionFault.TheVariants as option
+use Rattle.veritysetup.specs.declared.runs.verify.Verified.{Verified}
 use Rattle.veritysetup.specs.declared.runs.verify_input.VerifyInput.{VerifyInput}
 use Rattle.veritysetup.specs.declared.runs.verify_input.VerifyInput.TheVariants.{Stored, Given}
 use Rattle.veritysetup.specs.Runs.Verified.{Trusts}
@@ -67,7 +68,7 @@ pub record Compares (input : VerifyInput) (device before after : List ℕ) (resu
   pub read : CompareReads plan result before after
 
 -- the verdict, and how much was read of the source: nothing, if the run ends before there is a store
-abbrev pub Verifies : VerifyInput → List ℕ → List ℕ → List ℕ → Result (Unit {0}) Fault → Type 0
+abbrev pub Verifies : {X : Type 0} → VerifyInput → List ℕ → List ℕ → List ℕ → Result X Fault → Type 0
 Verifies input device before after (Ok done) = Compares input device before after (Ok tt)
 Verifies input device before after (Err fault.Store) =
     ((plan : PlanFields) × (root : List ℕ) × Trusts input device plan root) × (after ≡ before)
@@ -77,7 +78,7 @@ Verifies input device before after (Err other) = Refuses input device other × (
 -- a run: one outcome says what became of the source, the device and the writer of the message
 pub record VerifyRun (input : VerifyInput) (status : ℕ) (source device : Change)
     (msgs_before msgs_after : Option (List ℕ)) : Type 0 where
-  pub outcome : Result (Unit {0}) Fault
+  pub outcome : Result Verified Fault
   pub possible : IfErr outcome IsVerifyFault
   pub status_is : status ≡ result_status outcome
   pub verdict : source.told → device.told → Verifies input device.before source.before source.after outcome

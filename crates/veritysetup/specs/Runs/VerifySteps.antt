@@ -1,11 +1,15 @@
--- What a step of verify answers before the comparison.
+-- What a step of verify answers before the comparison, and what a device was verified by after it.
 -- For the private steps; not needed to read a public contract.
-use Rattle.std.specs.Prelude.{ℕ, List, Result, Ok, Err}
+use Rattle.std.specs.Prelude.{◌≡◌, ℕ, List, Option, Some, None, Result, Ok, Err}
+use Rattle.verity_plan.specs.Plans.{PlanFields}
+use Rattle.veritysetup.specs.Options.Settings.{read_root}
 use Rattle.veritysetup.specs.Runs.Verify.{Refuses, RefusesStored}
 use Rattle.veritysetup.specs.Runs.Verified.{Trusts, Describes}
 use Rattle.veritysetup.specs.declared.fault.Fault.{Fault}
 use Rattle.veritysetup.specs.declared.runs.trusted_tree.TrustedTree.{TrustedTree}
+use Rattle.veritysetup.specs.declared.runs.verify.Verified.{Verified}
 use Rattle.veritysetup.specs.declared.runs.verify_input.VerifyInput.{VerifyInput}
+use Rattle.veritysetup.specs.declared.runs.verify_input.VerifyInput.TheVariants.{Stored, Given}
 
 -- what the tree is compared by for an input, or why it is not
 abbrev pub IsTrustedTree : VerifyInput → List ℕ → Result TrustedTree Fault → Type 0
@@ -16,3 +20,19 @@ IsTrustedTree input device (Err cause) = Refuses input device cause
 abbrev pub IsStoredTree : ℕ → List ℕ → List ℕ → Result TrustedTree Fault → Type 0
 IsStoredTree offset text device (Ok tree) = Describes offset text device tree.plan tree.root
 IsStoredTree offset text device (Err cause) = RefusesStored offset text device cause
+
+-- the byte at which the superblock stands that is read for an input, if one is
+abbrev pub superblock_offset : VerifyInput → Option ℕ
+superblock_offset (Stored offset text) = Some offset
+superblock_offset (Given settings) = None
+
+-- the plan and the root hash that an input asks for, as far as it says so without the device: the root hash of the text,
+-- or the plan and the root hash of the settings
+abbrev pub IsAskedFor : VerifyInput → PlanFields → List ℕ → Type 0
+IsAskedFor (Stored offset text) plan root = read_root plan.settings.algorithm text.now ≡ Some root
+IsAskedFor (Given settings) plan root = (plan ≡ settings.now.plan) × (settings.now.root ≡ Some root)
+
+-- it was verified by what the input asks for
+abbrev pub IsVerifiedBy : VerifyInput → Verified → Type 0
+IsVerifiedBy input verified = (verified.offset ≡ superblock_offset input)
+    × IsAskedFor input verified.tree.plan verified.tree.root

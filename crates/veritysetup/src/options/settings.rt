@@ -22,7 +22,7 @@ use verity_plan::{multiple_of, offset_unit, plan_at};
 use verity_tree::{HashType, Plan};
 
 /// The settings of a hash device. Only `settings_of` makes them, so the parts agree: the plan's tree is of the hash
-/// type, and its hash blocks stand at the hash offset, or after the superblock there.
+/// type, the hash offset is aligned, and the hash blocks stand there, or after the superblock there.
 #[derive(Clone, Copy)]
 pub struct Settings {
     hash_type: HashType,

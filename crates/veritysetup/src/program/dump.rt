@@ -1,28 +1,35 @@
 //! `veritysetup dump` over the files of a runtime.
-ghost use Rattle.std.specs.Prelude.{◌≡◌, IfErr};
+ghost use Rattle.std.specs.Prelude.{◌≡◌, IfErr, IfOk, None};
+ghost use Rattle.std.specs.Io.KnownBytes.{Appends};
 ghost use Rattle.veritysetup.specs.Texts.TextChanges.{Grows};
+ghost use Rattle.veritysetup.specs.Texts.Reports.{report_text, uuid_text};
 ghost use Rattle.veritysetup.specs.Program.Refusals.{EndsRefused, line_offset};
+ghost use Rattle.veritysetup.specs.Program.Steps.{IsDumpedByLine};
 
 use crate::Line;
 use crate::fault::Fault;
 use crate::options::hash_offset::offset_of;
-use crate::runs::dump::dump;
+use crate::program::dumped_file::{DumpedFile, dump_opened};
+use crate::program::hash_device::HashDevice;
 use command_line::open_readable;
 use std::alloc::AllocGlobal;
 use std::io::Write;
 use std::rt::Files;
-use verity_tree::FileDevice;
 
 /// Prints what the superblock of a hash device says. A refused option opens no file.
-pub fn dump_file<'a, R, O>(
+pub(crate) fn dump_file<'a, R, O>(
     rt: &R,
     line: &Line,
     hash_path: &'a str,
     out: &mut O,
-) -> Result<(), Fault<'a>>
+) -> Result<DumpedFile<'a>, Fault<'a>>
 where
     R: Files + AllocGlobal,
     O: Write,
+    ensures by { IfOk result (IsDumpedByLine line.now) }
+    ensures hash { IfOk result (λ file. file.hash ≡ hash_path.entry) }
+    ensures report { IfOk result (λ file. Appends (O.contents out.old) (O.contents out.new)
+        (report_text hash_path.now (uuid_text file.dumped.superblock.uuid) file.dumped.superblock None)) }
     ensures grows { Grows (O.contents out.old) (O.contents out.new) }
     ensures refused { IfErr (line_offset line.now) (EndsRefused result) }
     ensures unprinted { IfErr (line_offset line.now) (λ _. out.new ≡ out.old) }
@@ -32,13 +39,7 @@ where
         Err(fault) => return Err(Fault::Option(fault)),
     };
     match open_readable(rt, hash_path) {
-        Ok(file) => dump(
-            rt.alloc(),
-            offset,
-            hash_path,
-            &mut FileDevice::new(file),
-            out,
-        ),
+        Ok(opened) => dump_opened(rt.alloc(), offset, HashDevice::new(opened), out),
         Err(_) => Err(Fault::Unopened(hash_path)),
     }
 }

@@ -1,10 +1,13 @@
 //! The program veritysetup, over any runtime.
-ghost use Rattle.std.specs.Prelude.{◌≡◌};
+ghost use Rattle.std.specs.Prelude.{◌≡◌, IfOk};
 ghost use Rattle.std.specs.Io.KnownBytes.{Keeps};
 ghost use Rattle.veritysetup.specs.Faults.{IsStatus};
+ghost use Rattle.veritysetup.specs.Program.RandomBytes.{IsDrawnFrom};
+ghost use Rattle.veritysetup.specs.Program.Steps.{IsDone};
 ghost use Rattle.veritysetup.specs.Texts.TextChanges.{Grows};
 
 use crate::fault::{Fault, end_run};
+use crate::program::done::Done;
 use crate::program::dump::dump_file;
 use crate::program::file_paths::FilePaths;
 use crate::program::format::format_files;
@@ -16,6 +19,8 @@ use command_line::{
     Identities, NULL_DEVICE, NullFiles, ProgressLine, ProgressRuntime, WordsFault, given_words,
     texts_of,
 };
+use rand::rngs::StdRng;
+use rand::{Rng, SeedableRng};
 use std::alloc::AllocGlobal;
 use std::env::Env;
 use std::io::Write;
@@ -39,7 +44,10 @@ where
             let outcome = run_line(rt, progress, &line, out);
             end_run(rt.alloc(), outcome, msgs)
         }
-        Err(fault) => end_run(rt.alloc(), Err(fault), msgs),
+        Err(fault) => {
+            let refused: Result<Done<'_>, Fault<'_>> = Err(fault);
+            end_run(rt.alloc(), refused, msgs)
+        }
     };
     progress.erase();
     status
@@ -68,11 +76,13 @@ fn run_line<'a, R, O>(
     progress: &ProgressLine<'_, R>,
     line: &'a Line,
     out: &mut O,
-) -> Result<(), Fault<'a>>
+) -> Result<Done<'a>, Fault<'a>>
 where
     R: Identities + ProgressRuntime + RandomSource + AllocGlobal,
     O: Write,
-    ensures { Grows (O.contents out.old) (O.contents out.new) }
+    ensures done { IfOk result (IsDone (λ answer. (file : R.File) × R.file_is rt.now file answer) (R.path_is rt.now)
+        (IsDrawnFrom (λ seed. ⟦<StdRng as Rng>⟧.stream (⟦<StdRng as SeedableRng>⟧.of_seed seed))) line.now) }
+    ensures grows { Grows (O.contents out.old) (O.contents out.new) }
 {
     let null_files = NullFiles::open(rt);
     if !null_files.are_open() {
@@ -84,15 +94,24 @@ where
                 data: data.as_str(),
                 hash: hash.as_str(),
             };
-            format_files(rt, progress, line, paths, out)
+            match format_files(rt, progress, line, paths, out) {
+                Ok(files) => Ok(Done::Formatted(files)),
+                Err(fault) => Err(fault),
+            }
         }
-        (CommandName::Dump, [hash]) => dump_file(rt, line, hash.as_str(), out),
+        (CommandName::Dump, [hash]) => match dump_file(rt, line, hash.as_str(), out) {
+            Ok(file) => Ok(Done::Dumped(file)),
+            Err(fault) => Err(fault),
+        },
         (CommandName::Verify, [data, hash, root]) => {
             let paths = FilePaths {
                 data: data.as_str(),
                 hash: hash.as_str(),
             };
-            verify_files(rt, progress, line, paths, root.as_str())
+            match verify_files(rt, progress, line, paths, root.as_str()) {
+                Ok(files) => Ok(Done::Verified(files)),
+                Err(fault) => Err(fault),
+            }
         }
         _ => Err(Fault::IncompleteLine),
     }

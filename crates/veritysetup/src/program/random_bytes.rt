@@ -1,6 +1,6 @@
 //! Random bytes for what is not given.
-ghost use Rattle.std.specs.Prelude.{◌≡◌, ℕ, List, length, IfOk};
-ghost use Rattle.veritysetup.specs.Program.RandomBytes.{random_bytes};
+ghost use Rattle.std.specs.Prelude.{◌≡◌, IfOk};
+ghost use Rattle.veritysetup.specs.Program.RandomBytes.{IsDrawnFrom, random_bytes};
 
 use rand::rngs::StdRng;
 use rand::{Rng, SeedableRng};
@@ -9,8 +9,7 @@ use std::random::RandomSource;
 
 /// Random bytes of a generator that the runtime seeds with 32 bytes.
 pub(crate) fn draw_seeded<R: RandomSource>(rt: &R) -> io::Result<[u8; 48]>
-    ensures { IfOk result (λ bytes. (seed : List ℕ) × (length seed ≡ 32)
-        × (bytes ≡ (random_bytes (⟦<StdRng as Rng>⟧.stream (⟦<StdRng as SeedableRng>⟧.of_seed seed))).0)) }
+    ensures { IfOk result (IsDrawnFrom (λ seed. ⟦<StdRng as Rng>⟧.stream (⟦<StdRng as SeedableRng>⟧.of_seed seed))) }
 {
     let mut rng: StdRng = rand::make_rng(rt)?;
     Ok(draw(&mut rng))

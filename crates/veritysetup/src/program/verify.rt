@@ -1,35 +1,41 @@
 //! `veritysetup verify` over the files of a runtime.
-ghost use Rattle.std.specs.Prelude.{◌≡◌, IfErr, None, false};
+ghost use Rattle.std.specs.Prelude.{◌≡◌, IfErr, IfOk, IsOkAnd, None, false};
 ghost use Rattle.veritysetup.specs.Options.Choices.{settings_of};
 ghost use Rattle.veritysetup.specs.Options.OptionTexts.{option_texts};
 ghost use Rattle.veritysetup.specs.Program.Refusals.{EndsRefused, line_offset};
+ghost use Rattle.veritysetup.specs.Program.Steps.{IsBySettings, IsVerifiedByLine, line_texts};
+ghost use Rattle.veritysetup.specs.Runs.VerifySteps.{IsVerifiedBy};
 
 use crate::Line;
 use crate::fault::Fault;
 use crate::options::hash_offset::offset_of;
 use crate::options::raw_options::RawOptions;
 use crate::options::settings::settings_of;
-use crate::program::data_file::{DataFile, open_data};
+use crate::program::data_file::{DataFile, DataSource, open_data};
 use crate::program::file_paths::FilePaths;
-use crate::runs::verify::verify;
+use crate::program::hash_device::HashDevice;
+use crate::program::verified_files::{VerifiedFiles, verify_opened};
 use crate::runs::verify_input::VerifyInput;
 use command_line::{ProgressLine, ProgressRuntime, open_readable};
 use std::alloc::AllocGlobal;
 use std::rt::Files;
-use verity_tree::{FileDevice, Source};
+use verity_tree::Source;
 
 /// Verifies a hash device against a data file and a root hash. With a superblock only the hash offset is read of the
 /// options, before any file is opened. Without one all options are read, once DATA's length is known and before HASH is
 /// opened.
-pub fn verify_files<'a, R>(
+pub(crate) fn verify_files<'a, R>(
     rt: &R,
     progress: &ProgressLine<'_, R>,
     line: &Line,
     paths: FilePaths<'a>,
     root: &str,
-) -> Result<(), Fault<'a>>
+) -> Result<VerifiedFiles<'a>, Fault<'a>>
 where
     R: Files + ProgressRuntime + AllocGlobal,
+    ensures by { IfOk result (IsVerifiedByLine line.now root.now) }
+    ensures data { IfOk result (λ files. files.data ≡ paths.entry.data) }
+    ensures hash { IfOk result (λ files. files.hash ≡ paths.entry.hash) }
     ensures refused { line.now.no_superblock ≡ false → IfErr (line_offset line.now) (EndsRefused result) }
 {
     if line.no_superblock {
@@ -41,7 +47,7 @@ where
     };
     match open_data(rt, paths.data, progress) {
         Ok(data_file) => {
-            let total = data_file.length;
+            let total = data_file.length();
             let input = VerifyInput::Stored { offset, root };
             verify_source(rt, &input, data_file.source(total), paths.hash)
         }
@@ -55,9 +61,13 @@ fn verify_without_superblock<'a, R>(
     progress: &ProgressLine<'_, R>,
     line: &Line,
     paths: FilePaths<'a>,
-) -> Result<(), Fault<'a>>
+) -> Result<VerifiedFiles<'a>, Fault<'a>>
 where
     R: Files + ProgressRuntime + AllocGlobal,
+    ensures by { IfOk result (λ files. IsOkAnd (settings_of (line_texts line.now false) files.length None)
+        (IsBySettings files.verified)) }
+    ensures data { IfOk result (λ files. files.data ≡ paths.entry.data) }
+    ensures hash { IfOk result (λ files. files.hash ≡ paths.entry.hash) }
 {
     match open_data(rt, paths.data, progress) {
         Ok(data_file) => verify_by(rt, &line.raw(false), data_file, paths.hash),
@@ -70,14 +80,19 @@ where
 fn verify_by<'a, R>(
     rt: &R,
     raw: &RawOptions,
-    data_file: DataFile<'_, R, R::File>,
+    data_file: DataFile<'_, 'a, R, R::File>,
     hash_path: &'a str,
-) -> Result<(), Fault<'a>>
+) -> Result<VerifiedFiles<'a>, Fault<'a>>
 where
     R: Files + ProgressRuntime + AllocGlobal,
-    ensures refused { IfErr (settings_of (option_texts raw.now) data_file.entry.length None) (EndsRefused result) }
+    ensures by { IfOk result (λ files. IsOkAnd (settings_of (option_texts raw.now) files.length None)
+        (IsBySettings files.verified)) }
+    ensures data { IfOk result (λ files. files.data ≡ data_file.entry.measured.opened.path) }
+    ensures hash { IfOk result (λ files. files.hash ≡ hash_path.entry) }
+    ensures refused { IfErr (settings_of (option_texts raw.now) data_file.entry.measured.length None)
+        (EndsRefused result) }
 {
-    match settings_of(raw, data_file.length, None) {
+    match settings_of(raw, data_file.length(), None) {
         Ok(settings) => {
             let source = data_file.source(settings.plan().wanted());
             verify_source(rt, &VerifyInput::Given(&settings), source, hash_path)
@@ -90,16 +105,19 @@ where
 fn verify_source<'a, R, S>(
     rt: &R,
     input: &VerifyInput,
-    source: S,
+    data: DataSource<'a, S>,
     hash_path: &'a str,
-) -> Result<(), Fault<'a>>
+) -> Result<VerifiedFiles<'a>, Fault<'a>>
 where
     R: Files + AllocGlobal,
     S: Source + Drop,
+    ensures by { IfOk result (λ files. IsVerifiedBy input.now files.verified) }
+    ensures data { IfOk result (λ files. files.data ≡ data.entry.path) }
+    ensures length { IfOk result (λ files. files.length ≡ data.entry.length) }
+    ensures hash { IfOk result (λ files. files.hash ≡ hash_path.entry) }
 {
-    let mut source = source;
     match open_readable(rt, hash_path) {
-        Ok(file) => verify(rt.alloc(), input, &mut source, &mut FileDevice::new(file)),
+        Ok(opened) => verify_opened(rt.alloc(), input, data, HashDevice::new(opened)),
         Err(_) => Err(Fault::Unopened(hash_path)),
     }
 }

@@ -1,17 +1,32 @@
 //! The run of dump.
-ghost use Rattle.std.specs.Prelude.{◌≡◌};
+ghost use Rattle.std.specs.Prelude.{◌≡◌, IfOk, None};
+ghost use Rattle.std.specs.Io.KnownBytes.{Appends};
 ghost use Rattle.verity_io.specs.Counting.{change};
+ghost use Rattle.verity_format.specs.Superblocks.{IsSuperblock};
 ghost use Rattle.veritysetup.specs.Runs.Dump.{DumpRun, DumpsTo};
+ghost use Rattle.veritysetup.specs.Runs.HashDevice.{superblock_at};
 ghost use Rattle.veritysetup.specs.Runs.OnlyRead.{IsOnlyRead};
+ghost use Rattle.veritysetup.specs.Texts.Reports.{report_text, uuid_text};
 ghost use Rattle.veritysetup.specs.Texts.TextChanges.{text_change};
 
 use crate::fault::{Fault, end_run};
+use crate::runs::completed::Completed;
 use crate::runs::stored_superblock::stored_superblock;
 use crate::texts::reports::report;
 use command_line::write_whole;
 use std::alloc::Global;
 use std::io::Write;
+use verity_format::Superblock;
 use verity_tree::Device;
+
+/// The superblock that was printed, and the byte at which it was read. Only `dump` makes one.
+#[derive(Drop)]
+pub(crate) struct Dumped {
+    superblock: Superblock,
+    offset: u64,
+}
+
+impl Completed for Dumped {}
 
 /// Reads the superblock and prints its report.
 pub(crate) fn dump<D: Device, O: Write>(
@@ -20,7 +35,12 @@ pub(crate) fn dump<D: Device, O: Write>(
     hash_path: &str,
     device: &mut D,
     out: &mut O,
-) -> Result<(), Fault<'static>>
+) -> Result<Dumped, Fault<'static>>
+    ensures superblock { D.tells device.old →
+        IfOk result (λ dumped. IsSuperblock (superblock_at offset (D.content device.old)) dumped.superblock) }
+    ensures offset { IfOk result (λ dumped. dumped.offset ≡ offset) }
+    ensures report { IfOk result (λ dumped. Appends (O.contents out.old) (O.contents out.new)
+        (report_text hash_path.now (uuid_text dumped.superblock.uuid) dumped.superblock None)) }
     ensures only_read { IsOnlyRead D.tells D.content D.failures device.old device.new result }
     ensures printed { DumpsTo offset hash_path.now (change D.tells D.content D.failures device.old device.new) result
         (O.contents out.old) (O.contents out.new) }
@@ -30,7 +50,7 @@ pub(crate) fn dump<D: Device, O: Write>(
         Err(fault) => return Err(fault),
     };
     match write_whole(report(alloc, &superblock, None, hash_path), out) {
-        Ok(()) => Ok(()),
+        Ok(()) => Ok(Dumped { superblock, offset }),
         Err(fault) => Err(Fault::Report(fault)),
     }
 }

@@ -1,5 +1,6 @@
 //! The run of format.
-ghost use Rattle.std.specs.Prelude.{◌≡◌, ℕ, List, length, IfOk, OnOk, OnErr, string_bytes};
+ghost use Rattle.std.specs.Prelude.{◌≡◌, ℕ, true, List, length, IfOk, OnOk, OnErr, string_bytes};
+ghost use Rattle.std.specs.Io.KnownBytes.{Appends};
 ghost use Rattle.verity_io.specs.Counting.{Counts, CountsFailure, TheDevice, TheSource, change, failed_at};
 ghost use Rattle.verity_io.specs.Writing.{Spoiled};
 ghost use Rattle.verity_plan.specs.Plans.{IsPlan, superblock_size};
@@ -12,6 +13,7 @@ ghost use Rattle.veritysetup.specs.Texts.TextChanges.{text_change};
 
 use crate::fault::{Fault, end_run};
 use crate::options::settings::Settings;
+use crate::runs::completed::Completed;
 use crate::texts::reports::{report, report_bare};
 use command_line::write_whole;
 use std::alloc::{AllocError, Global};
@@ -27,6 +29,7 @@ fn put_superblock<D: Device>(settings: &Settings, device: &mut D) -> Result<(), 
         OnOk result (D.content device.new ≡ with_superblock settings.now (D.content device.old)) }
     ensures failed { D.tells device.old →
         OnErr result (Spoiled (D.content device.old) settings.now.offset superblock_size (D.content device.new)) }
+    ensures wanted { OnErr result (settings.now.superblock ≡ true) }
     ensures count { CountsFailure (D.failures device.old) (D.failures device.new) result }
 {
     // Called for the proof: by its contract the parts of the settings agree.
@@ -55,6 +58,15 @@ fn settings_report(
     }
 }
 
+/// The settings that a hash device was made by, and the root hash that was printed. Only `format` makes one.
+#[derive(Drop)]
+pub(crate) struct Formatted {
+    settings: Settings,
+    root: Digest,
+}
+
+impl Completed for Formatted {}
+
 /// Builds the tree, writes the superblock after it, and prints the report.
 pub(crate) fn format<S: Source, D: Device, O: Write>(
     alloc: Global,
@@ -63,7 +75,12 @@ pub(crate) fn format<S: Source, D: Device, O: Write>(
     source: &mut S,
     device: &mut D,
     out: &mut O,
-) -> Result<(), Fault<'static>>
+) -> Result<Formatted, Fault<'static>>
+    ensures settings { IfOk result (λ formatted. formatted.settings ≡ settings.now) }
+    ensures root { S.tells source.old →
+        IfOk result (λ formatted. formatted.root ≡ root_above settings.now (S.remaining source.old)) }
+    ensures report { IfOk result (λ formatted. Appends (O.contents out.old) (O.contents out.new)
+        (format_report settings.now hash_path.now formatted.root)) }
     ensures source_told { S.tells source.old → S.tells source.new }
     ensures device_told { D.tells device.old → D.tells device.new }
     ensures read { S.tells source.old → Reads settings.now result (S.remaining source.old) (S.remaining source.new) }
@@ -90,7 +107,10 @@ pub(crate) fn format<S: Source, D: Device, O: Write>(
         Err(Failed) => return Err(Fault::SuperblockUnwritten),
     }
     match write_whole(settings_report(alloc, settings, &root, hash_path), out) {
-        Ok(()) => Ok(()),
+        Ok(()) => Ok(Formatted {
+            settings: *settings,
+            root,
+        }),
         Err(fault) => Err(Fault::Report(fault)),
     }
 }

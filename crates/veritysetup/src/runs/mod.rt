@@ -1,5 +1,6 @@
 //! The runs of format, dump and verify, over any source and device.
 
+pub(crate) mod completed;
 pub(crate) mod dump;
 pub(crate) mod format;
 pub(crate) mod stored_superblock;

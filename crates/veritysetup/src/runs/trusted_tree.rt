@@ -1,8 +1,9 @@
 //! What a stored tree is compared by.
-ghost use Rattle.std.specs.Prelude.{IfErr};
+ghost use Rattle.std.specs.Prelude.{◌≡◌, IfErr, IfOk};
+ghost use Rattle.veritysetup.specs.Options.Settings.{read_root};
 ghost use Rattle.veritysetup.specs.Runs.OnlyRead.{IsOnlyRead};
 ghost use Rattle.veritysetup.specs.Runs.Verify.{IsInputFault};
-ghost use Rattle.veritysetup.specs.Runs.VerifySteps.{IsTrustedTree, IsStoredTree};
+ghost use Rattle.veritysetup.specs.Runs.VerifySteps.{IsAskedFor, IsStoredTree, IsTrustedTree};
 
 use crate::fault::Fault;
 use crate::options::option_fault::OptionFault;
@@ -28,6 +29,7 @@ pub fn read_trusted_tree<D: Device>(
     input: &VerifyInput,
 ) -> Result<TrustedTree, Fault<'static>>
     ensures only_read { IsOnlyRead D.tells D.content D.failures device.old device.new result }
+    ensures asked { IfOk result (λ tree. IsAskedFor input.now tree.plan tree.root) }
     ensures trusted { D.tells device.old → IsTrustedTree input.now (D.content device.old) result }
     ensures possible { IfErr result IsInputFault }
 {
@@ -50,6 +52,7 @@ fn read_stored_tree<D: Device>(
     root: &str,
 ) -> Result<TrustedTree, Fault<'static>>
     ensures only_read { IsOnlyRead D.tells D.content D.failures device.old device.new result }
+    ensures asked { IfOk result (λ tree. read_root tree.plan.settings.algorithm root.now ≡ Some tree.root) }
     ensures trusted { D.tells device.old → IsStoredTree offset root.now (D.content device.old) result }
     ensures possible { IfErr result IsInputFault }
 {

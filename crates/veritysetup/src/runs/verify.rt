@@ -1,17 +1,29 @@
 //! The run of verify.
-ghost use Rattle.std.specs.Prelude.{◌≡◌, IfErr};
+ghost use Rattle.std.specs.Prelude.{◌≡◌, IfErr, IfOk};
 ghost use Rattle.verity_io.specs.Counting.{Counts, TheSource, change, failed_at};
 ghost use Rattle.veritysetup.specs.Faults.{side_of};
 ghost use Rattle.veritysetup.specs.Runs.OnlyRead.{IsOnlyRead};
 ghost use Rattle.veritysetup.specs.Runs.Verify.{IsVerifyFault, Verifies, VerifyRun};
+ghost use Rattle.veritysetup.specs.Runs.VerifySteps.{IsVerifiedBy};
 ghost use Rattle.veritysetup.specs.Runs.Verified.{IsVerified};
 
 use crate::fault::{Fault, end_run};
+use crate::runs::completed::Completed;
 use crate::runs::trusted_tree::{TrustedTree, read_trusted_tree};
 use crate::runs::verify_input::VerifyInput;
 use std::alloc::Global;
 use std::io::Write;
 use verity_tree::{Device, Source, Store, compare};
+
+/// By what a hash device was verified. Only `verify` makes one.
+#[derive(Drop)]
+pub(crate) struct Verified {
+    tree: TrustedTree,
+    /// The byte at which the superblock was read, if one was.
+    offset: Option<u64>,
+}
+
+impl Completed for Verified {}
 
 /// Compares the stored tree with the one above the data.
 pub(crate) fn verify<S: Source, D: Device>(
@@ -19,7 +31,8 @@ pub(crate) fn verify<S: Source, D: Device>(
     input: &VerifyInput,
     source: &mut S,
     device: &mut D,
-) -> Result<(), Fault<'static>>
+) -> Result<Verified, Fault<'static>>
+    ensures by { IfOk result (IsVerifiedBy input.now) }
     ensures source_told { S.tells source.old → S.tells source.new }
     ensures only_read { IsOnlyRead D.tells D.content D.failures device.old device.new result }
     ensures verdict { S.tells source.old → D.tells device.old →
@@ -27,16 +40,19 @@ pub(crate) fn verify<S: Source, D: Device>(
     ensures possible { IfErr result IsVerifyFault }
     ensures source_count { Counts (failed_at side_of TheSource result) (S.failures source.old) (S.failures source.new) }
 {
-    let TrustedTree { plan, root } = match read_trusted_tree(device, input) {
+    let tree = match read_trusted_tree(device, input) {
         Ok(tree) => tree,
         Err(fault) => return Err(fault),
     };
-    let mut store = match Store::new(alloc, &plan) {
+    let mut store = match Store::new(alloc, &tree.plan) {
         Ok(store) => store,
         Err(_) => return Err(Fault::Store),
     };
-    match compare(&plan, &mut store, source, device, &root) {
-        Ok(()) => Ok(()),
+    match compare(&tree.plan, &mut store, source, device, &tree.root) {
+        Ok(()) => Ok(Verified {
+            tree,
+            offset: input.superblock_offset(),
+        }),
         Err(fault) => Err(Fault::Compare(fault)),
     }
 }

@@ -1,4 +1,6 @@
 //! What a hash device is verified by.
+ghost use Rattle.std.specs.Prelude.{◌≡◌};
+ghost use Rattle.veritysetup.specs.Runs.VerifySteps.{superblock_offset};
 
 use crate::options::settings::Settings;
 
@@ -14,4 +16,16 @@ pub enum VerifyInput<'a> {
     },
     /// Settings with a root hash, and no superblock (veritysetup(8), `--no-superblock`).
     Given(&'a Settings),
+}
+
+impl VerifyInput<'_> {
+    /// The byte at which the superblock stands, if one is read.
+    pub(crate) fn superblock_offset(&self) -> Option<u64>
+        ensures { result ≡ superblock_offset self.now }
+    {
+        match *self {
+            VerifyInput::Stored { offset, .. } => Some(offset),
+            VerifyInput::Given(_) => None,
+        }
+    }
 }

@@ -1,4 +1,4 @@
-use Rattle.veritysetup.proofs.AcceptedLemmas.{accepted-back, superblock-back, verified-back}
+use Rattle.veritysetup.proofs.AcceptedLemmas.{accepted-back, done-back, superblock-back, verified-back}
 use Rattle.veritysetup.proofs.laws.formatted_devices_are_verified.Goals as goal
 
 pub returns-clause-superblock : goal.returns-clause-superblock
@@ -16,4 +16,11 @@ returns-clause-accepted c =
     λ s path source rest before after bytes left out out_after input outcome planned agree uuid formatted given same
     verifies.
     accepted-back s source bytes before after left input outcome
+    (record { planned = planned; agree = agree; uuid = uuid }) formatted.stands given same verifies
+
+pub returns-clause-done : goal.returns-clause-done
+returns-clause-done c =
+    λ s path source rest before after bytes left out out_after input outcome planned agree uuid formatted given same
+    verifies.
+    done-back s source bytes before after left input outcome
     (record { planned = planned; agree = agree; uuid = uuid }) formatted.stands given same verifies

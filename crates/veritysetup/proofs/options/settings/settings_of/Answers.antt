@@ -1,40 +1,21 @@
-use Rattle.std.proofs.Common.{◌≡◌, ◌∙◌, ◌*◌, ◌&&◌, ℕ, nat_lt, ap, refl, Bool, true, false, cond, Option, Some, None}
-use Rattle.std.proofs.Common.{Result, Ok, Err}
-use Rattle.verity_plan.specs.Plans.{PlanFields, plan_from}
-use Rattle.verity_plan.specs.Settings.{TreeSettingsFields}
-use Rattle.verity_plan.proofs.PlanLemmas.{planned_is}
-use Rattle.verity_plan.specs.declared.plan_fault.PlanFault.{PlanFault}
-use Rattle.verity_plan.specs.declared.plan_fault.PlanFault.TheVariants.{NoData, TooLarge}
-use Rattle.veritysetup.specs.Options.Choices.{accepted_plan}
-use Rattle.veritysetup.specs.declared.options.option_fault.OptionFault.TheVariants.{Overlap}
+use Rattle.std.proofs.Common.{◌≡◌, ◌∙◌, ℕ, ap, refl, Bool, true, false, cond, Option, Some, None}
+use Rattle.std.proofs.Common.{◌%◌, ◌==◌, sym, subst, arith}
+use Rattle.std.proofs.lemmas.Bool.Decides.{nat_tests}
+use Rattle.verity_plan.specs.Plans.{PlanFields, multiple_of}
+use Rattle.veritysetup.proofs.OptionLemmas.{apart-is, plan_is}
 use Rattle.veritysetup.proofs.options.settings.settings_of.Goals as goal
 
--- the plan that whole data blocks have from this hash block on
-record IsPlanFrom (s : TreeSettingsFields) (count : ℕ) (from : Option ℕ) (q : PlanFields) : Type 0 where
-  base : ℕ
-  from_is : from ≡ Some base
-  plan_is : q ≡ record { settings = s; blocks = count; wanted = count * s.data_block; base = base }
-
-plan_is : (s : TreeSettingsFields) (count : ℕ) (from : Option ℕ) (q : PlanFields) → Ok q ≡ plan_from s count from
-    → IsPlanFrom s count from q
-plan_is s count (Some base) q e = record { base = base; from_is = refl; plan_is = planned_is _ q e }
-plan_is s count None q e = by_test _ e
+-- a number that is taken as a multiple of a unit is one
+aligned-is : (unit same_unit bytes offset : ℕ) (r : Option ℕ) → r ≡ multiple_of unit bytes → r ≡ Some offset
+    → unit ≡ same_unit → offset % same_unit ≡ 0
+aligned-is unit same_unit bytes offset r made given same =
+    subst (λ (u : ℕ). offset % u ≡ 0) same (by_test (bytes % unit == 0) refl (sym made ∙ given))
   where
-    by_test : (none : Bool) → Ok q ≡ cond none (Err NoData) (Err TooLarge) → IsPlanFrom s count None q
-    by_test true e = cc
-    by_test false e = cc
-
--- a plan that is accepted is the one that was made
-apart-is : (same_file : Bool) (offset : ℕ) (r : Result PlanFields PlanFault) (q : PlanFields)
-    → Ok q ≡ accepted_plan same_file offset r → Ok q ≡ r
-apart-is same_file offset (Ok p) q e =
-    ap (λ (x : PlanFields). Ok x) (by_test (same_file && nat_lt offset p.wanted) e)
-  where
-    by_test : (within : Bool) → Ok q ≡ cond within (Err Overlap) (Ok p) → q ≡ p
-    by_test true e = cc
-    by_test false e = cc
-apart-is same_file offset (Err NoData) q e = cc
-apart-is same_file offset (Err TooLarge) q e = cc
+    by_test : (b : Bool) → (bytes % unit == 0) ≡ b → cond b (Some bytes) None ≡ Some offset → offset % unit ≡ 0
+    by_test true test e =
+        let one : bytes ≡ offset = cc in
+        subst (λ (x : ℕ). x % unit ≡ 0) one (grind (arith, nat_tests, test))
+    by_test false test e = cc
 
 pub invariant_of-result : goal.invariant_of-result
 invariant_of-result c =
@@ -44,4 +25,6 @@ invariant_of-result c =
       of_type = ap (λ (p : PlanFields). p.settings.rule) made.plan_is ∙ c.in_ok-tree.ensures.of_type;
       whole = rw made.plan_is refl;
       based = rw made.plan_is made.from_is;
+      aligned = rw made.plan_is
+          (aligned-is _ _ _ _ _ c.multiple_of.ensures c.in_ok-offset.ensures.ok_part c.offset_unit-unit.ensures.value);
     }

@@ -18,6 +18,13 @@ pub returns-in-Err-build-clause-printed : goal.returns-in-Err-build-clause-print
 returns-in-Err-build-clause-printed g c =
     (root_above c.args.settings.now (g.S.Source.remaining c.args.source.now), λ tells. refl, Keeps-refl _)
 
+pub returns-in-Ok-write_whole-clause-root : goal.returns-in-Ok-write_whole-clause-root
+returns-in-Ok-write_whole-clause-root g c =
+    λ tells. by_plan _ _ _ _ (c.in-Ok-build.ensures.read tells).0 c.plan-plan.ensures.value
+
+pub returns-in-Ok-write_whole-clause-report : goal.returns-in-Ok-write_whole-clause-report
+returns-in-Ok-write_whole-clause-report g c = c.in-Ok-write_whole.ensures.written _ c.settings_report.ensures
+
 pub returns-in-Ok-write_whole-clause-printed : goal.returns-in-Ok-write_whole-clause-printed
 returns-in-Ok-write_whole-clause-printed g c = (
   c.in-Ok-build.root,

@@ -3,6 +3,7 @@ use Rattle.verity_tree.specs.Levels.{data_blocks}
 use Rattle.veritysetup.specs.Runs.Format.{PrintsReport, Reads, Writes}
 use Rattle.veritysetup.specs.Runs.Formatted.{IsFormattedDevice, format_report}
 use Rattle.veritysetup.specs.declared.fault.Fault.{Fault}
+use Rattle.veritysetup.specs.declared.runs.format.Formatted.{Formatted}
 use Rattle.veritysetup.proofs.FormattedLemmas.{AreWhole, written-formatted}
 use Rattle.veritysetup.proofs.runs.format.run_format.Goals as goal
 
@@ -14,18 +15,18 @@ returns-clause-formatted g c = λ zero source_told device_told.
     let rest = g.S.Source.remaining c.format-outcome.new.source in
     let before = g.D.Device.content c.args.device.now in
     let after = g.D.Device.content c.format-outcome.new.device in
-    let done = c.end_run.ensures.done zero in
+    let done = (c.end_run.ensures.done zero).1 in
     let whole : AreWhole s = record {
       planned = c.settings_are_whole.ensures.planned;
       agree = c.settings_are_whole.ensures.agree;
       uuid = c.settings_are_whole.ensures.uuid;
     } in
-    let read = subst (λ (outcome : Result (Unit {0}) Fault). Reads s outcome source rest) done
+    let read = subst (λ (outcome : Result Formatted Fault). Reads s outcome source rest) done
     (c.format-outcome.ensures.read source_told) in
-    let stands = subst (λ (outcome : Result (Unit {0}) Fault). Writes s (data_blocks s.plan source) outcome before after) done
+    let stands = subst (λ (outcome : Result Formatted Fault). Writes s (data_blocks s.plan source) outcome before after) done
     (c.format-outcome.ensures.stands source_told device_told) in
     let printed = c.format-outcome.ensures.printed in
-    let report = subst (λ (outcome : Result (Unit {0}) Fault). PrintsReport (format_report s path printed.0) outcome
+    let report = subst (λ (outcome : Result Formatted Fault). PrintsReport (format_report s path printed.0) outcome
     (g.O.Write.contents c.args.out.now) (g.O.Write.contents c.format-outcome.new.out)) done printed.2 in
     record {
       read = read;

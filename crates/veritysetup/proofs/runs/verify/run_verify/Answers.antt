@@ -2,6 +2,7 @@ use Rattle.std.proofs.Common.{subst, Result}
 use Rattle.verity_tree.proofs.HoldsLemmas.{right-holds_enough}
 use Rattle.veritysetup.specs.Runs.Verify.{Verifies}
 use Rattle.veritysetup.specs.declared.fault.Fault.{Fault}
+use Rattle.veritysetup.specs.declared.runs.verify.Verified.{Verified}
 use Rattle.veritysetup.proofs.runs.verify.run_verify.Goals as goal
 
 pub returns-clause-verified : goal.returns-clause-verified
@@ -10,8 +11,8 @@ returns-clause-verified g c = λ zero source_told device_told.
     let device = g.D.Device.content c.args.device.now in
     let source = g.S.Source.remaining c.args.source.now in
     let rest = g.S.Source.remaining c.verify.new.source in
-    let compared = subst (λ (outcome : Result (Unit {0}) Fault). Verifies input device source rest outcome)
-    (c.end_run.ensures.done zero) (c.verify.ensures.verdict source_told device_told) in
+    let compared = subst (λ (outcome : Result Verified Fault). Verifies input device source rest outcome)
+    (c.end_run.ensures.done zero).1 (c.verify.ensures.verdict source_told device_told) in
     record {
       plan = compared.plan;
       root = compared.root;

@@ -1,0 +1,235 @@
+-- What verify goes by is one plan and one root hash, or one reason to refuse, and its plan can be carried out.
+use Rattle.std.proofs.Common.{◌≡◌, ℕ, ◌+◌, ◌*◌, ◌<◌, ◌≤◌, ◌&&◌, Bool, true, false, cond, List, Option, Some, None, Ok}
+use Rattle.std.proofs.Common.{Err, arith, sym, subst, ◌∙◌, ap, refl, inl, inr}
+use Rattle.std.proofs.lemmas.Bool.{cases_lt, leb-true}
+use Rattle.std.proofs.lemmas.Bool.Decides.{nat_tests}
+use Rattle.std.specs.Int.{div_ceil}
+use Rattle.std.specs.Prelude.{◌==◌}
+use Rattle.verity_format.specs.CheckedSuperblocks.{superblock_fault}
+use Rattle.verity_format.specs.Superblocks.{IsSuperblock, SuperblockFields}
+use Rattle.verity_format.specs.declared.super_fault.SuperFault.{SuperFault}
+use Rattle.verity_format.proofs.LawLemmas.{one-superblock, says-fault_none}
+use Rattle.verity_io.specs.Writing.{most_bytes}
+use Rattle.verity_plan.specs.Plans.{IsPlan, PlanFields, base_of, end_place_of, has_room, plan_at, plan_for_blocks}
+use Rattle.verity_plan.specs.Plans.{plan_from}
+use Rattle.verity_plan.specs.Settings.{IsValid, TreeSettingsFields}
+use Rattle.verity_plan.specs.declared.plan_fault.PlanFault.TheVariants.{NoData, TooLarge as NoRoom}
+use Rattle.verity_plan.proofs.CountLemmas.{div_ceil-le, le-div_ceil, mul_le}
+use Rattle.verity_plan.proofs.FanLemmas.{some_data}
+use Rattle.veritysetup.specs.Faults.{side_of}
+use Rattle.veritysetup.specs.Options.Settings.{read_root}
+use Rattle.veritysetup.specs.Runs.GivenBack.{IsPlanIfGiven}
+use Rattle.veritysetup.specs.Runs.HashDevice.{superblock_at}
+use Rattle.veritysetup.specs.Runs.SameVerdicts.{HaveOneSuperblock}
+use Rattle.veritysetup.specs.Runs.Verified.{Trusts}
+use Rattle.veritysetup.specs.Runs.Verify.{Refuses, Verifies}
+use Rattle.veritysetup.specs.declared.fault.Fault.{Fault}
+use Rattle.veritysetup.specs.declared.fault.Fault.TheVariants as fault
+use Rattle.veritysetup.specs.declared.options.option_fault.OptionFault.TheVariants as option
+use Rattle.veritysetup.specs.declared.runs.verify_input.VerifyInput.{VerifyInput}
+use Rattle.veritysetup.specs.declared.runs.verify_input.VerifyInput.TheVariants.{Stored, Given}
+
+-- ---- what an input and a device give is one
+
+-- superblocks that are read there are one
+one-stored : (offset : ℕ) (device : List ℕ) (v w : SuperblockFields) → IsSuperblock (superblock_at offset device) v
+    → IsSuperblock (superblock_at offset device) w → v ≡ w
+one-stored offset device v w = one-superblock (superblock_at offset device) v w
+
+-- one plan and one root hash
+pub trusted-one : (input : VerifyInput) (device : List ℕ) (p q : PlanFields) (root digest : List ℕ)
+    → Trusts input device p root → Trusts input device q digest → (p ≡ q) × (root ≡ digest)
+trusted-one (Stored offset text) device p q root digest this that =
+    let one = one-stored offset device this.fields that.fields this.superblock that.superblock in
+    let plans = sym this.plan_is
+    ∙ ap (λ (v : SuperblockFields). plan_at v.tree v.blocks offset true) one
+    ∙ that.plan_is in
+    let roots = sym this.root_is
+    ∙ ap (λ (v : SuperblockFields). read_root v.tree.algorithm text.now) one
+    ∙ that.root_is in
+    (cc, cc)
+trusted-one (Given settings) device p q root digest this that =
+    let roots = sym this.1 ∙ that.1 in
+    (this.0 ∙ sym that.0, cc)
+
+-- bytes that are a superblock fail no test
+never-both : (offset : ℕ) (device : List ℕ) (v : SuperblockFields) (cause : SuperFault)
+    → IsSuperblock (superblock_at offset device) v → superblock_fault (superblock_at offset device) ≡ Some cause → ⊥
+never-both offset device v cause said failed =
+    let none = says-fault_none (superblock_at offset device) v said in
+    cc
+
+-- what gives a plan and a root hash isn't refused
+pub trusted-unrefused : (input : VerifyInput) (device : List ℕ) (plan : PlanFields) (root : List ℕ) (cause : Fault)
+    → Trusts input device plan root → Refuses input device cause → cause ≡ fault.SuperblockUnread
+trusted-unrefused (Stored offset text) device plan root fault.SuperblockUnread this refused = refl
+trusted-unrefused (Stored offset text) device plan root (fault.Superblock cause) this refused =
+    absurd (never-both offset device this.fields cause this.superblock refused)
+trusted-unrefused (Stored offset text) device plan root (fault.Option option.TooLarge) this refused =
+    let one = one-stored offset device this.fields refused.fields this.superblock refused.superblock in
+    let made = sym this.plan_is
+    ∙ ap (λ (v : SuperblockFields). plan_at v.tree v.blocks offset true) one
+    ∙ refused.no_plan in
+    cc
+trusted-unrefused (Stored offset text) device plan root (fault.Option option.BadRoot) this refused =
+    let one = one-stored offset device this.fields refused.fields this.superblock refused.superblock in
+    let read = sym this.root_is
+    ∙ ap (λ (v : SuperblockFields). read_root v.tree.algorithm text.now) one
+    ∙ refused.no_root in
+    cc
+trusted-unrefused (Stored offset text) device plan root other this refused = absurd refused
+trusted-unrefused (Given settings) device plan root cause this refused =
+    let none = sym this.1 ∙ refused.1 in
+    cc
+
+-- one reason to refuse, if no read failed
+pub refused-one : (input : VerifyInput) (device : List ℕ) (cause other : Fault) → side_of cause ≡ None
+    → side_of other ≡ None → Refuses input device cause → Refuses input device other → cause ≡ other
+refused-one (Stored offset text) device fault.SuperblockUnread other called _ this that = cc
+refused-one (Stored offset text) device cause fault.SuperblockUnread _ called this that = cc
+refused-one (Stored offset text) device (fault.Superblock a) (fault.Superblock b) _ _ this that =
+    let same = sym this ∙ that in
+    cc
+refused-one (Stored offset text) device (fault.Superblock a) (fault.Option option.TooLarge) _ _ this that =
+    absurd (never-both offset device that.fields a that.superblock this)
+refused-one (Stored offset text) device (fault.Superblock a) (fault.Option option.BadRoot) _ _ this that =
+    absurd (never-both offset device that.fields a that.superblock this)
+refused-one (Stored offset text) device (fault.Option option.TooLarge) (fault.Superblock b) _ _ this that =
+    absurd (never-both offset device this.fields b this.superblock that)
+refused-one (Stored offset text) device (fault.Option option.BadRoot) (fault.Superblock b) _ _ this that =
+    absurd (never-both offset device this.fields b this.superblock that)
+refused-one (Stored offset text) device (fault.Option option.TooLarge) (fault.Option option.TooLarge) _ _ this that =
+    refl
+refused-one (Stored offset text) device (fault.Option option.BadRoot) (fault.Option option.BadRoot) _ _ this that =
+    refl
+refused-one (Stored offset text) device (fault.Option option.TooLarge) (fault.Option option.BadRoot) _ _ this that =
+    let one = one-stored offset device this.fields that.fields this.superblock that.superblock in
+    let made = sym this.no_plan
+    ∙ ap (λ (v : SuperblockFields). plan_at v.tree v.blocks offset true) one
+    ∙ that.plan_is in
+    cc
+refused-one (Stored offset text) device (fault.Option option.BadRoot) (fault.Option option.TooLarge) _ _ this that =
+    let one = one-stored offset device that.fields this.fields that.superblock this.superblock in
+    let made = sym that.no_plan
+    ∙ ap (λ (v : SuperblockFields). plan_at v.tree v.blocks offset true) one
+    ∙ this.plan_is in
+    cc
+refused-one (Stored offset text) device (fault.Superblock a) other _ _ this that = absurd that
+refused-one (Stored offset text) device (fault.Option option.TooLarge) other _ _ this that = absurd that
+refused-one (Stored offset text) device (fault.Option option.BadRoot) other _ _ this that = absurd that
+refused-one (Stored offset text) device cause other _ _ this that = absurd this
+refused-one (Given settings) device cause other _ _ this that = this.0 ∙ sym that.0
+
+-- ---- devices with one superblock
+
+pub trusted-there : (input : VerifyInput) (device other : List ℕ) (plan : PlanFields) (root : List ℕ)
+    → HaveOneSuperblock input device other → Trusts input device plan root → Trusts input other plan root
+trusted-there (Stored offset text) device other plan root same this = record {
+  fields = this.fields;
+  superblock = subst (λ (bytes : List ℕ). IsSuperblock bytes this.fields) same this.superblock;
+  plan_is = this.plan_is;
+  root_is = this.root_is;
+}
+trusted-there (Given settings) device other plan root same this = this
+
+pub refused-there : (input : VerifyInput) (device other : List ℕ) (cause : Fault) → HaveOneSuperblock input device other
+    → Refuses input device cause → Refuses input other cause
+refused-there (Stored offset text) device other fault.SuperblockUnread same this = this
+refused-there (Stored offset text) device other (fault.Superblock cause) same this =
+    subst (λ (bytes : List ℕ). superblock_fault bytes ≡ Some cause) same this
+refused-there (Stored offset text) device other (fault.Option option.TooLarge) same this = record {
+  fields = this.fields;
+  superblock = subst (λ (bytes : List ℕ). IsSuperblock bytes this.fields) same this.superblock;
+  cause = this.cause;
+  no_plan = this.no_plan;
+}
+refused-there (Stored offset text) device other (fault.Option option.BadRoot) same this = record {
+  fields = this.fields;
+  superblock = subst (λ (bytes : List ℕ). IsSuperblock bytes this.fields) same this.superblock;
+  plan = this.plan;
+  plan_is = this.plan_is;
+  no_root = this.no_root;
+}
+refused-there (Stored offset text) device other cause same this = absurd this
+refused-there (Given settings) device other cause same this = this
+
+-- ---- the plan of a run
+
+both_true : (x y : Bool) → (x && y) ≡ true → (x ≡ true) × (y ≡ true)
+both_true true y e = (refl, e)
+both_true false y e = cc
+
+-- n whole blocks fill n blocks
+whole-blocks : (n size : ℕ) → 0 < size → div_ceil (n * size) size ≡ n
+whole-blocks n size some =
+    let k = div_ceil (n * size) size in
+    let low : k ≤ n = div_ceil-le (n * size) size n some (omega arith) in
+    let room : n * size ≤ k * size = le-div_ceil (n * size) size k some (omega arith) in
+    let high : n ≤ k = elim (cases_lt k n) [
+      | inr above ↦ above
+      | inl below ↦ absurd (omega (arith, mul_le (k + 1) n size (omega (arith, below)), room, some))
+    ] in
+    omega (arith, low, high)
+
+-- a plan for whole blocks of valid settings can be carried out
+blocks-planned : (s : TreeSettingsFields) (blocks base : ℕ) (plan : PlanFields) → IsValid s
+    → plan_for_blocks s blocks base ≡ Ok plan → IsPlan plan
+blocks-planned s blocks base plan valid made = by_test (blocks == 0) refl made
+  where
+    wanted_plan : PlanFields
+    wanted_plan = record { settings = s; blocks = blocks; wanted = blocks * s.data_block; base = base }
+
+    by_room : (room : Bool) → has_room wanted_plan ≡ room → (blocks == 0) ≡ false
+        → cond room (Ok wanted_plan) (Err NoRoom) ≡ Ok plan → IsPlan plan
+    by_room false none some e = cc
+    by_room true room some e =
+        let same : wanted_plan ≡ plan = cc in
+        let filled : 0 < blocks = grind (arith, nat_tests, some) in
+        let both = both_true _ _ room in
+        let of_data : blocks * s.data_block ≤ most_bytes = leb-true (blocks * s.data_block) most_bytes both.0 in
+        let of_hash : end_place_of wanted_plan * s.hash_block ≤ most_bytes =
+        leb-true (end_place_of wanted_plan * s.hash_block) most_bytes both.1 in
+        let one : 0 < s.data_block = some_data s valid in
+        subst IsPlan same (record {
+          valid = valid;
+          some = omega (arith, mul_le 1 blocks s.data_block (omega (arith, filled)), one);
+          blocks_are = sym (whole-blocks blocks s.data_block one);
+          data_most = of_data;
+          hash_most = of_hash;
+        })
+
+    by_test : (none : Bool) → (blocks == 0) ≡ none
+        → cond none (Err NoData) (cond (has_room wanted_plan) (Ok wanted_plan) (Err NoRoom)) ≡ Ok plan → IsPlan plan
+    by_test true test e = cc
+    by_test false test e = by_room (has_room wanted_plan) refl test e
+
+-- and so can the plan that verify goes by
+pub trusted-planned : (input : VerifyInput) (device : List ℕ) (plan : PlanFields) (digest : List ℕ) → IsPlanIfGiven input
+    → Trusts input device plan digest → IsPlan plan
+trusted-planned (Given settings) device plan digest planned trusted = subst IsPlan (sym trusted.0) planned
+trusted-planned (Stored offset text) device plan digest planned trusted =
+    by_base (base_of offset true trusted.fields.tree.hash_block) trusted.plan_is
+  where
+    by_base : (base : Option ℕ) → plan_from trusted.fields.tree trusted.fields.blocks base ≡ Ok plan → IsPlan plan
+    by_base (Some base) made =
+        blocks-planned trusted.fields.tree trusted.fields.blocks base plan trusted.superblock.valid.tree made
+    by_base None made = by_test (trusted.fields.blocks == 0) made
+      where
+        by_test : (none : Bool) → cond none (Err NoData) (Err NoRoom) ≡ Ok plan → IsPlan plan
+        by_test true e = cc
+        by_test false e = cc
+
+-- of a fault it says the same, whatever a run would have answered
+same-fault : (A B : Type 0) (input : VerifyInput) (device before after : List ℕ) (cause : Fault)
+    → Verifies {X = A} input device before after (Err cause) → Verifies {X = B} input device before after (Err cause)
+same-fault A B input device before after fault.Store this = this
+same-fault A B input device before after (fault.Compare why) this = this
+same-fault A B input device before after other this = this
+
+pub verifies-fault : (A B : Type 0) (input : VerifyInput) (device there before given after : List ℕ) (cause : Fault)
+    → device ≡ there → before ≡ given → Verifies {X = A} input device before after (Err cause)
+    → Verifies {X = B} input there given after (Err cause)
+verifies-fault A B input device there before given after cause one same this =
+    subst (λ (d : List ℕ). Verifies {X = B} input d given after (Err cause)) one
+    (subst (λ (x : List ℕ). Verifies {X = B} input device x after (Err cause)) same
+    (same-fault A B input device before after cause this))

@@ -1,0 +1,83 @@
+-- What the steps of a command answer when all is done: by which options of the line, and over which of its files.
+-- For the private steps; not needed to read a public contract.
+use Rattle.std.specs.Prelude.{◌≡◌, ◌↔◌, ℕ, Bool, true, false, List, [], ◌∷◌, map, Option, Some, None, Ok, option_map}
+use Rattle.std.specs.Prelude.{IfSome, IsOkAnd, IsTrue, is_some, not, ◌&&◌, string_bytes}
+use Rattle.command_line.specs.FileIdentities.{PathsAreSameFile}
+use Rattle.command_line.specs.declared.files.identity.FileIdentity.{FileIdentity}
+use Rattle.veritysetup.specs.Options.Choices.{settings_of}
+use Rattle.veritysetup.specs.Options.OptionTexts.{OptionTexts}
+use Rattle.veritysetup.specs.Options.Settings.{SettingsFields, read_root}
+use Rattle.veritysetup.specs.Program.Refusals.{line_offset}
+use Rattle.veritysetup.specs.Words.RawWords.{root_word}
+use Rattle.veritysetup.specs.declared.program.done.Done.{Done}
+use Rattle.veritysetup.specs.declared.program.done.Done.TheVariants as done
+use Rattle.veritysetup.specs.declared.program.dumped_file.DumpedFile.{DumpedFile}
+use Rattle.veritysetup.specs.declared.program.formatted_files.FormattedFiles.{FormattedFiles}
+use Rattle.veritysetup.specs.declared.program.verified_files.VerifiedFiles.{VerifiedFiles}
+use Rattle.veritysetup.specs.declared.runs.verify.Verified.{Verified}
+use Rattle.veritysetup.specs.declared.words.command_name.CommandName.TheVariants.{Format, Dump, Verify}
+use Rattle.veritysetup.specs.declared.words.line.Line.{Line}
+
+-- the texts of a line's options, and whether DATA and HASH are one file
+abbrev pub line_texts : Line → Bool → OptionTexts
+line_texts line same_file = record {
+  hash = option_map string_bytes line.hash;
+  format = option_map string_bytes line.format;
+  data_block_size = option_map string_bytes line.data_block_size;
+  hash_block_size = option_map string_bytes line.hash_block_size;
+  data_blocks = option_map string_bytes line.data_blocks;
+  salt = option_map string_bytes line.salt;
+  uuid = option_map string_bytes line.uuid;
+  hash_offset = option_map string_bytes line.hash_offset;
+  root = root_word line.command (map string_bytes line.files.items);
+  no_superblock = line.no_superblock;
+  same_file = same_file;
+}
+
+-- a device is verified by the superblock at this offset and the text of a root hash
+abbrev pub IsByStored : List ℕ → Verified → ℕ → Type 0
+IsByStored root verified offset = (verified.offset ≡ Some offset)
+    × (read_root verified.tree.plan.settings.algorithm root ≡ Some verified.tree.root)
+
+-- or by settings, and no superblock
+abbrev pub IsBySettings : Verified → SettingsFields → Type 0
+IsBySettings verified s = (verified.offset ≡ None) × (verified.tree.plan ≡ s.plan) × (s.root ≡ Some verified.tree.root)
+
+-- files are verified by a line and the text of a root hash: by the superblock at the line's offset, or, without one, by
+-- the settings that the line chooses for the length of DATA
+pub record IsVerifiedByLine (line : Line) (root : List ℕ) (files : VerifiedFiles) : Type 0 where
+  pub stored : line.no_superblock ≡ false → IsOkAnd (line_offset line) (IsByStored root files.verified)
+  pub given : line.no_superblock ≡ true
+      → IsOkAnd (settings_of (line_texts line false) files.length None) (IsBySettings files.verified)
+
+-- files are formatted by the settings that a line chooses for the length of DATA, with random bytes that are drawn if
+-- salt or UUID is missing; DATA and HASH are one file as their paths and the system's answers say. `FileIs` and `PathIs`
+-- say which answers the system may give of an opened file and of a path, `IsDrawn` which bytes may be drawn
+pub record IsFormattedByLine (FileIs : Option FileIdentity → Type 0) (PathIs : List ℕ → Option FileIdentity → Type 0)
+    (IsDrawn : List ℕ → Type 0) (line : Line) (files : FormattedFiles) : Type 0 where
+  pub opened : Option FileIdentity
+  pub opened_is : FileIs opened
+  pub other : Option FileIdentity
+  pub other_is : PathIs files.hash.now other
+  pub same_file : Bool
+  pub same : IsTrue same_file ↔ PathsAreSameFile files.data.now files.hash.now opened other
+  pub random : Option (List ℕ)
+  pub missing : is_some random ≡ not (is_some line.salt && is_some line.uuid)
+  pub drawn : IfSome random IsDrawn
+  pub chosen : settings_of (line_texts line same_file) files.length random ≡ Ok files.formatted.settings
+
+-- a file is dumped by a line
+abbrev pub IsDumpedByLine : Line → DumpedFile → Type 0
+IsDumpedByLine line file = line_offset line ≡ Ok file.dumped.offset
+
+-- what was done is the line's command, by the line, over the files that it names
+abbrev pub IsDone : (Option FileIdentity → Type 0) → (List ℕ → Option FileIdentity → Type 0) → (List ℕ → Type 0) → Line
+    → Done → Type 0
+IsDone FileIs PathIs IsDrawn line (done.Formatted files) = (line.command ≡ Format)
+    × IsFormattedByLine FileIs PathIs IsDrawn line files
+    × (map string_bytes line.files.items ≡ files.data.now ∷ files.hash.now ∷ [])
+IsDone FileIs PathIs IsDrawn line (done.Dumped file) = (line.command ≡ Dump) × IsDumpedByLine line file
+    × (map string_bytes line.files.items ≡ file.hash.now ∷ [])
+IsDone FileIs PathIs IsDrawn line (done.Verified files) = (line.command ≡ Verify) × ((root : List ℕ)
+    × IsVerifiedByLine line root files
+    × (map string_bytes line.files.items ≡ files.data.now ∷ files.hash.now ∷ root ∷ []))
