@@ -1,15 +1,15 @@
-#!/bin/bash
-# install.sh install|uninstall: puts the programs of bin/, their manual pages and bash's completion of their words below
-# DESTDIR and PREFIX, with SUFFIX at the end of their names; or removes just these files. BINDIR, SBINDIR, MANDIR,
-# BASHCOMPDIR, LIBDIR and INCLUDEDIR are folders in place of those below PREFIX, and DESTDIR stands before them too. A
-# folder that is there keeps its mode. With STRIP=yes the programs and the shared libraries are stripped. With
-# TARGET=aarch64 it is the programs of bin/aarch64, and with STATIC=yes those of bin/static or bin/aarch64/static. The
-# pages and the completion speak of the programs by these names. If the library for C is built for TARGET, that goes
-# there too, by its own names, with its header, its page and what pkg-config says of it. install.sh
-# install-library|uninstall-library does this with the library alone. Its page speaks of the programs by their plain
-# names then. One target's library doesn't take the place of another's, and isn't removed in place of it. install.sh
-# install-python|uninstall-python does it with the module of bindings/python, below DESTDIR in PYTHONDIR, or where the
-# interpreter PYTHON looks for what is installed. Nothing is built here, so that no proof runs as root.
+#!/usr/bin/env bash
+# install.sh install|uninstall: puts the programs of bin/, their manual pages and the completion of their words in bash,
+# zsh and fish below DESTDIR and PREFIX, with SUFFIX at the end of their names; or removes just these files. BINDIR,
+# SBINDIR, MANDIR, BASHCOMPDIR, ZSHCOMPDIR, FISHCOMPDIR, LIBDIR and INCLUDEDIR are folders in place of those below
+# PREFIX, and DESTDIR stands before them too. A folder that is there keeps its mode. With STRIP=yes the programs and the
+# shared libraries are stripped. With TARGET=aarch64 it is the programs of bin/aarch64, and with STATIC=yes those of
+# bin/static or bin/aarch64/static. The pages and the completion speak of the programs by these names. If the library
+# for C is built for TARGET, that goes there too, by its own names, with its header, its page and what pkg-config says
+# of it. install.sh install-library|uninstall-library does this with the library alone. Its page speaks of the programs
+# by their plain names then. One target's library doesn't take the place of another's, and isn't removed in place of it.
+# install.sh install-python|uninstall-python does it with the module of bindings/python, below DESTDIR in PYTHONDIR, or
+# where the interpreter PYTHON looks for what is installed. Nothing is built here, so that no proof runs as root.
 set -euo pipefail
 cd "$(dirname "$0")"
 . ./building.sh
@@ -44,7 +44,7 @@ aarch64)
 *) refuse 'TARGET is x86_64 or aarch64' ;;
 esac
 programs=$(place "$TARGET" "$STATIC")
-for name in PREFIX BINDIR SBINDIR MANDIR BASHCOMPDIR LIBDIR INCLUDEDIR PYTHONDIR; do
+for name in PREFIX BINDIR SBINDIR MANDIR BASHCOMPDIR ZSHCOMPDIR FISHCOMPDIR LIBDIR INCLUDEDIR PYTHONDIR; do
     case ${!name-/} in
     '' | /*) ;;
     *) refuse "$name has to begin with /" ;;
@@ -55,7 +55,9 @@ includedir=${INCLUDEDIR:-$prefix/include}
 bin=${DESTDIR-}${BINDIR:-$prefix/bin}
 sbin=${DESTDIR-}${SBINDIR:-$prefix/sbin}
 pages=${DESTDIR-}${MANDIR:-$prefix/share/man}
-completions=${DESTDIR-}${BASHCOMPDIR:-$prefix/share/bash-completion/completions}
+bash_words=${DESTDIR-}${BASHCOMPDIR:-$prefix/share/bash-completion/completions}
+zsh_words=${DESTDIR-}${ZSHCOMPDIR:-$prefix/share/zsh/site-functions}
+fish_words=${DESTDIR-}${FISHCOMPDIR:-$prefix/share/fish/vendor_completions.d}
 libraries=${DESTDIR-}$libdir
 headers=${DESTDIR-}$includedir
 pkg_config=$libraries/pkgconfig/verity.pc
@@ -67,9 +69,10 @@ page() {
         -e "s/^\.Xr (fsverity|veritysetup) /.Xr \1$suffix /" -e "s/^\\$ (fsverity|veritysetup) /$ \1$suffix /" "$1"
 }
 
-# Prints a completion for the installed name.
+# Prints a completion for the installed name, as each shell has it said.
 completion() {
-    sed -E "s/^complete .* (fsverity|veritysetup)\$/&$suffix/" "$1"
+    sed -E -e "s/^(complete .*|#compdef) (fsverity|veritysetup)\$/&$suffix/" \
+        -e "s/^complete -c (fsverity|veritysetup) /complete -c \1$suffix /" "$1"
 }
 
 # make_folder FOLDER: makes a folder, unless it is there.
@@ -235,7 +238,9 @@ install_all() {
     for name in fsverity.1 veritysetup.8; do
         section=${name#*.} name=${name%.*}
         page "man/$name.$section" | put 644 "$pages/man$section/$name$suffix.$section"
-        completion "completions/$name" | put 644 "$completions/$name$suffix"
+        completion "completions/$name" | put 644 "$bash_words/$name$suffix"
+        completion "completions/_$name" | put 644 "$zsh_words/_$name$suffix"
+        completion "completions/$name.fish" | put 644 "$fish_words/$name$suffix.fish"
     done
     # Up to version 1.3.0 it went to the folder of section 1.
     if ! [ "$bin" -ef "$sbin" ] && [ -e "$bin/veritysetup$suffix" ]; then
@@ -245,8 +250,12 @@ install_all() {
 }
 
 uninstall_all() {
-    rm -f "$bin/fsverity$suffix" "$pages/man1/fsverity$suffix.1" "$completions/fsverity$suffix"
-    rm -f "$sbin/veritysetup$suffix" "$pages/man8/veritysetup$suffix.8" "$completions/veritysetup$suffix"
+    local name
+    rm -f "$bin/fsverity$suffix" "$pages/man1/fsverity$suffix.1"
+    rm -f "$sbin/veritysetup$suffix" "$pages/man8/veritysetup$suffix.8"
+    for name in fsverity veritysetup; do
+        rm -f "$bash_words/$name$suffix" "$zsh_words/_$name$suffix" "$fish_words/$name$suffix.fish"
+    done
     if [ "$(installed_target)" = "$TARGET" ]; then remove_library; fi
 }
 

@@ -1,7 +1,7 @@
-#!/bin/bash
+#!/usr/bin/env bash
 # Completes words of both programs by the functions that bash calls for them, and compares what they offer with the
-# programs' own usage and the manual's values; and in a bash of its own, on a terminal of script. BIN=FOLDER takes the
-# programs of another folder.
+# programs' own usage and the manual's values; and in a bash of its own, on a terminal of script. zsh and fish have to
+# offer the same. BIN=FOLDER takes the programs of another folder.
 set -u
 cd "$(dirname "$0")/.."
 . tests/lib/checks.sh
@@ -9,11 +9,42 @@ cd "$(dirname "$0")/.."
 . completions/veritysetup
 has_program fsverity
 has_program veritysetup
+top=$PWD
+
+# The other shells, in a folder without files.
+mkdir "$scratch/empty" "$scratch/home"
+shells=()
+for shell in zsh fish; do
+    if command -v $shell >/dev/null; then
+        shells+=($shell)
+    else
+        echo "left out: completion for $shell: $shell is not installed"
+    fi
+done
+
+# zsh_offers LINE, fish_offers LINE: what the shell offers behind a line, sorted, without the option in the same word.
+zsh_offers() {
+    timeout 60 zsh -f "$top/tests/lib/zsh_offers.zsh" "$top/completions" "$1" | sort
+}
+
+fish_offers() {
+    HOME=$scratch/home fish --no-config -c "source '$top/completions/${1%% *}.fish'; complete -C \$argv[1]" "$1" |
+        cut -f 1 | sed 's/^--[a-z-]*=//' | sort
+}
+
+# other_shells OFFERED LINE: zsh and fish offer this behind a line, in any order, in the folder they are in.
+other_shells() {
+    local shell
+    for shell in "${shells[@]}"; do
+        same "$shell, offered after: $2" "$(tr ' ' '\n' <<<"$1" | sort | paste -sd ' ')" \
+            "$("${shell}_offers" "$2" | paste -sd ' ')"
+    done
+}
 
 # offers OFFERED WORD..: while the last of a line's words is being typed, all of this is offered, in order. Bash cuts
 # words at = too.
 offers() {
-    local offered=$1 function
+    local offered=$1 function line
     shift
     COMP_WORDS=("$@")
     COMP_CWORD=$(($# - 1))
@@ -21,6 +52,11 @@ offers() {
     COMPREPLY=()
     "$function" "$1" "${@: -1}" "${@: -2:1}"
     same "offered after: $*" "$offered" "${COMPREPLY[*]-}"
+    line=$*
+    line=${line// =/=}
+    cd "$scratch/empty" || exit 1
+    other_shells "$offered" "${line//= /=}"
+    cd "$top" || exit 1
 }
 
 # usage PROGRAM COMMAND: the options that the program's usage lists, in order.
@@ -87,14 +123,14 @@ completed() {
     shift
     printf '<%s>' "$@" >"$scratch/expected_words"
     : >"$scratch/words"
-    printf '%s\t\nexit\n' "$line" | SHELL=/bin/bash timeout 20 script --quiet --return \
+    printf '%s\t\nexit\n' "$line" | SHELL=$BASH timeout 20 script --quiet --return \
         --command "bash --noprofile --rcfile '$scratch/rc' -i" /dev/null >"$scratch/terminal" 2>&1
     same "completed: $line" "$(cat "$scratch/expected_words")" "$(cat "$scratch/words")"
 }
 
 # Names of files, which bash completes by itself: with blanks, quotes and a tilde, in each place where a file may stand.
 files() {
-    local name top=$PWD
+    local name
     if ! script --quiet --return --command true /dev/null >/dev/null 2>&1 </dev/null; then
         echo "left out: names of files: script is not installed, or can't make a terminal here"
         return
