@@ -1,4 +1,4 @@
-#!/bin/bash
+#!/usr/bin/env bash
 # Checks docs/DIFFERENCES.md: for each row of its tables both programs are run, ours and Debian's, and do what their
 # columns say. A row without checks fails, and so do checks without a row.
 set -u
@@ -6,6 +6,7 @@ cd "$(dirname "$0")/../.."
 . tests/lib/checks.sh
 . tests/lib/stated_images.sh
 . tests/lib/loops.sh
+. tests/lib/running.sh
 . tests/lib/debian.sh
 has_program fsverity
 has_program veritysetup
@@ -63,6 +64,29 @@ unread() {
     mkfifo "$scratch/unread"
     # shellcheck disable=SC2016
     env --default-signal=PIPE bash -c 'exec 8<>"$0" && exec 9>"$0" && exec 8>&- && exec "$@" >&9' "$scratch/unread" "$@"
+}
+
+# limited KIB COMMAND..: runs a command that may make no file longer than this: what goes beyond is refused, as it is on
+# a full disk.
+limited() {
+    # shellcheck disable=SC2016
+    bash -c 'ulimit -f "$0" && trap "" XFSZ && exec "$@"' "$@"
+}
+
+# waits STATUS OUT ERR COMMAND..: a command waits until somebody opens $scratch/pipe for writing, and then ends as
+# `runs` has it. Before it has come to the pipe nobody can open it so without waiting.
+waits() {
+    starts "${@:4}"
+    if waits_for dd if=/dev/null of="$scratch/pipe" oflag=nonblock conv=notrunc status=none 2>/dev/null; then
+        pass
+    else
+        fail "$row: ${*:4}" 'it does not wait'
+        kill "$pid" 2>/dev/null
+    fi
+    # Whoever opens the pipe again waits no more.
+    exec 9<>"$scratch/pipe"
+    ended "$row: ${*:4}" "$1" "$2" "$3"
+    exec 9>&-
 }
 
 # size BYTES FILE: how long a file is.

@@ -1,4 +1,4 @@
-#!/bin/bash
+#!/usr/bin/env bash
 # Compares bin/veritysetup format with the veritysetup of Debian's package cryptsetup-bin: both make the same image, the
 # other program's verify accepts ours, and the report's values are those of its dump. Over algorithms, block sizes,
 # salts, numbers of blocks and hash types, with a given number of blocks, at hash offsets, without a superblock, and

@@ -1,4 +1,4 @@
-#!/bin/bash
+#!/usr/bin/env bash
 # Compares bin/fsverity with the fsverity of Debian's package of that name, over algorithms, block sizes, salts and file
 # sizes: both print the same line in each form, and write the same tree file and the same descriptor file. The formatted
 # digest of both is signed to one signature.

@@ -1,4 +1,4 @@
-#!/bin/bash
+#!/usr/bin/env bash
 # Compares the worked superblock of docs/DEFINITIONS.md with the one that veritysetup of Debian's package cryptsetup-bin
 # writes for the same settings, and with the one that bin/veritysetup writes.
 set -u

@@ -1,4 +1,4 @@
-#!/bin/bash
+#!/usr/bin/env bash
 # Images that the veritysetup of Debian's package cryptsetup-bin makes are accepted by bin/veritysetup verify, and one
 # changed bit anywhere in the covered data or in a hash block is refused with the block that tests/lib/expected.py
 # names, a computation of its own. Over the settings of format.sh, at hash offsets and without a superblock.

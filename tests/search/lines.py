@@ -1,12 +1,11 @@
 """Random command lines of both programs, with files to run them on: words that most often are right but for one or two
-changes. All of it follows from the generator given."""
+changes, and names that lead to files in many ways. All of it follows from the generator given."""
 
 import posixpath
 import random
 from collections import namedtuple
 
-from layouts import SUPERBLOCK_SIZE
-from reading import Scene
+from layouts import SUPERBLOCK_FIELDS, SUPERBLOCK_SIZE
 from trees import Settings, Tree, put
 from veritysetup_expected import NAMES, superblock
 
@@ -32,6 +31,15 @@ THEIR_OPTIONS += ["--check-at-most-once", "--use-tasklets", "--deferred", "--roo
 THEIR_OPTIONS += ["-v", "-s", "-sab", "-hsha1", "-salt=ab"]
 NOBODYS_OPTIONS = ["--unknown", "--unknown=1", "--salz=ab", "-x", "---", "--=x", "-compact"]
 OUTPUT_NAMES = ["tree", "folder", "none/tree", "", DATA, "./data", "older"]
+OUTPUTS = ["out-merkle-tree", "out-descriptor"]
+# What stands for the folder of the files, as an absolute name begins.
+ITS_FOLDER = "@folder"
+# The names outside that folder, and that of a pipe in it.
+DEVICES = ["/dev/null", "/dev/zero", "/dev/full"]
+PROC_FILE = "/proc/version"
+OUTSIDE = DEVICES + [PROC_FILE]
+PIPE = "pipe"
+NOWHERE = "nowhere"
 
 
 def words_of(part):
@@ -39,6 +47,37 @@ def words_of(part):
     if part.kind == "option":
         return [f"--{part.name}={part.text}"] if part.joined else [f"--{part.name}", part.text]
     return [f"--{part.name}" if part.kind == "flag" else part.name]
+
+
+class Folder:
+    """What a folder has beside a folder in it: files, their bytes by name; further names of them; symbolic links, what
+    is in each by name; and whether there is a named pipe."""
+
+    def __init__(self, files):
+        self.files, self.twins, self.links, self.has_pipe = files, {}, {}, False
+
+    def leads_to(self, word):
+        """The name to which a word leads, also if nothing stands there yet. None if nothing can."""
+        for _ in range(9):
+            name = plain(word)
+            if name not in self.links:
+                return self.twins.get(name, name) if name in OUTSIDE or "/" not in name else None
+            word = self.links[name]
+        return None
+
+    def is_there(self, word):
+        """Whether a word leads to what stands there."""
+        name = self.leads_to(word)
+        return name in self.files or name in OUTSIDE + ["folder"] or (name == PIPE and self.has_pipe)
+
+    def is_dangling(self, word):
+        """Whether a word names a symbolic link behind which nothing stands."""
+        return plain(word) in self.links and not self.is_there(word)
+
+
+def plain(word):
+    """A name as it is in its folder."""
+    return posixpath.normpath(word.removeprefix(ITS_FOLDER + "/")) if word else "/"
 
 
 class Case:
@@ -65,6 +104,13 @@ class Case:
 
     def has(self, name):
         return any(part.kind in ("option", "flag") and part.name == name for part in self.parts)
+
+    def named(self):
+        """The places of the parts that name files."""
+        words = [place for place, part in enumerate(self.parts) if part.kind == "word"]
+        most = {"dump": 1, "format": 2, "verify": 2}.get(self.command(), len(words))
+        outputs = [place for place, part in enumerate(self.parts) if part.kind == "option" and part.name in OUTPUTS]
+        return words[:most] + outputs
 
     def beside(self):
         return [part.name for part in self.parts if part.kind == "word"]
@@ -147,13 +193,18 @@ def parts_of(rng, command, options, flags, beside):
 def format_case(rng):
     chosen = settings(rng)
     bare = chance(rng, 0.25)
+    rng.odd += chosen.count == 0
+    is_one = chance(rng, 0.08)
+    if is_one and chance(rng, 0.3):
+        # So many digests that some are written while there is data to be read.
+        chosen = chosen._replace(data_block=512, count=200)
     content = rng.randbytes(chosen.count * chosen.data_block + rng.choice([0, 0, 0, 1, 100]))
-    scene = Scene({DATA: content})
+    scene = Folder({DATA: content})
     if chance(rng, 0.3):
         scene.files[HASH] = rng.randbytes(rng.choice([0, 100, 512, 600, 4096, 4700, 9000, 30000]))
     at = rng.choice([0, 0, 0, 1, 2, 8, 16]) * (chosen.hash_block if bare else SUPERBLOCK_SIZE)
     names = [DATA, HASH]
-    if chance(rng, 0.05):
+    if is_one:
         names, at = [DATA, DATA], -(-len(content) // 8192) * 8192
     if is_odd(rng, 0.02):
         names[rng.randrange(2)] = rng.choice(["missing/file", "", "folder"])
@@ -169,21 +220,32 @@ def image_case(rng):
     bare = chance(rng, 0.3)
     at = rng.choice([0, 0, 1, 8]) * (chosen.hash_block if bare else SUPERBLOCK_SIZE)
     data = bytearray(rng.randbytes(chosen.count * chosen.data_block))
+    is_one = chance(rng, 0.15)
+    if is_one:
+        at = -(-len(data) // 8192) * 8192
     tree = Tree(chosen, -(-(at if bare else at + SUPERBLOCK_SIZE) // chosen.hash_block), bytes(data))
     device = bytearray(tree.on(b""))
     if not bare:
         put(device, at, superblock(chosen, bytes(range(16))))
-    kind = rng.randrange(12)
-    rng.odd += kind < 4
+    kind = rng.randrange(14)
+    rng.odd += kind < 6
     if kind == 0:
         data[rng.randrange(len(data))] ^= 1
     elif kind == 1 and len(device) > at + SUPERBLOCK_SIZE:
         device[rng.randrange(at + SUPERBLOCK_SIZE, len(device))] ^= 1
     elif kind == 2 and device:
         del device[rng.randrange(len(device)) :]
-    elif kind == 3:
+    elif kind == 3 and not is_one:
         del data[rng.randrange(len(data)) :]
-    scene = Scene({DATA: bytes(data), HASH: bytes(device)})
+    elif kind < 6 and len(device) >= at + SUPERBLOCK_SIZE:
+        start, size = SUPERBLOCK_FIELDS[rng.choice(list(SUPERBLOCK_FIELDS))]
+        place = at + start + rng.randrange(size)
+        device[place] = rng.choice([0, 1, 0xFF, device[place] ^ 0x20, device[place] ^ 1 << rng.randrange(8)])
+    names = [DATA, HASH]
+    scene = Folder({DATA: bytes(data), HASH: bytes(device)})
+    if is_one:
+        names = [DATA, DATA]
+        scene = Folder({DATA: bytes(data + device[len(data) :])})
     root = tree.root.hex()
     wrong = [root[:-1], root[:-2], root + "00", "0" * len(root), "x" * len(root), ""]
     root = text(rng, [root, root, root.upper()], wrong)
@@ -191,18 +253,19 @@ def image_case(rng):
         options = {} if at == 0 else {"hash-offset": number(rng, at)}
         if chance(rng, 0.1):
             options[rng.choice(["salt", "hash", "uuid", "data-blocks"])] = "ab"
-        return Case("veritysetup", parts_of(rng, "dump", options, [], [HASH]), scene, rng.odd)
+        return Case("veritysetup", parts_of(rng, "dump", options, [], names[1:]), scene, rng.odd)
     options = tree_options(rng, chosen, at, bare)
     if not bare:
         options = {name: value for name, value in options.items() if name == "hash-offset" or chance(rng, 0.2)}
     if chance(rng, 0.9):
         options.pop("uuid", None)
-    parts = parts_of(rng, "verify", options, ["no-superblock"] if bare else [], [DATA, HASH, root])
+    parts = parts_of(rng, "verify", options, ["no-superblock"] if bare else [], names + [root])
     return Case("veritysetup", parts, scene, rng.odd)
 
 
 def digest_case(rng):
-    scene = Scene({DATA: rng.randbytes(rng.choice([0, 1, 100, 4096, 9000, 40000])), "more": b"more", "older": b"older"})
+    data = rng.randbytes(rng.choice([0, 1, 100, 4096, 9000, 40000]))
+    scene = Folder({DATA: data, "more": b"more", "older": b"older"})
     names = rng.choice([[DATA], [DATA], [DATA, "more"]])
     if is_odd(rng, 0.2):
         names = rng.choice([[DATA, "missing"], ["missing"], ["folder"], [""], ["-"]])
@@ -215,11 +278,47 @@ def digest_case(rng):
         options["block-size"] = number(rng, size)
     if chance(rng, 0.5):
         options["salt"] = text(rng, ["ab", "AbCd", "", "00" * 32], NOT_SALTS[:-1] + ["-", "00" * 33, "00" * 300])
-    for name in ("out-merkle-tree", "out-descriptor"):
+    for name in OUTPUTS:
         if chance(rng, 0.25):
             options[name] = text(rng, ["tree", "descriptor", "older"], OUTPUT_NAMES)
     flags = [name for name in ("compact", "for-builtin-sig") if chance(rng, 0.2)]
     return Case("fsverity", parts_of(rng, "digest", options, flags, names), scene, rng.odd)
+
+
+def renamed(rng, case):
+    """The case with one other name in it: for the same file, or for one of another kind, which is odd."""
+    places = case.named()
+    if not places:
+        return case
+    place, folder = rng.choice(places), case.scene
+    part = case.parts[place]
+    old = part.name if part.kind == "word" else part.text
+    kind = rng.randrange(10)
+    link = rng.choice(["link", "other_link"])
+    if kind == 0:
+        new = rng.choice(["./", "folder/../", ITS_FOLDER + "/", ITS_FOLDER + "/folder/../"]) + old
+    elif kind < 4 and link not in folder.links and plain(old) not in folder.links:
+        # To a file, or to where one would be made.
+        folder.links[link] = rng.choice([old, "./" + old, ITS_FOLDER + "/" + old]) if old else NOWHERE
+        new = link
+    elif kind == 4 and old in folder.files and not folder.twins:
+        folder.twins["twin"], folder.files["twin"] = old, folder.files[old]
+        new = "twin"
+    elif kind == 5 and link not in folder.links:
+        folder.links[link] = rng.choice([NOWHERE, ITS_FOLDER + "/" + NOWHERE, "none/" + NOWHERE, link, "folder"])
+        new = link
+    elif kind == 6:
+        new = PROC_FILE
+    elif kind == 7:
+        folder.has_pipe, new = True, PIPE
+    elif kind == 8:
+        new = rng.choice(["folder", DATA, "twin", "link"])
+    else:
+        new = rng.choice(DEVICES)
+    rng.odd += folder.leads_to(new) not in folder.files
+    parts = list(case.parts)
+    parts[place] = part._replace(**{"name" if part.kind == "word" else "text": new})
+    return Case(case.program, parts, folder, rng.odd)
 
 
 def changed(rng, case):
@@ -267,14 +366,21 @@ def changed(rng, case):
     return Case(case.program, parts, case.scene, rng.odd)
 
 
+def all_texts(case):
+    """Every word of a case, and every text of an option."""
+    return case.words() + [part.text for part in case.parts if part.text]
+
+
 def random_case(text):
     """The case that follows from a text."""
     rng = Odd(text)
     case = rng.choices([format_case, image_case, digest_case], [3, 2, 2])[0](rng)
     for _ in range(rng.choice([0, 0, 0, 1, 1, 2])):
+        case = renamed(rng, case)
+    for _ in range(rng.choice([0, 0, 0, 1, 1, 2])):
         if case.parts:
             case = changed(rng, case)
     case.umask = rng.choice([0o022, 0o022, 0o002, 0o000, 0o077])
-    # No program is let loose outside its folder.
-    assert all(not posixpath.isabs(word) for word in case.words())
+    # No program is let loose outside its folder, but on what it can't change.
+    assert all(not part.startswith("/") or part in OUTSIDE for part in all_texts(case))
     return case

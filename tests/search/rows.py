@@ -2,15 +2,15 @@
 of that of Debian's program, and answers which of the differences found are what the row says. The text of a row is its
 first cell."""
 
-import posixpath
 import re
+
+from lines import DEVICES, OUTPUTS, PIPE, PROC_FILE
 
 STATUS, LINES, NAMED, FILES, MODES = "status", "lines", "line of the UUID", "files", "modes of new files"
 ALL = {STATUS, LINES, NAMED, FILES, MODES}
 UUID_LINE = re.compile(r"^(UUID: +\t)(.*)\n", re.MULTILINE)
 NUMBERS = ["format", "data-block-size", "hash-block-size", "data-blocks", "hash-offset"]
 FLAGS = ["no-superblock", "compact", "for-builtin-sig"]
-OUTPUTS = ["out-merkle-tree", "out-descriptor"]
 NAMES = {
     "veritysetup": NUMBERS + ["hash", "salt", "uuid", "no-superblock"],
     "fsverity": ["hash-alg", "block-size", "salt", "compact", "for-builtin-sig"] + OUTPUTS,
@@ -65,6 +65,12 @@ def has_any(case, names):
 def is_signed(text):
     """A number that isn't written by digits alone."""
     return re.fullmatch(r"[ \t\n\v\f\r]*[+-]?[0-9]+", text) and not text.isdecimal()
+
+
+def led_to(case, place):
+    """To what the word beside the options that has this place leads."""
+    words = case.beside()
+    return case.scene.leads_to(words[place]) if place < len(words) else None
 
 
 # Lines that ours refuses.
@@ -197,7 +203,7 @@ def has_outputs_of_several(case):
 
 @outcome_row("veritysetup", "a single data block, HASH new or ending within the superblock's hash block", {FILES})
 def is_padded(case, ours, theirs):
-    name = (case.beside() or [""])[-1]
+    name = led_to(case, 1)
     here, there = ours.files.get(name, b""), theirs.files.get(name, b"")
     is_longer = there.startswith(here) and not any(there[len(here) :]) and len(there) % 512 == 0
     return ours.status == theirs.status == 0 and is_of_one_block(ours) and is_longer
@@ -217,7 +223,9 @@ def is_of_one_block(outcome):
 
 @outcome_row("veritysetup", "`format`: `--data-blocks` above what DATA has")
 def is_format_past_data(case, ours, theirs):
-    return case.command() == "format" and says(ours, "Data ends before the end of block") and theirs.status == 1
+    is_lengthened = theirs.status == 0 and led_to(case, 0) == led_to(case, 1)
+    is_past = case.command() == "format" and says(ours, "Data ends before the end of block")
+    return is_past and (theirs.status == 1 or is_lengthened)
 
 
 @outcome_row("veritysetup", "`verify`: DATA ends too early", {STATUS})
@@ -246,15 +254,90 @@ def is_number_ignored(case, ours, theirs):
 
 
 @outcome_row(
-    "veritysetup", "a refused salt, hash function, block size or hash type, or no whole block of data", {FILES}
+    "veritysetup",
+    "`verify` without a superblock: a hash area that overlaps the covered data in one file, under any names",
+    {STATUS},
+)
+def is_one_verified(case, ours, theirs):
+    is_one = case.command() == "verify" and case.has("no-superblock") and led_to(case, 0) == led_to(case, 1)
+    return is_one and ours.status in (0, 2) and theirs.status == 1 and says(theirs, "overlaps")
+
+
+@outcome_row(
+    "veritysetup",
+    "a refused hash offset, salt, hash function, block size or hash type, no whole block of data, or too large an area",
+    {FILES},
 )
 def is_empty_made(case, ours, theirs):
-    return ours.status == theirs.status == 1 and is_one_made(case, ours, theirs)
+    refused = "Hash offset|Salt|hash algorithm|Hash type|block size|No data blocks|too large"
+    return ours.status == theirs.status == 1 and says(ours, refused) and is_one_made(case, ours, theirs)
 
 
-@outcome_row("veritysetup", "`format`: a folder as DATA", {FILES})
-def is_made_for_folder(case, ours, theirs):
-    return ours.status == theirs.status == 4 and is_one_made(case, ours, theirs)
+@outcome_row(
+    "veritysetup", "`format`: DATA that can't be opened, a folder, or a pipe that is open at its other end", {FILES}
+)
+def is_made_without_data(case, ours, theirs):
+    is_unread = led_to(case, 0) not in case.scene.files and says(ours, "Cannot open")
+    return is_unread and ours.status == theirs.status == 4 and is_one_made(case, ours, theirs)
+
+
+@outcome_row("veritysetup", "a file of `/proc` as DATA", {STATUS, FILES})
+def is_proc_data(case, ours, theirs):
+    is_data = case.command() in ("format", "verify") and led_to(case, 0) == PROC_FILE
+    return is_data and (ours.status, theirs.status) == (4, 1) and ours.files == case.scene.files
+
+
+@outcome_row("veritysetup", "HASH is a symbolic link that leads nowhere")
+def is_made_behind_link(case, ours, theirs):
+    is_dangling = len(case.beside()) > 1 and case.scene.is_dangling(case.beside()[1])
+    return case.command() == "format" and is_dangling and (ours.status, theirs.status) == (0, 4)
+
+
+@outcome_row(
+    "veritysetup",
+    "a character device that takes what is written, such as `/dev/null` or `/dev/zero`, as HASH of `format`",
+)
+def is_lost(case, ours, theirs):
+    is_device = led_to(case, 1) in ("/dev/null", "/dev/zero")
+    return case.command() == "format" and is_device and (ours.status, theirs.status) == (0, 4)
+
+
+@outcome_row(
+    "veritysetup",
+    "a character device, such as `/dev/null` or `/dev/zero`, as DATA, or as HASH of `dump` or `verify`",
+    {STATUS, FILES},
+)
+def is_device_read(case, ours, theirs):
+    is_device = led_to(case, 0) in DEVICES or (case.command() == "verify" and led_to(case, 1) in DEVICES)
+    return is_device and theirs.status == 4 and ours.files == case.scene.files
+
+
+@outcome_row(
+    "veritysetup", "a single data block without a superblock, and HASH is a pipe, or a device that takes nothing"
+)
+def is_unused(case, ours, theirs):
+    is_special = led_to(case, 1) in (PIPE, "/dev/full")
+    return case.has("no-superblock") and is_special and (ours.status, theirs.status) == (0, 4)
+
+
+@outcome_row("veritysetup", "a superblock of 0 data blocks")
+def is_of_no_blocks(case, ours, theirs):
+    return case.command() in ("dump", "verify") and says(ours, "No data blocks") and ours.status == 1
+
+
+@outcome_row("veritysetup", "a superblock of more data than there can be")
+def is_of_too_many_blocks(case, ours, theirs):
+    return case.command() == "dump" and says(ours, "too large") and (ours.status, theirs.status) == (1, 0)
+
+
+@outcome_row("veritysetup", "other spellings of a hash function, such as `SHA256`, `sha-256` or `sha2-256`")
+def is_spelled_in_superblock(case, ours, theirs):
+    return case.command() in ("dump", "verify") and says(ours, "Superblock hash algorithm") and ours.status == 1
+
+
+@outcome_row("veritysetup", "HASH that can't be written to its end, as on a full disk", {STATUS})
+def is_not_written_to_end(case, ours, theirs):
+    return case.command() == "format" and (ours.status, theirs.status) == (4, 1) and says(ours, "Cannot write")
 
 
 def is_one_made(case, ours, theirs):
@@ -274,7 +357,8 @@ def is_uuid_taken(case, ours, theirs):
 
 @outcome_row("veritysetup", "HASH that can't be made, or that can be read and not written", {STATUS})
 def is_not_opened(case, ours, theirs):
-    return (ours.status, theirs.status) == (4, 1) and says(ours, "Cannot open")
+    is_hash = case.command() == "format" and led_to(case, 0) in case.scene.files and says(ours, "Cannot open")
+    return is_hash and (ours.status, theirs.status) == (4, 1)
 
 
 @outcome_row("veritysetup", "mode of a new HASH", {MODES})
@@ -314,14 +398,19 @@ def has_small_uuid(case, ours, theirs):
 # Other outcomes of fsverity.
 
 
-def outputs(case):
-    return [posixpath.normpath(text) for name in OUTPUTS for text in case.texts(name) if text]
+def outputs(case, names=OUTPUTS):
+    """To what the output files' names lead."""
+    return [case.scene.leads_to(text) for name in names for text in case.texts(name) if text]
+
+
+def inputs(case):
+    return [case.scene.leads_to(word) for word in case.beside()]
 
 
 @outcome_row("fsverity", "an option that is refused, after an output file", {FILES})
 def is_made_first(case, ours, theirs):
     changed = [name for name, content in theirs.files.items() if case.scene.files.get(name) != content]
-    is_emptied = all(name in outputs(case) and not theirs.files[name] for name in changed)
+    is_emptied = all(case.scene.leads_to(name) in outputs(case) and not theirs.files[name] for name in changed)
     return is_refused(case, ours) and theirs.status == 2 and is_emptied
 
 
@@ -332,13 +421,13 @@ def is_length_refused(case, ours, theirs):
 
 @outcome_row("fsverity", "an output file that is the input")
 def is_input_lost(case, ours, theirs):
-    inputs = [posixpath.normpath(word) for word in case.beside() if word]
-    return ours.status == 1 and set(inputs) & set(outputs(case))
+    return ours.status == 1 and says(ours, "cannot open") and set(inputs(case)) & set(outputs(case))
 
 
 @outcome_row("fsverity", "one output file for both")
 def is_output_lost(case, ours, theirs):
-    return ours.status == 1 and len(outputs(case)) == 2 and len(set(outputs(case))) == 1
+    is_one = len(outputs(case)) == 2 and len(set(outputs(case))) == 1
+    return ours.status == 1 and says(ours, "cannot open") and is_one
 
 
 @outcome_row("fsverity", "an input that can't be opened, or a folder", {FILES})
@@ -352,8 +441,38 @@ def is_output_missing(case, ours, theirs):
 
 
 @outcome_row("fsverity", "a folder as the second output file", {FILES})
-def is_second_missing(case, ours, theirs):
-    return ours.status == 1 and says(theirs, "for writing: (Is a directory|No such file)")
+def is_second_folder(case, ours, theirs):
+    return ours.status == 1 and says(theirs, "for writing: Is a directory") and ours.files == case.scene.files
+
+
+@outcome_row("fsverity", "two output files, of which one can't be opened", {FILES})
+def is_opened_in_order(case, ours, theirs):
+    is_missing = says(theirs, "for writing: ") and not says(theirs, "Is a directory")
+    return ours.status == 1 and all(case.texts(name) for name in OUTPUTS) and is_missing
+
+
+@outcome_row(
+    "fsverity",
+    "a character device that takes what is written, such as `/dev/null`, as the tree file, for more than one block",
+)
+def is_tree_lost(case, ours, theirs):
+    is_device = set(outputs(case, OUTPUTS[:1])) & {"/dev/null", "/dev/zero"}
+    return is_device and (ours.status, theirs.status) == (0, 1) and says(theirs, "preallocating")
+
+
+@outcome_row("fsverity", "`digest` of a pipe")
+def is_pipe_empty(case, ours, theirs):
+    return is_taken_for_empty(case, ours, theirs, PIPE)
+
+
+def is_taken_for_empty(case, ours, theirs, name):
+    """Ours ends at an input of this name, and theirs goes on, to its end or to a further fault."""
+    return name in inputs(case) and ours.status == 1 and says(ours, "cannot open") and theirs.status in (0, 1)
+
+
+@outcome_row("fsverity", "`digest` of a file of `/proc`")
+def is_proc_empty(case, ours, theirs):
+    return is_taken_for_empty(case, ours, theirs, PROC_FILE)
 
 
 @outcome_row("fsverity", "mode of a new output file", {MODES})

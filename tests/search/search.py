@@ -7,6 +7,7 @@ number is reached; search.py SEED=N CASE=N shows one. DOCUMENT stands in place o
 of a case determine everything in it. The last line is 'N passed, M failed'.
 """
 
+import io
 import os
 import random
 import re
@@ -19,6 +20,7 @@ import tempfile
 import time
 import traceback
 from collections import Counter, namedtuple
+from contextlib import contextmanager
 from multiprocessing import Process, SimpleQueue
 
 sys.dont_write_bytecode = True
@@ -26,7 +28,7 @@ HERE = os.path.dirname(os.path.abspath(__file__))
 sys.path[1:1] = [os.path.join(HERE, "..", "soak"), os.path.join(HERE, "..", "lib")]
 
 from layouts import SIGNATURE, SUPERBLOCK_FIELDS
-from lines import random_case
+from lines import ITS_FOLDER, PIPE, random_case
 from rows import FILES, LINES, MODES, NAMED, ROWS, STATUS, UUID_LINE
 
 # What a run did: its status and what it printed, and then the files by name with their bytes, and the modes of those that
@@ -37,31 +39,72 @@ MOST_READ = 2**25
 SHOWN = 20
 # What is counted besides the cases.
 FAILED, DIFFERENT = "failed", "different"
+# The status of a run that was ended after a minute.
+ENDLESS = "none within a minute"
 
 
-def run(program, case, folder):
-    """Runs a program in a folder with the files of a case."""
+def set_up(scene, folder):
+    """Makes a folder as a case has it, and goes there."""
     os.chdir("/")
     shutil.rmtree(folder, ignore_errors=True)
     os.makedirs(os.path.join(folder, "folder"))
     os.chdir(folder)
-    for name, content in case.scene.files.items():
-        with open(os.fsencode(name), "wb") as file:
-            file.write(content)
-    command = [os.fsencode(word) for word in [program, *case.words()]]
-    try:
-        ended = subprocess.run(command, stdin=subprocess.DEVNULL, capture_output=True, timeout=60, umask=case.umask)
-    except subprocess.TimeoutExpired:
-        return Outcome("none within a minute", "", "", {}, {})
-    files, modes = {}, {}
-    for name in os.listdir():
-        if name != "folder":
-            if name not in case.scene.files:
-                modes[name] = stat.S_IMODE(os.stat(os.fsencode(name)).st_mode)
-            with open(os.fsencode(name), "rb") as file:
-                files[name] = file.read(MOST_READ)
+    for name, content in scene.files.items():
+        if name not in scene.twins:
+            with open(os.fsencode(name), "wb") as file:
+                file.write(content)
+    for name, other in scene.twins.items():
+        os.link(os.fsencode(other), name)
+    for name, other in scene.links.items():
+        os.symlink(os.fsencode(other.replace(ITS_FOLDER, folder)), name)
+    if scene.has_pipe:
+        os.mkfifo(PIPE)
+
+
+@contextmanager
+def opened_pipe(scene):
+    """A file of what goes through the pipe of a case, which is open at both ends, so that nobody waits for somebody."""
+    if not scene.has_pipe:
+        yield io.BytesIO()
+        return
+    with open(os.open(PIPE, os.O_RDWR | os.O_NONBLOCK), "rb") as pipe:
+        yield pipe
+
+
+def run(program, case, folder):
+    """Runs a program in a folder with the files of a case."""
+    set_up(case.scene, folder)
+    command = [os.fsencode(word.replace(ITS_FOLDER, folder)) for word in [program, *case.words()]]
+    with opened_pipe(case.scene) as pipe:
+        try:
+            ended = subprocess.run(command, stdin=subprocess.DEVNULL, capture_output=True, timeout=60, umask=case.umask)
+        except subprocess.TimeoutExpired:
+            return Outcome(ENDLESS, "", "", {}, {})
+        files, modes = what_stands(case.scene)
+        through = pipe.read()
+    if through:
+        files[PIPE] = through
     out, err = (text.decode(errors="replace") for text in (ended.stdout, ended.stderr))
     return Outcome(ended.returncode, out, err, files, modes)
+
+
+def what_stands(scene):
+    """The files that stand in the folder after a run, by name with their bytes, and the modes of the new ones."""
+    files, modes = {}, {}
+    others = {"folder": stat.S_IFDIR, **dict.fromkeys(scene.links, stat.S_IFLNK)}
+    if scene.has_pipe:
+        others[PIPE] = stat.S_IFIFO
+    for name in os.listdir():
+        mode = os.lstat(os.fsencode(name)).st_mode
+        if stat.S_IFMT(mode) == others.get(name):
+            del others[name]
+        else:
+            if name not in scene.files:
+                modes[name] = stat.S_IMODE(mode)
+            with open(os.fsencode(name), "rb") as file:
+                files[name] = file.read(MOST_READ)
+    # What was there, and is no more or is something else.
+    return files | {name: b"another" for name in others}, modes
 
 
 def without_drawn(case, outcome):
@@ -89,6 +132,9 @@ def without_drawn(case, outcome):
 def differences(case, ours, theirs):
     """In what two outcomes differ."""
     found = {STATUS} if ours.status != theirs.status else set()
+    if ENDLESS in (ours.status, theirs.status):
+        # Nothing is known of it, so no row covers it.
+        found.add(ENDLESS)
     if UUID_LINE.sub("", ours.out) != UUID_LINE.sub("", theirs.out):
         found.add(LINES)
     if UUID_LINE.findall(ours.out) != UUID_LINE.findall(theirs.out):

@@ -56,6 +56,12 @@ for name in SHA256 sha-256 SHA-1 sha-1 sha2-256 SHA2-512 2.16.840.1.101.3.4.2.1;
     *) ours 1 '' 'Superblock hash algorithm is not supported.' "$veritysetup" dump "$their_hash" ;;
     esac
 done
+both_format
+set_byte "$hash" $ALGORITHM_AT 53
+theirs 0 any '' veritysetup dump "$hash"
+says "Hash algorithm:  ${TAB}Sha256"
+theirs 0 '' '' veritysetup verify "$data" "$hash" "$root"
+ours 1 '' 'Superblock hash algorithm is not supported.' "$veritysetup" dump "$hash"
 
 row '`veritysetup`: a number with a sign or white space before it, such as `+4096` or `'\'' 4096'\''`'
 for front in + ' ' "$TAB" ' +'; do
@@ -113,15 +119,65 @@ fi
 same_bytes "$row: it stays" "$data" "$scratch/kept"
 rm -f "$scratch/kept"
 
-row '`/dev/null` as HASH'
-theirs 4 '' any veritysetup format "$data" /dev/null
-ours 0 any '' "$veritysetup" format "$data" /dev/null
+row 'HASH is a symbolic link that leads nowhere'
+ln -s made "$scratch/leads_nowhere"
+theirs 4 '' any veritysetup format "${fixed[@]}" "$data" "$scratch/leads_nowhere"
+absent "$row: Debian's" "$scratch/made"
+ours 0 any '' "$veritysetup" format "${fixed[@]}" "$data" "$scratch/leads_nowhere"
+veritysetup format "${fixed[@]}" "$data" "$their_hash" >"$scratch/report"
+same_bytes "$row: here" "$their_hash" "$scratch/made"
+rm "$scratch/made"
 
-row '`/dev/null` as DATA, or in `dump`'
-theirs 4 '' any veritysetup format /dev/null "$their_hash"
-theirs 4 '' any veritysetup dump /dev/null
-ours 1 '' 'No data blocks.' "$veritysetup" format /dev/null "$hash"
-ours 1 '' 'Superblock is too short.' "$veritysetup" dump /dev/null
+row 'HASH that can'\''t be written to its end, as on a full disk'
+for most in 2 6; do
+    rm -f "$hash" "$their_hash"
+    theirs 1 '' any limited $most veritysetup format "$data" "$their_hash"
+    ours 4 '' 'Cannot write hash block 0 of level 0.' limited $most "$veritysetup" format "$data" "$hash"
+done
+theirs 1 '' any veritysetup format "$data" /proc/version
+if [ "$(id -u)" -eq 0 ]; then
+    ours 4 '' 'Cannot write hash block 0 of level 0.' "$veritysetup" format "$data" /proc/version
+fi
+
+row 'a character device that takes what is written, such as `/dev/null` or `/dev/zero`, as HASH of `format`'
+for device in null zero; do
+    theirs 4 '' any veritysetup format "$data" /dev/$device
+    ours 0 any '' "$veritysetup" format "$data" /dev/$device
+done
+
+row 'a character device, such as `/dev/null` or `/dev/zero`, as DATA, or as HASH of `dump` or `verify`'
+both_format
+cp "$hash" "$scratch/image"
+words=(--no-superblock --salt=ab)
+for device in null zero full; do
+    rm -f "$hash" "$their_hash"
+    ours 1 '' 'No data blocks.' "$veritysetup" format /dev/$device "$hash"
+    absent "$row: HASH" "$hash"
+    ours 4 '' 'Data ends before the end of block 0.' "$veritysetup" verify /dev/$device "$scratch/image" "$root"
+    ours 1 '' "$(if [ $device = null ]; then echo Superblock is too short.; else echo No verity superblock.; fi)" \
+        "$veritysetup" dump /dev/$device
+    ours 2 '' any "$veritysetup" verify "${words[@]}" "$data" /dev/$device "$root"
+    theirs 4 '' any veritysetup format /dev/$device "$their_hash"
+    size 0 "$their_hash"
+    theirs 4 '' any veritysetup verify /dev/$device "$scratch/image" "$root"
+    theirs 4 '' any veritysetup dump /dev/$device
+    theirs 4 '' any veritysetup verify "${words[@]}" "$data" /dev/$device "$root"
+done
+
+row 'a single data block without a superblock, and HASH is a pipe, or a device that takes nothing'
+exec 9<>"$scratch/pipe"
+for file in "$scratch/pipe" /dev/full; do
+    theirs 4 '' any veritysetup format "${words[@]}" "$one" "$file"
+    ours 0 any '' "$veritysetup" format "${words[@]}" "$one" "$file"
+    root=$(sed -n 's/^Root hash:[[:space:]]*//p' "$scratch/.out")
+    theirs 4 '' any veritysetup verify "${words[@]}" "$one" "$file" "$root"
+    ours 0 '' '' "$veritysetup" verify "${words[@]}" "$one" "$file" "$root"
+done
+exec 9>&-
+
+row 'a named pipe as HASH of `format`, which nobody else has open'
+ours 4 '' any timeout 60 "$veritysetup" format "$data" "$scratch/pipe"
+waits 4 '' any veritysetup format "$data" "$scratch/pipe"
 
 row '`veritysetup`: an option given twice'
 theirs 0 any '' veritysetup format --hash sha1 --hash sha512 "$data" "$their_hash"

@@ -8,7 +8,6 @@ printf a >"$scratch/first"
 none=3d248ca542a24fc62d1c43b916eae5016878e2533c88238480b26128a1f1af95
 
 row '`digest` of a pipe'
-mkfifo "$scratch/pipe"
 # Opened for reading and writing first, so that nobody waits.
 theirs 0 "sha256:$none $scratch/pipe" '' bash -c 'exec 9<>"$1"; fsverity digest "$1"' - "$scratch/pipe"
 ours 1 '' "fsverity: cannot open $scratch/pipe." bash -c 'exec 9<>"$1"; "$2" digest "$1"' - "$scratch/pipe" "$fsverity"
@@ -129,6 +128,53 @@ size 0 "$scratch/first_made"
 ours 1 '' "fsverity: cannot open $scratch/folder." \
     "$fsverity" digest --out-merkle-tree "$scratch/first_unmade" --out-descriptor "$scratch/folder" "$input"
 absent "$row: here" "$scratch/first_unmade"
+
+row 'two output files, of which one can'\''t be opened'
+for order in 'tree descriptor' 'descriptor tree'; do
+    for bad in tree descriptor; do
+        other=tree
+        if [ $bad = tree ]; then other=descriptor; fi
+        words=()
+        for name in $order; do
+            option=--out-descriptor
+            if [ $name = tree ]; then option=--out-merkle-tree; fi
+            file=$scratch/older
+            if [ $name = $bad ]; then file=$scratch/none/file; fi
+            words+=("$option" "$file")
+        done
+        cp "$input" "$scratch/older"
+        theirs 2 '' any fsverity digest "${words[@]}" "$input"
+        # Emptied, if its option comes first.
+        left=$(stat -c %s "$input")
+        if [ "${order% *}" = $other ]; then left=0; fi
+        size "$left" "$scratch/older"
+        cp "$input" "$scratch/older"
+        ours 1 '' "fsverity: cannot open $scratch/none/file." "$fsverity" digest "${words[@]}" "$input"
+        left=$(stat -c %s "$input")
+        if [ $other = tree ]; then left=0; fi
+        size "$left" "$scratch/older"
+    done
+done
+
+row 'the tree file can'\''t be written to its end, as on a full disk'
+sample 1048576 >"$scratch/large"
+for tree in theirs ours; do
+    program=fsverity
+    if [ $tree = ours ]; then program=$fsverity; fi
+    $tree 1 '' any limited 5 "$program" digest --out-merkle-tree "$scratch/${tree}_tree" "$scratch/large"
+done
+size 0 "$scratch/theirs_tree"
+# The first block is the last that is made.
+size 5120 "$scratch/ours_tree"
+
+row 'a character device that takes what is written, such as `/dev/null`, as the tree file, for more than one block'
+for device in null zero; do
+    theirs 1 '' any fsverity digest --out-merkle-tree /dev/$device "$input"
+    ours 0 "$(fsverity digest "$input")" '' "$fsverity" digest --out-merkle-tree /dev/$device "$input"
+    # One block has no tree.
+    theirs 0 any '' fsverity digest --out-merkle-tree /dev/$device "$scratch/first"
+    ours 0 any '' "$fsverity" digest --out-merkle-tree /dev/$device "$scratch/first"
+done
 
 row 'mode of a new output file'
 for mask in 000 002 022 077; do

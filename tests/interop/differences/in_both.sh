@@ -10,7 +10,7 @@ both() {
     ours "$status" "$out" "$err" "$BIN/$name" "${@/#HASH/$hash}"
 }
 
-row 'data and hash area that overlap in one file, under any names'
+row '`format`: data and hash area that overlap in one file, under any names'
 cp "$data" "$scratch/file"
 ln -s file "$scratch/link"
 ln "$scratch/file" "$scratch/hard"
@@ -71,11 +71,25 @@ else
     echo 'left out: a loop device over DATA: no loop device can be made here'
 fi
 
-row 'a pipe as DATA'
+row 'a pipe as DATA or HASH, open at its other end, but for a single data block without a superblock (above)'
+both_format
+exec 9<>"$scratch/pipe"
+both 4 '' veritysetup verify "$scratch/pipe" HASH "$root"
+both 4 '' veritysetup verify "$data" "$scratch/pipe" "$root"
+both 4 '' veritysetup format "$data" "$scratch/pipe"
+both 4 '' veritysetup dump "$scratch/pipe"
+exec 9>&-
+
+row 'a named pipe that is read, and that nobody else has open'
+both_format
 for program in veritysetup "$veritysetup"; do
-    runs "$row: $program" 4 '' any \
-        bash -c 'exec 9<>"$1"; "$2" format "$1" "$3"' - "$scratch/pipe" "$program" "$hash"
+    waits 4 '' any "$program" format "$scratch/pipe" "$scratch/new_hash"
+    waits 4 '' any "$program" dump "$scratch/pipe"
+    waits 4 '' any "$program" verify "$scratch/pipe" "$hash" "$root"
+    waits 4 '' any "$program" verify "$data" "$scratch/pipe" "$root"
 done
+waits 0 any '' fsverity digest "$scratch/pipe"
+waits 1 '' any "$fsverity" digest "$scratch/pipe"
 
 row 'a folder as HASH'
 both_format

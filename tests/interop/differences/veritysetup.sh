@@ -125,13 +125,47 @@ if cmp -s "$scratch/before" "$their_hash"; then fail "$row: Debian's" 'HASH stay
 ours 4 '' any "$veritysetup" format "${fixed[@]}" --data-blocks 18 "$data" "$hash"
 same_bytes "$row: here" "$scratch/before" "$hash"
 rm "$hash" "$their_hash"
+# In one file of 200 blocks its writes come after the first 128 digests, and are data then.
+for option in '' --no-superblock; do
+    words=(--salt=ab --data-blocks 208 --hash-offset 1048576 $option)
+    sample 819200 >"$hash"
+    cp "$hash" "$their_hash"
+    cp "$hash" "$scratch/before"
+    theirs 0 any '' veritysetup format "${words[@]}" "$their_hash" "$their_hash"
+    says "Data blocks:     ${TAB}208"
+    ours 4 '' 'Data ends before the end of block 200.' "$veritysetup" format "${words[@]}" "$hash" "$hash"
+    same_bytes "$row: in one file" "$scratch/before" "$hash"
+done
+rm "$hash" "$their_hash"
 
-row '`format`: a folder as DATA'
+row '`format`: DATA that can'\''t be opened, a folder, or a pipe that is open at its other end'
 mkdir "$scratch/folder"
-theirs 4 '' any veritysetup format "$scratch/folder" "$their_hash"
-size 0 "$their_hash"
-ours 4 '' "Cannot open $scratch/folder." "$veritysetup" format "$scratch/folder" "$hash"
-absent "$row: HASH" "$hash"
+mkfifo "$scratch/pipe"
+for name in missing folder pipe; do
+    # The pipe is opened for reading and writing first, so that nobody waits.
+    exec 9<>"$scratch/pipe"
+    rm -f "$their_hash"
+    theirs 4 '' any veritysetup format "$scratch/$name" "$their_hash"
+    size 0 "$their_hash"
+    ours 4 '' "Cannot open $scratch/$name." "$veritysetup" format "$scratch/$name" "$hash"
+    absent "$row: HASH" "$hash"
+    exec 9>&-
+done
+
+row 'a file of `/proc` as DATA'
+for file in /proc/version /proc/self/status; do
+    rm -f "$their_hash"
+    theirs 1 '' any veritysetup format "$file" "$their_hash"
+    size 0 "$their_hash"
+    ours 4 '' "Cannot open $file." "$veritysetup" format "$file" "$hash"
+    absent "$row: HASH" "$hash"
+done
+both_format
+for file in /proc/version /proc/self/status; do
+    theirs 1 '' any veritysetup verify "$file" "$their_hash" "$root"
+    ours 4 '' "Cannot open $file." "$veritysetup" verify "$file" "$hash" "$root"
+done
+rm "$hash" "$their_hash"
 
 row '`verify`: changed data or a changed digest'
 # Two levels, of 1 and 9 hash blocks. Byte 544 begins the second digest of level 1, that of the hash block at byte 1536.
@@ -185,6 +219,29 @@ row '`verify` without a superblock and without `--salt`'
 both_format --no-superblock
 theirs 2 '' any veritysetup verify --no-superblock "$data" "$hash" "$root"
 refused "$veritysetup" verify --no-superblock "$data" "$hash" "$root"
+
+row '`verify` without a superblock: a hash area that overlaps the covered data in one file, under any names'
+cp "$data" "$scratch/grown"
+ln -s grown "$scratch/grown_link"
+ln "$scratch/grown" "$scratch/grown_hard"
+words=(--no-superblock --salt=ab --hash-offset 69632)
+"$veritysetup" format "${words[@]}" "$scratch/grown" "$scratch/grown" >"$scratch/report"
+root=$(sed -n 's/^Root hash:[[:space:]]*//p' "$scratch/report")
+for name in grown grown_link grown_hard; do
+    for option in '' '--data-blocks 18'; do
+        # shellcheck disable=SC2086
+        theirs 1 '' 'Data area overlaps with hash area.' \
+            veritysetup verify "${words[@]}" $option "$scratch/grown" "$scratch/$name" "$root"
+        # shellcheck disable=SC2086
+        ours 2 '' any "$veritysetup" verify "${words[@]}" $option "$scratch/grown" "$scratch/$name" "$root"
+        says 'Verification failed: '
+    done
+    theirs 0 '' '' veritysetup verify "${words[@]}" --data-blocks 17 "$scratch/grown" "$scratch/$name" "$root"
+    ours 0 '' '' "$veritysetup" verify "${words[@]}" --data-blocks 17 "$scratch/grown" "$scratch/$name" "$root"
+done
+root=$("$veritysetup" format --no-superblock --salt=ab "$one" "$hash" | sed -n 's/^Root hash:[[:space:]]*//p')
+theirs 1 '' any veritysetup verify --no-superblock --salt=ab "$one" "$one" "$root"
+ours 0 '' '' "$veritysetup" verify --no-superblock --salt=ab "$one" "$one" "$root"
 
 row '`verify` with a superblock: no number, or one too large to be taken, for an option other than `--hash-offset`'
 both_format
@@ -249,8 +306,9 @@ row '`veritysetup`: the report goes to a pipe that nobody reads'
 theirs 141 '' '' unread veritysetup format "$data" "$their_hash"
 ours 4 '' 'Cannot write output.' unread "$veritysetup" format "$data" "$hash"
 
-row 'a refused salt, hash function, block size or hash type, or no whole block of data'
-for option in --salt=zz --hash=no --data-block-size=768 --hash-block-size=256 --format=2; do
+row 'a refused hash offset, salt, hash function, block size or hash type, no whole block of data, or too large an area'
+for option in --hash-offset=511 --salt=zz --hash=no --data-block-size=768 --hash-block-size=256 --format=2 \
+    --data-blocks={2251799813685248,18446744073709551615} --hash-offset=9223372036854775296; do
     makes_none "$option" "$data"
 done
 head -c 4095 "$data" >"$scratch/short"
