@@ -21,6 +21,8 @@ BINDIR = $(PREFIX)/bin
 SBINDIR = $(PREFIX)/sbin
 MANDIR = $(PREFIX)/share/man
 BASHCOMPDIR = $(PREFIX)/share/bash-completion/completions
+ZSHCOMPDIR = $(PREFIX)/share/zsh/site-functions
+FISHCOMPDIR = $(PREFIX)/share/fish/vendor_completions.d
 LIBDIR = $(PREFIX)/lib
 INCLUDEDIR = $(PREFIX)/include
 SUFFIX = -proved
@@ -135,8 +137,8 @@ bench-bindings: library
 reproducible: programs
 	tests/reproducible.sh
 
-# Installs the programs of TARGET and STATIC, manual pages and bash's completion, and the library if it is built; or
-# removes just these. The others do the same for the library alone, and for the module of Python. Nothing is built here,
+# Installs the programs of TARGET and STATIC, manual pages and completion, and the library if it is built; or removes
+# just these. The others do the same for the library alone, and for the module of Python. Nothing is built here,
 # so that no proof runs as root.
 INSTALLING = install uninstall install-library uninstall-library install-python uninstall-python
 $(INSTALLING): export TARGET := $(TARGET)
@@ -147,6 +149,8 @@ $(INSTALLING): export BINDIR := $(BINDIR)
 $(INSTALLING): export SBINDIR := $(SBINDIR)
 $(INSTALLING): export MANDIR := $(MANDIR)
 $(INSTALLING): export BASHCOMPDIR := $(BASHCOMPDIR)
+$(INSTALLING): export ZSHCOMPDIR := $(ZSHCOMPDIR)
+$(INSTALLING): export FISHCOMPDIR := $(FISHCOMPDIR)
 $(INSTALLING): export LIBDIR := $(LIBDIR)
 $(INSTALLING): export INCLUDEDIR := $(INCLUDEDIR)
 $(INSTALLING): export SUFFIX := $(SUFFIX)
@@ -199,7 +203,7 @@ help:
 	@echo 'make reproducible    5 minutes +   builds once more in another folder, and compares the programs'
 	@echo 'make install         seconds       installs programs, pages and completion, and the library if it is built'
 	@echo '                                   [TARGET, STATIC=yes, PREFIX, DESTDIR, SUFFIX, STRIP=yes, BINDIR, SBINDIR,'
-	@echo '                                   MANDIR, BASHCOMPDIR, LIBDIR, INCLUDEDIR]'
+	@echo '                                   MANDIR, BASHCOMPDIR, ZSHCOMPDIR, FISHCOMPDIR, LIBDIR, INCLUDEDIR]'
 	@echo 'make uninstall       seconds       removes what make install has installed; give it the same settings'
 	@echo 'make install-library seconds       installs the library alone; make uninstall-library removes it'
 	@echo '                                   [TARGET, PREFIX, DESTDIR, STRIP=yes, MANDIR, LIBDIR, INCLUDEDIR]'

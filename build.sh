@@ -1,4 +1,4 @@
-#!/bin/bash
+#!/usr/bin/env bash
 # build.sh CRATE PROGRAM [CPU]: proves and builds the program of crates/CRATE, and puts it at bin/PROGRAM. Each crate
 # that had to be proved anew is named once it is.
 #

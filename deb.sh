@@ -1,4 +1,4 @@
-#!/bin/bash
+#!/usr/bin/env bash
 # deb.sh: makes Debian's packages of what is committed, for amd64 and arm64, and their source package, in the folder
 # DIST, and prints the names. Programs and libraries that aren't built yet are built first; the packages are those that
 # debian/ describes. As long as CHANGELOG.md says that the version isn't released, theirs is an earlier one that has the

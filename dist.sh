@@ -1,4 +1,4 @@
-#!/bin/bash
+#!/usr/bin/env bash
 # dist.sh: makes one archive of the sources as they were committed, in the folder DIST, and prints its name, which has
 # the version and, as long as CHANGELOG.md says that it is not yet released, the commit. The times in it are the
 # commit's, so that the same commit gives the same bytes, wherever and whenever the archive is made.

@@ -1,4 +1,4 @@
-#!/bin/bash
+#!/usr/bin/env bash
 # library.sh x86_64 [CPU] or library.sh aarch64: proves and builds the library for C into lib/.
 #
 # For x86_64:

@@ -1,4 +1,4 @@
-#!/bin/bash
+#!/usr/bin/env bash
 # release.sh: makes what is handed out of a version, in the folder DIST, and prints the names:
 #   verity-VERSION.tar.gz           the sources, by dist.sh
 #   verity-VERSION-x86_64.tar.gz    static programs for every x86-64 processor, their pages and completion, and the

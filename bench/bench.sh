@@ -1,4 +1,4 @@
-#!/bin/bash
+#!/usr/bin/env bash
 # Measures the programs in bin/ beside the bare hashing of the same blocks by the crates sha1 and sha2 (bin/bench_bare)
 # and beside Debian's veritysetup and fsverity (packages cryptsetup-bin and fsverity), and prints tables for docs/SPEED.md.
 # SIZE=MEBIBYTES, FILES=COUNT and ROUNDS=COUNT change the defaults.

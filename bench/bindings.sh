@@ -1,4 +1,4 @@
-#!/bin/bash
+#!/usr/bin/env bash
 # Measures the bindings of the library beside bare calls from C, over one file in the page cache, by the fs-verity
 # digest with SHA-256 and blocks of 4096 bytes, and beside hashlib's SHA-256. All of them take one shared library, the
 # one for this processor or that in LIB. What isn't there is left out. SIZE=MEBIBYTES and ROUNDS=COUNT change the

@@ -1,4 +1,4 @@
-#!/bin/bash
+#!/usr/bin/env bash
 # Measures the library for this processor, or the one in LIB, fed with the pieces of one file in the page cache as they
 # are read, beside bin/fsverity, Debian's fsverity and Debian's libfsverity (packages fsverity and libfsverity-dev; what
 # isn't there is left out). Then pieces of several lengths, of the same bytes in memory, and short files. All is done in

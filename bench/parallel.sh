@@ -1,4 +1,4 @@
-#!/bin/bash
+#!/usr/bin/env bash
 # Measures examples/parallel_format.c, built with the library for this processor or the one in LIB, by one, two and four
 # threads over one file in the page cache, beside bin/veritysetup and Debian's (package cryptsetup-bin); and beside as
 # many runs by one thread each, side by side, since the processors of a machine may be shared. Then how long processes

@@ -1,4 +1,4 @@
-#!/bin/bash
+#!/usr/bin/env bash
 # All tests: the gate, what it built, then the programs, run as a user runs them, the examples of the documents, and the
 # comparisons with Debian's programs, if these are installed. Beside all of this each wrong body is tried. The tests go
 # over the programs for each processor that runs here; a minute of random runs and one of random command lines go over
@@ -27,7 +27,8 @@ add_programs() {
     parts+=('tests/memory.sh --short' tests/soak.sh tests/search.sh)
     # What is handed out is made of all kinds of programs.
     if [ ${#kinds[@]} -gt 0 ]; then parts+=(tests/packages.sh tests/release.sh); fi
-    for script in tests/interop/*.sh tests/programs/*.sh tests/processor.sh tests/readme.sh tests/manual.sh; do
+    for script in tests/interop/*.sh tests/programs/*.sh tests/processor.sh tests/readme.sh tests/manual.sh \
+        tests/recipes.sh; do
         for build in "${builds[@]}"; do
             parts+=("env BIN=$build $script")
         done
@@ -56,7 +57,7 @@ add_programs() {
         esac
         parts+=("$script")
     done
-    parts+=(tests/bindings/*.sh tests/definitions.sh tests/install.sh tests/completion.sh tests/running.sh
+    parts+=(tests/bindings/*.sh tests/definitions.sh tests/pictures.sh tests/install.sh tests/completion.sh tests/running.sh
         tests/runtime.sh tests/any_processor.sh tests/kinds.sh)
 }
 

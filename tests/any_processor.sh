@@ -1,4 +1,4 @@
-#!/bin/bash
+#!/usr/bin/env bash
 # Compiles any_processor.c over stand-ins for a program's two halves, and runs it on processors that qemu imitates: the
 # half for x86-64-v3 begins only if the processor has all of that and the system has switched it on, and
 # VERITY_PROCESSOR=x86-64 chooses the other one.

@@ -1,4 +1,4 @@
-#!/bin/bash
+#!/usr/bin/env bash
 # Takes the programs that the gate built into bin/x86-64-v2/, and builds others over what it has proved:
 #   bin/x86-64-v3/          for that, if this processor has all of it
 #   bin/any/                for every x86-64 processor

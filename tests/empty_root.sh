@@ -1,4 +1,4 @@
-#!/bin/bash
+#!/usr/bin/env bash
 # Runs static programs in a root that has nothing but them and their files: no loader, no library, no /dev and no /proc.
 # As root and as another user, with each combination of closed standard streams, and with the stack that README.md
 # names. For programs for 64-bit ARM the root also has qemu, with its own loader and libraries. BIN=FOLDER takes the

@@ -1,4 +1,4 @@
-#!/bin/bash
+#!/usr/bin/env bash
 # The gate, `rt ci`. To `rt` wrong bodies that don't fit the code, or don't compile, are no failure, though nothing is
 # tried then. Here they are one, for each crate that has such. Behind what rt says of a crate stands how many of them it
 # has come to. If GATE_LOG names a file, all that rt prints goes there too, as it comes and unchanged, and when rt has

@@ -1,4 +1,4 @@
-#!/bin/bash
+#!/usr/bin/env bash
 # Runs `make install` into folders, with a space in their names too, and compares the files there, their modes and bytes
 # with what docs/BUILDING.md says; man finds the pages there, and they and the completion speak of the installed names.
 # If the library for C is built, it is installed too; one for 64-bit ARM stays where it is. After `make uninstall` just
@@ -36,24 +36,32 @@ unlike() {
     grep -vE '^\.(Dt|Nm|Os|Xr) |^\$ (fsverity|veritysetup)' "$1"
 }
 
-# completes FILE NAME: the completion is for the installed name alone.
+# completes NAME BASH ZSH FISH: the files of completion are for the installed name alone, and elsewhere as they were.
 completes() {
-    same "completion of $2" "complete -F _complete_${2%%-*} $2" "$(bash -c '. "$1" && complete -p' - "$1")"
+    local plain=${1%%-*}
+    same "completion of $1" "complete -F _complete_$plain $1" "$(bash -c '. "$1" && complete -p' - "$2")"
+    same "completion of $1 for zsh" "#compdef $1" "$(head -n 1 "$3")"
+    same_bytes "completion of $1 for zsh" <(tail -n +2 "completions/_$plain") <(tail -n +2 "$3")
+    same "completion of $1 for fish" "complete -c $1" "$(grep -oE '^complete -c [^ ]*' "$4" | sort -u)"
+    same_bytes "completion of $1 for fish" "completions/$plain.fish" \
+        <(sed "s/^complete -c $1 /complete -c $plain /" "$4")
 }
 
-# installs FOLDER PREFIX SUFFIX WORD..: `make install` with these words puts the six files there, and those of the
-# library, and nothing else. `programs`, `admin`, `manuals`, `words`, `libraries` and `includes` are the folders of the
-# programs of section 1 and 8, of the pages, the completion, the library and the header, if they aren't those below
-# PREFIX.
+# installs FOLDER PREFIX SUFFIX WORD..: `make install` with these words puts the ten files there, and those of the
+# library, and nothing else. `programs`, `admin`, `manuals`, `words`, `words_of_zsh`, `words_of_fish`, `libraries` and
+# `includes` are the folders of the programs of section 1 and 8, of the pages, the completions, the library and the
+# header, if they aren't those below PREFIX.
 installs() {
-    local folder=$scratch/$1 prefix=$2 suffix=$3 completions pages
+    local folder=$scratch/$1 prefix=$2 suffix=$3 completions zsh fish pages name
     shift 3
     pages=${manuals:-$prefix/share/man} completions=${words:-$prefix/share/bash-completion/completions}
+    zsh=${words_of_zsh:-$prefix/share/zsh/site-functions} fish=${words_of_fish:-$prefix/share/fish/vendor_completions.d}
     (umask 022 && make -s install DESTDIR="$folder" "$@") >"$scratch/.made" 2>&1 </dev/null
     is_text "$folder: what make says" '' "$scratch/.made"
     same "$folder: files" "$({
         printf '755 %s\n' "${programs:-$prefix/bin}/fsverity$suffix" "${admin:-$prefix/sbin}/veritysetup$suffix"
-        printf '644 %s\n' "$completions/"{fsverity,veritysetup}"$suffix" \
+        printf '644 %s\n' "$completions/"{fsverity,veritysetup}"$suffix" "$zsh/_"{fsverity,veritysetup}"$suffix" \
+            "$fish/"{fsverity,veritysetup}"$suffix.fish" \
             "$pages/man1/fsverity$suffix.1" "$pages/man8/veritysetup$suffix.8"
         if is_built x86_64; then library_files x86_64 "$prefix"; fi
     } | sort -k 2)" "$(listed "$folder")"
@@ -61,15 +69,16 @@ installs() {
         same_bytes "$folder: fsverity" bin/fsverity "$folder/${programs:-$prefix/bin}/fsverity$suffix"
         same_bytes "$folder: veritysetup" bin/veritysetup "$folder/${admin:-$prefix/sbin}/veritysetup$suffix"
     fi
-    completions=$folder/$completions pages=$folder/$pages
+    pages=$folder/$pages
     speaks fsverity.1 "$pages/man1/fsverity$suffix.1" "$suffix"
     speaks veritysetup.8 "$pages/man8/veritysetup$suffix.8" "$suffix"
     if is_built x86_64; then
         same "verity.3: the programs' pages$suffix" ".Xr fsverity$suffix 1 .Xr veritysetup$suffix 8" \
             "$(grep -E '^\.Xr (fsverity|veritysetup)' "$pages/man3/verity.3" | sed 's/ ,$//' | sort -u | paste -sd ' ')"
     fi
-    completes "$completions/fsverity$suffix" "fsverity$suffix"
-    completes "$completions/veritysetup$suffix" "veritysetup$suffix"
+    for name in {fsverity,veritysetup}"$suffix"; do
+        completes "$name" "$folder/$completions/$name" "$folder/$zsh/_$name" "$folder/$fish/$name.fish"
+    done
     if command -v mandoc >/dev/null; then
         same "$folder: mandoc -T lint" '' "$(mandoc -T lint -W warning "$pages"/man[1-8]/* 2>/dev/null)"
     fi
@@ -107,8 +116,10 @@ installs named usr '' PREFIX=/usr SUFFIX=
 installs 'a space  and "quotes"' 'opt/our programs' -x.y PREFIX='/opt/our programs' SUFFIX=-x.y
 # Folders as packagers set them: one word each, in place of those below PREFIX.
 packaged=(PREFIX=/usr SUFFIX= BINDIR=/usr/tools SBINDIR=/usr/bin 'MANDIR=/usr/man pages'
-    BASHCOMPDIR=/etc/bash_completion.d LIBDIR=/usr/lib/x86_64-linux-gnu INCLUDEDIR=/opt/headers)
-programs=usr/tools admin=usr/bin manuals='usr/man pages' words=etc/bash_completion.d \
+    BASHCOMPDIR=/etc/bash_completion.d ZSHCOMPDIR=/opt/zsh FISHCOMPDIR='/opt/fish words'
+    LIBDIR=/usr/lib/x86_64-linux-gnu INCLUDEDIR=/opt/headers)
+programs=usr/tools admin=usr/bin manuals='usr/man pages' words=etc/bash_completion.d words_of_zsh=opt/zsh \
+    words_of_fish='opt/fish words' \
     libraries=usr/lib/x86_64-linux-gnu includes=opt/headers installs packaged usr '' "${packaged[@]}"
 # A folder that is there keeps its mode, and one that is made has the usual one.
 mkdir -p "$scratch/kept/usr/local/"{bin,sbin,share/man/man1}
@@ -173,7 +184,7 @@ same "another library's files stay, with its file of pkg-config" "$others" "$(li
 if [ -e "$scratch/stripped" ]; then uninstalls stripped STRIP=yes; fi
 refuses 'a suffix with a slash' 'SUFFIX may have letters, digits and . _ + - alone' install SUFFIX=/x
 refuses 'a STRIP that is neither yes nor no' 'STRIP is yes or no' install STRIP=1
-for variable in PREFIX BINDIR SBINDIR MANDIR BASHCOMPDIR LIBDIR INCLUDEDIR; do
+for variable in PREFIX BINDIR SBINDIR MANDIR BASHCOMPDIR ZSHCOMPDIR FISHCOMPDIR LIBDIR INCLUDEDIR; do
     refuses "a $variable that doesn't begin with /" "$variable has to begin with /" install "$variable=usr"
 done
 # The library goes and comes back without the programs.
@@ -196,7 +207,8 @@ cp bin/{fsverity,veritysetup} "$scratch/empty/bin"
 runs 'without a shared library' 0 '' "libverity.so.2 isn't built, so the library is left out" \
     make -s -C "$scratch/empty" --no-print-directory install DESTDIR="$scratch/no_library"
 same 'without a shared library: files' \
-    "$(printf '%s\n' {fsverity,veritysetup}-proved{,} fsverity-proved.1 veritysetup-proved.8 | sort)" \
+    "$(printf '%s\n' {fsverity,veritysetup}-proved{,,.fish} _{fsverity,veritysetup}-proved fsverity-proved.1 \
+        veritysetup-proved.8 | sort)" \
     "$(find "$scratch/no_library" ! -type d -printf '%f\n' | sort)"
 # Without the one for x86-64-v3 too.
 : >"$scratch/empty/lib/libverity.so.2"

@@ -1,4 +1,4 @@
-#!/bin/bash
+#!/usr/bin/env bash
 # Runs the Linux kernel, in a virtual machine without hardware support, over images of bin/veritysetup: it opens each as
 # a dm-verity device and hands out the data, and after a change of one bit, in the data or in any level of the tree, all
 # blocks but those beneath. And what the kernel's fs-verity measures of files is what bin/fsverity digest prints.

@@ -1,4 +1,4 @@
-#!/bin/bash
+#!/usr/bin/env bash
 # What `make programs` builds by TARGET, CPU and STATIC, and what it refuses before anything is proved. Programs whose
 # object files stand are linked again, to the same bytes. Here `rt` doesn't prove, so that no check waits for it.
 set -u
@@ -34,7 +34,7 @@ same 'CPU in the environment' "TARGET=x86_64 STATIC=no fsverity_cli fsverity $he
 # A copy of what is built, and an `rt` that proves nothing.
 copy=$scratch/copy
 tools=$(path_without rt)
-printf '%s\n' '#!/bin/bash' "case \$* in version | doc) exec '$(type -P rt)' \"\$@\" ;; esac" \
+printf '%s\n' '#!/usr/bin/env bash' "case \$* in version | doc) exec '$(type -P rt)' \"\$@\" ;; esac" \
     'echo "rt: nothing is proved here"' 'exit 1' >"$tools/rt"
 chmod +x "$tools/rt"
 mkdir "$copy"

@@ -1,4 +1,4 @@
-#!/bin/bash
+#!/usr/bin/env bash
 # Checks the manual pages: mandoc has nothing to say of them, their examples run, their lists of messages are those of
 # the programs' sources, each under the status that the soak expects with it, and their options are those of the
 # programs' usages.
@@ -26,6 +26,12 @@ page_examples() {
 # last_example PAGE: the last of a page's examples, in the same form.
 last_example() {
     page_examples "$1" | awk '/^\$ blocks=/ { shown = 1 } shown'
+}
+
+# page_signs HASH: the commands of the page on fsverity that sign a file, with a hash function as it says.
+page_signs() {
+    sed -n '/^\$ fsverity .*--for-builtin-sig/,/one\.sig$/{s/^\$ //; p}' "$scratch/fsverity.1" |
+        sed "s/fsverity digest /&--hash-alg $1 /; s/-md sha256/-md $1/"
 }
 
 # blanked: messages, one a line, with `_` for each name or number in them.
@@ -91,7 +97,9 @@ else
     echo 'left out: mandoc is not installed'
 fi
 
-# The examples run with the programs on the path, in a folder that has what they speak of.
+# The examples run with the programs on the path, in a folder that has what they speak of. Debian's program stands
+# beside.
+other=$(type -P fsverity)
 mkdir "$scratch/bin" "$scratch/run" "$scratch/run/files"
 ln -s "$(realpath "$BIN")"/{fsverity,veritysetup} "$scratch/bin"
 PATH=$scratch/bin:$PATH
@@ -121,6 +129,17 @@ if [ -e one.sig ]; then
     runs 'the signature' 0 '' any \
         openssl smime -verify -inform DER -in one.sig -content expected -certfile cert.pem -noverify -binary -out signed
     same_bytes 'the signature' expected signed
+    # It is the one that Debian's program makes, with either hash function.
+    if [ -z "$other" ] || ! "$other" --version >/dev/null 2>&1; then
+        echo "left out: the signature of Debian's program: fsverity is not installed"
+    else
+        for name in sha256 sha512; do
+            rm one.sig
+            eval "$(page_signs $name)" 2>"$scratch/.err"
+            "$other" sign --hash-alg=$name --key=key.pem --cert=cert.pem one theirs.sig >"$scratch/.shown" 2>&1
+            same_bytes "the signature of Debian's program, with $name" theirs.sig one.sig
+        done
+    fi
 fi
 cd - >/dev/null || exit 1
 finish

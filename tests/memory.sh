@@ -1,4 +1,4 @@
-#!/bin/bash
+#!/usr/bin/env bash
 # Refuses each request for memory in turn, counting up until nothing is refused: of the run functions in
 # crates/memory_tests, by `rt try`, which builds them anew for each number; and of both programs' commands, by a library
 # that is loaded before them. Needs the toolchain and a C compiler. BIN=FOLDER takes the programs of another folder.

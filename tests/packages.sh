@@ -1,4 +1,4 @@
-#!/bin/bash
+#!/usr/bin/env bash
 # `make deb` makes the same packages of a commit in two folders, whatever the user has set. Their files, what they
 # depend on and their version are those of docs/PACKAGING.md, and lintian has no error and no warning. For each
 # architecture dpkg installs them into a root that has a C library alone; there the programs run, and debian/tests with
@@ -106,6 +106,8 @@ files() {
         verity-proved)
             printf -- '-rwxr-xr-x %s\n' usr/bin/fsverity-proved usr/sbin/veritysetup-proved
             printf -- '-rw-r--r-- usr/share/%s\n' bash-completion/completions/{fsverity,veritysetup}-proved \
+                fish/vendor_completions.d/{fsverity,veritysetup}-proved.fish \
+                zsh/vendor-completions/_{fsverity,veritysetup}-proved \
                 man/man1/fsverity-proved.1.gz man/man8/veritysetup-proved.8.gz
             ;;
         libverity2)

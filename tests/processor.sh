@@ -1,7 +1,7 @@
-#!/bin/bash
+#!/usr/bin/env bash
 # Runs the programs on processors that qemu imitates: on one that lacks what they were built for they end with status
-# 127 and say so, and have done nothing. Those for every processor run on each, and begin the code for x86-64-v3 exactly
-# where that runs. BIN=FOLDER takes the programs of another folder.
+# 127 and say so, in the words of docs/BUILDING.md, and have done nothing. Those for every processor run on each, and
+# begin the code for x86-64-v3 exactly where that runs. BIN=FOLDER takes the programs of another folder.
 set -u
 cd "$(dirname "$0")/.."
 . tests/lib/checks.sh
@@ -13,10 +13,11 @@ printf a >"$scratch/one"
 sample 8192 >"$scratch/data"
 digest=bce75948b9e7510293f8f2720412af9697c1479281323f3f220623fb8e94b557
 
+stated=$(tr '\n' ' ' <docs/BUILDING.md | grep -oE 'this machine lacks a feature of x86-64-v3[^`]*')
+
 # refused MODEL: neither program runs on a model of a processor.
 refused() {
-    local message="this machine lacks a feature of $cpu, which this program was built for:"
-    message+=' run it on another machine, or build it with --cpu x86-64'
+    local message=${stated//x86-64-v3/$cpu}
     runs "fsverity for $cpu on $1" 127 '' "$message" qemu-x86_64 -cpu "$1" "$BIN/fsverity" digest "$scratch/one"
     runs "veritysetup for $cpu on $1" 127 '' "$message" \
         qemu-x86_64 -cpu "$1" "$BIN/veritysetup" format "$scratch/data" "$scratch/hash"
@@ -80,5 +81,20 @@ for flag in avx avx2 bmi1 bmi2 f16c fma abm movbe; do
 done
 same 'processor.sh' "$found" "$(./processor.sh)"
 same 'processor.sh on Nehalem' x86-64-v2 "$(./processor.sh qemu-x86_64 -cpu Nehalem /lib64/ld-linux-x86-64.so.2)"
-same 'processor.sh without a loader' x86-64-v2 "$(./processor.sh "$scratch/missing")"
+same 'processor.sh without a loader' "$found" "$(./processor.sh "$scratch/missing")"
+same 'processor.sh with an older loader' "$found" "$(./processor.sh echo)"
+# Where the kernel's flags tell: all that x86-64-v3 has, among others, and all but one.
+flags=(fpu cx16 lahf_lm popcnt pni ssse3 sse4_1 sse4_2 avx avx2 bmi1 bmi2 f16c fma abm movbe xsave avx512f)
+for flag in fpu "${flags[@]:1:16}"; do
+    expected=x86-64-v2
+    if [ "$flag" = fpu ]; then expected=x86-64-v3; fi
+    printf 'processor\t: 0\nflags\t\t: %s\n\n' "$(printf '%s\n' "${flags[@]}" | grep -vx "$flag" | paste -sd ' ')" \
+        >"$scratch/cpuinfo"
+    same "processor.sh without a loader and $flag" $expected \
+        "$(CPUINFO="$scratch/cpuinfo" ./processor.sh "$scratch/missing")"
+done
+: >"$scratch/cpuinfo"
+same 'processor.sh without a loader and flags' x86-64-v2 \
+    "$(CPUINFO="$scratch/cpuinfo" ./processor.sh "$scratch/missing")"
+same 'processor.sh without a loader and /proc' x86-64-v2 "$(CPUINFO="$scratch/none" ./processor.sh "$scratch/missing")"
 finish

@@ -1,4 +1,4 @@
-#!/bin/bash
+#!/usr/bin/env bash
 # Runs the examples of README.md word for word, in a folder of their own with bin/ linked into it, and compares what
 # they print with what the README shows. An example is a run of indented lines with '$ ' before each command.
 set -u

@@ -1,4 +1,4 @@
-#!/bin/bash
+#!/usr/bin/env bash
 # `make release` makes the same bytes of a commit in two folders, whatever the user has set, and its archives have the
 # files that docs/PACKAGING.md says, as they were built, and their sums. The programs run in a root that has nothing but
 # the archive, those for 64-bit ARM by qemu; and pkg-config finds the library where it was unpacked.
@@ -61,6 +61,8 @@ files() {
     printf '%s\n' "-rwxr-xr-x "{bin/fsverity,sbin/veritysetup}-proved '-rwxr-xr-x lib/libverity.so.2' \
         "-rw-r--r-- "{SHA256SUMS,include/verity.h,lib/libverity.a,lib/pkgconfig/verity.pc} \
         "-rw-r--r-- share/bash-completion/completions/"{fsverity,veritysetup}-proved \
+        "-rw-r--r-- share/fish/vendor_completions.d/"{fsverity,veritysetup}-proved.fish \
+        "-rw-r--r-- share/zsh/site-functions/_"{fsverity,veritysetup}-proved \
         "-rw-r--r-- share/doc/verity/"{README,CHANGELOG}.md \
         "-rw-r--r-- share/man/"{man1/fsverity-proved.1,man3/verity.3,man8/veritysetup-proved.8} \
         'lrwxrwxrwx lib/libverity.so libverity.so.2'

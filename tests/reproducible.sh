@@ -1,4 +1,4 @@
-#!/bin/bash
+#!/usr/bin/env bash
 # Builds both programs once more, in another folder, and compares their bytes with those in bin/, and in bin/static,
 # bin/aarch64 and bin/aarch64/static as far as they are built. All libraries are compiled there too. What earlier builds
 # have proved is copied, so that it isn't proved anew: with PROVED=no nothing is copied but the sources, and all is

@@ -1,4 +1,4 @@
-#!/bin/bash
+#!/usr/bin/env bash
 # tests/run.sh [--beside PART].. PART.. [-- PART..]: runs each part, a command line in one argument, and shows its
 # output under a line that says how far the run is. The first parts run one after another, and their output is shown as
 # it comes. Parts after `--` run side by side, as many at once as there are processors, and each one's output is shown

@@ -1,4 +1,4 @@
-#!/bin/bash
+#!/usr/bin/env bash
 # How the tests are run: tests/run.sh, tests/gate.sh, tests/all.sh and .ci/run, over small parts in a folder of their
 # own.
 set -u
@@ -17,7 +17,7 @@ cd "$scratch/here" || exit 1
 # part FILE LINE..: makes a part, or another program, of these lines. In them `awaits FILE` waits for a file, for at
 # most half a minute.
 part() {
-    printf '%s\n' '#!/bin/bash' \
+    printf '%s\n' '#!/usr/bin/env bash' \
         'awaits() { for ((i = 0; i < 600; i++)); do if [ -e "$1" ]; then return; fi; sleep 0.05; done; exit 9; }' \
         "${@:2}" >"$1"
     chmod +x "$1"
@@ -357,7 +357,7 @@ ci_setting() {
     eval "$(sed -n '/^tools=(/,/)$/p' .ci/run)"
     mkdir tools
     for tool in "${tools[@]}"; do part "tools/${tool%:*}" 'exit 0'; done
-    for tool in dirname sort grep timeout cat cp; do ln -s "$(type -P $tool)" tools; done
+    for tool in bash dirname sort grep timeout cat cp; do ln -s "$(type -P $tool)" tools; done
     part tools/id 'echo "$USER_ID"'
     part tools/sleep 'echo "sleep $1" >>calls'
     part tools/apt-get 'echo "$2 ${*: -1}" >>calls' \

@@ -1,4 +1,4 @@
-#!/bin/bash
+#!/usr/bin/env bash
 # Compiles runtime_for_arm.c with tests/runtime.c for 64-bit ARM and for x86-64, also under sanitizers, and runs it.
 set -u
 cd "$(dirname "$0")/.."

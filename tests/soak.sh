@@ -1,4 +1,4 @@
-#!/bin/bash
+#!/usr/bin/env bash
 # Random runs of both programs: settings, data, changed bytes, cut files, option texts, superblocks and command lines.
 # Each run is compared with a second reading of docs/DEFINITIONS.md in Python, and one in eight with Debian's programs
 # too, as far as docs/DIFFERENCES.md lets them agree. The code is in tests/soak/.

@@ -1,4 +1,4 @@
-#!/bin/bash
+#!/usr/bin/env bash
 # The binding for Python, with the shared library of LIB: its own tests, its types by mypy, the examples of its page, a
 # copied tree of files and random settings, images and changed bytes beside Debian's programs, and what is installed, by
 # `make install-python` and by pip. PYTHON=PROGRAM takes another interpreter, SEED=N draws other settings, and HUGE=yes

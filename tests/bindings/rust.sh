@@ -1,4 +1,4 @@
-#!/bin/bash
+#!/usr/bin/env bash
 # The crate of bindings/rust, by Debian's cargo if it is installed: its tests beside Debian's programs, linked with the
 # shared library and with the static one, with std and without; what the types promise; its documentation, README's
 # example and its programs; its declarations beside the header. valgrind watches the tests, as it sees reads and writes

@@ -15,7 +15,7 @@ stated_status() {
 # lacking COMMAND: prints the first program of those that the examples use beside coreutils and isn't installed.
 lacking() {
     local name
-    for name in mke2fs openssl xxd; do
+    for name in mke2fs mksquashfs openssl xxd; do
         if grep -qw "$name" <<<"$1" && ! command -v "$name" >/dev/null; then
             echo "$name"
             return

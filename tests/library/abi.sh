@@ -1,4 +1,4 @@
-#!/bin/bash
+#!/usr/bin/env bash
 # What include/verity.h and verity(3) say of a call on x86-64, by the code of the libraries and by calls: which
 # registers it keeps, that nothing below the stack pointer is used, what marks, tables and variables there aren't, and
 # what needs no value. arm.sh does the same for 64-bit ARM. LIB=FOLDER takes the libraries of another folder.

@@ -1,4 +1,4 @@
-#!/bin/bash
+#!/usr/bin/env bash
 # The libraries for 64-bit ARM, in an emulator: the tests of images, refused parameters and superblocks, random calls,
 # and trees that are built of pieces and of parts, in all of which they leave the register x18 alone; and that a call
 # keeps what include/verity.h and verity(3) say of registers and stack. Then trees that are stored after each call go on
@@ -128,7 +128,7 @@ tries_library libverity-strict-align.a 4
 # A tree goes on by another library than the one by which it was stored: each of its calls is made by the next program.
 # So does a tree that is built from parts.
 cat >"$scratch/stored_in_turns" <<'END'
-#!/bin/bash
+#!/usr/bin/env bash
 # stored_in_turns SEED WORD..: makes a call by one of three programs; the next SEED takes the next of them. They are
 # named as this one.
 folder=${0%/*} name=${0##*/}

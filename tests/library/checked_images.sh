@@ -1,4 +1,4 @@
-#!/bin/bash
+#!/usr/bin/env bash
 # Two examples of the library for C over images of Debian's veritysetup, right and changed ones, each also compiled with
 # AddressSanitizer and UndefinedBehaviorSanitizer. examples/checked_blocks.c is called by checked_blocks.c of this
 # folder, over devices that change, fail and lie. examples/check_image.c names the first difference: the same as this

@@ -1,4 +1,4 @@
-#!/bin/bash
+#!/usr/bin/env bash
 # The library from C, over images that Debian's veritysetup and fsverity make by random settings: superblock, levels,
 # places, and each data block by its path and link by link; and that each change is refused, with the status and the
 # level that follow. Then each function with each of its faults: the status of each, and their order. With the static

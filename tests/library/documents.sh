@@ -1,4 +1,4 @@
-#!/bin/bash
+#!/usr/bin/env bash
 # Builds and runs the examples of include/verity.h, of man/verity.3 and of docs/LIBRARY.md word for word, over an image
 # of Debian's veritysetup and a file of fsverity, and compares what header and page say of functions, statuses and the
 # version.

@@ -1,4 +1,4 @@
-#!/bin/bash
+#!/usr/bin/env bash
 # Builds the examples of the library for C by the commands in their comments, and runs them over images and files of
 # Debian's veritysetup and fsverity: right blocks are handed out, changed ones are refused. Then measures how much stack
 # each function of the library takes, which include/verity.h states. LIB is the folder with the library. Where the

@@ -1,4 +1,4 @@
-#!/bin/bash
+#!/usr/bin/env bash
 # Trees that the library builds of data in pieces: over all settings beside trees by tests/lib/trees.py, and over images
 # and files beside Debian's veritysetup and fsverity and this project's in BIN, if they are there. Pieces have 0, 1, 7,
 # 4095, 4096 and 4097 bytes, any length, and all at once: small trees are built in each of these ways, and of the larger

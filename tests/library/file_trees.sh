@@ -1,4 +1,4 @@
-#!/bin/bash
+#!/usr/bin/env bash
 # Trees of files whose length isn't known, with the library: each block that is handed out, and each that is left at an
 # end, is that of the tree that Debian's fsverity writes, and so are root hash and digest; a file goes on after its end;
 # what is refused changes nothing, and disturbed structs and memories have answers within the memory. With the static

@@ -1,4 +1,4 @@
-#!/bin/bash
+#!/usr/bin/env bash
 # Two million calls of the library with random and with spoiled input: superblocks, parameters, blocks, paths, root
 # hashes and lengths. Each answer is the one that an own reading of verity.h gives, and just what has to be accepted is.
 # SEED=N draws other input, CALLS=N makes so many calls, LIB=FOLDER takes the library of another folder.

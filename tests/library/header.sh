@@ -1,4 +1,4 @@
-#!/bin/bash
+#!/usr/bin/env bash
 # The header in C99, C11 and C++, in two files of one program; calls whose status is dropped, of which a compiler warns;
 # the structs as the compiled library reads and fills them; and the names of the library: the header's functions alone
 # are shown, in the shared library with their version, and nothing is needed but memcpy, memmove and memset. LIB=FOLDER

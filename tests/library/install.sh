@@ -1,4 +1,4 @@
-#!/bin/bash
+#!/usr/bin/env bash
 # Runs `make install-library` into folders, without programs, for x86-64 and for 64-bit ARM: compares the files there,
 # their modes and bytes with what docs/BUILDING.md says, and builds programs by what pkg-config says of it, which run.
 # glibc's loader takes the shared library for x86-64-v3 if the processor has all of that. After `make uninstall-library`

@@ -1,4 +1,4 @@
-#!/bin/bash
+#!/usr/bin/env bash
 # The examples that build a tree from parts, beside images of Debian's veritysetup: examples/parallel_format.c by
 # threads, and examples/parts/ by processes that share nothing but files, some of which are killed. A parallel check
 # names the first difference: the same as this project's veritysetup in BIN, if that is there. SEED=N draws other

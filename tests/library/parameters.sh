@@ -1,4 +1,4 @@
-#!/bin/bash
+#!/usr/bin/env bash
 # What the library says of parameters, hash functions and statuses by themselves: whether parameters are the trusted
 # ones, where a hash area ends and how long a tree is, names, lengths of digests, formatted digests, texts and the
 # version. Beside Debian's programs: a hash area ends where the file of veritysetup does, and fsverity writes trees of

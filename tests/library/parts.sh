@@ -1,4 +1,4 @@
-#!/bin/bash
+#!/usr/bin/env bash
 # Trees that the library builds from parts: over all settings beside trees by tests/lib/trees.py, and over images and
 # files beside Debian's veritysetup and fsverity, each from the parts of each level, which are built in several orders
 # and stored after any call, also with a process for each call. Mistakes that a caller could make are noticed. With the

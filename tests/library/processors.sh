@@ -1,4 +1,4 @@
-#!/bin/bash
+#!/usr/bin/env bash
 # The library on the first x86-64 processor, which qemu imitates: what is built for x86-64 builds trees and checks
 # blocks there, static and shared, and glibc's loader passes over the shared one for x86-64-v3. What is built for
 # x86-64-v3 is seen to end there by an illegal instruction. And for which processors `make library` builds, and what it
@@ -84,7 +84,7 @@ same 'make programs CPU=x86-64-v2' 'x86-64-v2 x86-64-v2' \
 # links it none is left. Here `rt` doesn't prove, so that no check waits for it.
 built=$scratch/built
 tools=$(path_without rt)
-printf '%s\n' '#!/bin/bash' "if [ \"\$*\" = version ]; then exec '$(type -P rt)' version; fi" \
+printf '%s\n' '#!/usr/bin/env bash' "if [ \"\$*\" = version ]; then exec '$(type -P rt)' version; fi" \
     'echo "rt: nothing is proved here"' 'exit 1' >"$tools/rt"
 chmod +x "$tools/rt"
 cp -r "$LIB" "$built"

@@ -1,4 +1,4 @@
-#!/bin/bash
+#!/usr/bin/env bash
 # The tests of images and the random calls, compiled with AddressSanitizer and UndefinedBehaviorSanitizer: no call reads
 # or writes outside of its buffers, since these have just the length that is said, and stand at memory that can't be
 # read or come from a watched malloc. That the watching sees such a read is shown first. SEED=N draws other settings,

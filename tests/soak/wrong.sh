@@ -1,4 +1,4 @@
-#!/bin/bash
+#!/usr/bin/env bash
 # A program with a fault, by which the soak shows that it sees one: runs the program of the same name in the folder
 # REAL, and spoils what FAULT names.
 set -u
