@@ -4,12 +4,12 @@ use Rattle.std.specs.Prelude.{bit_or}
 use Rattle.std.specs.Int.{w32, rotate_right, from_be_bytes, to_be_bytes}
 use Rattle.std.proofs.Math.Nat.{mod-eq_of_lt}
 use Rattle.std.proofs.Math.Seq.{take-length}
-use Rattle.std.proofs.Math.ListN.{length-map}
+use Rattle.std.proofs.Math.ListN.{length-map, length-set}
 use Rattle.std.proofs.lemmas.List.{get_or-take, get_or-drop, take_more_set, map-set}
 use Rattle.sha2.specs.Sha256 as S256
 use Rattle.sha_lanes.specs.Lanes.{lane}
 use Rattle.sha_lanes.specs.Words32.{AddsConstants}
-use Rattle.sha_lanes.proofs.LaneWise.{word_of_lane, cons_eq}
+use Rattle.sha_lanes.proofs.LaneWise.{word_of_lane, word_kept, cons_eq}
 
 -- a rotation by less than a word
 pub rotate_right_below : (x n : ℕ) → 0 < n → n < 32
@@ -65,7 +65,7 @@ schedule_next : (l b : List ℕ) (n t x : ℕ) → t ≡ n + 16 → t < length l
     → take t l ≡ S256.schedule b n
     → x ≡ S256.add32 (S256.add32 (S256.add32 (S256.small_sigma1 (slice_index l (t - 2))) (slice_index l (t - 7)))
     (S256.small_sigma0 (slice_index l (t - 15)))) (slice_index l (t - 16))
-    → take (t + 1) (set l t x) ≡ S256.schedule b (t + 1 - 16)
+    → take (t + 1) (set l t x) ≡ S256.schedule b (n + 1)
 unfolding S256.schedule
 schedule_next l b n t x at lt begins is =
     let before = λ (k : ℕ) (pos : 0 < k) (le : k ≤ 16).
@@ -75,7 +75,7 @@ schedule_next l b n t x at lt begins is =
     let next : x ≡ S256.next_word (S256.schedule b n) (n + 16) =
     is ∙ next_eq (before 2 (omega arith) (omega arith)) (before 7 (omega arith) (omega arith))
     (before 15 (omega arith) (omega arith)) (before 16 (omega arith) (omega arith)) in
-    let su : suc n ≡ t + 1 - 16 = omega arith in
+    let su : suc n ≡ n + 1 = omega arith in
     take_more_set l t x lt
     ∙ (ap (λ z. z ++ x ∷ []) begins
     ∙ (ap (λ z. S256.schedule b n ++ z ∷ []) next
@@ -86,23 +86,44 @@ pub schedule_start : (b l : List ℕ) → take 16 l ≡ S256.first_words b 16 �
 unfolding S256.schedule
 schedule_start b l e = e
 
-pub schedule_more : (w : List (List ℕ)) (x : List ℕ) (j : ℕ) (b : List ℕ) (n t : ℕ) → t ≡ n + 16 → t < length w
+schedule_more : (w : List (List ℕ)) (x : List ℕ) (j : ℕ) (b : List ℕ) (n t : ℕ) → t ≡ n + 16 → t < length w
     → take t (lane w j) ≡ S256.schedule b n
     → slice_index x j ≡ S256.add32 (S256.add32 (S256.add32 (S256.small_sigma1 (slice_index (get_or w (t - 2) []) j)) (slice_index (get_or w (t - 7) []) j))
     (S256.small_sigma0 (slice_index (get_or w (t - 15) []) j))) (slice_index (get_or w (t - 16) []) j)
-    → take (t + 1) (lane (set w t x) j) ≡ S256.schedule b (t + 1 - 16)
+    → take (t + 1) (lane (set w t x) j) ≡ S256.schedule b (n + 1)
 schedule_more w x j b n t at lt begins is =
     let lt' : t < length (lane w j) = omega (arith, length-map w (λ y. slice_index y j)) in
     ap (take (t + 1)) (map-set (λ y. slice_index y j) w t x)
     ∙ schedule_next (lane w j) b n t (slice_index x j) at lt' begins
     (is ∙ next_eq (word_of_lane w j (t - 2)) (word_of_lane w j (t - 7)) (word_of_lane w j (t - 15)) (word_of_lane w j (t - 16)))
 
-pub schedule_whole : (w : List (List ℕ)) (j : ℕ) (b : List ℕ) (t : ℕ) → t ≡ 64 → length w ≡ 64
-    → take t (lane w j) ≡ S256.schedule b (t - 16) → lane w j ≡ S256.schedule b 48
-schedule_whole w j b t end long is =
-    sym (take-length (lane w j))
-    ∙ (ap (λ z. take z (lane w j)) (length-map w (λ y. slice_index y j) ∙ (long ∙ sym end))
-    ∙ (is ∙ ap (λ z. S256.schedule b (z - 16)) end))
+-- two words, written at t and behind it; u and v are the last two before them
+pub schedule_two : (w : List (List ℕ)) (u v x y : List ℕ) (j : ℕ) (b : List ℕ) (n n' t t' : ℕ) → t ≡ n + 16 → t + 1 < length w
+    → n' ≡ n + 2 → t' ≡ t + 2
+    → u ≡ get_or w (t - 2) [] → v ≡ get_or w (t - 1) []
+    → take t (lane w j) ≡ S256.schedule b n
+    → slice_index x j ≡ S256.add32 (S256.add32 (S256.add32 (S256.small_sigma1 (slice_index u j)) (slice_index (get_or w (t - 7) []) j))
+    (S256.small_sigma0 (slice_index (get_or w (t - 15) []) j))) (slice_index (get_or w (t - 16) []) j)
+    → slice_index y j ≡ S256.add32 (S256.add32 (S256.add32 (S256.small_sigma1 (slice_index v j)) (slice_index (get_or w (t - 6) []) j))
+    (S256.small_sigma0 (slice_index (get_or w (t - 14) []) j))) (slice_index (get_or w (t - 15) []) j)
+    → take t' (lane (set (set w t x) (t + 1) y) j) ≡ S256.schedule b n'
+schedule_two w u v x y j b n n' t t' at lt n_next t_next u_is v_is begins x_is y_is =
+    let of = λ (z : List ℕ). slice_index z j in
+    let first : take (t + 1) (lane (set w t x) j) ≡ S256.schedule b (n + 1) =
+    schedule_more w x j b n t at (omega arith) begins
+    (x_is ∙ next_eq {c = slice_index (get_or w (t - 15) []) j} {d = slice_index (get_or w (t - 16) []) j} (ap of u_is) refl refl refl) in
+    let kept = λ (p q : ℕ) (same : p ≡ q) (before : q < t). word_kept w x j t p q same before in
+    let second = schedule_more (set w t x) y j b (n + 1) (t + 1) (omega arith) (omega (arith, length-set w t x)) first
+    (y_is ∙ next_eq (ap of v_is ∙ kept (t - 1) (t + 1 - 2) (omega arith) (omega arith))
+    (kept (t - 6) (t + 1 - 7) (omega arith) (omega arith)) (kept (t - 14) (t + 1 - 15) (omega arith) (omega arith))
+    (kept (t - 15) (t + 1 - 16) (omega arith) (omega arith))) in
+    ap (λ z. take z (lane (set (set w t x) (t + 1) y) j)) (omega arith) ∙ (second ∙ ap (S256.schedule b) (omega arith))
+
+pub schedule_whole : (w : List (List ℕ)) (j : ℕ) (b : List ℕ) (n : ℕ) → n ≡ 48 → length w ≡ 64
+    → take (16 + n) (lane w j) ≡ S256.schedule b n → lane w j ≡ S256.schedule b 48
+schedule_whole w j b n end long is =
+    let all : length (lane w j) ≡ 16 + n = omega (arith, length-map w (λ y. slice_index y j)) in
+    sym (take-length (lane w j)) ∙ (ap (λ z. take z (lane w j)) all ∙ (is ∙ ap (S256.schedule b) end))
 
 -- ---- the rounds
 
@@ -136,13 +157,19 @@ round_next s w t u {v} {v'} {k} {x} next at k_is x_is step =
     ∙ (ap (λ z. S256.round (S256.rounds s w t) (slice_index S256.round_constants t) z) x_is
     ∙ sym (ap (S256.rounds s w) su))))
 
--- the same, where the constant was added to the word before
-pub plain_round_next : (kw : List (List ℕ)) (j : ℕ) (s w : List ℕ) → AddsConstants kw j w → (t u : ℕ) {v v' : List ℕ} → t < 64 → u ≡ t + 1
-    → v ≡ S256.rounds s w t
-    → ((k x : ℕ) → slice_index (get_or kw t []) j ≡ S256.add32 x k → S256.round v k x ≡ v')
-    → v' ≡ S256.rounds s w u
-plain_round_next kw j s w adds t u lt next at step =
-    round_next s w t u next at refl refl (step (slice_index S256.round_constants t) (slice_index w t) (word_of_lane kw j t ∙ adds t lt))
+-- the same in plain words, from the e and the a that follow; the constant was added to the word before
+pub plain_round_next : (kw : List (List ℕ)) (j : ℕ) (s w : List ℕ) → AddsConstants kw j w → (t u : ℕ) {a b c d e f g h a' e' : ℕ}
+    → t < 64 → u ≡ t + 1
+    → a ∷ b ∷ c ∷ d ∷ e ∷ f ∷ g ∷ h ∷ [] ≡ S256.rounds s w t
+    → ((a b c k x : ℕ) → slice_index (get_or kw t []) j ≡ S256.add32 x k
+    → e' ≡ S256.add32 d (S256.temp1 (a ∷ b ∷ c ∷ d ∷ e ∷ f ∷ g ∷ h ∷ []) k x))
+    → ((t1 : ℕ) → e' ≡ S256.add32 d t1 → a' ≡ S256.add32 t1 (S256.temp2 (a ∷ b ∷ c ∷ [])))
+    → a' ∷ a ∷ b ∷ c ∷ e' ∷ e ∷ f ∷ g ∷ [] ≡ S256.rounds s w u
+plain_round_next kw j s w adds t u {a} {b} {c} {d} {e} {f} {g} {h} lt next at e_is a_is =
+    let k = slice_index S256.round_constants t in
+    let x = slice_index w t in
+    let e_next = e_is a b c k x (word_of_lane kw j t ∙ adds t lt) in
+    round_next s w t u next at refl refl (round_of a b c d e f g h k x (a_is _ e_next) e_next)
 
 -- one word of the sum
 pub added : (h v : List (List ℕ)) (j i x : ℕ)

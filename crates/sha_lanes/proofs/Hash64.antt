@@ -4,12 +4,12 @@ use Rattle.std.specs.Prelude.{bit_or}
 use Rattle.std.specs.Int.{w64, rotate_right, from_be_bytes, to_be_bytes}
 use Rattle.std.proofs.Math.Nat.{mod-eq_of_lt}
 use Rattle.std.proofs.Math.Seq.{take-length}
-use Rattle.std.proofs.Math.ListN.{length-map}
+use Rattle.std.proofs.Math.ListN.{length-map, length-set}
 use Rattle.std.proofs.lemmas.List.{get_or-take, get_or-drop, take_more_set, map-set}
 use Rattle.sha2.specs.Sha512 as S512
 use Rattle.sha_lanes.specs.Lanes.{lane}
 use Rattle.sha_lanes.specs.Words64.{AddsConstants}
-use Rattle.sha_lanes.proofs.LaneWise.{word_of_lane, cons_eq}
+use Rattle.sha_lanes.proofs.LaneWise.{word_of_lane, word_kept, cons_eq}
 
 -- a rotation by less than a word
 pub rotate_right_below : (x n : ℕ) → 0 < n → n < 64
@@ -66,7 +66,7 @@ schedule_next : (l b : List ℕ) (n t x : ℕ) → t ≡ n + 16 → t < length l
     → take t l ≡ S512.schedule b n
     → x ≡ S512.add64 (S512.add64 (S512.add64 (S512.small_sigma1 (slice_index l (t - 2))) (slice_index l (t - 7)))
     (S512.small_sigma0 (slice_index l (t - 15)))) (slice_index l (t - 16))
-    → take (t + 1) (set l t x) ≡ S512.schedule b (t + 1 - 16)
+    → take (t + 1) (set l t x) ≡ S512.schedule b (n + 1)
 unfolding S512.schedule
 schedule_next l b n t x at lt begins is =
     let before = λ (k : ℕ) (pos : 0 < k) (le : k ≤ 16).
@@ -76,7 +76,7 @@ schedule_next l b n t x at lt begins is =
     let next : x ≡ S512.next_word (S512.schedule b n) (n + 16) =
     is ∙ next_eq (before 2 (omega arith) (omega arith)) (before 7 (omega arith) (omega arith))
     (before 15 (omega arith) (omega arith)) (before 16 (omega arith) (omega arith)) in
-    let su : suc n ≡ t + 1 - 16 = omega arith in
+    let su : suc n ≡ n + 1 = omega arith in
     take_more_set l t x lt
     ∙ (ap (λ z. z ++ x ∷ []) begins
     ∙ (ap (λ z. S512.schedule b n ++ z ∷ []) next
@@ -87,23 +87,44 @@ pub schedule_start : (b l : List ℕ) → take 16 l ≡ S512.first_words b 16 �
 unfolding S512.schedule
 schedule_start b l e = e
 
-pub schedule_more : (w : List (List ℕ)) (x : List ℕ) (j : ℕ) (b : List ℕ) (n t : ℕ) → t ≡ n + 16 → t < length w
+schedule_more : (w : List (List ℕ)) (x : List ℕ) (j : ℕ) (b : List ℕ) (n t : ℕ) → t ≡ n + 16 → t < length w
     → take t (lane w j) ≡ S512.schedule b n
     → slice_index x j ≡ S512.add64 (S512.add64 (S512.add64 (S512.small_sigma1 (slice_index (get_or w (t - 2) []) j)) (slice_index (get_or w (t - 7) []) j))
     (S512.small_sigma0 (slice_index (get_or w (t - 15) []) j))) (slice_index (get_or w (t - 16) []) j)
-    → take (t + 1) (lane (set w t x) j) ≡ S512.schedule b (t + 1 - 16)
+    → take (t + 1) (lane (set w t x) j) ≡ S512.schedule b (n + 1)
 schedule_more w x j b n t at lt begins is =
     let lt' : t < length (lane w j) = omega (arith, length-map w (λ y. slice_index y j)) in
     ap (take (t + 1)) (map-set (λ y. slice_index y j) w t x)
     ∙ schedule_next (lane w j) b n t (slice_index x j) at lt' begins
     (is ∙ next_eq (word_of_lane w j (t - 2)) (word_of_lane w j (t - 7)) (word_of_lane w j (t - 15)) (word_of_lane w j (t - 16)))
 
-pub schedule_whole : (w : List (List ℕ)) (j : ℕ) (b : List ℕ) (t : ℕ) → t ≡ 80 → length w ≡ 80
-    → take t (lane w j) ≡ S512.schedule b (t - 16) → lane w j ≡ S512.schedule b 64
-schedule_whole w j b t end long is =
-    sym (take-length (lane w j))
-    ∙ (ap (λ z. take z (lane w j)) (length-map w (λ y. slice_index y j) ∙ (long ∙ sym end))
-    ∙ (is ∙ ap (λ z. S512.schedule b (z - 16)) end))
+-- two words, written at t and behind it; u and v are the last two before them
+pub schedule_two : (w : List (List ℕ)) (u v x y : List ℕ) (j : ℕ) (b : List ℕ) (n n' t t' : ℕ) → t ≡ n + 16 → t + 1 < length w
+    → n' ≡ n + 2 → t' ≡ t + 2
+    → u ≡ get_or w (t - 2) [] → v ≡ get_or w (t - 1) []
+    → take t (lane w j) ≡ S512.schedule b n
+    → slice_index x j ≡ S512.add64 (S512.add64 (S512.add64 (S512.small_sigma1 (slice_index u j)) (slice_index (get_or w (t - 7) []) j))
+    (S512.small_sigma0 (slice_index (get_or w (t - 15) []) j))) (slice_index (get_or w (t - 16) []) j)
+    → slice_index y j ≡ S512.add64 (S512.add64 (S512.add64 (S512.small_sigma1 (slice_index v j)) (slice_index (get_or w (t - 6) []) j))
+    (S512.small_sigma0 (slice_index (get_or w (t - 14) []) j))) (slice_index (get_or w (t - 15) []) j)
+    → take t' (lane (set (set w t x) (t + 1) y) j) ≡ S512.schedule b n'
+schedule_two w u v x y j b n n' t t' at lt n_next t_next u_is v_is begins x_is y_is =
+    let of = λ (z : List ℕ). slice_index z j in
+    let first : take (t + 1) (lane (set w t x) j) ≡ S512.schedule b (n + 1) =
+    schedule_more w x j b n t at (omega arith) begins
+    (x_is ∙ next_eq {c = slice_index (get_or w (t - 15) []) j} {d = slice_index (get_or w (t - 16) []) j} (ap of u_is) refl refl refl) in
+    let kept = λ (p q : ℕ) (same : p ≡ q) (before : q < t). word_kept w x j t p q same before in
+    let second = schedule_more (set w t x) y j b (n + 1) (t + 1) (omega arith) (omega (arith, length-set w t x)) first
+    (y_is ∙ next_eq (ap of v_is ∙ kept (t - 1) (t + 1 - 2) (omega arith) (omega arith))
+    (kept (t - 6) (t + 1 - 7) (omega arith) (omega arith)) (kept (t - 14) (t + 1 - 15) (omega arith) (omega arith))
+    (kept (t - 15) (t + 1 - 16) (omega arith) (omega arith))) in
+    ap (λ z. take z (lane (set (set w t x) (t + 1) y) j)) (omega arith) ∙ (second ∙ ap (S512.schedule b) (omega arith))
+
+pub schedule_whole : (w : List (List ℕ)) (j : ℕ) (b : List ℕ) (n : ℕ) → n ≡ 64 → length w ≡ 80
+    → take (16 + n) (lane w j) ≡ S512.schedule b n → lane w j ≡ S512.schedule b 64
+schedule_whole w j b n end long is =
+    let all : length (lane w j) ≡ 16 + n = omega (arith, length-map w (λ y. slice_index y j)) in
+    sym (take-length (lane w j)) ∙ (ap (λ z. take z (lane w j)) all ∙ (is ∙ ap (S512.schedule b) end))
 
 -- ---- the rounds
 

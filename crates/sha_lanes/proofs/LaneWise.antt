@@ -1,10 +1,10 @@
 -- Lane by lane: what an operator on vectors of n lanes does to lane j, and the words of a lane.
-use Rattle.std.proofs.Common.{◌≡◌, ℕ, zero, suc, ◌+◌, ◌<◌, ◌≤◌, List, [], ◌∷◌, ◌++◌, length, slice_index, get_or, take, set, map, refl, ap, sym, ◌∙◌, arith}
+use Rattle.std.proofs.Common.{◌≡◌, ℕ, zero, suc, ◌+◌, ◌-◌, ◌<◌, ◌≤◌, List, [], ◌∷◌, ◌++◌, length, slice_index, get_or, take, set, map, refl, ap, sym, ◌∙◌, arith}
 use Rattle.std.specs.Simd.Lanes.{zip2}
 use Rattle.std.specs.Prelude.{replicate}
 use Rattle.std.proofs.lemmas.Simd.{get_or-zip2, length-zip2, get_or-replicate}
 use Rattle.std.proofs.lemmas.List.{get_or-map, get_or-set_same, get_or-set_other, length-replicate, map-set, take_all, take_more, take_more_set}
-use Rattle.std.proofs.Math.ListN.{length-map}
+use Rattle.std.proofs.Math.ListN.{length-map, length-set}
 use Rattle.std.proofs.Math.ListN.{get_or-map as get_or-map'}
 use Rattle.sha_lanes.specs.Lanes.{HasLanes, lane}
 
@@ -116,3 +116,22 @@ pub lane_kept : (w : List (List ℕ)) (x : List ℕ) (j i t : ℕ) → i < t →
 lane_kept w x j i t lt =
     sym (word_of_lane (set w t x) j i)
     ∙ (ap (λ z. slice_index z j) (get_or-set_other w t i x [] (λ e. absurd (omega arith))) ∙ word_of_lane w j i)
+
+-- the same of a vector, where its place is written in two ways
+pub word_kept : (w : List (List ℕ)) (x : List ℕ) (j t p q : ℕ) → p ≡ q → q < t
+    → slice_index (get_or w p []) j ≡ slice_index (get_or (set w t x) q []) j
+word_kept w x j t p q same before =
+    ap (λ i. slice_index (get_or w i []) j) same
+    ∙ ap (λ z. slice_index z j) (sym (get_or-set_other w t q x [] (λ e. absurd (omega arith))))
+
+-- two vectors stored, one behind the other: the last two before u
+pub two_stored : (w : List (List ℕ)) (x y : List ℕ) (t u : ℕ) → t + 1 < length w → u ≡ t + 2
+    → (x ≡ get_or (set (set w t x) (t + 1) y) (u - 2) []) × (y ≡ get_or (set (set w t x) (t + 1) y) (u - 1) [])
+two_stored w x y t u lt next =
+    let first : u - 2 ≡ t = omega arith in
+    let second : u - 1 ≡ t + 1 = omega arith in
+    let below : t + 1 < length (set w t x) = omega (arith, length-set w t x) in (
+      sym (ap (λ i. get_or (set (set w t x) (t + 1) y) i []) first
+          ∙ (get_or-set_other (set w t x) (t + 1) t y [] (λ e. absurd (omega arith)) ∙ get_or-set_same w t x [] (omega arith))),
+      sym (ap (λ i. get_or (set (set w t x) (t + 1) y) i []) second ∙ get_or-set_same (set w t x) (t + 1) y [] below),
+    )

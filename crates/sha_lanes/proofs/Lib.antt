@@ -1,6 +1,7 @@
 pub mod LaneWise
 pub mod Pieces
 pub mod Groups
+pub mod Majority
 pub mod Hash32
 pub mod Padding32
 pub mod HashSha1

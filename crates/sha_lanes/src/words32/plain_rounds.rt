@@ -19,22 +19,31 @@ pub(crate) fn add_constants(kw: &mut [[u32; 8]; 64], w: &[u32x8; 64])
     }
 }
 
-/// One round (step 3): d + T₁, and T₁ + T₂. The other variables only take new names.
+/// The e of the next round (step 3): d + T₁. What is known before e is added first, so that fewer steps lead from each e
+/// to the next.
 #[inline(always)]
-fn round(a: u32, b: u32, c: u32, d: u32, e: u32, f: u32, g: u32, h: u32, kw: u32) -> (u32, u32)
-    ensures { (k w : ℕ) → kw ≡ S256.add32 w k → S256.round (a ∷ b ∷ c ∷ d ∷ e ∷ f ∷ g ∷ h ∷ []) k w
-        ≡ result.1 ∷ a ∷ b ∷ c ∷ result.0 ∷ e ∷ f ∷ g ∷ [] }
+fn next_e(d: u32, e: u32, f: u32, g: u32, h: u32, kw: u32) -> u32
+    ensures { (a b c k w : ℕ) → kw ≡ S256.add32 w k
+        → result ≡ S256.add32 d (S256.temp1 (a ∷ b ∷ c ∷ d ∷ e ∷ f ∷ g ∷ h ∷ []) k w) }
 {
+    let early = h.wrapping_add(kw).wrapping_add(d);
     let sigma1 = e.rotate_right(6) ^ e.rotate_right(11) ^ e.rotate_right(25);
     let ch = (e & f) ^ (!e & g);
-    let t1 = h.wrapping_add(sigma1).wrapping_add(ch).wrapping_add(kw);
-    let sigma0 = a.rotate_right(2) ^ a.rotate_right(13) ^ a.rotate_right(22);
-    let maj = (a & b) ^ (a & c) ^ (b & c);
-    let t2 = sigma0.wrapping_add(maj);
-    (d.wrapping_add(t1), t1.wrapping_add(t2))
+    early.wrapping_add(ch).wrapping_add(sigma1)
 }
 
-/// Eight rounds with the words in lane `j`, after which each variable has its first name again.
+/// The a of the next round (step 3), from its e: T₁ + T₂. The two parts of Maj have no bit in common.
+#[inline(always)]
+fn next_a(a: u32, b: u32, c: u32, d: u32, next_e: u32) -> u32
+    ensures { (t1 : ℕ) → next_e ≡ S256.add32 d t1 → result ≡ S256.add32 t1 (S256.temp2 (a ∷ b ∷ c ∷ [])) }
+{
+    let sigma0 = a.rotate_right(2) ^ a.rotate_right(13) ^ a.rotate_right(22);
+    let maj = (b & c).wrapping_add(a & (b ^ c));
+    next_e.wrapping_add(sigma0.wrapping_add(maj).wrapping_sub(d))
+}
+
+/// Eight rounds with the words in lane `j`. The a and e of each are numbered; those from before stand in `v`. Each a is
+/// made after the e of the round that follows it, which doesn't wait for it.
 #[inline(always)]
 fn eight_rounds(kw: &[[u32; 8]; 64], j: usize, t: usize, v: &mut [u32; 8])
     requires lane { j < 8 }
@@ -42,15 +51,23 @@ fn eight_rounds(kw: &[[u32; 8]; 64], j: usize, t: usize, v: &mut [u32; 8])
     ensures { (w s : List ℕ) → AddsConstants kw.now j w → v.old ≡ S256.rounds s w t → v.new ≡ S256.rounds s w (t + 8) }
 {
     let [a, b, c, d, e, f, g, h] = *v;
-    let (d, h) = round(a, b, c, d, e, f, g, h, kw[t][j]);
-    let (c, g) = round(h, a, b, c, d, e, f, g, kw[t + 1][j]);
-    let (b, f) = round(g, h, a, b, c, d, e, f, kw[t + 2][j]);
-    let (a, e) = round(f, g, h, a, b, c, d, e, kw[t + 3][j]);
-    let (h, d) = round(e, f, g, h, a, b, c, d, kw[t + 4][j]);
-    let (g, c) = round(d, e, f, g, h, a, b, c, kw[t + 5][j]);
-    let (f, b) = round(c, d, e, f, g, h, a, b, kw[t + 6][j]);
-    let (e, a) = round(b, c, d, e, f, g, h, a, kw[t + 7][j]);
-    *v = [a, b, c, d, e, f, g, h];
+    let e1 = next_e(d, e, f, g, h, kw[t][j]);
+    let e2 = next_e(c, e1, e, f, g, kw[t + 1][j]);
+    let a1 = next_a(a, b, c, d, e1);
+    let e3 = next_e(b, e2, e1, e, f, kw[t + 2][j]);
+    let a2 = next_a(a1, a, b, c, e2);
+    let e4 = next_e(a, e3, e2, e1, e, kw[t + 3][j]);
+    let a3 = next_a(a2, a1, a, b, e3);
+    let e5 = next_e(a1, e4, e3, e2, e1, kw[t + 4][j]);
+    let a4 = next_a(a3, a2, a1, a, e4);
+    let e6 = next_e(a2, e5, e4, e3, e2, kw[t + 5][j]);
+    let a5 = next_a(a4, a3, a2, a1, e5);
+    let e7 = next_e(a3, e6, e5, e4, e3, kw[t + 6][j]);
+    let a6 = next_a(a5, a4, a3, a2, e6);
+    let e8 = next_e(a4, e7, e6, e5, e4, kw[t + 7][j]);
+    let a7 = next_a(a6, a5, a4, a3, e7);
+    let a8 = next_a(a7, a6, a5, a4, e8);
+    *v = [a8, a7, a6, a5, e8, e7, e6, e5];
 }
 
 /// The hash value after one more block, whose schedule stands in lane `j`.
@@ -59,9 +76,14 @@ pub(crate) fn compress(state: &mut [u32; 8], kw: &[[u32; 8]; 64], j: usize)
     ensures { (b : List ℕ) → AddsConstants kw.now j (S256.schedule b 48) → state.new ≡ S256.compress state.old b }
 {
     let mut v = *state;
-    for turn in 0..8 {
-        eight_rounds(kw, j, 8 * turn, &mut v);
-    }
+    eight_rounds(kw, j, 0, &mut v);
+    eight_rounds(kw, j, 8, &mut v);
+    eight_rounds(kw, j, 16, &mut v);
+    eight_rounds(kw, j, 24, &mut v);
+    eight_rounds(kw, j, 32, &mut v);
+    eight_rounds(kw, j, 40, &mut v);
+    eight_rounds(kw, j, 48, &mut v);
+    eight_rounds(kw, j, 56, &mut v);
     *state = [
         state[0].wrapping_add(v[0]),
         state[1].wrapping_add(v[1]),

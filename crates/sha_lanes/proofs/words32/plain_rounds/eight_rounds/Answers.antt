@@ -8,11 +8,11 @@ returns c w s adds at =
     let t = c.args.t in
     let kw = c.args.kw.now in
     let j = c.args.j in
-    let r1 = plain_round_next kw j s w adds t (t + 1) (omega arith) (omega arith) (sym (eight_words c.args.v.now c.told-v) ∙ at) c.round-d.ensures in
-    let r2 = plain_round_next kw j s w adds (t + 1) (t + 2) (omega arith) (omega arith) r1 c.round-c.ensures in
-    let r3 = plain_round_next kw j s w adds (t + 2) (t + 3) (omega arith) (omega arith) r2 c.round-b.ensures in
-    let r4 = plain_round_next kw j s w adds (t + 3) (t + 4) (omega arith) (omega arith) r3 c.round-a.ensures in
-    let r5 = plain_round_next kw j s w adds (t + 4) (t + 5) (omega arith) (omega arith) r4 c.round-h.ensures in
-    let r6 = plain_round_next kw j s w adds (t + 5) (t + 6) (omega arith) (omega arith) r5 c.round-g.ensures in
-    let r7 = plain_round_next kw j s w adds (t + 6) (t + 7) (omega arith) (omega arith) r6 c.round-f.ensures in
-    plain_round_next kw j s w adds (t + 7) (t + 8) (omega arith) (omega arith) r7 c.round-e.ensures
+    let r1 = plain_round_next kw j s w adds t (t + 1) (omega arith) (omega arith) (sym (eight_words c.args.v.now c.told-v) ∙ at) c.next_e-e1.ensures c.next_a-a1.ensures in
+    let r2 = plain_round_next kw j s w adds (t + 1) (t + 2) (omega arith) (omega arith) r1 c.next_e-e2.ensures c.next_a-a2.ensures in
+    let r3 = plain_round_next kw j s w adds (t + 2) (t + 3) (omega arith) (omega arith) r2 c.next_e-e3.ensures c.next_a-a3.ensures in
+    let r4 = plain_round_next kw j s w adds (t + 3) (t + 4) (omega arith) (omega arith) r3 c.next_e-e4.ensures c.next_a-a4.ensures in
+    let r5 = plain_round_next kw j s w adds (t + 4) (t + 5) (omega arith) (omega arith) r4 c.next_e-e5.ensures c.next_a-a5.ensures in
+    let r6 = plain_round_next kw j s w adds (t + 5) (t + 6) (omega arith) (omega arith) r5 c.next_e-e6.ensures c.next_a-a6.ensures in
+    let r7 = plain_round_next kw j s w adds (t + 6) (t + 7) (omega arith) (omega arith) r6 c.next_e-e7.ensures c.next_a-a7.ensures in
+    plain_round_next kw j s w adds (t + 7) (t + 8) (omega arith) (omega arith) r7 c.next_e-e8.ensures c.next_a-a8.ensures

@@ -1,20 +1,32 @@
-use Rattle.std.proofs.Common.{◌≡◌, ◌-◌, ◌∙◌, arith}
+use Rattle.std.proofs.Common.{◌+◌, ◌*◌, ◌<◌, length, set, refl, ◌∙◌, arith}
 use Rattle.std.proofs.Math.ListN.{length-set}
-use Rattle.sha_lanes.proofs.Hash64.{schedule_start, schedule_more, schedule_whole}
+use Rattle.sha_lanes.proofs.LaneWise.{two_stored}
+use Rattle.sha_lanes.proofs.Hash64.{schedule_start, schedule_two, schedule_whole}
 use Rattle.sha_lanes.proofs.words64.schedule.schedule.Goals as goal
 
-pub loop-t-init : goal.loop-t-init
-loop-t-init c = record { long = c.told-w; words = λ j lt b begins. schedule_start b _ begins }
+pub loop-turn-init : goal.loop-turn-init
+loop-turn-init c = record { long = c.told-w; before = refl; last = refl; words = λ j lt b begins. schedule_start b _ begins }
 
-pub loop-t-preserved : goal.loop-t-preserved
-loop-t-preserved c = record {
-  long = length-set c.loop-t.w c.loop-t.t c.next_word.result ∙ c.loop-t.invariant.long;
-  words = λ j lt b begins.
-      schedule_more c.loop-t.w c.next_word.result j b (c.loop-t.t - 16) c.loop-t.t (omega arith) (omega arith)
-      (c.loop-t.invariant.words j lt b begins) (c.next_word.ensures.value j lt);
-}
+pub loop-turn-preserved : goal.loop-turn-preserved
+loop-turn-preserved c =
+    let w = c.loop-turn.w in
+    let x = c.next_word-before.result in
+    let y = c.next_word-last.result in
+    let t = 16 + 2 * c.loop-turn.turn in
+    let t' = 16 + 2 * (c.loop-turn.turn + 1) in
+    let room : t + 1 < length w = omega (arith, c.loop-turn.invariant.long) in
+    let stored = two_stored w x y t t' room (omega arith) in
+    record {
+      long = length-set (set w t x) (t + 1) y ∙ (length-set w t x ∙ c.loop-turn.invariant.long);
+      before = stored.0;
+      last = stored.1;
+      words = λ j lt b begins.
+          schedule_two w c.loop-turn.before c.loop-turn.last x y j b (2 * c.loop-turn.turn) (2 * (c.loop-turn.turn + 1)) t t'
+          (omega arith) room (omega arith) (omega arith) c.loop-turn.invariant.before c.loop-turn.invariant.last
+          (c.loop-turn.invariant.words j lt b begins) (c.next_word-before.ensures.value j lt) (c.next_word-last.ensures.value j lt);
+    }
 
 pub returns : goal.returns
 returns c j lt b begins =
-    let end : c.loop-t.t ≡ 80 = omega arith in
-    schedule_whole c.loop-t.w j b c.loop-t.t end c.loop-t.invariant.long (c.loop-t.invariant.words j lt b begins)
+    schedule_whole c.loop-turn.w j b (2 * c.loop-turn.turn) (omega arith) c.loop-turn.invariant.long
+    (c.loop-turn.invariant.words j lt b begins)

@@ -1,12 +1,14 @@
-use Rattle.std.proofs.Common.{◌≡◌, ℕ, ◌<◌, ◌-◌, List, length, take}
+use Rattle.std.proofs.Common.{◌≡◌, ℕ, ◌<◌, ◌+◌, ◌-◌, ◌*◌, List, [], length, take, get_or}
 use Rattle.sha2.specs.Sha512 as S512
 use Rattle.sha_lanes.specs.Lanes.{lane}
 use Rattle.sha_lanes.specs.Words64.{BeginsSchedule}
 use Rattle.sha_lanes.proofs.words64.schedule.schedule.Given as goal
 
-abbrev pub invariant-loop-t : goal.invariant-loop-t
-invariant-loop-t l = record {
+abbrev pub invariant-loop-turn : goal.invariant-loop-turn
+invariant-loop-turn l = record {
   long : length l.w ≡ 80;
+  before : l.before ≡ get_or l.w (16 + 2 * l.turn - 2) [];
+  last : l.last ≡ get_or l.w (16 + 2 * l.turn - 1) [];
   words : (j : ℕ) → j < 4 → (b : List ℕ) → BeginsSchedule l.initial.w j b
-      → take l.t (lane l.w j) ≡ S512.schedule b (l.t - 16);
+      → take (16 + 2 * l.turn) (lane l.w j) ≡ S512.schedule b (2 * l.turn);
 }
