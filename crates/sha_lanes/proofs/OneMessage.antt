@@ -1,14 +1,18 @@
 -- One message alone: groups of blocks, and their schedules.
-use Rattle.std.proofs.Common.{◌≡◌, ℕ, zero, suc, ◌+◌, ◌-◌, ◌*◌, ◌/◌, ◌≤◌, ◌<◌, List, ◌∷◌, ◌++◌, length, slice_index, take, drop, map, refl, ap, sym, ◌∙◌, arith}
+use Rattle.std.proofs.Common.{◌≡◌, ℕ, ◌+◌, ◌-◌, ◌*◌, ◌/◌, ◌≤◌, ◌<◌, List, ◌++◌, length, slice_index, take, drop, map, refl, ap, sym, ◌∙◌, arith}
 use Rattle.std.specs.Prelude.{replicate}
-use Rattle.std.proofs.lemmas.List.{take-replicate, drop-replicate}
+use Rattle.std.proofs.lemmas.List.{take-replicate, drop-replicate, get_or-map}
 use Rattle.std.proofs.lemmas.Simd.{get_or-replicate}
 use Rattle.sha1.specs.Sha1 as S1
 use Rattle.sha2.specs.Sha256 as S256
 use Rattle.sha2.specs.Sha512 as S512
-use Rattle.sha_lanes.specs.Lanes.{lane, HoldsFrom}
+use Rattle.sha_lanes.specs.Lanes.{HoldsFrom}
+use Rattle.sha_lanes.specs.Sha1.{first_round}
+use Rattle.sha_lanes.specs.declared.sha_1.functions.Kind.{Kind}
+use Rattle.sha_lanes.specs.declared.sha_1.functions.Kind.TheVariants.{First, Second, Third, Fourth}
 use Rattle.sha_lanes.specs.Words32.{block_count as block_count32}
 use Rattle.sha_lanes.specs.Words64.{block_count as block_count64}
+use Rattle.sha_lanes.proofs.HashSha1.{kind_constant}
 use Rattle.sha_lanes.proofs.Pieces.{length-pieces}
 use Rattle.sha_lanes.proofs.Groups.{block_of_group}
 use Rattle.sha_lanes.proofs.Padding32.{length-padded_message as length-padded_message32, blocks_of as blocks_of32}
@@ -20,17 +24,6 @@ zero_block : (size : ℕ) (blocks : List ℕ) → blocks ≡ replicate 512 0 →
 zero_block size blocks zeros j room =
     ap (λ z. take size (drop (j * size) z)) zeros
     ∙ (ap (take {A = ℕ} size) (drop-replicate {X = ℕ} (j * size) 512 0) ∙ take-replicate size (512 - j * size) 0 room)
-
--- a function of each of equal elements
-map-replicate : (f : List ℕ → ℕ) (n : ℕ) (x : List ℕ) → map f (replicate n x) ≡ replicate n (f x)
-map-replicate f zero x = refl
-map-replicate f (suc n) x = ap (λ z. f x ∷ z) (map-replicate f n x)
-
--- a lane of vectors of zeros
-zero_lanes : {n m : ℕ} (k : ℕ) (w : List (List ℕ)) → n ≡ m → w ≡ replicate n (replicate k 0) → (j : ℕ) → j < k → lane w j ≡ replicate m 0
-zero_lanes {n} {m} k w long filled j lt =
-    ap (λ z. lane z j) (filled ∙ ap (λ z. replicate z (replicate k 0)) long)
-    ∙ (map-replicate (λ x. slice_index x j) m (replicate k 0) ∙ ap (replicate m) (get_or-replicate k j 0 0 lt))
 
 -- the schedule of a block of zeros
 schedule_of_zeros32 : S256.schedule (replicate 64 0) 48 ≡ replicate 64 0
@@ -46,23 +39,51 @@ unfolding S1.schedule S1.first_words
 schedule_of_zeros_sha1 = refl
 
 -- the schedules of a group of zeros
-pub zero_schedules32 : {n : ℕ} (blocks : List ℕ) (w : List (List ℕ)) → blocks ≡ replicate 512 0 → n ≡ 64 → w ≡ replicate n (replicate 8 0)
-    → (j : ℕ) → j < 8 → lane w j ≡ S256.schedule (take 64 (drop (j * 64) blocks)) 48
-zero_schedules32 blocks w zeros long filled j lt =
-    zero_lanes 8 w long filled j lt
-    ∙ (sym schedule_of_zeros32 ∙ ap (λ z. S256.schedule z 48) (sym (zero_block 64 blocks zeros j (omega arith))))
+pub zero_schedule32 : (blocks : List ℕ) → blocks ≡ replicate 512 0 → (j : ℕ) → j < 8
+    → S256.schedule (take 64 (drop (j * 64) blocks)) 48 ≡ replicate 64 0
+zero_schedule32 blocks zeros j lt =
+    ap (λ z. S256.schedule z 48) (zero_block 64 blocks zeros j (omega arith)) ∙ schedule_of_zeros32
 
-pub zero_schedules64 : {n : ℕ} (blocks : List ℕ) (w : List (List ℕ)) → blocks ≡ replicate 512 0 → n ≡ 80 → w ≡ replicate n (replicate 4 0)
-    → (j : ℕ) → j < 4 → lane w j ≡ S512.schedule (take 128 (drop (j * 128) blocks)) 64
-zero_schedules64 blocks w zeros long filled j lt =
-    zero_lanes 4 w long filled j lt
-    ∙ (sym schedule_of_zeros64 ∙ ap (λ z. S512.schedule z 64) (sym (zero_block 128 blocks zeros j (omega arith))))
+pub zero_schedule64 : (blocks : List ℕ) → blocks ≡ replicate 512 0 → (j : ℕ) → j < 4
+    → S512.schedule (take 128 (drop (j * 128) blocks)) 64 ≡ replicate 80 0
+zero_schedule64 blocks zeros j lt =
+    ap (λ z. S512.schedule z 64) (zero_block 128 blocks zeros j (omega arith)) ∙ schedule_of_zeros64
 
-pub zero_schedules_sha1 : {n : ℕ} (blocks : List ℕ) (w : List (List ℕ)) → blocks ≡ replicate 512 0 → n ≡ 80 → w ≡ replicate n (replicate 8 0)
-    → (j : ℕ) → j < 8 → lane w j ≡ S1.schedule (take 64 (drop (j * 64) blocks)) 64
-zero_schedules_sha1 blocks w zeros long filled j lt =
-    zero_lanes 8 w long filled j lt
-    ∙ (sym schedule_of_zeros_sha1 ∙ ap (λ z. S1.schedule z 64) (sym (zero_block 64 blocks zeros j (omega arith))))
+pub zero_schedule_sha1 : (blocks : List ℕ) → blocks ≡ replicate 512 0 → (j : ℕ) → j < 8
+    → S1.schedule (take 64 (drop (j * 64) blocks)) 64 ≡ replicate 80 0
+zero_schedule_sha1 blocks zeros j lt =
+    ap (λ z. S1.schedule z 64) (zero_block 64 blocks zeros j (omega arith)) ∙ schedule_of_zeros_sha1
+
+-- the constants, added to a schedule of zeros
+sums_with_zero32 : map (S256.add32 0) S256.round_constants ≡ S256.round_constants
+sums_with_zero32 = refl
+
+pub constants_of_zeros32 : (t : ℕ) → t < 64
+    → S256.add32 (slice_index (replicate 64 0) t) (slice_index S256.round_constants t) ≡ slice_index S256.round_constants t
+constants_of_zeros32 t lt =
+    ap (λ z. S256.add32 z (slice_index S256.round_constants t)) (get_or-replicate 64 t 0 0 lt)
+    ∙ (sym (get_or-map (S256.add32 0) S256.round_constants t 0 0 lt) ∙ ap (λ z. slice_index z t) sums_with_zero32)
+
+sums_with_zero64 : map (S512.add64 0) S512.round_constants ≡ S512.round_constants
+sums_with_zero64 = refl
+
+pub constants_of_zeros64 : (t : ℕ) → t < 80
+    → S512.add64 (slice_index (replicate 80 0) t) (slice_index S512.round_constants t) ≡ slice_index S512.round_constants t
+constants_of_zeros64 t lt =
+    ap (λ z. S512.add64 z (slice_index S512.round_constants t)) (get_or-replicate 80 t 0 0 lt)
+    ∙ (sym (get_or-map (S512.add64 0) S512.round_constants t 0 0 lt) ∙ ap (λ z. slice_index z t) sums_with_zero64)
+
+sum_of_kind : (kind : Kind) → S1.round_constant (first_round kind) ≡ S1.add32 0 (S1.round_constant (first_round kind))
+sum_of_kind First = refl
+sum_of_kind Second = refl
+sum_of_kind Third = refl
+sum_of_kind Fourth = refl
+
+pub sum_with_zero : (kind : Kind) (t : ℕ) → t < 80 → first_round kind ≤ t → t < first_round kind + 20
+    → S1.round_constant (first_round kind) ≡ S1.add32 (slice_index (replicate 80 0) t) (S1.round_constant t)
+sum_with_zero kind t below first last =
+    sum_of_kind kind
+    ∙ (ap (S1.add32 0) (kind_constant kind t first last) ∙ ap (λ z. S1.add32 z (S1.round_constant t)) (sym (get_or-replicate 80 t 0 0 below)))
 
 -- ---- a group of blocks of a padded message
 
@@ -75,38 +96,38 @@ block_at size k j group p holds long room inside =
     block_of_group size j group p (k * size) holds long (omega (arith, place)) inside ∙ ap (λ z. take size (drop z p)) (sym place)
 
 -- and its schedule
-pub schedule_at32 : (first second third : List ℕ) (k j : ℕ) (group : List ℕ) {w : List ℕ} → j < 8
+pub schedule_at32 : (first second third : List ℕ) (k j : ℕ) (group : List ℕ) → j < 8
     → k + j < block_count32 (length first + length second + length third)
     → HoldsFrom group (S256.padded_message (first ++ second ++ third)) (k * 64) → length group ≡ 512
-    → w ≡ S256.schedule (take 64 (drop (j * 64) group)) 48
-    → w ≡ S256.schedule (take 64 (drop ((k + j) * 64) (S256.padded_message (first ++ second ++ third)))) 48
-schedule_at32 first second third k j group lt inside holds long is =
+    → S256.schedule (take 64 (drop (j * 64) group)) 48
+    ≡ S256.schedule (take 64 (drop ((k + j) * 64) (S256.padded_message (first ++ second ++ third)))) 48
+schedule_at32 first second third k j group lt inside holds long =
     let m = first ++ second ++ third in
     let n : length m ≡ length first + length second + length third = length-pieces first second third (length second) refl in
     let room : (k + j) * 64 + 64 ≤ length (S256.padded_message m) = omega (arith, length-padded_message32 m, ap block_count32 n) in
-    is ∙ ap (λ z. S256.schedule z 48) (block_at 64 k j group (S256.padded_message m) holds long room (omega arith))
+    ap (λ z. S256.schedule z 48) (block_at 64 k j group (S256.padded_message m) holds long room (omega arith))
 
-pub schedule_at64 : (first second third : List ℕ) (k j : ℕ) (group : List ℕ) {w : List ℕ} → j < 4
+pub schedule_at64 : (first second third : List ℕ) (k j : ℕ) (group : List ℕ) → j < 4
     → k + j < block_count64 (length first + length second + length third)
     → HoldsFrom group (S512.padded_message (first ++ second ++ third)) (k * 128) → length group ≡ 512
-    → w ≡ S512.schedule (take 128 (drop (j * 128) group)) 64
-    → w ≡ S512.schedule (take 128 (drop ((k + j) * 128) (S512.padded_message (first ++ second ++ third)))) 64
-schedule_at64 first second third k j group lt inside holds long is =
+    → S512.schedule (take 128 (drop (j * 128) group)) 64
+    ≡ S512.schedule (take 128 (drop ((k + j) * 128) (S512.padded_message (first ++ second ++ third)))) 64
+schedule_at64 first second third k j group lt inside holds long =
     let m = first ++ second ++ third in
     let n : length m ≡ length first + length second + length third = length-pieces first second third (length second) refl in
     let room : (k + j) * 128 + 128 ≤ length (S512.padded_message m) = omega (arith, length-padded_message64 m, ap block_count64 n) in
-    is ∙ ap (λ z. S512.schedule z 64) (block_at 128 k j group (S512.padded_message m) holds long room (omega arith))
+    ap (λ z. S512.schedule z 64) (block_at 128 k j group (S512.padded_message m) holds long room (omega arith))
 
-pub schedule_at_sha1 : (first second third : List ℕ) (k j : ℕ) (group : List ℕ) {w : List ℕ} → j < 8
+pub schedule_at_sha1 : (first second third : List ℕ) (k j : ℕ) (group : List ℕ) → j < 8
     → k + j < block_count32 (length first + length second + length third)
     → HoldsFrom group (S1.padded_message (first ++ second ++ third)) (k * 64) → length group ≡ 512
-    → w ≡ S1.schedule (take 64 (drop (j * 64) group)) 64
-    → w ≡ S1.schedule (take 64 (drop ((k + j) * 64) (S1.padded_message (first ++ second ++ third)))) 64
-schedule_at_sha1 first second third k j group lt inside holds long is =
+    → S1.schedule (take 64 (drop (j * 64) group)) 64
+    ≡ S1.schedule (take 64 (drop ((k + j) * 64) (S1.padded_message (first ++ second ++ third)))) 64
+schedule_at_sha1 first second third k j group lt inside holds long =
     let m = first ++ second ++ third in
     let n : length m ≡ length first + length second + length third = length-pieces first second third (length second) refl in
     let room : (k + j) * 64 + 64 ≤ length (S1.padded_message m) = omega (arith, length-padded_message32 m, ap block_count32 n) in
-    is ∙ ap (λ z. S1.schedule z 64) (block_at 64 k j group (S1.padded_message m) holds long room (omega arith))
+    ap (λ z. S1.schedule z 64) (block_at 64 k j group (S1.padded_message m) holds long room (omega arith))
 
 -- the hash value after all blocks
 pub hash_end32 : (h first second third : List ℕ) (k : ℕ) {s : List ℕ}

@@ -6,8 +6,7 @@ ghost use Rattle.sha_lanes.specs.Words32.{block_count};
 
 use crate::rows::{GROUP, group_in};
 use crate::sha_1::digests::{INITIAL_HASH, hash_bytes};
-use crate::sha_1::plain_rounds::{add_constants, compress};
-use crate::sha_1::schedule::schedules_of;
+use crate::sha_1::plain_rounds::{compress, round_words};
 use crate::words32::padding::{block_count, padded_row};
 use std::simd::prelude::*;
 
@@ -31,10 +30,9 @@ fn take_blocks(
 {
     let at = k as u128 * 64;
     match group_in(first, second, third, at) {
-        Some(blocks) => schedules_of(w, blocks),
-        None => schedules_of(w, &padded_row::<GROUP>(first, second, third, at)),
+        Some(blocks) => round_words(kw, w, blocks),
+        None => round_words(kw, w, &padded_row::<GROUP>(first, second, third, at)),
     }
-    add_constants(kw, w);
     for j in 0..count {
         compress(state, kw, j);
     }

@@ -1,12 +1,15 @@
 //! The rounds in plain words (FIPS 180-4, 6.1.2, steps 2 to 4), over one hash value. The words of the schedule, with the
 //! constants added, stand in a lane.
-ghost use Rattle.std.specs.Prelude.{◌≡◌, ℕ, ◌+◌, ◌<◌, ◌≤◌, List, [], ◌∷◌};
+ghost use Rattle.std.specs.Prelude.{◌≡◌, ℕ, ◌+◌, ◌*◌, ◌<◌, ◌≤◌, List, [], ◌∷◌, length, take, drop, replicate};
 ghost use Rattle.sha1.specs.Sha1 as S1;
 ghost use Rattle.sha_lanes.specs.Lanes.{lane};
 ghost use Rattle.sha_lanes.specs.Sha1.{AddsConstants, first_round};
 
+use crate::rows::are_zeros;
 use crate::sha_1::functions::{Kind, constant, first_round, plain_function};
+use crate::sha_1::schedule::schedule;
 use crate::words32::functions::add;
+use crate::words32::schedule::load;
 use std::simd::prelude::*;
 
 /// The kind of round `t`.
@@ -29,11 +32,38 @@ fn kind_of(t: usize) -> Kind
 
 /// Sets `kw` to W t + K t of each lane, for all rounds.
 #[inline(always)]
-pub(crate) fn add_constants(kw: &mut [[u32; 8]; 80], w: &[u32x8; 80])
+fn add_constants(kw: &mut [[u32; 8]; 80], w: &[u32x8; 80])
     ensures { (j : ℕ) → j < 8 → AddsConstants kw.new j (lane w.now j) }
 {
     for t in 0..80 {
         kw[t] = add(w[t], u32x8::splat(constant(kind_of(t)))).to_array();
+    }
+}
+
+/// Sets `kw` to K t in each lane, for all rounds, as with a schedule of zeros.
+#[inline(always)]
+fn set_constants(kw: &mut [[u32; 8]; 80])
+    ensures { (j : ℕ) → j < 8 → AddsConstants kw.new j (replicate 80 0) }
+{
+    for t in 0..80 {
+        kw[t] = [constant(kind_of(t)); 8];
+    }
+}
+
+/// Sets `kw` to the schedules of eight consecutive blocks, one in each lane, with the constants added. If all are zeros,
+/// as after the end of a file that is shorter than its block, so are their schedules, and none is made. What stood in `w`
+/// doesn't count.
+#[inline(always)]
+pub(crate) fn round_words(kw: &mut [[u32; 8]; 80], w: &mut [u32x8; 80], blocks: &[u8])
+    requires { length blocks.now ≡ 512 }
+    ensures { (j : ℕ) → j < 8 → AddsConstants kw.new j (S1.schedule (take 64 (drop (j * 64) blocks.now)) 64) }
+{
+    if are_zeros(blocks) {
+        set_constants(kw);
+    } else {
+        load(w, blocks, 64, 0);
+        schedule(w);
+        add_constants(kw, w);
     }
 }
 

@@ -7,8 +7,7 @@ ghost use Rattle.sha_lanes.specs.Words32.{block_count};
 use crate::rows::{GROUP, group_in};
 use crate::words32::hash_values::{INITIAL_HASH_224, INITIAL_HASH_256, hash_bytes, leftmost_224};
 use crate::words32::padding::{block_count, padded_row};
-use crate::words32::plain_rounds::{add_constants, compress};
-use crate::words32::schedule::schedules_of;
+use crate::words32::plain_rounds::{compress, round_words};
 use std::simd::prelude::*;
 
 /// Takes `count` blocks of a padded message, from block `k` on, into the hash value. What stood in `w` and `kw` doesn't
@@ -31,10 +30,9 @@ fn take_blocks(
 {
     let at = k as u128 * 64;
     match group_in(first, second, third, at) {
-        Some(blocks) => schedules_of(w, blocks),
-        None => schedules_of(w, &padded_row::<GROUP>(first, second, third, at)),
+        Some(blocks) => round_words(kw, w, blocks),
+        None => round_words(kw, w, &padded_row::<GROUP>(first, second, third, at)),
     }
-    add_constants(kw, w);
     for j in 0..count {
         compress(state, kw, j);
     }

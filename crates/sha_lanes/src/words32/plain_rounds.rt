@@ -1,21 +1,50 @@
 //! The rounds in plain words (FIPS 180-4, 6.2.2, steps 2 to 4), over one hash value. The words of the schedule, with the
 //! constants added, stand in a lane.
-ghost use Rattle.std.specs.Prelude.{◌≡◌, ℕ, ◌+◌, ◌<◌, ◌≤◌, List, [], ◌∷◌};
+ghost use Rattle.std.specs.Prelude.{◌≡◌, ℕ, ◌+◌, ◌*◌, ◌<◌, ◌≤◌, List, [], ◌∷◌, length, take, drop, replicate};
 ghost use Rattle.sha2.specs.Sha256 as S256;
 ghost use Rattle.sha_lanes.specs.Lanes.{lane};
 ghost use Rattle.sha_lanes.specs.Words32.{AddsConstants};
 
+use crate::rows::are_zeros;
 use crate::words32::functions::add;
 use crate::words32::rounds::K;
+use crate::words32::schedule::{load, schedule};
 use std::simd::prelude::*;
 
 /// Sets `kw` to W t + K t of each lane, for all rounds.
 #[inline(always)]
-pub(crate) fn add_constants(kw: &mut [[u32; 8]; 64], w: &[u32x8; 64])
+fn add_constants(kw: &mut [[u32; 8]; 64], w: &[u32x8; 64])
     ensures { (j : ℕ) → j < 8 → AddsConstants kw.new j (lane w.now j) }
 {
     for t in 0..64 {
         kw[t] = add(w[t], u32x8::splat(K[t])).to_array();
+    }
+}
+
+/// Sets `kw` to K t in each lane, for all rounds, as with a schedule of zeros.
+#[inline(always)]
+fn set_constants(kw: &mut [[u32; 8]; 64])
+    ensures { (j : ℕ) → j < 8 → AddsConstants kw.new j (replicate 64 0) }
+{
+    for t in 0..64 {
+        kw[t] = [K[t]; 8];
+    }
+}
+
+/// Sets `kw` to the schedules of eight consecutive blocks, one in each lane, with the constants added. If all are zeros,
+/// as after the end of a file that is shorter than its block, so are their schedules, and none is made. What stood in `w`
+/// doesn't count.
+#[inline(always)]
+pub(crate) fn round_words(kw: &mut [[u32; 8]; 64], w: &mut [u32x8; 64], blocks: &[u8])
+    requires { length blocks.now ≡ 512 }
+    ensures { (j : ℕ) → j < 8 → AddsConstants kw.new j (S256.schedule (take 64 (drop (j * 64) blocks.now)) 48) }
+{
+    if are_zeros(blocks) {
+        set_constants(kw);
+    } else {
+        load(w, blocks, 64, 0);
+        schedule(w);
+        add_constants(kw, w);
     }
 }
 

@@ -4,7 +4,7 @@ ghost use Rattle.sha2.specs.Sha256 as S256;
 ghost use Rattle.sha_lanes.specs.Lanes.{HasLanes, lane};
 ghost use Rattle.sha_lanes.specs.Words32.{BeginsSchedule};
 
-use crate::rows::{are_zeros, places_of};
+use crate::rows::places_of;
 use crate::words32::functions::{small_sigma0, small_sigma1};
 use std::simd::prelude::*;
 
@@ -85,20 +85,5 @@ pub(crate) fn schedule(w: &mut [u32x8; 64])
         last = next_word(last, w[t - 6], w[t - 14], middle);
         w[t] = before;
         w[t + 1] = last;
-    }
-}
-
-/// The schedules of eight consecutive blocks, one in each lane. If all are zeros, as after the end of a file that is
-/// shorter than its block, so are their schedules, and none is computed.
-#[inline(always)]
-pub(crate) fn schedules_of(w: &mut [u32x8; 64], blocks: &[u8])
-    requires { length blocks.now ≡ 512 }
-    ensures { (j : ℕ) → j < 8 → lane w.new j ≡ S256.schedule (take 64 (drop (j * 64) blocks.now)) 48 }
-{
-    if are_zeros(blocks) {
-        w.fill(u32x8::splat(0));
-    } else {
-        load(w, blocks, 64, 0);
-        schedule(w);
     }
 }

@@ -1,21 +1,50 @@
 //! The rounds in plain words (FIPS 180-4, 6.4.2, steps 2 to 4), over one hash value. The words of the schedule, with the
 //! constants added, stand in a lane.
-ghost use Rattle.std.specs.Prelude.{◌≡◌, ℕ, ◌+◌, ◌<◌, ◌≤◌, List, [], ◌∷◌};
+ghost use Rattle.std.specs.Prelude.{◌≡◌, ℕ, ◌+◌, ◌*◌, ◌<◌, ◌≤◌, List, [], ◌∷◌, length, take, drop, replicate};
 ghost use Rattle.sha2.specs.Sha512 as S512;
 ghost use Rattle.sha_lanes.specs.Lanes.{lane};
 ghost use Rattle.sha_lanes.specs.Words64.{AddsConstants};
 
+use crate::rows::are_zeros;
 use crate::words64::functions::add;
 use crate::words64::rounds::K;
+use crate::words64::schedule::{load, schedule};
 use std::simd::prelude::*;
 
 /// Sets `kw` to W t + K t of each lane, for all rounds.
 #[inline(always)]
-pub(crate) fn add_constants(kw: &mut [[u64; 4]; 80], w: &[u64x4; 80])
+fn add_constants(kw: &mut [[u64; 4]; 80], w: &[u64x4; 80])
     ensures { (j : ℕ) → j < 4 → AddsConstants kw.new j (lane w.now j) }
 {
     for t in 0..80 {
         kw[t] = add(w[t], u64x4::splat(K[t])).to_array();
+    }
+}
+
+/// Sets `kw` to K t in each lane, for all rounds, as with a schedule of zeros.
+#[inline(always)]
+fn set_constants(kw: &mut [[u64; 4]; 80])
+    ensures { (j : ℕ) → j < 4 → AddsConstants kw.new j (replicate 80 0) }
+{
+    for t in 0..80 {
+        kw[t] = [K[t]; 4];
+    }
+}
+
+/// Sets `kw` to the schedules of four consecutive blocks, one in each lane, with the constants added. If all are zeros,
+/// as after the end of a file that is shorter than its block, so are their schedules, and none is made. What stood in `w`
+/// doesn't count.
+#[inline(always)]
+pub(crate) fn round_words(kw: &mut [[u64; 4]; 80], w: &mut [u64x4; 80], blocks: &[u8])
+    requires { length blocks.now ≡ 512 }
+    ensures { (j : ℕ) → j < 4 → AddsConstants kw.new j (S512.schedule (take 128 (drop (j * 128) blocks.now)) 64) }
+{
+    if are_zeros(blocks) {
+        set_constants(kw);
+    } else {
+        load(w, blocks, 128, 0);
+        schedule(w);
+        add_constants(kw, w);
     }
 }
 

@@ -4,7 +4,7 @@ ghost use Rattle.sha2.specs.Sha512 as S512;
 ghost use Rattle.sha_lanes.specs.Lanes.{HasLanes, lane};
 ghost use Rattle.sha_lanes.specs.Words64.{BeginsSchedule};
 
-use crate::rows::{are_zeros, places_of};
+use crate::rows::places_of;
 use crate::words64::functions::{small_sigma0, small_sigma1};
 use std::simd::prelude::*;
 
@@ -88,20 +88,5 @@ pub(crate) fn schedule(w: &mut [u64x4; 80])
         last = next_word(last, w[t - 6], w[t - 14], middle);
         w[t] = before;
         w[t + 1] = last;
-    }
-}
-
-/// The schedules of four consecutive blocks, one in each lane. If all are zeros, as after the end of a file that is
-/// shorter than its block, so are their schedules, and none is computed.
-#[inline(always)]
-pub(crate) fn schedules_of(w: &mut [u64x4; 80], blocks: &[u8])
-    requires { length blocks.now ≡ 512 }
-    ensures { (j : ℕ) → j < 4 → lane w.new j ≡ S512.schedule (take 128 (drop (j * 128) blocks.now)) 64 }
-{
-    if are_zeros(blocks) {
-        w.fill(u64x4::splat(0));
-    } else {
-        load(w, blocks, 128, 0);
-        schedule(w);
     }
 }

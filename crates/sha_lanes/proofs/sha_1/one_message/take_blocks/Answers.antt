@@ -1,6 +1,5 @@
-use Rattle.std.proofs.Common.{◌≡◌, ◌+◌, ◌*◌, ◌<◌, ◌++◌, length, take, drop, refl, ap, subst, ◌∙◌, arith, rules}
+use Rattle.std.proofs.Common.{◌≡◌, ◌+◌, ◌*◌, ◌<◌, ◌++◌, length, take, drop, refl, ap, sym, subst, ◌∙◌, arith, rules}
 use Rattle.sha1.specs.Sha1 as S1
-use Rattle.sha_lanes.specs.Lanes.{lane}
 use Rattle.sha_lanes.specs.Sha1.{AddsConstants}
 use Rattle.sha_lanes.specs.Words32.{block_count}
 use Rattle.sha_lanes.proofs.Groups.{group_padded}
@@ -21,23 +20,24 @@ loop-j-preserved c is =
     let p = S1.padded_message m in
     let k = c.args.k in
     let j = c.loop-j.j in
-    let kw = c.add_constants.new.kw in
+    let kw = c.match-group_in.kw in
     let block = take 64 (drop ((k + j) * 64) p) in
     let below : j < 8 = omega arith in
     let inside : k + j < block_count (length first + length second + length third) = omega arith in
-    let words : lane c.match-group_in.w j ≡ S1.schedule block 64 = elim c.match-group_in.branch [
+    let words : AddsConstants kw j (S1.schedule block 64) = elim c.match-group_in.branch [
       | in-Some s ↦
           let found = s.in-Some.ensures.bytes in
-          ap (λ z. lane z j) s.w-is
-          ∙ schedule_at_sha1 first second third k j _ below inside (group_padded _ m _ (k * 64) found.2 found.0 found.1)
-          found.0 (s.schedules_of.ensures j below)
+          subst (λ z. AddsConstants z j (S1.schedule block 64)) (sym s.kw-is)
+          (subst (AddsConstants s.round_words.new.kw j)
+          (schedule_at_sha1 first second third k j _ below inside (group_padded _ m _ (k * 64) found.2 found.0 found.1) found.0)
+          (s.round_words.ensures j below))
       | in-None s ↦
-          ap (λ z. lane z j) s.w-is
-          ∙ schedule_at_sha1 first second third k j s.padded_row.result below inside s.padded_row.ensures (search rules)
-          (s.schedules_of-in-None.ensures j below)
+          subst (λ z. AddsConstants z j (S1.schedule block 64)) (sym s.kw-is)
+          (subst (AddsConstants s.round_words-in-None.new.kw j)
+          (schedule_at_sha1 first second third k j s.padded_row.result below inside s.padded_row.ensures (search rules))
+          (s.round_words-in-None.ensures j below))
     ] in
-    hash_more p (k + j) (c.loop-j.invariant is) refl
-    (c.compress.ensures block (subst (AddsConstants kw j) words (c.add_constants.ensures j below)))
+    hash_more p (k + j) (c.loop-j.invariant is) refl (c.compress.ensures block words)
     ∙ ap (S1.hash_after p) (omega arith)
 
 pub returns : goal.returns
