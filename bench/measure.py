@@ -14,8 +14,7 @@ SIZE = int(os.environ.get("SIZE", "32"))
 FILES = int(os.environ.get("FILES", "3000"))
 ROUNDS = int(os.environ.get("ROUNDS", "15"))
 SALT = "07" * 32
-BLOCKS = [(name, size) for name in ("sha256", "sha512") for size in (512, 4096, 16384, 65536)]
-BLOCKS += [("sha1", size) for size in (512, 4096, 65536)]
+BLOCKS = [(name, size) for name in ("sha256", "sha512", "sha1") for size in (512, 4096, 16384, 65536, 262144)]
 OURS = {name: os.path.abspath(f"bin/{name}") for name in ("fsverity", "veritysetup", "bench_bare")}
 DEBIANS = {name: name for name in ("fsverity", "veritysetup")}
 

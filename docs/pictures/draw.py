@@ -171,7 +171,8 @@ def speeds(page):
             bars = [(row[1], *row[index]) for row in rows if row[0] == function and row[index]]
             if bars:
                 panels.append((program, function, bars))
-    across, width, height, highest = 3, 290, 215, max(speed for _, _, bars in panels for _, speed, _ in bars)
+    most, highest = max(len(bars) for _, _, bars in panels), max(speed for _, _, bars in panels for _, speed, _ in bars)
+    across, width, height = 3, 64 * most + 34, 215
     words = "; ".join(
         f"{program} by {function}: "
         + ", ".join(f"{times:.2f} times in blocks of {size}" for size, _, times in bars)

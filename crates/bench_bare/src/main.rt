@@ -2,7 +2,7 @@
 //! and does nothing else. It prints the exclusive or of the digests' first bytes.
 //!
 //! Words: `crates`, for the crates `sha1` and `sha2`, or `alone`, for `salted`, by which the programs hash one block
-//! alone; sha1, sha256 or sha512; the size of a block (512, 4096, 16384 or 65536); and the file.
+//! alone; sha1, sha256 or sha512; the size of a block (512, 4096, 16384, 65536 or 262144); and the file.
 #![tactic(auto)]
 
 ghost use Rattle.std.specs.Prelude.{◌≤◌};
@@ -78,12 +78,13 @@ fn function_of(word: &str) -> Algorithm {
 
 /// The size of a block that a word chooses.
 fn block_size(word: &str) -> usize
-    ensures { result ≤ 65536 }
+    ensures { result ≤ 262144 }
 {
     match word {
         "512" => 512,
         "16384" => 16384,
         "65536" => 65536,
+        "262144" => 262144,
         _ => 4096,
     }
 }
@@ -96,10 +97,10 @@ fn hash_file(
     function: Algorithm,
     size: usize,
 ) -> io::Result<u8>
-    requires { size ≤ 65536 }
+    requires { size ≤ 262144 }
 {
     let mut file = File::open(rt, name)?;
-    let mut buffer = [0; 65536];
+    let mut buffer = [0; 262144];
     hash_all(&mut file, alone, function, &mut buffer[..size])
 }
 
