@@ -97,7 +97,7 @@ schedule_more w x j b n t at lt begins is =
     ∙ schedule_next (lane w j) b n t (slice_index x j) at lt' begins
     (is ∙ next_eq (word_of_lane w j (t - 2)) (word_of_lane w j (t - 7)) (word_of_lane w j (t - 15)) (word_of_lane w j (t - 16)))
 
--- two words, written at t and behind it; u and v are the last two before them
+-- two words, written at t and t + 1; u and v are the last two before them
 pub schedule_two : (w : List (List ℕ)) (u v x y : List ℕ) (j : ℕ) (b : List ℕ) (n n' t t' : ℕ) → t ≡ n + 16 → t + 1 < length w
     → n' ≡ n + 2 → t' ≡ t + 2
     → u ≡ get_or w (t - 2) [] → v ≡ get_or w (t - 1) []
@@ -112,7 +112,7 @@ schedule_two w u v x y j b n n' t t' at lt n_next t_next u_is v_is begins x_is y
     let first : take (t + 1) (lane (set w t x) j) ≡ S256.schedule b (n + 1) =
     schedule_more w x j b n t at (omega arith) begins
     (x_is ∙ next_eq {c = slice_index (get_or w (t - 15) []) j} {d = slice_index (get_or w (t - 16) []) j} (ap of u_is) refl refl refl) in
-    let kept = λ (p q : ℕ) (same : p ≡ q) (before : q < t). word_kept w x j t p q same before in
+    let kept = word_kept w x j t in
     let second = schedule_more (set w t x) y j b (n + 1) (t + 1) (omega arith) (omega (arith, length-set w t x)) first
     (y_is ∙ next_eq (ap of v_is ∙ kept (t - 1) (t + 1 - 2) (omega arith) (omega arith))
     (kept (t - 6) (t + 1 - 7) (omega arith) (omega arith)) (kept (t - 14) (t + 1 - 15) (omega arith) (omega arith))
@@ -157,12 +157,12 @@ round_next s w t u {v} {v'} {k} {x} next at k_is x_is step =
     ∙ (ap (λ z. S256.round (S256.rounds s w t) (slice_index S256.round_constants t) z) x_is
     ∙ sym (ap (S256.rounds s w) su))))
 
--- the same in plain words, from the e and the a that follow; the constant was added to the word before
+-- the same in plain words, from the e and the a that follow; the constant has already been added to the word
 pub plain_round_next : (kw : List (List ℕ)) (j : ℕ) (s w : List ℕ) → AddsConstants kw j w → (t u : ℕ) {a b c d e f g h a' e' : ℕ}
     → t < 64 → u ≡ t + 1
     → a ∷ b ∷ c ∷ d ∷ e ∷ f ∷ g ∷ h ∷ [] ≡ S256.rounds s w t
-    → ((a b c k x : ℕ) → slice_index (get_or kw t []) j ≡ S256.add32 x k
-    → e' ≡ S256.add32 d (S256.temp1 (a ∷ b ∷ c ∷ d ∷ e ∷ f ∷ g ∷ h ∷ []) k x))
+    → ((p q r k x : ℕ) → slice_index (get_or kw t []) j ≡ S256.add32 x k
+    → e' ≡ S256.add32 d (S256.temp1 (p ∷ q ∷ r ∷ d ∷ e ∷ f ∷ g ∷ h ∷ []) k x))
     → ((t1 : ℕ) → e' ≡ S256.add32 d t1 → a' ≡ S256.add32 t1 (S256.temp2 (a ∷ b ∷ c ∷ [])))
     → a' ∷ a ∷ b ∷ c ∷ e' ∷ e ∷ f ∷ g ∷ [] ≡ S256.rounds s w u
 plain_round_next kw j s w adds t u {a} {b} {c} {d} {e} {f} {g} {h} lt next at e_is a_is =

@@ -98,7 +98,7 @@ schedule_more w x j b n t at lt begins is =
     ∙ schedule_next (lane w j) b n t (slice_index x j) at lt' begins
     (is ∙ next_eq (word_of_lane w j (t - 2)) (word_of_lane w j (t - 7)) (word_of_lane w j (t - 15)) (word_of_lane w j (t - 16)))
 
--- two words, written at t and behind it; u and v are the last two before them
+-- two words, written at t and t + 1; u and v are the last two before them
 pub schedule_two : (w : List (List ℕ)) (u v x y : List ℕ) (j : ℕ) (b : List ℕ) (n n' t t' : ℕ) → t ≡ n + 16 → t + 1 < length w
     → n' ≡ n + 2 → t' ≡ t + 2
     → u ≡ get_or w (t - 2) [] → v ≡ get_or w (t - 1) []
@@ -113,7 +113,7 @@ schedule_two w u v x y j b n n' t t' at lt n_next t_next u_is v_is begins x_is y
     let first : take (t + 1) (lane (set w t x) j) ≡ S512.schedule b (n + 1) =
     schedule_more w x j b n t at (omega arith) begins
     (x_is ∙ next_eq {c = slice_index (get_or w (t - 15) []) j} {d = slice_index (get_or w (t - 16) []) j} (ap of u_is) refl refl refl) in
-    let kept = λ (p q : ℕ) (same : p ≡ q) (before : q < t). word_kept w x j t p q same before in
+    let kept = word_kept w x j t in
     let second = schedule_more (set w t x) y j b (n + 1) (t + 1) (omega arith) (omega (arith, length-set w t x)) first
     (y_is ∙ next_eq (ap of v_is ∙ kept (t - 1) (t + 1 - 2) (omega arith) (omega arith))
     (kept (t - 6) (t + 1 - 7) (omega arith) (omega arith)) (kept (t - 14) (t + 1 - 15) (omega arith) (omega arith))

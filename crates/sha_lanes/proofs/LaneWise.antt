@@ -117,14 +117,14 @@ lane_kept w x j i t lt =
     sym (word_of_lane (set w t x) j i)
     ∙ (ap (λ z. slice_index z j) (get_or-set_other w t i x [] (λ e. absurd (omega arith))) ∙ word_of_lane w j i)
 
--- the same of a vector, where its place is written in two ways
+-- a word before t is kept, where its place is written in two ways
 pub word_kept : (w : List (List ℕ)) (x : List ℕ) (j t p q : ℕ) → p ≡ q → q < t
     → slice_index (get_or w p []) j ≡ slice_index (get_or (set w t x) q []) j
 word_kept w x j t p q same before =
     ap (λ i. slice_index (get_or w i []) j) same
     ∙ ap (λ z. slice_index z j) (sym (get_or-set_other w t q x [] (λ e. absurd (omega arith))))
 
--- two vectors stored, one behind the other: the last two before u
+-- two vectors stored, one after the other, are the two before u
 pub two_stored : (w : List (List ℕ)) (x y : List ℕ) (t u : ℕ) → t + 1 < length w → u ≡ t + 2
     → (x ≡ get_or (set (set w t x) (t + 1) y) (u - 2) []) × (y ≡ get_or (set (set w t x) (t + 1) y) (u - 1) [])
 two_stored w x y t u lt next =

@@ -1,4 +1,5 @@
--- Maj as a sum of two parts without a bit in common: what b and c have both, and what a has where they differ.
+-- Maj as a sum of two parts without a bit in common: the bits that both b and c have, and those of a where
+-- b and c differ.
 use Rattle.std.proofs.Common.{◌≡◌, ℕ, ◌+◌, ap, ◌∙◌, arith}
 use Rattle.std.specs.Prelude.{bit_and, bit_xor}
 use Rattle.std.proofs.lemmas.Nat.Bits.{bit_at-lt, bit_at-zero, bit_at_and, bit_at_xor, same_from_bits}

@@ -73,17 +73,17 @@ constants_of_zeros64 t lt =
     ap (λ z. S512.add64 z (slice_index S512.round_constants t)) (get_or-replicate 80 t 0 0 lt)
     ∙ (sym (get_or-map (S512.add64 0) S512.round_constants t 0 0 lt) ∙ ap (λ z. slice_index z t) sums_with_zero64)
 
-sum_of_kind : (kind : Kind) → S1.round_constant (first_round kind) ≡ S1.add32 0 (S1.round_constant (first_round kind))
-sum_of_kind First = refl
-sum_of_kind Second = refl
-sum_of_kind Third = refl
-sum_of_kind Fourth = refl
+sum_with_zero_sha1 : (kind : Kind) → S1.add32 0 (S1.round_constant (first_round kind)) ≡ S1.round_constant (first_round kind)
+sum_with_zero_sha1 First = refl
+sum_with_zero_sha1 Second = refl
+sum_with_zero_sha1 Third = refl
+sum_with_zero_sha1 Fourth = refl
 
-pub sum_with_zero : (kind : Kind) (t : ℕ) → t < 80 → first_round kind ≤ t → t < first_round kind + 20
-    → S1.round_constant (first_round kind) ≡ S1.add32 (slice_index (replicate 80 0) t) (S1.round_constant t)
-sum_with_zero kind t below first last =
-    sum_of_kind kind
-    ∙ (ap (S1.add32 0) (kind_constant kind t first last) ∙ ap (λ z. S1.add32 z (S1.round_constant t)) (sym (get_or-replicate 80 t 0 0 below)))
+pub constants_of_zeros_sha1 : (kind : Kind) (t : ℕ) → t < 80 → first_round kind ≤ t → t < first_round kind + 20
+    → S1.add32 (slice_index (replicate 80 0) t) (S1.round_constant t) ≡ S1.round_constant (first_round kind)
+constants_of_zeros_sha1 kind t lt first last =
+    ap (λ z. S1.add32 z (S1.round_constant t)) (get_or-replicate 80 t 0 0 lt)
+    ∙ (ap (S1.add32 0) (sym (kind_constant kind t first last)) ∙ sum_with_zero_sha1 kind)
 
 -- ---- a group of blocks of a padded message
 

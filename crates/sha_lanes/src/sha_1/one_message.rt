@@ -1,12 +1,12 @@
 //! The digest of one message alone. Schedules don't depend on the hash value: those of eight consecutive blocks are made
 //! side by side, one in each lane, and then the rounds of one block after another.
-ghost use Rattle.std.specs.Prelude.{◌≡◌, ℕ, ◌+◌, ◌<◌, ◌≤◌, ◌++◌, length};
+ghost use Rattle.std.specs.Prelude.{◌≡◌, ◌+◌, ◌<◌, ◌≤◌, ◌++◌, length};
 ghost use Rattle.sha1.specs.Sha1 as S1;
 ghost use Rattle.sha_lanes.specs.Words32.{block_count};
 
 use crate::rows::{GROUP, group_in};
 use crate::sha_1::digests::{INITIAL_HASH, hash_bytes};
-use crate::sha_1::plain_rounds::{compress, round_words};
+use crate::sha_1::plain_rounds::{compress, set_words};
 use crate::words32::padding::{block_count, padded_row};
 use std::simd::prelude::*;
 
@@ -30,8 +30,8 @@ fn take_blocks(
 {
     let at = k as u128 * 64;
     match group_in(first, second, third, at) {
-        Some(blocks) => round_words(kw, w, blocks),
-        None => round_words(kw, w, &padded_row::<GROUP>(first, second, third, at)),
+        Some(blocks) => set_words(kw, w, blocks),
+        None => set_words(kw, w, &padded_row::<GROUP>(first, second, third, at)),
     }
     for j in 0..count {
         compress(state, kw, j);

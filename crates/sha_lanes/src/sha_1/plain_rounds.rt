@@ -1,5 +1,5 @@
-//! The rounds in plain words (FIPS 180-4, 6.1.2, steps 2 to 4), over one hash value. The words of the schedule, with the
-//! constants added, stand in a lane.
+//! The words of the rounds of eight consecutive blocks, made side by side (FIPS 180-4, 6.1.2, step 1), and the rounds
+//! in plain words (steps 2 to 4), over one hash value. A lane has the words of one block.
 ghost use Rattle.std.specs.Prelude.{◌≡◌, ℕ, ◌+◌, ◌*◌, ◌<◌, ◌≤◌, List, [], ◌∷◌, length, take, drop, replicate};
 ghost use Rattle.sha1.specs.Sha1 as S1;
 ghost use Rattle.sha_lanes.specs.Lanes.{lane};
@@ -50,11 +50,11 @@ fn set_constants(kw: &mut [[u32; 8]; 80])
     }
 }
 
-/// Sets `kw` to the schedules of eight consecutive blocks, one in each lane, with the constants added. If all are zeros,
-/// as after the end of a file that is shorter than its block, so are their schedules, and none is made. What stood in `w`
-/// doesn't count.
+/// Sets `kw` to the schedules of eight consecutive blocks, one in each lane, with the constants added. If all bytes are
+/// zeros, as after the end of a file that is shorter than its block, so are the schedules: none is made, and `kw` is
+/// the constants alone. `w` is room for the schedules; what stood in it doesn't count.
 #[inline(always)]
-pub(crate) fn round_words(kw: &mut [[u32; 8]; 80], w: &mut [u32x8; 80], blocks: &[u8])
+pub(crate) fn set_words(kw: &mut [[u32; 8]; 80], w: &mut [u32x8; 80], blocks: &[u8])
     requires { length blocks.now ≡ 512 }
     ensures { (j : ℕ) → j < 8 → AddsConstants kw.new j (S1.schedule (take 64 (drop (j * 64) blocks.now)) 64) }
 {

@@ -7,7 +7,7 @@ ghost use Rattle.sha_lanes.specs.Words32.{block_count};
 use crate::rows::{GROUP, group_in};
 use crate::words32::hash_values::{INITIAL_HASH_224, INITIAL_HASH_256, hash_bytes, leftmost_224};
 use crate::words32::padding::{block_count, padded_row};
-use crate::words32::plain_rounds::{compress, round_words};
+use crate::words32::plain_rounds::{compress, set_words};
 use std::simd::prelude::*;
 
 /// Takes `count` blocks of a padded message, from block `k` on, into the hash value. What stood in `w` and `kw` doesn't
@@ -30,8 +30,8 @@ fn take_blocks(
 {
     let at = k as u128 * 64;
     match group_in(first, second, third, at) {
-        Some(blocks) => round_words(kw, w, blocks),
-        None => round_words(kw, w, &padded_row::<GROUP>(first, second, third, at)),
+        Some(blocks) => set_words(kw, w, blocks),
+        None => set_words(kw, w, &padded_row::<GROUP>(first, second, third, at)),
     }
     for j in 0..count {
         compress(state, kw, j);

@@ -1,5 +1,5 @@
-//! The rounds in plain words (FIPS 180-4, 6.2.2, steps 2 to 4), over one hash value. The words of the schedule, with the
-//! constants added, stand in a lane.
+//! The words of the rounds of eight consecutive blocks, made side by side (FIPS 180-4, 6.2.2, step 1), and the rounds
+//! in plain words (steps 2 to 4), over one hash value. A lane has the words of one block.
 ghost use Rattle.std.specs.Prelude.{◌≡◌, ℕ, ◌+◌, ◌*◌, ◌<◌, ◌≤◌, List, [], ◌∷◌, length, take, drop, replicate};
 ghost use Rattle.sha2.specs.Sha256 as S256;
 ghost use Rattle.sha_lanes.specs.Lanes.{lane};
@@ -31,11 +31,11 @@ fn set_constants(kw: &mut [[u32; 8]; 64])
     }
 }
 
-/// Sets `kw` to the schedules of eight consecutive blocks, one in each lane, with the constants added. If all are zeros,
-/// as after the end of a file that is shorter than its block, so are their schedules, and none is made. What stood in `w`
-/// doesn't count.
+/// Sets `kw` to the schedules of eight consecutive blocks, one in each lane, with the constants added. If all bytes are
+/// zeros, as after the end of a file that is shorter than its block, so are the schedules: none is made, and `kw` is
+/// the constants alone. `w` is room for the schedules; what stood in it doesn't count.
 #[inline(always)]
-pub(crate) fn round_words(kw: &mut [[u32; 8]; 64], w: &mut [u32x8; 64], blocks: &[u8])
+pub(crate) fn set_words(kw: &mut [[u32; 8]; 64], w: &mut [u32x8; 64], blocks: &[u8])
     requires { length blocks.now ≡ 512 }
     ensures { (j : ℕ) → j < 8 → AddsConstants kw.new j (S256.schedule (take 64 (drop (j * 64) blocks.now)) 48) }
 {
@@ -48,31 +48,32 @@ pub(crate) fn round_words(kw: &mut [[u32; 8]; 64], w: &mut [u32x8; 64], blocks: 
     }
 }
 
-/// The e of the next round (step 3): d + T₁. What is known before e is added first, so that fewer steps lead from each e
-/// to the next.
+/// The e after a round (step 3): d + T₁. What doesn't need the e before is added first, so that fewer instructions, one
+/// after another, lead from each e to the next.
 #[inline(always)]
 fn next_e(d: u32, e: u32, f: u32, g: u32, h: u32, kw: u32) -> u32
     ensures { (a b c k w : ℕ) → kw ≡ S256.add32 w k
         → result ≡ S256.add32 d (S256.temp1 (a ∷ b ∷ c ∷ d ∷ e ∷ f ∷ g ∷ h ∷ []) k w) }
 {
-    let early = h.wrapping_add(kw).wrapping_add(d);
+    let without_e = h.wrapping_add(kw).wrapping_add(d);
     let sigma1 = e.rotate_right(6) ^ e.rotate_right(11) ^ e.rotate_right(25);
     let ch = (e & f) ^ (!e & g);
-    early.wrapping_add(ch).wrapping_add(sigma1)
+    without_e.wrapping_add(ch).wrapping_add(sigma1)
 }
 
-/// The a of the next round (step 3), from its e: T₁ + T₂. The two parts of Maj have no bit in common.
+/// The a after a round (step 3): T₁ + T₂, where T₁ is the new e less d. Maj is the sum of two parts without a bit in
+/// common.
 #[inline(always)]
-fn next_a(a: u32, b: u32, c: u32, d: u32, next_e: u32) -> u32
-    ensures { (t1 : ℕ) → next_e ≡ S256.add32 d t1 → result ≡ S256.add32 t1 (S256.temp2 (a ∷ b ∷ c ∷ [])) }
+fn next_a(a: u32, b: u32, c: u32, d: u32, new_e: u32) -> u32
+    ensures { (t1 : ℕ) → new_e ≡ S256.add32 d t1 → result ≡ S256.add32 t1 (S256.temp2 (a ∷ b ∷ c ∷ [])) }
 {
     let sigma0 = a.rotate_right(2) ^ a.rotate_right(13) ^ a.rotate_right(22);
     let maj = (b & c).wrapping_add(a & (b ^ c));
-    next_e.wrapping_add(sigma0.wrapping_add(maj).wrapping_sub(d))
+    new_e.wrapping_add(sigma0.wrapping_add(maj).wrapping_sub(d))
 }
 
-/// Eight rounds with the words in lane `j`. The a and e of each are numbered; those from before stand in `v`. Each a is
-/// made after the e of the round that follows it, which doesn't wait for it.
+/// Eight rounds with the words in lane `j`, on the working variables `v`. The new a and e are numbered from 1. Each a
+/// but the last is made after the e of the next round, which doesn't need it.
 #[inline(always)]
 fn eight_rounds(kw: &[[u32; 8]; 64], j: usize, t: usize, v: &mut [u32; 8])
     requires lane { j < 8 }

@@ -7,7 +7,7 @@ ghost use Rattle.sha_lanes.specs.Words64.{block_count};
 use crate::rows::{GROUP, group_in};
 use crate::words64::hash_values::{INITIAL_HASH_384, INITIAL_HASH_512, hash_bytes, leftmost_384};
 use crate::words64::padding::{block_count, padded_row};
-use crate::words64::plain_rounds::{compress, round_words};
+use crate::words64::plain_rounds::{compress, set_words};
 use std::simd::prelude::*;
 
 /// Takes `count` blocks of a padded message, from block `k` on, into the hash value. What stood in `w` and `kw` doesn't
@@ -30,8 +30,8 @@ fn take_blocks(
 {
     let at = k as u128 * 128;
     match group_in(first, second, third, at) {
-        Some(blocks) => round_words(kw, w, blocks),
-        None => round_words(kw, w, &padded_row::<GROUP>(first, second, third, at)),
+        Some(blocks) => set_words(kw, w, blocks),
+        None => set_words(kw, w, &padded_row::<GROUP>(first, second, third, at)),
     }
     for j in 0..count {
         compress(state, kw, j);

@@ -74,19 +74,20 @@ fn next_word(w2: u64x4, w7: u64x4, w15: u64x4, w16: u64x4) -> u64x4
     small_sigma1(w2) + w7 + small_sigma0(w15) + w16
 }
 
-/// Makes the whole schedule from its first 16 words, two words a turn: the last two stay at hand for the next two.
+/// Makes the whole schedule from its first 16 words, two words a turn of the loop. Both stay at hand for the next turn,
+/// since each word is made of the one two before it.
 #[inline(always)]
 pub(crate) fn schedule(w: &mut [u64x4; 80])
     ensures { (j : ℕ) → j < 4 → (b : List ℕ) → BeginsSchedule w.old j b → lane w.new j ≡ S512.schedule b 64 }
 {
-    let mut before = w[14];
-    let mut last = w[15];
+    let mut even = w[14];
+    let mut odd = w[15];
     for turn in 0..32 {
         let t = 16 + 2 * turn;
-        let middle = w[t - 15];
-        before = next_word(before, w[t - 7], middle, w[t - 16]);
-        last = next_word(last, w[t - 6], w[t - 14], middle);
-        w[t] = before;
-        w[t + 1] = last;
+        let shared = w[t - 15];
+        even = next_word(even, w[t - 7], shared, w[t - 16]);
+        odd = next_word(odd, w[t - 6], w[t - 14], shared);
+        w[t] = even;
+        w[t + 1] = odd;
     }
 }

@@ -1,7 +1,7 @@
-use Rattle.std.proofs.Common.{◌<◌, ◌∙◌, arith, below_more}
+use Rattle.std.proofs.Common.{◌<◌, sym, ◌∙◌, arith, below_more}
 use Rattle.std.proofs.Math.ListN.{length-set}
 use Rattle.sha_lanes.proofs.LaneWise.{splat_lanes, lane_at, lane_kept}
-use Rattle.sha_lanes.proofs.OneMessage.{sum_with_zero}
+use Rattle.sha_lanes.proofs.OneMessage.{constants_of_zeros_sha1}
 use Rattle.sha_lanes.proofs.sha_1.plain_rounds.set_constants.Goals as goal
 
 pub loop-t-preserved : goal.loop-t-preserved
@@ -14,5 +14,5 @@ loop-t-preserved c =
           (λ i before. lane_kept c.loop-t.kw _ j i t before ∙ c.loop-t.invariant.words j lt i before)
           (lane_at c.loop-t.kw _ j t (omega (arith, c.loop-t.invariant.long))
           ∙ ((splat_lanes 8 c.constant.result).value j lt
-          ∙ (c.constant.ensures ∙ sum_with_zero c.kind_of.result t below c.kind_of.ensures.first c.kind_of.ensures.last)));
+          ∙ (c.constant.ensures ∙ sym (constants_of_zeros_sha1 c.kind_of.result t below c.kind_of.ensures.first c.kind_of.ensures.last))));
     }

@@ -27,14 +27,14 @@ loop-j-preserved c h is =
       | in-Some s ↦
           let found = s.in-Some.ensures.bytes in
           subst (λ z. AddsConstants z j (S256.schedule block 48)) (sym s.kw-is)
-          (subst (AddsConstants s.round_words.new.kw j)
+          (subst (AddsConstants s.set_words.new.kw j)
           (schedule_at32 first second third k j _ below inside (group_padded _ m _ (k * 64) found.2 found.0 found.1) found.0)
-          (s.round_words.ensures j below))
+          (s.set_words.ensures j below))
       | in-None s ↦
           subst (λ z. AddsConstants z j (S256.schedule block 48)) (sym s.kw-is)
-          (subst (AddsConstants s.round_words-in-None.new.kw j)
+          (subst (AddsConstants s.set_words-in-None.new.kw j)
           (schedule_at32 first second third k j s.padded_row.result below inside s.padded_row.ensures (search rules))
-          (s.round_words-in-None.ensures j below))
+          (s.set_words-in-None.ensures j below))
     ] in
     hash_more h p (k + j) (c.loop-j.invariant h is) refl (c.compress.ensures block words)
     ∙ ap (S256.hash_after h p) (omega arith)

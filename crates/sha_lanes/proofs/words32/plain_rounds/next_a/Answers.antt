@@ -11,5 +11,5 @@ less_d d e s m t1 fits is = omega arith
 pub returns : goal.returns
 returns x t1 is =
     rw (x.rotate_right-3.ensures, x.rotate_right-2.ensures, x.rotate_right.ensures)
-    (less_d x.args.d x.args.next_e (S256.big_sigma0 x.args.a) _ t1 (omega arith) is
+    (less_d x.args.d x.args.new_e (S256.big_sigma0 x.args.a) _ t1 (omega arith) is
     ∙ ap (λ m. S256.add32 t1 (S256.add32 (S256.big_sigma0 x.args.a) m)) (majority x.args.a x.args.b x.args.c))

@@ -7,8 +7,8 @@ use Rattle.sha_lanes.proofs.words32.schedule.schedule.Given as goal
 abbrev pub invariant-loop-turn : goal.invariant-loop-turn
 invariant-loop-turn l = record {
   long : length l.w ≡ 64;
-  before : l.before ≡ get_or l.w (16 + 2 * l.turn - 2) [];
-  last : l.last ≡ get_or l.w (16 + 2 * l.turn - 1) [];
+  even : l.even ≡ get_or l.w (16 + 2 * l.turn - 2) [];
+  odd : l.odd ≡ get_or l.w (16 + 2 * l.turn - 1) [];
   words : (j : ℕ) → j < 8 → (b : List ℕ) → BeginsSchedule l.initial.w j b
       → take (16 + 2 * l.turn) (lane l.w j) ≡ S256.schedule b (2 * l.turn);
 }

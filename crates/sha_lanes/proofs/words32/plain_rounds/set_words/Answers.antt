@@ -3,7 +3,7 @@ use Rattle.std.specs.Prelude.{replicate}
 use Rattle.sha2.specs.Sha256 as S256
 use Rattle.sha_lanes.specs.Words32.{AddsConstants}
 use Rattle.sha_lanes.proofs.OneMessage.{zero_schedule32}
-use Rattle.sha_lanes.proofs.words32.plain_rounds.round_words.Goals as goal
+use Rattle.sha_lanes.proofs.words32.plain_rounds.set_words.Goals as goal
 
 pub returns-then-are_zeros : goal.returns-then-are_zeros
 returns-then-are_zeros c j lt =
