@@ -13,6 +13,7 @@ SCRATCH = sys.argv[1]
 SIZE = int(os.environ.get("SIZE", "32"))
 FILES = int(os.environ.get("FILES", "3000"))
 ROUNDS = int(os.environ.get("ROUNDS", "15"))
+WITHOUT_SHA = os.environ.get("SHA") == "no"
 SALT = "07" * 32
 BLOCKS = [(name, size) for name in ("sha256", "sha512", "sha1") for size in (512, 4096, 16384, 65536, 262144)]
 OURS = {name: os.path.abspath(f"bin/{name}") for name in ("fsverity", "veritysetup", "bench_bare")}
@@ -171,6 +172,8 @@ def surroundings():
     flags = re.search(r"^flags\s*:(.*)$", text, re.M)[1].split()
     avx2 = "with AVX2" if "avx2" in flags else "without AVX2"
     sha = "with SHA instructions" if "sha_ni" in flags else "without SHA instructions"
+    if WITHOUT_SHA and "sha_ni" in flags:
+        sha += ", from which Debian's programs are kept"
     built = set()
     for program in OURS:
         with open(f"bin/{program}.made", encoding="ascii") as it:
@@ -183,6 +186,9 @@ def surroundings():
     print("brackets beside `bare`.")
 
 
+if WITHOUT_SHA:
+    # OPENSSL_ia32cap(3): Debian's programs hash by OpenSSL, which leaves out what is switched off here.
+    os.environ["OPENSSL_ia32cap"] = ":~0x20000000"
 with open(at("data"), "wb") as data:
     data.write(b"".join(b"%d\n" % number for number in range((SIZE << 20) // 6))[: SIZE << 20].ljust(SIZE << 20, b"."))
 surroundings()
