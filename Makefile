@@ -196,7 +196,7 @@ help:
 	@echo 'make search          30 minutes +  random command lines, for differences from Debian that no row names'
 	@echo '                                   [SECONDS, SEED]'
 	@echo 'make kernel          10 minutes +  has the Linux kernel open the images, in a virtual machine [KERNEL, MODULES]'
-	@echo 'make bench           7 minutes +   measures speed and memory, beside bare hashing and the programs of Debian'
+	@echo 'make bench           7 minutes +   measures speed and memory beside bare hashing and Debian programs [SHA=no]'
 	@echo 'make bench-feeding   2 minutes +   measures the library that is fed with pieces of a file'
 	@echo 'make bench-parallel  2 minutes +   measures a tree that is built from parts by threads'
 	@echo 'make bench-bindings  a minute +    measures the bindings of the library beside calls from C'

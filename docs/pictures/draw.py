@@ -181,7 +181,7 @@ def speeds(page):
     picture = Picture(
         across * width + 40,
         80 + height * -(-len(panels) // across),
-        "Speed by block size, beside Debian's programs",
+        "Speed by block size, beside Debian's programs without SHA instructions",
         f"How many times the speed of Debian's programs. {words}.",
     )
     picture.text(20, 24, "MiB per second of processor time, by the size of a block in bytes", "head", "start")
