@@ -15,12 +15,6 @@ set -euo pipefail
 cd "$(dirname "$0")"
 . ./building.sh
 
-# refuse MESSAGE: ends before anything is built.
-refuse() {
-    echo "build.sh: $1" >&2
-    exit 1
-}
-
 crate=$1 program=$2 target=${TARGET:-x86_64} static=${STATIC:-no}
 cpu=${3:-}
 if [ "$target" = x86_64 ]; then cpu=${cpu:-x86-64-v2}; fi
@@ -39,13 +33,6 @@ if [ "$target:$static" != x86_64:no ] || [ "$cpu" = any ]; then by_compiler=yes;
 kit=$(dirname "$(rt doc)")
 scratch=$(mktemp -d)
 trap 'rm -rf "$scratch"' EXIT
-
-# failed WHAT: shows what was said last, and ends.
-failed() {
-    cat "$scratch/said"
-    echo "build.sh: $1" >&2
-    exit 1
-}
 
 # What programs are built of, before any is: a source that changes meanwhile has changed.
 of=$({ sources && cat build.sh building.sh any_processor.c runtime_for_arm.c; } | sha256sum)
@@ -81,7 +68,7 @@ object() {
         runs "$1"
         cp "crates/$crate/out/$crate.o" "$scratch/object"
     fi
-    put "$scratch/object" "$object" "$1"
+    put_in_place "$scratch/object" "$object" "$1"
 }
 
 # links: links the object files, whose names are in `objects`, and leaves the program in $scratch. The program's own
@@ -141,4 +128,4 @@ if [ $by_compiler = yes ]; then
 fi
 echo "$folder/$program: proving what has changed, and building for $kind"
 builds
-put "$scratch/program" "$folder/$program" "$kind"
+put_in_place "$scratch/program" "$folder/$program" "$kind"

@@ -1,4 +1,22 @@
-# What build.sh, library.sh and install.sh share. Sourced at the repository's root, by bash.
+# What the scripts that build, install and release share. Sourced at the repository's root, by bash.
+
+# refuse MESSAGE: ends before anything is built, made, installed or removed.
+refuse() {
+    echo "${0##*/}: $1" >&2
+    exit 1
+}
+
+# failed WHAT: shows what was said last, which is in $scratch/said, and ends.
+failed() {
+    cat "$scratch/said"
+    echo "${0##*/}: $1" >&2
+    exit 1
+}
+
+# header_version: prints the version that include/verity.h, on standard input, has.
+header_version() {
+    awk '/^#define VERITY_VERSION_/ { printf "%s%s", dot, $3; dot = "." }'
+}
 
 # sources: prints the sum of the toolchain and of all that the crates are built of.
 sources() {
@@ -28,8 +46,8 @@ is_made() {
     [ -e "$1" ] && [ -e "$1.made" ] && cmp -s <(made "$1" "$2") "$1.made"
 }
 
-# put FILE TO FOR: a built file gets its place.
-put() {
+# put_in_place FILE TO FOR: a built file gets its place.
+put_in_place() {
     mkdir -p "$(dirname "$2")"
     cp "$1" "$2.new"
     mv "$2.new" "$2"

@@ -13,7 +13,7 @@ needs gcc gcc
 needs aarch64-linux-gnu-gcc gcc-aarch64-linux-gnu
 dist=${DIST:-dist}
 debian=$(dpkg-parsechangelog -S Version)
-release=$(awk '/^#define VERITY_VERSION_/ { printf "%s%s", dot, $3; dot = "." }' include/verity.h)
+release=$(header_version <include/verity.h)
 if [ "${debian%-*}" != "$release" ]; then
     refuse "debian/changelog has version $debian, and include/verity.h $release"
 fi
@@ -60,10 +60,7 @@ makes() {
         cd "$scratch/$1/verity-$version"
         unset MAKEFLAGS MAKELEVEL MFLAGS
         DEB_BUILD_OPTIONS=nocheck DEB_BUILD_PROFILES=nocheck exec "${@:2}"
-    ) >"$scratch/said" 2>&1 </dev/null || {
-        cat "$scratch/said"
-        refuse "${*:2} has failed"
-    }
+    ) >"$scratch/said" 2>&1 </dev/null || failed "${*:2} has failed"
 }
 
 unpacks source

@@ -4,21 +4,21 @@
 # commit's, so that the same commit gives the same bytes, wherever and whenever the archive is made.
 set -euo pipefail
 cd "$(dirname "$0")"
+. ./building.sh
 if [ ! -e .git ] || ! commit=$(git rev-parse --verify --quiet 'HEAD^{commit}'); then
-    echo "dist.sh: the archive is made of a commit, and no git repository is here" >&2
-    exit 1
+    refuse 'the archive is made of a commit, and no git repository is here'
 fi
-version=$(git show "$commit:include/verity.h" | awk '/^#define VERITY_VERSION_/ { printf "%s%s", dot, $3; dot = "." }')
+version=$(git show "$commit:include/verity.h" | header_version)
 changes=$(git show "$commit:CHANGELOG.md")
 if grep -qi '^## .*not yet released' <<<"$changes"; then version+=+${commit:0:12}; fi
 name=verity-$version
 archive=${DIST:-dist}/$name.tar.gz
 mkdir -p "${DIST:-dist}"
 # What the user, the system and this clone have set for archives changes nothing: a clone of its own has no settings.
-bare=$(mktemp -d)
-trap 'rm -rf "$bare"' EXIT
-git clone -q --bare --shared --template= . "$bare"
-GIT_ATTR_NOSYSTEM=1 git -C "$bare" -c tar.umask=0022 -c core.autocrlf=false -c core.attributesFile=/dev/null archive \
+clone=$(mktemp -d)
+trap 'rm -rf "$clone"' EXIT
+git clone -q --bare --shared --template= . "$clone"
+GIT_ATTR_NOSYSTEM=1 git -C "$clone" -c tar.umask=0022 -c core.autocrlf=false -c core.attributesFile=/dev/null archive \
     --format=tar --prefix="$name/" "$commit" | env -u GZIP gzip -9 -n >"$archive.new"
 mv "$archive.new" "$archive"
 echo "$archive"

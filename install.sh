@@ -16,12 +16,6 @@ cd "$(dirname "$0")"
 prefix=${PREFIX-/usr/local}
 suffix=${SUFFIX--proved}
 
-# refuse MESSAGE: ends before anything is installed or removed.
-refuse() {
-    echo "install.sh: $1" >&2
-    exit 1
-}
-
 if [[ $suffix = *[!A-Za-z0-9._+-]* ]]; then refuse 'SUFFIX may have letters, digits and . _ + - alone'; fi
 case ${STRIP:=no} in
 yes | no) ;;
@@ -106,7 +100,7 @@ below_prefix() {
 # script alone.
 described() {
     local version
-    version=$(awk '/^#define VERITY_VERSION_/ { printf "%s%s", dot, $3; dot = "." }' include/verity.h)
+    version=$(header_version <include/verity.h)
     cat <<END
 prefix=$prefix
 libdir=$(below_prefix "$libdir")

@@ -25,12 +25,6 @@ set -euo pipefail
 cd "$(dirname "$0")"
 . ./building.sh
 
-# refuse MESSAGE: ends before anything is built.
-refuse() {
-    echo "library.sh: $1" >&2
-    exit 1
-}
-
 target=${1:-} cpu=${2:-x86-64} folder=${LIB:-lib} compiler=cc
 case $target in
 x86_64) ;;
@@ -61,13 +55,6 @@ of=$({ sources && cat library.sh building.sh clang_for_arm.c; } | sha256sum)
 # stays FILE FOR: whether the file was built for this, and nothing has changed. Says so.
 stays() {
     is_made "$1" "$2" && echo "$1: built for $2, and nothing has changed"
-}
-
-# failed WHAT: shows what was said last, and ends.
-failed() {
-    cat "$scratch/said"
-    echo "library.sh: $1" >&2
-    exit 1
 }
 
 # stands CPU: whether the static library for a processor stands in its folder, and nothing has changed. Leaves it in
@@ -146,7 +133,7 @@ takes() {
 static() {
     if ! stays "$1" "$2"; then
         takes "$1" "$2" copying
-        put "$scratch/$2.a" "$1" "$2"
+        put_in_place "$scratch/$2.a" "$1" "$2"
     fi
 }
 
@@ -159,7 +146,7 @@ shared() {
             -Wl,--no-whole-archive -Wl,-soname,libverity.so.2 -Wl,-z,noexecstack -Wl,-z,relro -Wl,-z,now \
             -Wl,--build-id=none "-Wl,--version-script,$scratch/shown" >"$scratch/said" 2>&1 ||
             failed "the shared library can't be linked"
-        put "$scratch/shared" "$1" "$2"
+        put_in_place "$scratch/shared" "$1" "$2"
     fi
 }
 

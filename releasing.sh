@@ -1,17 +1,13 @@
 # What release.sh and deb.sh share. Sourced at the repository's root, by bash.
 
+. ./building.sh
+
 # The settings of other commands change nothing.
 unset BIN LIB TARGET STATIC CPU KEPT OVER_GATE TAR_OPTIONS GZIP
 export LC_ALL=C
 umask 022
 scratch=$(mktemp -d)
 trap 'rm -rf "$scratch"' EXIT
-
-# refuse MESSAGE: ends before anything is made.
-refuse() {
-    echo "${0##*/}: $1" >&2
-    exit 1
-}
 
 # as_committed: refuses what isn't a commit, or has changed since, for what is made has the commit's name or version.
 as_committed() {

@@ -66,7 +66,7 @@ static int opened(void)
     return file;
 }
 
-static void put_digits(const uint8_t *digest, char *digits)
+static void set_digits(const uint8_t *digest, char *digits)
 {
     size_t i;
 
@@ -95,7 +95,7 @@ static double fed(const struct way *way, char *digits)
     close(file);
     free(memory);
     free(piece);
-    put_digits(digest, digits);
+    set_digits(digest, digits);
     return now() - begun;
 }
 
@@ -150,7 +150,7 @@ static double computed(const struct way *way, char *digits)
     params.file_size = (uint64_t)found.st_size;
     if (libfsverity_compute_digest(&file, read_for, &params, &digest) != 0)
         give_up("libfsverity_compute_digest");
-    put_digits(digest->digest, digits);
+    set_digits(digest->digest, digits);
     free(digest);
     close(file);
     return now() - begun;

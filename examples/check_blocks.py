@@ -44,12 +44,12 @@ def fault(index):
     """What is wrong with a data block, or nothing."""
     if not 0 <= index < blocks:
         return f'block {index}: there is no such block'
-    block, path, start, level = os.pread(data, data_size, index * data_size), b'', c_uint64(), c_size_t()
+    block, path, start, level = os.pread(data, data_block_size, index * data_block_size), b'', c_uint64(), c_size_t()
     if fsverity:
-        block = block.ljust(data_size, b'\0')
+        block = block.ljust(data_block_size, b'\0')
     for number in range(levels.value):
         call(kind + '_hash_block_start', byref(params), c_uint64(index), c_size_t(number), byref(start))
-        path += os.pread(tree, hash_size, start.value)
+        path += os.pread(tree, hash_block_size, start.value)
     status = call(kind + '_check_block', byref(params), c_uint64(index), block, path, root, byref(level),
                   allowed=range(-4, 1))
     return status and f'block {index}: ' + (f'level {level.value} differs' if status == -1 else f'status {status}')
@@ -62,9 +62,10 @@ if len(names) < 3:
 data, tree, levels = os.open(names[0], os.O_RDONLY), os.open(names[1], os.O_RDONLY), c_size_t()
 if fsverity:  # parameters and root hash are trusted once they give the trusted file digest
     algorithm, digest = names[2].split(':')
-    data_size, hash_size, file_size = 4096, 4096, os.fstat(data).st_size
-    params, blocks = File({'sha256': 1, 'sha512': 2}[algorithm], data_size, file_size), -(-file_size // data_size)
-    top = os.pread(tree, hash_size, 0) or os.pread(data, data_size, 0).ljust(data_size, b'\0')
+    data_block_size, hash_block_size, file_size = 4096, 4096, os.fstat(data).st_size
+    params = File({'sha256': 1, 'sha512': 2}[algorithm], data_block_size, file_size)
+    blocks = -(-file_size // data_block_size)
+    top = os.pread(tree, hash_block_size, 0) or os.pread(data, data_block_size, 0).ljust(data_block_size, b'\0')
     root = hashlib.new(algorithm, top).digest() if blocks else bytes(len(digest) // 2)
     found = (c_uint8 * len(root))()
     call('fsverity_file_digest', byref(params), root, found, c_size_t(len(found)))
@@ -73,7 +74,7 @@ if fsverity:  # parameters and root hash are trusted once they give the trusted 
 else:
     params, root = Image(), bytes.fromhex(names[2])
     call('verity_read_superblock', os.pread(tree, 512, 0), c_uint64(0), byref(params))
-    data_size, hash_size, blocks = params.data_block_size, params.hash_block_size, params.data_blocks
+    data_block_size, hash_block_size, blocks = params.data_block_size, params.hash_block_size, params.data_blocks
 if blocks:
     call(kind + '_level_count', byref(params), byref(levels))
 indexes = [int(word) for word in names[3:]] or range(blocks)

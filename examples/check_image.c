@@ -12,10 +12,11 @@
  *     ./check_image DATA HASH ROOT [HASH_OFFSET]
  *
  * Status 0 if all is right, and then nothing is printed. Status 1 if a hash block is another or is missing, or the root
- * hash is another, and 2 if the image can't be checked: a line on standard error says which, or why. Of several differences the first in closing
- * order is named, as by `veritysetup verify`: a hash block counts with the last data block below it, and those that
- * come with one data block count from level 0 upward. Level 0 is next to the data, and its block number N is the one
- * with the digests of data blocks from N times the fan-out on; either the hash block or the data was changed.
+ * hash is another, and 2 if the image can't be checked: a line on standard error says which, or why. Of several
+ * differences the first in closing order is named, as by `veritysetup verify`: a hash block counts with the last data
+ * block below it, and those that come with one data block count from level 0 upward. Level 0 is next to the data, and
+ * its block number N is the one with the digests of data blocks from N times the fan-out on; either the hash block or
+ * the data was changed.
  *
  * Parameters come from the superblock, which the root hash doesn't cover: compare them with trusted ones, by
  * verity_same_params, if somebody else could have written it.

@@ -31,7 +31,7 @@ if readelf -h "$BIN/fsverity" | grep -q 'Machine:.*AArch64'; then
     done
 fi
 
-# is_imitated: whether qemu runs them.
+# is_imitated: whether qemu runs them. It stands in place of that of tests/lib/checks.sh.
 is_imitated() {
     [ ${#qemu[@]} -gt 0 ]
 }
@@ -53,21 +53,6 @@ in_root() {
     enters "${qemu[@]}" "/$1" "${@:2}"
 }
 
-# without STREAMS PROGRAM WORD..: runs it with these standard streams closed.
-without() {
-    local stream
-    (
-        for stream in $1; do
-            case $stream in
-            0) exec <&- ;;
-            1) exec >&- ;;
-            2) exec 2>&- ;;
-            esac
-        done
-        in_root "${@:2}"
-    )
-}
-
 if ! enters "${qemu[@]}" /fsverity digest /fsverity >"$scratch/said" 2>&1; then
     if ! unshare --map-root-user true 2>/dev/null && [ "$(id -u)" -ne 0 ]; then
         echo "$0: no root can be made here"
@@ -78,18 +63,18 @@ if ! enters "${qemu[@]}" /fsverity digest /fsverity >"$scratch/said" 2>&1; then
     exit
 fi
 
-data=$root_folder/data image=$root_folder/image hash=$root_folder/hash
-image_17 "$data" "$image"
+data=$root_folder/data stated=$root_folder/stated hash=$root_folder/hash
+image_17 "$data" "$stated"
 cp "$data" "$root_folder/changed"
 flip "$root_folder/changed" 8192 255
 printf a >"$root_folder/one"
-one=sha256:bce75948b9e7510293f8f2720412af9697c1479281323f3f220623fb8e94b557
+one=sha256:$DIGEST_OF_A
 (cd "$root_folder" && find . | sort) >"$scratch/before"
 
 commands() {
     runs "$user: format" 0 "$(report /hash 512 512 17 - "$root")" '' \
         in_root veritysetup format "${image_17_options[@]}" /data /hash
-    same_bytes "$user: format: the hash file" "$image" "$hash"
+    same_bytes "$user: format: the hash file" "$stated" "$hash"
     runs "$user: dump" 0 "$(report /hash 512 512 17 -)" '' in_root veritysetup dump /hash
     runs "$user: verify" 0 '' '' in_root veritysetup verify /data /hash "$root"
     runs "$user: verify of changed data" 2 '' 'Verification failed: level 0 block 1, child 16.' \
@@ -110,13 +95,13 @@ closed_streams() {
         if [[ $closed = *1* ]]; then status=4 text= message='Cannot write output.'; fi
         if [[ $closed = *2* ]]; then message=; fi
         runs "$user: format, '$closed' closed" $status "$text" "$message" \
-            without "$closed" veritysetup format "${image_17_options[@]}" /data /hash
-        same_bytes "$user: format, '$closed' closed: the hash file" "$image" "$hash"
+            with_closed "$closed" in_root veritysetup format "${image_17_options[@]}" /data /hash
+        same_bytes "$user: format, '$closed' closed: the hash file" "$stated" "$hash"
         rm "$hash"
         if [[ $closed = *1* ]]; then status=1 text= message='fsverity: cannot write output.'; else text="$one /one"; fi
         if [[ $closed = *2* ]]; then message=; fi
         runs "$user: digest, '$closed' closed" $status "$text" "$message" \
-            without "$closed" fsverity digest --out-merkle-tree /tree /one
+            with_closed "$closed" in_root fsverity digest --out-merkle-tree /tree /one
         same_bytes "$user: digest, '$closed' closed: the tree" /dev/null "$root_folder/tree"
         rm "$root_folder/tree"
     done

@@ -146,8 +146,7 @@ if command -v strip >/dev/null && command -v readelf >/dev/null; then
     is_stripped bin/fsverity "$scratch/stripped/usr/local/bin/fsverity-proved"
     is_stripped bin/veritysetup "$scratch/stripped/usr/local/sbin/veritysetup-proved"
     printf a >"$scratch/one"
-    runs 'a stripped program' 0 \
-        "sha256:bce75948b9e7510293f8f2720412af9697c1479281323f3f220623fb8e94b557 $scratch/one" '' \
+    runs 'a stripped program' 0 "sha256:$DIGEST_OF_A $scratch/one" '' \
         "$scratch/stripped/usr/local/bin/fsverity-proved" digest "$scratch/one"
     for file in bin/fsverity bin/veritysetup bin/any/* bin/aarch64/{fsverity,veritysetup}; do
         if [ -x "$file" ]; then
@@ -257,8 +256,7 @@ refuses 'another TARGET' 'TARGET is x86_64 or aarch64' install TARGET=arm
 
 # The archive of the sources: the same bytes from a clone, later and with other settings, and what was committed.
 if [ -e .git ] && command -v git >/dev/null; then
-    name=verity-$(git show HEAD:include/verity.h |
-        awk '/^#define VERITY_VERSION_/ { printf "%s%s", dot, $3; dot = "." }')
+    name=verity-$(git show HEAD:include/verity.h | header_version)
     same 'make dist: a version that is released' "dist/$name.tar.gz" "$(archive_for '2.0.0 (2026-11-30)')"
     same 'make dist: one that is not' "dist/$name+COMMIT.tar.gz" "$(archive_for '2.0.0 (not yet released)')"
     same 'make dist: one without a number' "dist/$name+COMMIT.tar.gz" "$(archive_for 'Not yet released')"

@@ -7,6 +7,7 @@
 set -u
 cd "$(dirname "$0")/.."
 . tests/lib/checks.sh
+. tests/lib/settings.sh
 . tests/kernel/machine.sh
 . tests/kernel/kernel_images.sh
 has_program veritysetup
@@ -18,8 +19,6 @@ needs veritysetup cryptsetup-bin
 needs fsverity fsverity
 needs mke2fs e2fsprogs
 find_kernel
-
-salts=(- ab "$(seq -s '' 1000 1015)" "$(seq -s '' 1000 1127)")
 
 # functions: the functions with both hash types and all salts, with trees of no level to three.
 functions() {
@@ -40,14 +39,14 @@ functions() {
 
 # sizes: all other sizes of data blocks and hash blocks, and an image of three levels with blocks of 4096.
 sizes() {
-    local data_size hash_size fan count
-    for data_size in 512 1024 2048 4096; do
-        for hash_size in 512 1024 2048 4096; do
+    local data_block_size hash_block_size fan count
+    for data_block_size in 512 1024 2048 4096; do
+        for hash_block_size in 512 1024 2048 4096; do
             # Those of `functions`.
-            if [ "$data_size $hash_size" = '512 512' ]; then continue; fi
-            fan=$(fan_out sha256 $hash_size)
+            if [ "$data_block_size $hash_block_size" = '512 512' ]; then continue; fi
+            fan=$(fan_out sha256 $hash_block_size)
             for count in 1 "$fan" $((fan + 1)); do
-                image superblock 0 sha256 1 $data_size $hash_size "${salts[2]}" "$count"
+                image superblock 0 sha256 1 $data_block_size $hash_block_size "${salts[2]}" "$count"
                 ask_each
             done
         done
@@ -58,14 +57,14 @@ sizes() {
 
 # areas: the superblock at hash offsets, none at all, and both right behind the data in its own file.
 areas() {
-    local area hash_size count
-    for hash_size in 512 1024 4096; do
+    local area hash_block_size count
+    for hash_block_size in 512 1024 4096; do
         for count in 1 17 257; do
             for area in 'superblock 512' 'superblock 4096' 'superblock 1049088' 'bare 0' 'bare 4096' 'bare 1048576' \
                 "behind $((count * 1024))"; do
                 # An area is two words.
                 # shellcheck disable=SC2086
-                image $area sha256 1 1024 $hash_size "${salts[1]}" $count
+                image $area sha256 1 1024 $hash_block_size "${salts[1]}" $count
                 ask_each
             done
         done

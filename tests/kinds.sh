@@ -33,10 +33,7 @@ same 'CPU in the environment' "TARGET=x86_64 STATIC=no fsverity_cli fsverity $he
 
 # A copy of what is built, and an `rt` that proves nothing.
 copy=$scratch/copy
-tools=$(path_without rt)
-printf '%s\n' '#!/usr/bin/env bash' "case \$* in version | doc) exec '$(type -P rt)' \"\$@\" ;; esac" \
-    'echo "rt: nothing is proved here"' 'exit 1' >"$tools/rt"
-chmod +x "$tools/rt"
+tools=$(path_without_proofs)
 mkdir "$copy"
 tar -c --exclude='crates/*/out' crates.txt {build,building}.sh {any_processor,runtime_for_arm}.c crates |
     tar -x -C "$copy"

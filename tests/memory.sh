@@ -42,7 +42,7 @@ declare -A endings_of=(
     [veritysetup_runs::dump_is_whole]='Unprepared Untouched'
     [veritysetup_runs::verify_is_whole]='Unprepared Untouched'
     [veritysetup_runs::verify_of_a_tree_alone_is_whole]='Unprepared Untouched'
-    [veritysetup_runs::verify_of_a_changed_image_is_whole]='Unprepared Untouched NoMessage'
+    [veritysetup_runs::verify_of_a_changed_device_is_whole]='Unprepared Untouched NoMessage'
     [fsverity_runs::digest_is_whole]='Unprepared Untouched Stopped'
     [fsverity_runs::digest_with_output_files_is_whole]='Unprepared Untouched Stopped'
     [fsverity_runs::digest_of_no_file_is_whole]='Unprepared'
@@ -67,7 +67,7 @@ declare -A ending_at=(
         format_of_a_tree_alone_is_whole Untouched
         verify_is_whole Untouched
         verify_of_a_tree_alone_is_whole Untouched
-        verify_of_a_changed_image_is_whole Untouched'
+        verify_of_a_changed_device_is_whole Untouched'
     [6]='format_is_whole Stopped
         format_of_a_tree_alone_is_whole Stopped
         digest_is_whole Untouched
@@ -234,12 +234,12 @@ formats() {
 
 verifies() {
     endings_of_setup
-    refuse 'dump' 0 "$memory_ending" "$veritysetup" dump "$image"
+    refuse 'dump' 0 "$memory_ending" "$veritysetup" dump "$stated"
     refuse 'dump of other bytes' 1 "$memory_ending|1 " "$veritysetup" dump "$data"
-    refuse 'verify' 0 "$memory_ending" "$veritysetup" verify "$data" "$image" "$root"
+    refuse 'verify' 0 "$memory_ending" "$veritysetup" verify "$data" "$stated" "$root"
     refuse 'verify with another root hash' 2 "$memory_ending|2 " \
-        "$veritysetup" verify "$data" "$image" "${root//[0-4]/5}"
-    tail -c +513 "$image" >"$scratch/bare.img"
+        "$veritysetup" verify "$data" "$stated" "${root//[0-4]/5}"
+    tail -c +513 "$stated" >"$scratch/bare.img"
     refuse 'verify without a superblock' 0 "$memory_ending" \
         "$veritysetup" verify "${bare_options[@]}" "$data" "$scratch/bare.img" "$root"
 }
@@ -247,8 +247,9 @@ verifies() {
 digests_of_files() {
     endings_of_files
     prints_lines=yes
-    refuse 'digest' 0 "$memory_ending" "$fsverity" digest "$data" "$image"
-    refuse 'digest in short' 0 "$memory_ending" "$fsverity" digest --compact --for-builtin-sig --salt ab "$data" "$image"
+    refuse 'digest' 0 "$memory_ending" "$fsverity" digest "$data" "$stated"
+    refuse 'digest in short' 0 "$memory_ending" \
+        "$fsverity" digest --compact --for-builtin-sig --salt ab "$data" "$stated"
     refuse 'digest of a missing file' 1 "$memory_ending" "$fsverity" digest "$data" "$scratch/missing"
     refuse 'digest with output files' 0 "$memory_ending" "$fsverity" digest --block-size 512 \
         --out-merkle-tree "$made/tree" --out-descriptor "$made/descriptor" "$data"
@@ -260,8 +261,8 @@ before=$scratch/before
 whole=$scratch/whole
 prints_lines=no
 data=$scratch/data.img
-image=$scratch/image.img
-image_17 "$data" "$image"
+stated=$scratch/stated.img
+image_17 "$data" "$stated"
 bare_options=(--no-superblock --data-block-size 512 --hash-block-size 512 --salt=-)
 
 if "$compiler" -shared -fPIC -O1 -o "$refuser" tests/refuse_memory.c; then

@@ -20,7 +20,7 @@ needs pkg-config pkg-config
 has_programs deb bin/any bin/aarch64
 needs_root
 
-release=$(awk '/^#define VERITY_VERSION_/ { printf "%s%s", dot, $3; dot = "." }' include/verity.h)
+release=$(header_version <include/verity.h)
 revision=$(dpkg-parsechangelog -S Version)
 same 'debian/changelog: the version' "$release" "${revision%-*}"
 revision=${revision##*-}
@@ -164,7 +164,6 @@ in_root() {
 }
 
 printf a >"$scratch/a"
-one_byte=sha256:bce75948b9e7510293f8f2720412af9697c1479281323f3f220623fb8e94b557
 for architecture in amd64 arm64; do
     there=$scratch/$architecture
     case $architecture in
@@ -235,7 +234,8 @@ END
     cp "$scratch/a" "$there"
     at=
     if [ $architecture = arm64 ]; then at=$there; fi
-    runs "$architecture: an installed program" 0 "$one_byte $at/a" '' in_root usr/bin/fsverity-proved digest "$at/a"
+    runs "$architecture: an installed program" 0 "sha256:$DIGEST_OF_A $at/a" '' \
+        in_root usr/bin/fsverity-proved digest "$at/a"
     rm "$there/a"
 
     # debian/tests, with what is installed there.

@@ -11,7 +11,6 @@ needs qemu-x86_64 qemu-user
 cpu=$(head -n 1 "$BIN/fsverity.made")
 printf a >"$scratch/one"
 sample 8192 >"$scratch/data"
-digest=bce75948b9e7510293f8f2720412af9697c1479281323f3f220623fb8e94b557
 
 stated=$(tr '\n' ' ' <docs/BUILDING.md | grep -oE 'this machine lacks a feature of x86-64-v3[^`]*')
 
@@ -30,8 +29,9 @@ begins() {
     local name other=main_for_x86_64_v3
     if [ "$1" = $other ]; then other=main_for_x86_64; fi
     rm -f "$scratch/hash"
-    runs "fsverity for any on $2${3:+ with $3}" 0 "sha256:$digest $scratch/one" '' env -u VERITY_PROCESSOR ${3:+"$3"} \
-        qemu-x86_64 -cpu "$2" -d in_asm -D "$scratch/fsverity.log" "$BIN/fsverity" digest "$scratch/one"
+    runs "fsverity for any on $2${3:+ with $3}" 0 "sha256:$DIGEST_OF_A $scratch/one" '' \
+        env -u VERITY_PROCESSOR ${3:+"$3"} qemu-x86_64 -cpu "$2" -d in_asm -D "$scratch/fsverity.log" \
+        "$BIN/fsverity" digest "$scratch/one"
     runs "veritysetup for any on $2${3:+ with $3}" 0 any '' env -u VERITY_PROCESSOR ${3:+"$3"} \
         qemu-x86_64 -cpu "$2" -d in_asm -D "$scratch/veritysetup.log" \
         "$BIN/veritysetup" format "$scratch/data" "$scratch/hash"
@@ -50,7 +50,7 @@ comes_to() {
 case $cpu in
 x86-64-v2)
     refused core2duo
-    runs 'fsverity for x86-64-v2 on Nehalem' 0 "sha256:$digest $scratch/one" '' \
+    runs 'fsverity for x86-64-v2 on Nehalem' 0 "sha256:$DIGEST_OF_A $scratch/one" '' \
         qemu-x86_64 -cpu Nehalem "$BIN/fsverity" digest "$scratch/one"
     runs 'veritysetup for x86-64-v2 on Nehalem' 0 any '' \
         qemu-x86_64 -cpu Nehalem "$BIN/veritysetup" format "$scratch/data" "$scratch/hash"

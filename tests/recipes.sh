@@ -17,8 +17,8 @@ awk '
 ' docs/RECIPES.md >"$scratch/examples"
 commands=$(grep -c '^ *\$ ' docs/RECIPES.md)
 
-# section NAME: the commands of one recipe.
-section() {
+# recipe NAME: the commands of one recipe.
+recipe() {
     awk -v name="## $1" '/^## / { inside = $0 == name } inside && /^    / { print substr($0, 5) }' \
         "$top/docs/RECIPES.md"
 }
@@ -77,7 +77,7 @@ salt=$(od -An -v -t x1 -j $((blocks * 4096 + 88)) -N 32 one.raw | tr -d ' \n')
 tree_of image.raw "$salt" >"$scratch/tree"
 same_bytes 'one.raw: data' image.raw <(head -c $((blocks * 4096)) one.raw)
 same_bytes 'one.raw: the tree' "$scratch/tree" <(tail -c +$((blocks * 4096 + 4097)) one.raw)
-section 'The same, with the tree behind it in one file' | grep -v '^\$ cp ' >"$scratch/again"
+recipe 'The same, with the tree behind it in one file' | grep -v '^\$ cp ' >"$scratch/again"
 size=$(stat -c %s one.raw)
 run_examples 'docs/RECIPES.md, again' "$scratch/again"
 same 'one.raw, again: commands' 3 "$examples"
@@ -85,7 +85,7 @@ same 'one.raw, again: its size' "$size" "$(stat -c %s one.raw)"
 same_bytes 'one.raw, again: data' image.raw <(head -c $((blocks * 4096)) one.raw)
 
 # A superblock that isn't trusted: with another salt `dump` tells, and without it nothing has changed.
-section "A superblock that isn't trusted" >"$scratch/pinned"
+recipe "A superblock that isn't trusted" >"$scratch/pinned"
 flip image.verity 88 1
 salt=$(awk '/^Salt:/{print $2}' report)
 sed -n '/cmp/p' "$scratch/pinned" | sed 's/^\$ //' >"$scratch/pinned_by_dump"

@@ -18,7 +18,7 @@ needs_root
 one=$scratch/one other=$scratch/other
 as_a_commit "$one"
 commit=$(git -C "$one" rev-parse HEAD)
-name=$(awk '/^#define VERITY_VERSION_/ { printf "%s%s", dot, $3; dot = "." }' include/verity.h)
+name=$(header_version <include/verity.h)
 name=verity-$name+${commit:0:12}
 if ! grep -qi '^## .*not yet released' CHANGELOG.md; then name=${name%+*}; fi
 archives=("$name"{,-x86_64,-aarch64}.tar.gz)
@@ -78,7 +78,6 @@ zeros 4096 >"$scratch/block"
 { bytes "$(sha256 "$scratch/block")$(sha256 "$scratch/block")" && zeros 4032; } >"$scratch/top"
 root=$(sha256 "$scratch/top")
 printf a >"$scratch/a"
-one_byte=sha256:bce75948b9e7510293f8f2720412af9697c1479281323f3f220623fb8e94b557
 
 # in_root PROGRAM WORD..: runs a program in the folder of its archive as root folder, but one for 64-bit ARM in this
 # system, by qemu.
@@ -126,9 +125,9 @@ END
     at=
     if [ $target = aarch64 ]; then at=$folder; fi
     cp "$scratch/data" "$scratch/a" "$folder"
-    runs "$target: digest" 0 "$one_byte $at/a" '' in_root bin/fsverity-proved digest "$at/a"
+    runs "$target: digest" 0 "sha256:$DIGEST_OF_A $at/a" '' in_root bin/fsverity-proved digest "$at/a"
     runs "$target: format" 0 any '' in_root sbin/veritysetup-proved format --salt=- "$at/data" "$at/hash"
-    same "$target: the root hash" "$root" "$(sed -n 's/^Root hash:[[:space:]]*//p' "$scratch/.out")"
+    same "$target: the root hash" "$root" "$(root_in "$scratch/.out")"
     runs "$target: verify" 0 '' '' in_root sbin/veritysetup-proved verify "$at/data" "$at/hash" "$root"
     flip "$folder/data" 5000 1
     runs "$target: verify, with a changed byte" 2 '' 'Verification failed: level 0 block 0, child 1.' \

@@ -4,7 +4,7 @@
 set -u
 cd "$(dirname "$0")/.."
 . tests/lib/checks.sh
-. tests/lib/running.sh
+. tests/lib/background.sh
 unset GATE_LOG MAY_BE_LEFT_OUT SAY_EVERY
 top=$PWD
 own_path=$PATH

@@ -3,8 +3,8 @@
 
     docs/pictures/draw.py [FOLDER]    draws them into this folder, or into the one where this script lies
 
-hash_device.svg shows the hash device of 257 data blocks by the rules of docs/DEFINITIONS.md (counts, places and closing
-order); speeds.svg shows the first table of docs/SPEED.md.
+hash_device.svg shows the hash device of 257 data blocks, with counts, places and closing order by tests/lib/trees.py;
+speeds.svg shows the first table of docs/SPEED.md.
 """
 
 import os
@@ -12,6 +12,9 @@ import re
 import sys
 
 HERE = os.path.dirname(os.path.abspath(__file__))
+sys.dont_write_bytecode = True
+sys.path.insert(1, os.path.join(HERE, "..", "..", "tests", "lib"))
+from trees import Settings, Shape
 
 STYLE = """
   .paper { fill: #ffffff } text { fill: #1f2328; font: 13px sans-serif } .small { font-size: 11px }
@@ -61,34 +64,15 @@ class Picture:
         return ("\n".join(self.lines + ["</svg>"]) + "\n").encode()
 
 
-def level_sizes(blocks, fan_out):
-    """How many hash blocks each level has, level 0 first."""
-    sizes = []
-    while blocks > 1:
-        blocks = -(-blocks // fan_out)
-        sizes.append(blocks)
-    return sizes
-
-
-def closing_order(blocks, fan_out):
-    """The hash blocks in the order in which they close, each as its level and its number."""
-    levels = len(level_sizes(blocks, fan_out))
-    return [
-        (level, i // fan_out ** (level + 1))
-        for i in range(blocks)
-        for level in range(levels)
-        if (i + 1) % fan_out ** (level + 1) == 0 or i == blocks - 1
-    ]
-
-
 def hash_device():
     """The hash device of 257 data blocks, by 16 digests a hash block."""
-    blocks, fan_out, base, cell, left, top = 257, 16, 1, 40, 20, 118
-    sizes, order = level_sizes(blocks, fan_out), closing_order(blocks, fan_out)
-    starts = [base + sum(sizes[level + 1 :]) for level in range(len(sizes))]
+    blocks, cell, left, top = 257, 40, 20, 118
+    shape = Shape(Settings("sha256", 512, 512, b"", blocks, 1), 1)
+    fan_out, level_sizes, order = shape.fan, shape.level_sizes, list(shape.closing_order(blocks))
+    firsts = [shape.place(level, 0) for level in range(len(level_sizes))]
     bottom = top + 92
     picture = Picture(
-        left * 2 + cell * (base + sum(sizes)),
+        left * 2 + cell * shape.end,
         bottom + 128,
         "A hash device, and the order in which its blocks close",
         f"For {blocks} data blocks and {fan_out} digests a hash block: the superblock, then level 2 with one block,"
@@ -103,30 +87,30 @@ def hash_device():
     picture.rect(x(0), top, cell, cell, "box super")
     picture.text(x(0) + cell / 2, top + 25, len(order) + 1)
     picture.text(x(0) + cell / 2, top + cell + 16, 0, "small")
-    for number, (level, block) in enumerate(order, 1):
-        place = starts[level] + block
+    for number, (level, index) in enumerate(order, 1):
+        place = firsts[level] + index
         picture.rect(x(place), top, cell, cell, f"box level{level}")
         picture.text(x(place) + cell / 2, top + 25, number)
         picture.text(x(place) + cell / 2, top + cell + 16, place, "small")
     # Which blocks a block has the digests of, from above.
-    for level in range(len(sizes) - 1):
-        for above in range(sizes[level + 1]):
-            first = starts[level] + above * fan_out
-            last = min(first + fan_out, starts[level] + sizes[level]) - 1
-            to, middle = x(starts[level + 1] + above) + cell / 2, (x(first) + x(last + 1)) / 2
+    for level in range(len(level_sizes) - 1):
+        for above in range(level_sizes[level + 1]):
+            first = firsts[level] + above * fan_out
+            last = min(first + fan_out, firsts[level] + level_sizes[level]) - 1
+            to, middle = x(firsts[level + 1] + above) + cell / 2, (x(first) + x(last + 1)) / 2
             low, high = top - 8, top - (58 if (level, above) == (0, 0) else 36)
             picture.path(f"M{x(first) + 4} {top - 2} V{low} H{x(last + 1) - 4} V{top - 2}")
             picture.arrow(f"M{middle} {low} V{high} H{to} V{top - 4}", to, top - 1, True)
     for level in (1, 2):
-        picture.text(x(starts[level]) + sizes[level] * cell / 2, top + cell + 36, f"level {level}", "small")
+        picture.text(x(firsts[level]) + level_sizes[level] * cell / 2, top + cell + 36, f"level {level}", "small")
     picture.text(x(0) + cell / 2 - 3, top + cell + 36, "super-", "small")
     picture.text(x(0) + cell / 2 - 3, top + cell + 49, "block", "small")
-    picture.text(x(starts[0]) + 8, top - 14, "level 0", "small", "start")
+    picture.text(x(firsts[0]) + 8, top - 14, "level 0", "small", "start")
     # The data, below the blocks of level 0 that have its digests.
     picture.text(left, bottom + 25, "Data device", "head", "start")
-    for block in range(sizes[0]):
-        first, last = block * fan_out, min(blocks, (block + 1) * fan_out) - 1
-        at = x(starts[0] + block)
+    for index in range(level_sizes[0]):
+        first, last = index * fan_out, min(blocks, (index + 1) * fan_out) - 1
+        at = x(firsts[0] + index)
         picture.rect(at, bottom, cell, cell, "box data")
         picture.text(at + cell / 2, bottom + 16, first, "small")
         if last > first:

@@ -71,20 +71,20 @@ def a_file():
 
 def an_image():
     name, kind = numbers.choice(("sha256", "sha512", "sha1", "sha384")), numbers.randrange(2)
-    size, hash_size = (512 << numbers.randrange(5) for _ in range(2))
+    size, hash_block_size = (512 << numbers.randrange(5) for _ in range(2))
     count = numbers.choice((2, 8, 9, 17, 129, numbers.randrange(2, 400)))
     salt = numbers.randbytes(numbers.randrange(257))
     bare, uuid = numbers.randrange(2) == 1, "00112233-4455-4677-8899-aabbccddeeff"
-    offset = numbers.randrange(4) * (hash_size if bare else 4096)
+    offset = numbers.randrange(4) * (hash_block_size if bare else 4096)
     data = numbers.randbytes(count * size)
     image, path = written("image", data), written("hashes", bytes(offset))
-    words = [f"--hash={name}", f"--format={kind}", f"--data-block-size={size}", f"--hash-block-size={hash_size}"]
+    words = [f"--hash={name}", f"--format={kind}", f"--data-block-size={size}", f"--hash-block-size={hash_block_size}"]
     words += [f"--salt={salt.hex() or '-'}", f"--hash-offset={offset}", "--no-superblock" if bare else f"--uuid={uuid}"]
     report = said("veritysetup", "format", *words, image, path)
     root = bytes.fromhex(re.search(r"^Root hash:\s*(\w+)$", report, re.M)[1])
     settings = f"{words}, {count} blocks"
     bytes_of_uuid = bytes(16) if bare else bytes.fromhex(uuid.replace("-", ""))
-    params = verity.Params(count, name, kind, size, hash_size, offset, bare, salt, bytes_of_uuid)
+    params = verity.Params(count, name, kind, size, hash_block_size, offset, bare, salt, bytes_of_uuid)
     with open(path, "rb") as file:
         stated = file.read()
     if not bare:
@@ -101,7 +101,7 @@ def an_image():
 
 def changed(settings, params, data, hashes, root, image, path):
     """Changes a byte: all can be read but what is below it, and Debian's program refuses the image, too."""
-    size, hash_size, every = params.data_block_size, params.hash_block_size, range(params.data_blocks)
+    size, hash_block_size, every = params.data_block_size, params.hash_block_size, range(params.data_blocks)
     tree_begin = params.level_start(params.level_count - 1)[0]
     at = numbers.randrange(len(data) + len(hashes) - tree_begin)
     bit = 1 << numbers.randrange(8)
@@ -111,7 +111,7 @@ def changed(settings, params, data, hashes, root, image, path):
         written("image", data)
     else:
         at += tree_begin - len(data)
-        what, start = f"hash byte {at}", at // hash_size * hash_size
+        what, start = f"hash byte {at}", at // hash_block_size * hash_block_size
         bad = {i for i in every for n in range(params.level_count) if params.hash_block_start(i, n) == start}
         hashes = hashes[:at] + bytes([hashes[at] ^ bit]) + hashes[at + 1 :]
         written("hashes", hashes)
@@ -129,15 +129,16 @@ def changed(settings, params, data, hashes, root, image, path):
     alone = set()
     for index in every:
         starts = [params.hash_block_start(index, level) for level in range(params.level_count)]
-        blocks = b"".join(hashes[start : start + hash_size] for start in starts)
+        blocks = b"".join(hashes[start : start + hash_block_size] for start in starts)
         try:
             verity.check_block(params, index, data[index * size : (index + 1) * size], blocks, root)
         except verity.Differs:
             alone.add(index)
     same(f"{settings}, {what}: refused by check_block", bad, alone)
     words = ["--no-superblock", f"--hash={params.hash_algorithm}", f"--format={params.hash_type}"]
-    words += [f"--data-blocks={params.data_blocks}", f"--data-block-size={size}", f"--hash-block-size={hash_size}"]
-    words += [f"--salt={params.salt.hex() or '-'}", f"--hash-offset={params.hash_offset}"]
+    words += [f"--data-blocks={params.data_blocks}", f"--data-block-size={size}"]
+    words += [f"--hash-block-size={hash_block_size}", f"--salt={params.salt.hex() or '-'}"]
+    words += [f"--hash-offset={params.hash_offset}"]
     if not params.no_superblock:
         words = [f"--hash-offset={params.hash_offset}"]
     done = subprocess.run(["veritysetup", "verify", *words, image, path, root.hex()], capture_output=True, text=True)

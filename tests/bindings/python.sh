@@ -7,6 +7,7 @@ set -u
 cd "$(dirname "$0")/../.."
 . tests/lib/checks.sh
 . tests/lib/c_programs.sh
+. tests/lib/random_images.sh
 PYTHON=${PYTHON:-$(PATH=/usr/bin:$PATH type -P python3)}
 needs "${PYTHON:-python3}" python3
 needs cc gcc
@@ -45,12 +46,11 @@ library() {
     echo "$2" | cc -shared -fPIC -x c - -o "$scratch/$1/libverity.so.2" || fail "$1" "it can't be built"
 }
 
-digest=bce75948b9e7510293f8f2720412af9697c1479281323f3f220623fb8e94b557
-same 'by its path' "path: 0 $digest" "$(imports path A=)"
+same 'by its path' "path: 0 $DIGEST_OF_A" "$(imports path A=)"
 mkdir "$scratch/loaded"
 cp "$VERITY_LIBRARY" "$scratch/loaded"
-same 'by the loader' "loader: 0 $digest" "$(imports loader -u VERITY_LIBRARY LD_LIBRARY_PATH="$scratch/loaded")"
-same 'an empty variable' "empty: 0 $digest" "$(imports empty VERITY_LIBRARY= LD_LIBRARY_PATH="$scratch/loaded")"
+same 'by the loader' "loader: 0 $DIGEST_OF_A" "$(imports loader -u VERITY_LIBRARY LD_LIBRARY_PATH="$scratch/loaded")"
+same 'an empty variable' "empty: 0 $DIGEST_OF_A" "$(imports empty VERITY_LIBRARY= LD_LIBRARY_PATH="$scratch/loaded")"
 missing=$scratch/missing/libverity.so.2
 same 'no library' "missing: 1 ImportError: verity needs the library libverity.so.2, by the loader or at \
 VERITY_LIBRARY: $missing: cannot open shared object file: No such file or directory" \
@@ -103,7 +103,7 @@ root=$(sed -n 1p "$scratch/page/said")
 same 'the example: bytes' $((300 * 4096)) "$(sed -n 2p "$scratch/page/said")"
 same 'the example: digest' "$(fsverity digest --compact "$scratch/page/image")" "$(sed -n 3p "$scratch/page/said")"
 same "the example: Debian's root hash" "$root" \
-    "$(veritysetup format --salt=73616c74 "$scratch/page/image" "$scratch/page/other" | sed -n 's/^Root hash:\s*//p')"
+    "$(veritysetup format --salt=73616c74 "$scratch/page/image" "$scratch/page/other" | root_in)"
 runs "the example: Debian's program takes the image" 0 '' '' \
     veritysetup verify "$scratch/page/image" "$scratch/page/image.hash" "$root"
 # The page's way to an image that is there, with the hash device of Debian's program.
@@ -151,7 +151,7 @@ modules=$(cd $binding && printf '644 %s\n' verity/*.py verity/py.typed)
 installed() {
     (cd "$scratch" && PYTHONPATH=$2 "$PYTHON" -c 'import sys, verity
 print(verity.__file__, verity.FileDigest(b"a").hexdigest())' >said 2>&1)
-    same "$1: used from there" "$2/verity/__init__.py $digest" "$(cat "$scratch/said")"
+    same "$1: used from there" "$2/verity/__init__.py $DIGEST_OF_A" "$(cat "$scratch/said")"
 }
 
 to=$("$PYTHON" -I -c 'import sysconfig; print(sysconfig.get_path("purelib"))')

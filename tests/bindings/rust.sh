@@ -7,6 +7,7 @@ set -u
 cd "$(dirname "$0")/../.."
 . tests/lib/checks.sh
 . tests/lib/c_programs.sh
+. tests/lib/random_images.sh
 PATH=/usr/bin:$PATH
 needs cargo cargo
 needs rustc rustc
@@ -64,12 +65,12 @@ needed() {
 # ------------------------------------------------ Declarations ------------------------------------------------
 
 adds 'the declarations' tests/bindings/rust_declarations.py include/verity.h "$crate/src/ffi.rs"
-tests/bindings/rust_declarations.py include/verity.h "$crate/src/ffi.rs" layout >"$scratch/layout.c"
-if compiles "$scratch/layout" cc "$scratch/layout.c"; then
-    cargo test "${manifest[@]}" --locked --lib -- --ignored --nocapture layout 2>&1 |
-        grep -E '^(struct|field) ' >"$scratch/layout.rust"
-    "$scratch/layout" >"$scratch/layout.c"
-    same_bytes 'the places of fields' "$scratch/layout.c" "$scratch/layout.rust"
+tests/bindings/rust_declarations.py include/verity.h "$crate/src/ffi.rs" structs >"$scratch/structs.c"
+if compiles "$scratch/structs" cc "$scratch/structs.c"; then
+    cargo test "${manifest[@]}" --locked --lib -- --ignored --nocapture structs 2>&1 |
+        grep -E '^(struct|field) ' >"$scratch/structs.rust"
+    "$scratch/structs" >"$scratch/structs.header"
+    same_bytes 'the places of fields' "$scratch/structs.header" "$scratch/structs.rust"
 fi
 same 'files with unsafe' "$crate/src/library.rs" "$(grep -rlE 'unsafe (\{|fn|impl|extern|trait)' "$crate" | sort)"
 # Directly above the statement, which may go on in the next line.

@@ -3,14 +3,14 @@
 
 Each function, struct and constant that stands in FFI.RS has to be the header's: the same arguments and fields, of the
 same types, in the same order. All statuses but the one of parts, and all hash functions, have to be there. The last
-line is 'N passed, M failed'. With one word more, `layout`, a program in C is printed instead, which prints size and
-alignment of the structs, and place and size of each of their fields, as the test `layout` of FFI.RS does.
+line is 'N passed, M failed'. With one word more, `structs`, a program in C is printed instead, which prints size and
+alignment of the structs, and place and size of each of their fields, as the test `structs` of FFI.RS does.
 """
 import re
 import sys
 
 STRUCTS = {'verity_params': 'Params', 'fsverity_params': 'FileParams', 'verity_build': 'Build', 'verity_fed': 'Fed'}
-NUMBERS = {'uint8_t': 'u8', 'char': 'u8', 'uint32_t': 'u32', 'uint64_t': 'u64', 'size_t': 'usize', 'int': 'i32'}
+TYPES = {'uint8_t': 'u8', 'char': 'u8', 'uint32_t': 'u32', 'uint64_t': 'u64', 'size_t': 'usize', 'int': 'i32'}
 
 header = re.sub(r'/\*.*?\*/', '', open(sys.argv[1]).read(), flags=re.S)
 rust = re.sub(r'//[^\n]*', '', open(sys.argv[2]).read()).split('#[cfg(test)]')[0]
@@ -21,7 +21,7 @@ def in_rust(declared):
     """Name and type, in Rust, of an argument or field in C."""
     whole = re.fullmatch(r'(const )?(struct )?(\w+) (\*?)(\w+)(?:\[(\d+)\])?', declared.strip())
     is_const, is_struct, kind, is_pointer, name, count = whole.groups()
-    kind = STRUCTS.get(kind, kind) if is_struct else NUMBERS[kind]
+    kind = STRUCTS.get(kind, kind) if is_struct else TYPES[kind]
     if is_pointer:
         kind = ('*const ' if is_const else '*mut ') + kind
     return name, f'[{kind}; {count}]' if count else kind
@@ -31,7 +31,7 @@ def fields_in_c(name):
     return [in_rust(field) for field in re.search(rf'struct {name} {{(.*?)}};', one_line)[1].split(';')[:-1]]
 
 
-if sys.argv[3:] == ['layout']:
+if sys.argv[3:] == ['structs']:
     print('#include <stdalign.h>\n#include <stddef.h>\n#include <stdio.h>\n#include "verity.h"\nint main(void)\n{')
     for name in STRUCTS:
         print(f'    printf("struct {name} %zu %zu\\n", sizeof(struct {name}), alignof(struct {name}));')
@@ -53,7 +53,7 @@ def same(what, expected, found):
         print(f'FAILED {what}\n    expected: {expected}\n    found:    {found}')
 
 
-prototypes = {name: (NUMBERS[answer], [in_rust(word) for word in words.split(',')])
+prototypes = {name: (TYPES[answer], [in_rust(word) for word in words.split(',')])
               for answer, name, words in re.findall(r'VERITY_MUST_CHECK (int) (\w+)\((.*?)\);', one_line)}
 functions = re.findall(r'pub fn (\w+)\((.*?)\) -> (\w+);', re.sub(r'\s+', ' ', rust))
 same('functions', rust.count('pub fn'), len(functions))

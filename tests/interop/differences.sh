@@ -6,7 +6,7 @@ cd "$(dirname "$0")/../.."
 . tests/lib/checks.sh
 . tests/lib/stated_images.sh
 . tests/lib/loops.sh
-. tests/lib/running.sh
+. tests/lib/background.sh
 . tests/lib/debian.sh
 has_program fsverity
 has_program veritysetup

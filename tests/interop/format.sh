@@ -1,8 +1,8 @@
 #!/usr/bin/env bash
-# Compares bin/veritysetup format with the veritysetup of Debian's package cryptsetup-bin: both make the same image, the
-# other program's verify accepts ours, and the report's values are those of its dump. Over algorithms, block sizes,
-# salts, numbers of blocks and hash types, with a given number of blocks, at hash offsets, without a superblock, and
-# with data and hash area in one file. SETTINGS=all takes every combination, for a minute or two.
+# Compares bin/veritysetup format with the veritysetup of Debian's package cryptsetup-bin: both make the same hash
+# device, the other program's verify accepts ours, and the report's values are those of its dump. Over algorithms, block
+# sizes, salts, numbers of blocks and hash types, with a given number of blocks, at hash offsets, without a superblock,
+# and with data and hash area in one file. SETTINGS=all takes every combination, for a minute or two.
 set -u
 cd "$(dirname "$0")/../.."
 . tests/lib/checks.sh
@@ -35,10 +35,10 @@ compare() {
     fi
     # The other program pads the superblock of a single data block to a whole block.
     if [ "$5" -eq 1 ]; then truncate -s "$SUPERBLOCK_SIZE" "$peer"; fi
-    same_bytes "$name: image" "$peer" "$own"
+    same_bytes "$name: hash device" "$peer" "$own"
 
-    root=$(sed -n 's/^Root hash:[[:space:]]*//p' "$scratch/own.txt")
-    same "$name: root hash" "$(sed -n 's/^Root hash:[[:space:]]*//p' "$scratch/peer.txt")" "$root"
+    root=$(root_in "$scratch/own.txt")
+    same "$name: root hash" "$(root_in "$scratch/peer.txt")" "$root"
     if veritysetup verify "$data" "$own" "$root" >"$scratch/verify.txt" 2>&1; then
         pass
     else
@@ -56,13 +56,12 @@ covers() {
     veritysetup format "${options[@]}" "$data" "$peer" >"$scratch/peer.txt" 2>&1
     "$BIN/veritysetup" format "${options[@]}" "$data" "$own" >"$scratch/own.txt" 2>&1
     if [ "$1" -eq 1 ]; then truncate -s "$SUPERBLOCK_SIZE" "$peer"; fi
-    same_bytes "$name: image" "$peer" "$own"
-    same "$name: root hash" "$(sed -n 's/^Root hash:[[:space:]]*//p' "$scratch/peer.txt")" \
-        "$(sed -n 's/^Root hash:[[:space:]]*//p' "$scratch/own.txt")"
+    same_bytes "$name: hash device" "$peer" "$own"
+    same "$name: root hash" "$(root_in "$scratch/peer.txt")" "$(root_in "$scratch/own.txt")"
 }
 
-# at_area AREA OFFSET ALGORITHM DATA-BLOCK HASH-BLOCK SALT BLOCKS HASH-TYPE: both programs make the same image there,
-# the bytes before it stay, and the other verify accepts ours.
+# at_area AREA OFFSET ALGORITHM DATA-BLOCK HASH-BLOCK SALT BLOCKS HASH-TYPE: both programs make the same hash
+# device there, the bytes before it stay, and the other verify accepts ours.
 at_area() {
     local name="$*" data=$scratch/data place=(--hash-offset "$2") root
     local options=(--hash "$3" --format "$8" --data-block-size "$4" --hash-block-size "$5" --salt="$6")
@@ -80,9 +79,9 @@ at_area() {
     fi
     # The other program pads the superblock of a single data block to a whole block.
     if [ "$7" -eq 1 ] && [ "$1" = superblock ]; then truncate -s "$(stat -c %s "$own")" "$peer"; fi
-    same_bytes "$name: image" "$peer" "$own"
-    root=$(sed -n 's/^Root hash:[[:space:]]*//p' "$scratch/own.txt")
-    same "$name: root hash" "$(sed -n 's/^Root hash:[[:space:]]*//p' "$scratch/peer.txt")" "$root"
+    same_bytes "$name: hash device" "$peer" "$own"
+    root=$(root_in "$scratch/own.txt")
+    same "$name: root hash" "$(root_in "$scratch/peer.txt")" "$root"
     if [ "$1" = bare ]; then place+=("${options[@]}"); else place=(--hash-offset "$2"); fi
     if veritysetup verify "${place[@]}" "$data" "$own" "$root" >"$scratch/verify.txt" 2>&1; then
         pass
@@ -94,15 +93,15 @@ at_area() {
 
 # one_file BLOCKS HASH-BLOCK: both programs put the hash area into the data's own file, after the data.
 one_file() {
-    local name="one file, $*" offset=$(($1 * 4096))
+    local name="one file, $*" offset=$(($1 * 4096)) root
     local options=(--format 1 --data-block-size 4096 --hash-block-size "$2" --salt=ab --uuid "$UUID"
         --data-blocks "$1" --hash-offset "$offset")
     head -c "$offset" "$scratch/all" >"$own"
     cp "$own" "$peer"
     veritysetup format "${options[@]}" "$peer" "$peer" >"$scratch/peer.txt" 2>&1
     "$BIN/veritysetup" format "${options[@]}" "$own" "$own" >"$scratch/own.txt" 2>&1
-    same_bytes "$name: image" "$peer" "$own"
-    root=$(sed -n 's/^Root hash:[[:space:]]*//p' "$scratch/own.txt")
+    same_bytes "$name: the file" "$peer" "$own"
+    root=$(root_in "$scratch/own.txt")
     runs "$name: verify" 0 '' '' "$BIN/veritysetup" verify --hash-offset "$offset" "$own" "$own" "$root"
 }
 

@@ -14,7 +14,7 @@ needs python3 python3
 RANDOM=17
 sample $((4097 * 4096)) >"$scratch/all"
 data=$scratch/data
-image=$scratch/image
+hash=$scratch/hash
 
 # below COUNT: a number below a count, another at each call but the same in each run; in `below`.
 below() {
@@ -30,23 +30,23 @@ expected_place=()
 refused() {
     local name=$1 expected change file offset mask
     shift
-    mapfile -t expected < <(tests/lib/expected.py "${expected_place[@]}" "$data" "$image" "$root" "$@")
+    mapfile -t expected < <(tests/lib/expected.py "${expected_place[@]}" "$data" "$hash" "$root" "$@")
     for change in "$@"; do
         read -r file offset mask <<<"$change"
-        if [ "$file" = data ]; then file=$data; else file=$image; fi
+        if [ "$file" = data ]; then file=$data; else file=$hash; fi
         if [ "${expected[0]}" = right ]; then fail "$name: $change" 'the computation of its own finds no difference'; fi
         flip "$file" "$offset" "$mask"
-        runs "$name: $change" 2 '' "${expected[0]}" "$BIN/veritysetup" verify "${place[@]}" "$data" "$image" "$root"
+        runs "$name: $change" 2 '' "${expected[0]}" "$BIN/veritysetup" verify "${place[@]}" "$data" "$hash" "$root"
         flip "$file" "$offset" "$mask"
         expected=("${expected[@]:1}")
     done
 }
 
-# made_by_peer OPTION..: the other program's image of the data, and its root hash; in `root`.
+# made_by_peer OPTION..: the other program's hash device of the data, and its root hash; in `root`.
 made_by_peer() {
-    rm -f "$image"
-    veritysetup format "$@" "$data" "$image" >"$scratch/peer.txt"
-    root=$(sed -n 's/^Root hash:[[:space:]]*//p' "$scratch/peer.txt")
+    rm -f "$hash"
+    veritysetup format "$@" "$data" "$hash" >"$scratch/peer.txt"
+    root=$(root_in "$scratch/peer.txt")
 }
 
 compare() {
@@ -54,12 +54,12 @@ compare() {
     local changes=() hashes
     head -c "$size" "$scratch/all" >"$data"
     made_by_peer --uuid "$UUID" --hash "$1" --format "$6" --data-block-size "$2" --hash-block-size "$3" --salt="$4"
-    runs "$name: accepted" 0 '' '' "$BIN/veritysetup" verify "$data" "$image" "$root"
+    runs "$name: accepted" 0 '' '' "$BIN/veritysetup" verify "$data" "$hash" "$root"
 
     below "$size"
     changes+=("data $below $((1 << RANDOM % 8))")
     if [ "$5" -gt 1 ]; then
-        hashes=$(($(stat -c %s "$image") - base))
+        hashes=$(($(stat -c %s "$hash") - base))
         below "$hashes"
         changes+=("hash $((base + below)) $((1 << RANDOM % 8))")
     fi
@@ -82,11 +82,11 @@ at_area() {
         tree=$((($2 + 512 + $5 - 1) / $5 * $5))
         made_by_peer --hash-offset "$2" --uuid "$UUID" "${options[@]}"
     fi
-    runs "$name: accepted" 0 '' '' "$BIN/veritysetup" verify "${place[@]}" "$data" "$image" "$root"
+    runs "$name: accepted" 0 '' '' "$BIN/veritysetup" verify "${place[@]}" "$data" "$hash" "$root"
     below "$size"
     changes+=("data $below $((1 << RANDOM % 8))")
     if [ "$7" -gt 1 ]; then
-        below $(($(stat -c %s "$image") - tree))
+        below $(($(stat -c %s "$hash") - tree))
         changes+=("hash $((tree + below)) $((1 << RANDOM % 8))")
     fi
     refused "$name" "${changes[@]}"

@@ -2,14 +2,6 @@
 
 number=0
 
-# fan_out FUNCTION HASH-BLOCK: how many digests a hash block holds.
-fan_out() {
-    case $1 in
-    sha384 | sha512) echo $(($2 / 64)) ;;
-    *) echo $(($2 / 32)) ;;
-    esac
-}
-
 # image PLACE OFFSET FUNCTION HASH-TYPE DATA-BLOCK HASH-BLOCK SALT BLOCKS: makes an image, with one of these places:
 # `superblock`, `bare` for none, `behind` for one behind the data in its own file. Sets `name`, the settings by their
 # names, `data` and `hash` for the files, `root`, `tree` for the byte at which the tree begins, and `where` for the
@@ -40,7 +32,7 @@ image() {
     sample $((blocks * data_block + blocks % 2 * 512)) >"$data"
     "$BIN/veritysetup" format "${settings[@]}" "${where[@]}" "$data" "$hash" >"$scratch/report" ||
         fail "$name" 'no image was made'
-    root=$(sed -n 's/^Root hash:[[:space:]]*//p' "$scratch/report")
+    root=$(root_in "$scratch/report")
     if [ "$1" = bare ]; then where+=("${settings[@]}"); fi
 }
 

@@ -9,9 +9,9 @@ import random
 import sys
 
 sys.dont_write_bytecode = True
-from layouts import SUPERBLOCK_SIZE
-from tree_files import NUMBERS, base_of, file_digest, record
-from trees import FS_VERITY, MOST_BYTES, Settings, Shape, chain
+from layouts import FILE_ALGORITHMS, SUPERBLOCK_SIZE
+from tree_files import ALGORITHM_NUMBERS, record
+from trees import FS_VERITY, MOST_BYTES, Settings, Shape, base_of, chain, file_digest
 
 
 def some_number(numbers, most):
@@ -19,21 +19,22 @@ def some_number(numbers, most):
     return min(most, max(1, numbers.getrandbits(numbers.randint(1, most.bit_length()))))
 
 
-def device(numbers):
+def device_settings(numbers):
     """Settings, whether there is a superblock, the hash offset, and the base in hash blocks."""
     data_block, hash_block = (512 << numbers.choice((0, 0, 0, 1, 2, 3, 4)) for _ in range(2))
     salt = numbers.randbytes(numbers.choice((0, 0, 1, 32, 256, numbers.randint(0, 256))))
     count = some_number(numbers, MOST_BYTES // data_block)
-    settings = Settings(numbers.choice(list(NUMBERS)), data_block, hash_block, salt, count, numbers.randint(0, 1))
+    name = numbers.choice(list(ALGORITHM_NUMBERS))
+    settings = Settings(name, data_block, hash_block, salt, count, numbers.randint(0, 1))
     superblock = numbers.random() < 0.5
     unit = SUPERBLOCK_SIZE if superblock else hash_block
     offset = numbers.choice((0, some_number(numbers, MOST_BYTES))) // unit * unit
-    return settings, superblock, offset, base_of(hash_block, not superblock, offset)
+    return settings, superblock, offset, base_of(hash_block, offset, not superblock)
 
 
-def file(numbers):
+def file_settings(numbers):
     """Settings and the size of the file."""
-    name = numbers.choice(("sha256", "sha512"))
+    name = numbers.choice(list(FILE_ALGORITHMS))
     block = (64 if name == "sha256" else 128) << numbers.choice((0, 0, 0, 1, 2, 4, 5, 6))
     salt = numbers.randbytes(numbers.choice((0, 1, 32, numbers.randint(0, 32))))
     size = some_number(numbers, MOST_BYTES - block)
@@ -45,9 +46,9 @@ def drawn_chain(numbers):
     while True:
         is_file = numbers.random() < 0.5
         if is_file:
-            (settings, size), superblock, offset, base = file(numbers), False, 0, 0
+            (settings, size), superblock, offset, base = file_settings(numbers), False, 0, 0
         else:
-            settings, superblock, offset, base = device(numbers)
+            settings, superblock, offset, base = device_settings(numbers)
             size = settings.count
         shape = Shape(settings, base)
         if not shape.is_too_large():

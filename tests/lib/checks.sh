@@ -1,4 +1,5 @@
-# What the scripts under tests/ share. Sourced at the repository's root, by bash.
+# What the scripts under tests/ share: what they need, how checks are counted, how commands are run, bytes, and digests
+# of them. Sourced at the repository's root, by bash.
 # Expected digests come from sha256sum over stated bytes, never from the programs.
 
 BIN=${BIN:-bin}
@@ -140,6 +141,42 @@ path_without() {
     echo "$to"
 }
 
+# path_without_proofs: the same without `rt`, but with one in its place that tells its version and where its pages are,
+# and proves nothing.
+path_without_proofs() {
+    local to
+    to=$(path_without rt)
+    printf '%s\n' '#!/usr/bin/env bash' "case \$* in version | doc) exec '$(type -P rt)' \"\$@\" ;; esac" \
+        'echo "rt: nothing is proved here"' 'exit 1' >"$to/rt"
+    chmod +x "$to/rt"
+    echo "$to"
+}
+
+# root_in [REPORT]: prints the root hash in a report of format, by whichever program, in a file or on standard input.
+root_in() {
+    sed -n 's/^Root hash:[[:space:]]*//p' "$@"
+}
+
+# header_version: prints the version that include/verity.h, on standard input, has.
+header_version() {
+    awk '/^#define VERITY_VERSION_/ { printf "%s%s", dot, $3; dot = "." }'
+}
+
+# with_closed STREAMS COMMAND..: runs a command with these standard streams closed.
+with_closed() {
+    local stream
+    (
+        for stream in $1; do
+            case $stream in
+            0) exec <&- ;;
+            1) exec >&- ;;
+            2) exec 2>&- ;;
+            esac
+        done
+        "${@:2}"
+    )
+}
+
 # is_imitated: whether the programs are run by qemu, on a processor that it imitates (tests/lib/kinds.sh).
 is_imitated() {
     [ -f "$BIN/imitated" ]
@@ -176,6 +213,10 @@ sample() {
     seq 1 $(($1 / 2 + 8)) | head -c "$1"
 }
 
+# The fs-verity digests of a file of the one letter `a` and of an empty one, as docs/DEFINITIONS.md has them.
+DIGEST_OF_A=bce75948b9e7510293f8f2720412af9697c1479281323f3f220623fb8e94b557
+DIGEST_OF_EMPTY=3d248ca542a24fc62d1c43b916eae5016878e2533c88238480b26128a1f1af95
+
 # sha256 FILE and sha512 FILE: the digest in hexadecimal.
 sha256() {
     sha256sum <"$1" | cut -c1-64
@@ -198,6 +239,13 @@ hash_blocks() {
     digests "$1" "$2" "${4:-sha256sum}" >"$scratch/.above"
     truncate -s "%$3" "$scratch/.above"
     cat "$scratch/.above"
+}
+
+# fan_out HASH HASH-BLOCK: prints how many digests a hash block of so many bytes holds.
+fan_out() {
+    local lengths=([1]=20 [224]=28 [256]=32 [384]=48 [512]=64) fan=1
+    while [ $((fan * 2 * ${lengths[${1#sha}]})) -le "$2" ]; do fan=$((fan * 2)); done
+    echo $fan
 }
 
 # set_byte FILE OFFSET HEX: overwrites one byte.

@@ -1,4 +1,5 @@
-# The digests of fs-verity, of SHA-256 with blocks of 4096 and no salt, by sha256sum. Sourced after tests/lib/checks.sh.
+# Root hashes and digests of fs-verity, of SHA-256 with blocks of 4096 and no salt, by sha256sum. Sourced after
+# tests/lib/checks.sh.
 
 . tests/lib/layouts.sh
 

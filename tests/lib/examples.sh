@@ -1,5 +1,5 @@
-# What the scripts that run the examples share: how these are built, and images of Debian's veritysetup. Sourced after
-# tests/lib/checks.sh. LIB is the folder with the library.
+# What the scripts that run the examples share: how these are built, and images of Debian's veritysetup, right and
+# changed ones. Sourced after tests/lib/c_programs.sh.
 
 UUID=12345678-1234-4234-8234-123456789abc
 SALT=$(printf 'ab%.0s' {1..32})
@@ -38,7 +38,48 @@ image() {
     sample $((blocks * size)) >"$name.data"
     veritysetup format --uuid $UUID --salt "$SALT" --data-block-size "$size" "$@" "$name.data" "$name.hash" >"$name.txt" \
         2>&1 || fail "$name" "$(cat "$name.txt")"
-    root=$(sed -n 's/^Root hash:[[:space:]]*//p' "$name.txt")
+    root=$(root_in "$name.txt")
+}
+
+# tree BLOCKS BLOCK_SIZE OPTION..: makes the image tree.data and tree.hash anew. Sets root.
+tree() {
+    rm -f "$scratch"/tree.*
+    image tree "$@"
+}
+
+# random_tree: the same at random, with up to three changed bytes, none of them in the superblock. Draws by
+# tests/lib/random_images.sh.
+random_tree() {
+    local i file size
+    one_of sha256 sha512 sha1
+    tree $((RANDOM % 700 + 1)) 512 --hash "$chosen" --hash-block-size 512 --format $((RANDOM % 2))
+    for ((i = RANDOM % 4; i > 0; i--)); do
+        one_of data hash hash
+        file=$scratch/tree.$chosen
+        size=$(stat -c %s "$file")
+        if [ "$chosen" = data ]; then
+            flip "$file" $(((RANDOM * 32768 + RANDOM) % size)) 1
+        elif [ "$size" -gt 512 ]; then
+            flip "$file" $((512 + (RANDOM * 32768 + RANDOM) % (size - 512))) 1
+        fi
+    done
+}
+
+# changed MESSAGE FILE OFFSET [FILE OFFSET]: what the script's `verdict` is with one or two changed bytes.
+changed() {
+    flip "$scratch/tree.$2" "$3" 16
+    if [ $# -gt 3 ]; then flip "$scratch/tree.$4" "$5" 1; fi
+    verdict "$2 $3 ${*:4}" 1 "$1"
+    flip "$scratch/tree.$2" "$3" 16
+    if [ $# -gt 3 ]; then flip "$scratch/tree.$4" "$5" 1; fi
+}
+
+# cut_hash SIZE MESSAGE [STATUS]: the same where the hash device ends early.
+cut_hash() {
+    cp "$scratch/tree.hash" "$scratch/whole"
+    truncate -s "$1" "$scratch/tree.hash"
+    verdict "a hash device of $1 bytes" "${3:-1}" "$2"
+    mv "$scratch/whole" "$scratch/tree.hash"
 }
 
 # another ROOT: a root hash that differs in its last digit.

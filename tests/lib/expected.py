@@ -12,13 +12,7 @@ import sys
 
 sys.dont_write_bytecode = True
 from layouts import SUPERBLOCK_SIZE, read_superblock
-from trees import Settings, Tree, verdict
-
-
-def of_superblock(superblock):
-    """The settings that a superblock describes."""
-    fields = read_superblock(superblock)
-    return Settings(*(getattr(fields, name) for name in Settings._fields))
+from trees import Settings, Tree, base_of, settings_in, verdict
 
 
 def of_text(text):
@@ -29,12 +23,12 @@ def of_text(text):
 
 
 def tree_of(options, device, data):
+    offset = options.hash_offset
     if options.bare:
         settings = of_text(options.bare)
-        return Tree(settings, options.hash_offset // settings.hash_block, data)
-    first = options.hash_offset + SUPERBLOCK_SIZE
-    settings = of_superblock(device[options.hash_offset : first])
-    return Tree(settings, -(-first // settings.hash_block), data)
+    else:
+        settings = settings_in(read_superblock(device[offset : offset + SUPERBLOCK_SIZE]))
+    return Tree(settings, base_of(settings.hash_block, offset, options.bare), data)
 
 
 def main():

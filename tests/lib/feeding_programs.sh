@@ -1,29 +1,19 @@
-# What the scripts of tests/library share that build trees: how the programs that feed data are built and run. Sourced
-# after tests/lib/c_programs.sh.
+# What the scripts of tests/library share that build trees: how the programs that feed data are built and run, and with
+# which files. Sourced after tests/lib/random_images.sh.
 
 # The sources of each program, beside its own.
-feeding_sources=(tests/library/{disturbed_parts,part_calls,feeding_calls,images,support}.c)
+feeding_sources=(tests/library/{disturbed_parts,part_calls,feeding_calls,calls,images,shapes,cuts,support}.c)
 # The block sizes of images that are fed.
 fed_sizes=(512 512 1024 2048 4096 8192 16384 32768 65536)
 
-# file_size BLOCK FAN-OUT MOST: sets `size` to a size at which a block or a level is full, or beside it, or to any.
-file_size() {
-    local block=$1 fan=$2 most=$3 square=$(($1 * $2 * $2))
-    one_of 0 1 "$block" $((block * fan)) "$square" $((square * fan)) $((RANDOM * 32768 + RANDOM))
-    size=$chosen
-    if [ "$size" -gt "$most" ]; then size=$((size % most)); fi
-    if [ "$size" -gt 1 ]; then size=$((size - 1 + RANDOM % 3)); fi
-}
-
 # fed_file MOST: makes a file of so many bytes at most, with blocks of all sizes, as fsverity_image does.
 fed_file() {
-    local hash block size fan
+    local hash block size
     one_of 256 256 512
     hash=$chosen
     block=$(((hash / 4) << (RANDOM % (hash == 256 ? 11 : 10))))
     random_salt 32
-    fan_out "sha$hash" "$block"
-    file_size "$block" "$fan" "$1"
+    random_size "$block" "$(fan_out "sha$hash" "$block")" "$1"
     fsverity_file "sha$hash" "$block" "$size"
 }
 

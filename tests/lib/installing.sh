@@ -1,13 +1,13 @@
-# What tests/install.sh and tests/library/install.sh share: what is installed, stripped and removed again. Sourced after
-# tests/lib/checks.sh.
+# What tests/install.sh and tests/library/install.sh share: what is built, installed, stripped, removed again and
+# refused. Sourced after tests/lib/checks.sh.
 
 # listed FOLDER: the files below a folder with their modes, in order.
 listed() {
     (cd "$1" && find . -type f -printf '%m %P\n' | sort -k 2)
 }
 
-# parts_of TARGET: the files of the library in the folder where it is built, with the modes that they get.
-parts_of() {
+# built_files TARGET: the files of the library in the folder where it is built, with the modes that they get.
+built_files() {
     printf '%s\n' '644 libverity.a' '755 libverity.so.2'
     case $1 in
     x86_64) echo '755 glibc-hwcaps/x86-64-v3/libverity.so.2' ;;
@@ -28,12 +28,12 @@ is_built() {
     local file
     while read -r _ file; do
         if [ ! -e "$(built_in "$1")/$file" ]; then return 1; fi
-    done < <(parts_of "$1")
+    done < <(built_files "$1")
 }
 
 # library_files TARGET PREFIX: the files of the library with their modes.
 library_files() {
-    parts_of "$1" | sed "s|^\([0-9]*\) |\1 ${libraries:-$2/lib}/|"
+    built_files "$1" | sed "s|^\([0-9]*\) |\1 ${libraries:-$2/lib}/|"
     printf '644 %s\n' "${includes:-$2/include}/verity.h" "${libraries:-$2/lib}/pkgconfig/verity.pc" \
         "${manuals:-$2/share/man}/man3/verity.3"
 }

@@ -1,4 +1,5 @@
-# The kinds of programs beside those for one processor of x86-64. Sourced at the repository's root, by bash.
+# The kinds of programs beside those for one processor of x86-64, and commands that begin such programs by qemu. Sourced
+# at the repository's root, by bash.
 
 # kinds: prints the folders of programs that tests/built.sh makes, as far as there is what that takes: a target's C
 # compiler, and qemu, which runs those below bin/imitated on processors that it imitates.

@@ -22,7 +22,7 @@ SUPERBLOCK_FIELDS = {
     "last_pad": (344, 168),
 }
 Superblock = namedtuple("Superblock", SUPERBLOCK_FIELDS)
-NUMBERS = ["version", "hash_type", "data_block", "hash_block", "count", "salt_size"]
+NUMBER_FIELDS = ["version", "hash_type", "data_block", "hash_block", "count", "salt_size"]
 SIGNATURE = b"verity\0\0"
 
 # The hash functions of fs-verity and their numbers in a descriptor.
@@ -49,7 +49,7 @@ def superblock(settings, uuid):
 def read_superblock(text):
     """The fields of a superblock; the name up to its first zero, and as many bytes of salt as there should be."""
     fields = Superblock(*(text[at : at + size] for at, size in SUPERBLOCK_FIELDS.values()))
-    fields = fields._replace(**{name: int.from_bytes(getattr(fields, name), "little") for name in NUMBERS})
+    fields = fields._replace(**{name: int.from_bytes(getattr(fields, name), "little") for name in NUMBER_FIELDS})
     name = fields.name.split(b"\0")[0].decode("latin-1")
     return fields._replace(name=name, salt=fields.salt[: fields.salt_size])
 

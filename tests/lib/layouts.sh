@@ -22,6 +22,9 @@ DESCRIPTOR_SIZE=256
 ROOT_AT=16
 FILE_SALT_AT=80
 
+# The UUID of images, unless a script has another.
+UUID=00112233-4455-4677-8899-aabbccddeeff
+
 # filled SIZE: standard input, and zeros up to so many bytes.
 filled() {
     { cat && zeros "$1"; } | head -c "$1"

@@ -1,4 +1,5 @@
-# Loop devices over files, which are let go at the script's end. Sourced after tests/lib/checks.sh.
+# Loop devices over files, which are let go at the script's end, and nodes of devices. Sourced after
+# tests/lib/checks.sh.
 
 loops=()
 trap 'if [ "${#loops[@]}" -gt 0 ]; then losetup --detach "${loops[@]}"; fi; rm -rf "$scratch"' EXIT

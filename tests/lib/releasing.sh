@@ -1,5 +1,5 @@
-# What tests/release.sh and tests/packages.sh share: what is here as one commit, and commands as root. Sourced after
-# tests/lib/checks.sh.
+# What tests/release.sh and tests/packages.sh share: which programs have to be built, what is here as one commit,
+# commands as root, what stands below a folder, and what is refused. Sourced after tests/lib/checks.sh.
 
 # has_programs GOAL FOLDER..: stops if a folder has no programs, which this goal of make builds.
 has_programs() {

@@ -1,6 +1,8 @@
-# The settings over which bin/veritysetup and Debian's veritysetup are compared. Sourced after tests/lib/checks.sh.
+# The settings over which bin/veritysetup and Debian's veritysetup are compared, and the salts of images that the kernel
+# opens. Sourced after tests/lib/checks.sh.
 
-UUID=00112233-4455-4677-8899-aabbccddeeff
+. tests/lib/layouts.sh
+
 block_sizes=(512 1024 4096)
 salts=(- ab "$(seq -s '' 1000 1015)" "$(seq -s '' 1000 1127)")
 block_counts=(1 2 16 17 128 129 256 257 4097)

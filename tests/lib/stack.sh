@@ -1,7 +1,7 @@
 # The stack that README.md names, for programs that get no more. Sourced after tests/lib/checks.sh.
 
-stated='.*The programs work within ([0-9]+) KiB of stack, and within ([0-9]+) with blocks above ([0-9]+) bytes.*'
-read -r usual_stack large_stack most_usual < <(sed -nE "s/$stated/\1 \2 \3/p" README.md)
+sentence='.*The programs work within ([0-9]+) KiB of stack, and within ([0-9]+) with blocks above ([0-9]+) bytes.*'
+read -r usual_stack large_stack most_usual < <(sed -nE "s/$sentence/\1 \2 \3/p" README.md)
 if [ -z "$most_usual" ]; then
     fail 'README.md' 'it does not say within how much stack the programs work'
     finish

@@ -1,8 +1,8 @@
-# Images for the checks of veritysetup, made of stated bytes. Sourced after tests/lib/checks.sh.
+# Images for the checks of veritysetup, made of stated bytes, with their options and reports. Sourced after
+# tests/lib/checks.sh.
 
 . tests/lib/layouts.sh
 
-UUID=00112233-4455-4677-8899-aabbccddeeff
 TAB=$(printf '\t')
 # The hash function of the images, sha256 or sha512, and their hash type.
 ALGORITHM=sha256
@@ -21,8 +21,8 @@ report() {
     if [ $# -gt 5 ]; then echo "Root hash:       $TAB$6"; fi
 }
 
-# image_17 DATA HASH: 17 data blocks of 512 bytes, and their image: the superblock, block 0 of level 1, and blocks 0 and
-# 1 of level 0, 2048 bytes in all. Sets `root`.
+# image_17 DATA HASH: 17 data blocks of 512 bytes, and their hash device: the superblock, block 0 of level 1, and blocks
+# 0 and 1 of level 0, 2048 bytes in all. Sets `root`.
 image_17() {
     sample 8704 >"$1"
     hash_blocks "$1" 512 512 >"$scratch/level0"

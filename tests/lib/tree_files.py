@@ -10,17 +10,16 @@ The first two print the tree that Debian's program made, the others many, of par
 and DIGEST are in hexadecimal, `-` for no salt. LIMIT.. is said at each kind's function.
 """
 
-import hashlib
 import random
 import struct
 import sys
 
 sys.dont_write_bytecode = True
-from layouts import SUPERBLOCK_SIZE, descriptor, superblock
-from trees import FS_VERITY, Settings, Shape, Tree
+from layouts import FILE_ALGORITHMS, SUPERBLOCK_SIZE, superblock
+from trees import FS_VERITY, FileTree, Settings, Shape, Tree, base_of
 
-NUMBERS = {"sha256": 1, "sha512": 2, "sha1": 3, "sha224": 4, "sha384": 5}
-FILE_NAMES = ("sha256", "sha512")
+# The hash functions and their numbers in the library.
+ALGORITHM_NUMBERS = {"sha256": 1, "sha512": 2, "sha1": 3, "sha224": 4, "sha384": 5}
 # So many ways to cut data feeding.c has.
 CUTS = 7
 
@@ -30,7 +29,7 @@ def record(settings, size, hashes, root, *, bare=True, offset=0, first=0, uuid=b
     """The bytes of one tree. data says where its data begins and how long it is; ends has sizes of a file, with root
     hash and digest of so many bytes."""
     is_file = settings.hash_type == FS_VERITY
-    yield struct.pack("<8I", is_file, NUMBERS[settings.name], 0 if is_file else settings.hash_type,
+    yield struct.pack("<8I", is_file, ALGORITHM_NUMBERS[settings.name], 0 if is_file else settings.hash_type,
                       settings.data_block, settings.hash_block, bare, len(settings.salt), is_one)
     yield struct.pack("<8Q", size, offset, index, *data, first, len(hashes), len(ends))
     yield struct.pack("<256s16s512s64s64s", settings.salt, uuid, about, root, digest)
@@ -39,43 +38,22 @@ def record(settings, size, hashes, root, *, bare=True, offset=0, first=0, uuid=b
         yield struct.pack("<Q64s64s", *end)
 
 
-def file_digest(settings, size, root):
-    """The hash of the descriptor."""
-    return hashlib.new(settings.name, descriptor(settings, size, root)).digest()
-
-
-def base_of(hash_block, bare, offset):
-    """The first hash block of the tree."""
-    return -(-(offset + SUPERBLOCK_SIZE * (not bare)) // hash_block)
-
-
 def device(settings, data, at=0, *, bare, offset, uuid, is_one=False):
     """A tree of dm-verity by trees.py."""
-    base, length = base_of(settings.hash_block, bare, offset), settings.count * settings.data_block
+    base, length = base_of(settings.hash_block, offset, bare), settings.count * settings.data_block
     tree = Tree(settings, base, data[at : at + length])
-    hashes = b"".join(b"".join(level) for level in reversed(tree.levels))
-    return record(settings, settings.count, hashes, tree.root, bare=bare, offset=offset, data=(at, length), uuid=uuid,
-                  first=base * settings.hash_block, about=superblock(settings, uuid), is_one=is_one)
-
-
-def file_end(name, block, salt, data):
-    """Settings, hash blocks and root hash of a file with these bytes."""
-    settings = Settings(name, block, block, salt, -(-len(data) // block), FS_VERITY)
-    if not data:
-        return settings, b"", bytes(NUMBERS[name] * 32)
-    tree = Tree(settings, 0, data.ljust(settings.count * block, b"\0"))
-    return settings, b"".join(b"".join(level) for level in reversed(tree.levels)), tree.root
+    return record(settings, settings.count, tree.stored, tree.root, bare=bare, offset=offset, data=(at, length),
+                  uuid=uuid, first=base * settings.hash_block, about=superblock(settings, uuid), is_one=is_one)
 
 
 def file(name, block, salt, size, data, at=0, *, ends=(), is_one=False):
     """A tree of fs-verity by trees.py, with the ends of its first bytes, or some more, at these sizes."""
-    settings, hashes, root = file_end(name, block, salt, data[at : at + size])
-    found = []
+    whole, found = FileTree(name, block, salt, data[at : at + size]), []
     for end in sorted(set(ends) | {size}):
-        _, _, end_root = file_end(name, block, salt, data[at : at + end])
-        found.append((end, end_root, file_digest(settings, end, end_root)))
-    return record(settings, size, hashes, root, data=(at, size), about=descriptor(settings, size, root),
-                  digest=file_digest(settings, size, root), ends=found, is_one=is_one)
+        tree = whole if end == size else FileTree(name, block, salt, data[at : at + end])
+        found.append((end, tree.root, tree.digest))
+    return record(whole.settings, size, whole.stored, whole.root, data=(at, size), about=whole.descriptor,
+                  digest=whole.digest, ends=found, is_one=is_one)
 
 
 def doubled(least, most):
@@ -87,24 +65,24 @@ def doubled(least, most):
 
 def all_files(numbers, data, most, largest, each_way, salt_of, ends_of):
     """Sizes at which a block, or a level, is full, and those beside them; and every length of salt."""
-    for name in FILE_NAMES:
-        for block in doubled(64 * NUMBERS[name], largest):
+    for name in FILE_ALGORITHMS:
+        for block in doubled(64 * ALGORITHM_NUMBERS[name], largest):
             yield file(name, block, b"", 0, data)
             unit = block
             while unit < most:
                 for size in (unit - 1, unit, unit + 1):
                     yield file(name, block, salt_of(), size, data, ends=ends_of(size), is_one=size > each_way)
-                unit *= block // (32 * NUMBERS[name])
+                unit *= block // (32 * ALGORITHM_NUMBERS[name])
             for length in range(33):
                 yield file(name, block, numbers.randbytes(length), 1, data, is_one=True)
 
 
-def all_devices(numbers, data, most, data_sizes, hash_sizes, counts_of, each_way):
+def all_devices(numbers, data, most, data_block_sizes, hash_block_sizes, counts_of, each_way):
     """All hash functions, hash types and block sizes, with numbers of blocks at which a level is full."""
-    for name in NUMBERS:
+    for name in ALGORITHM_NUMBERS:
         for hash_type in (0, 1):
-            for data_block in doubled(*data_sizes):
-                for hash_block in doubled(*hash_sizes):
+            for data_block in doubled(*data_block_sizes):
+                for hash_block in doubled(*hash_block_sizes):
                     fan = Shape(Settings(name, data_block, hash_block, b"", 1, hash_type), 0).fan
                     for count in counts_of(fan):
                         length = count * data_block
@@ -140,11 +118,11 @@ def large(numbers, data, size):
             hash_block = 512 << numbers.randrange(11) if part == 0 else size
             # A hash block needs two blocks below it.
             count = numbers.randint(1 if part == 0 else 2, 3)
-            yield drawn_device(numbers, data, numbers.choice(list(NUMBERS)), numbers.randrange(2), data_block,
+            yield drawn_device(numbers, data, numbers.choice(list(ALGORITHM_NUMBERS)), numbers.randrange(2), data_block,
                                hash_block, count, is_one=True)
     for way in range(CUTS):
         length = numbers.randint(1, 3) * size if way % 2 == 0 else numbers.randint(1, 3 * size)
-        yield file(numbers.choice(FILE_NAMES), size, numbers.randbytes(numbers.randint(0, 32)), length, data,
+        yield file(numbers.choice(list(FILE_ALGORITHMS)), size, numbers.randbytes(numbers.randint(0, 32)), length, data,
                    is_one=True)
 
 
@@ -159,9 +137,9 @@ def stored(numbers, data, most):
 def parts(numbers, data, most, each_way):
     """For parts.c: numbers of blocks about the powers of the fan-out, and with a last part of one block, of some, and
     of all but one; sizes of files that end in a block, too. More than each_way is built in one way."""
-    for name in FILE_NAMES:
-        for block in doubled(64 * NUMBERS[name], 4096):
-            fan, count = block // (32 * NUMBERS[name]), 1
+    for name in FILE_ALGORITHMS:
+        for block in doubled(64 * ALGORITHM_NUMBERS[name], 4096):
+            fan, count = block // (32 * ALGORITHM_NUMBERS[name]), 1
             yield file(name, block, b"", 0, data)
             while count * block <= most:
                 for blocks in {count - 1, count, count + 1, count + fan // 2, 2 * count + 1} - {0}:
@@ -195,8 +173,8 @@ def fuzz(numbers, data, count):
             blocks = numbers.randrange(100)
         at = numbers.randrange(1 << 18)
         if numbers.random() < 0.5:
-            name = numbers.choice(FILE_NAMES)
-            block = 64 * NUMBERS[name] << numbers.randrange(5 - NUMBERS[name])
+            name = numbers.choice(list(FILE_ALGORITHMS))
+            block = 64 * ALGORITHM_NUMBERS[name] << numbers.randrange(5 - ALGORITHM_NUMBERS[name])
             size = blocks * block
             if size > 0 and numbers.random() < 0.5:
                 size -= numbers.randrange(block)
@@ -205,7 +183,7 @@ def fuzz(numbers, data, count):
             yield file(name, block, salt, size, data, at, ends=ends)
         else:
             data_block, hash_block = (numbers.choice(7 * (512,) + (1024,)) for _ in range(2))
-            yield drawn_device(numbers, data, numbers.choice(list(NUMBERS)), numbers.randrange(2), data_block,
+            yield drawn_device(numbers, data, numbers.choice(list(ALGORITHM_NUMBERS)), numbers.randrange(2), data_block,
                                hash_block, blocks + 1, at)
 
 
@@ -223,7 +201,7 @@ def of_veritysetup(area, name, hash_type, data_block, hash_block, salt, count, o
     bare, offset, uuid = area == "bare", int(offset), bytes.fromhex(uuid)
     made = Settings(name, int(data_block), int(hash_block), bytes.fromhex(salt.strip("-")), int(count), int(hash_type))
     device = open(hashes, "rb").read()
-    first = base_of(made.hash_block, bare, offset) * made.hash_block
+    first = base_of(made.hash_block, offset, bare) * made.hash_block
     about = b"" if bare else device[offset : offset + SUPERBLOCK_SIZE]
     yield record(made, made.count, device[first:] if made.count > 1 else b"", bytes.fromhex(root), bare=bare,
                  offset=offset, uuid=uuid, about=about, first=first, data=(0, len(open(data, "rb").read())))
@@ -233,7 +211,7 @@ def of_fsverity(name, block, salt, size, tree, about, digest):
     """The tree of a file by Debian's fsverity. The root hash stands in the descriptor."""
     block, size, about = int(block), int(size), open(about, "rb").read()
     made = Settings(name, block, block, bytes.fromhex(salt.strip("-")), -(-size // block), FS_VERITY)
-    root, digest = about[16 : 16 + 32 * NUMBERS[name]], bytes.fromhex(digest)
+    root, digest = about[16 : 16 + 32 * ALGORITHM_NUMBERS[name]], bytes.fromhex(digest)
     yield record(made, size, open(tree, "rb").read(), root, about=about, digest=digest, data=(0, size),
                  ends=[(size, root, digest)])
 

@@ -8,6 +8,7 @@ set -u
 cd "$(dirname "$0")/../.."
 . tests/lib/checks.sh
 . tests/lib/c_programs.sh
+. tests/lib/random_images.sh
 . tests/lib/abi.sh
 . tests/lib/feeding_programs.sh
 ARM_LIB=${ARM_LIB:-lib/aarch64}
@@ -45,7 +46,7 @@ done
 # All programs below keep a pointer of their own in it, and look after each call whether it still stands there. They
 # call every function that the libraries show.
 platform=(-ffixed-x18 -DKEEPS_X18)
-calls=(tests/library/{part_calls,feeding_calls,support}.c)
+calls=(tests/library/{part_calls,feeding_calls,calls}.c)
 if compiles "$scratch/calls.o" aarch64-linux-gnu-gcc -r "${platform[@]}" "${calls[@]}"; then
     names='\b(fs)?verity_[a-z_]+'
     same 'functions that are called with x18 as a caller'"'"'s' \

@@ -3,6 +3,8 @@
 
 #include <inttypes.h>
 
+#include "calls.h"
+
 size_t start_in_chain(const struct shape *shape, size_t block)
 {
     return block == 0 ? 0 : shape->data_block_size + (block - 1) * shape->hash_block_size;

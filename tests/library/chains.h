@@ -2,7 +2,7 @@
 #ifndef CHAINS_H
 #define CHAINS_H
 
-#include "support.h"
+#include "shapes.h"
 
 struct chain {
     struct tree tree;

@@ -7,7 +7,6 @@
 #include "../../examples/checked_blocks.h"
 
 #include <inttypes.h>
-#include <stdio.h>
 #include <stdlib.h>
 #include <string.h>
 
@@ -16,7 +15,7 @@
 /* What a level is before a call, and stays where the call doesn't say one. */
 #define UNTOUCHED ((size_t)-7)
 
-/* No byte of a device. */
+/* No byte of a device, and no block. */
 #define NOWHERE UINT64_MAX
 
 struct device {
@@ -272,16 +271,10 @@ static void reads_lies(size_t count)
 /* The file of this name. */
 static void take_file(struct device *device, const char *name)
 {
-    FILE *file = fopen(name, "rb");
-    long length;
+    struct bytes content = content_of(name);
 
-    if (file == NULL || fseek(file, 0, SEEK_END) != 0 || (length = ftell(file)) < 0 || fseek(file, 0, SEEK_SET) != 0)
-        give_up(name);
-    device->length = (uint64_t)length;
-    device->bytes = malloc(device->length + 1);
-    if (device->bytes == NULL || fread(device->bytes, 1, device->length, file) != device->length)
-        give_up(name);
-    fclose(file);
+    device->bytes = (uint8_t *)content.at;
+    device->length = content.length;
 }
 
 int main(int count, char **words)
@@ -292,7 +285,7 @@ int main(int count, char **words)
 
     if (count != 5)
         give_up("usage: checked_blocks SEED DATA HASH ROOT");
-    seed_random(strtoull(words[1], NULL, 10));
+    seed_random(number_of(words[1]));
     take_file(&data, words[2]);
     take_file(&hash, words[3]);
     for (digits = words[4]; *digits != 0 && root_length < sizeof root; digits += 2)

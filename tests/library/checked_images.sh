@@ -8,13 +8,13 @@ set -u
 cd "$(dirname "$0")/../.."
 . tests/lib/checks.sh
 . tests/lib/c_programs.sh
+. tests/lib/random_images.sh
 . tests/lib/examples.sh
 LIB=$(realpath "$LIB")
 has_library "$LIB/libverity.a"
 needs gcc gcc
 needs_other veritysetup cryptsetup-bin
 RANDOM=$SEED
-watched=(-g -O1 -fsanitize=address,undefined -fno-sanitize-recover=all)
 export ASAN_OPTIONS=detect_leaks=0
 
 # ------------------------------------------------ checked_blocks ------------------------------------------------
@@ -49,7 +49,7 @@ if has nm binutils 'what checked_blocks.c needs'; then
 fi
 sources=(tests/library/{checked_blocks,support}.c examples/checked_blocks.c "$LIB/libverity.a")
 if compiles "$scratch/blocks" gcc -O2 "${sources[@]}"; then blocks_of_images "$scratch/blocks"; fi
-if compiles "$scratch/blocks" gcc "${watched[@]}" "${sources[@]}"; then blocks_of_images "$scratch/blocks"; fi
+if compiles "$scratch/blocks" gcc "${sanitizers[@]}" "${sources[@]}"; then blocks_of_images "$scratch/blocks"; fi
 
 # ------------------------------------------------- check_image -------------------------------------------------
 
@@ -86,16 +86,7 @@ verdict() {
     same "$1: Debian's veritysetup" $(($2 > 0)) $status
 }
 
-# changed MESSAGE FILE OFFSET [FILE OFFSET]: one or two changed bytes.
-changed() {
-    flip "$scratch/tree.$2" "$3" 16
-    if [ $# -gt 3 ]; then flip "$scratch/tree.$4" "$5" 1; fi
-    verdict "$2 $3 ${*:4}" 1 "$1"
-    flip "$scratch/tree.$2" "$3" 16
-    if [ $# -gt 3 ]; then flip "$scratch/tree.$4" "$5" 1; fi
-}
-
-# cut_data LENGTH STATUS MESSAGE [OFFSET]: the data ends early, and a byte of the hash device is changed.
+# cut_data SIZE STATUS MESSAGE [OFFSET]: the data ends early, and a byte of the hash device is changed.
 cut_data() {
     cp "$scratch/tree.data" "$scratch/whole"
     truncate -s "$1" "$scratch/tree.data"
@@ -105,18 +96,9 @@ cut_data() {
     mv "$scratch/whole" "$scratch/tree.data"
 }
 
-# cut_hash LENGTH MESSAGE: the hash device ends early.
-cut_hash() {
-    cp "$scratch/tree.hash" "$scratch/whole"
-    truncate -s "$1" "$scratch/tree.hash"
-    verdict "a hash device of $1 bytes" "${3:-1}" "$2"
-    mv "$scratch/whole" "$scratch/tree.hash"
-}
-
-# tree BLOCKS BLOCK_SIZE OPTION..: makes the image anew.
-tree() {
-    rm -f "$scratch"/tree.*
-    image tree "$@"
+# checked_tree BLOCKS BLOCK_SIZE OPTION..: makes the image anew, and sets `words`.
+checked_tree() {
+    tree "$@"
     words=("$root")
 }
 
@@ -125,7 +107,7 @@ tree() {
 # 16, of its group of 256, and of all.
 deep_tree() {
     local block=4096
-    tree 1024 $block --hash-block-size 512
+    checked_tree 1024 $block --hash-block-size 512
     verdict 'right' 0 ''
     changed 'level 0 block 0 differs.' data 0
     changed 'level 0 block 0 differs.' data $((7 * block + 5)) hash 512
@@ -187,17 +169,17 @@ refused_words() {
 
 # Bytes that hold no digest, salts, hash functions and types, a hash offset, and one data block.
 other_trees() {
-    tree 300 4096 --hash sha512 --format 0
+    checked_tree 300 4096 --hash sha512 --format 0
     verdict 'SHA-512' 0 ''
     changed 'level 0 block 4 differs.' hash $((8192 + 5 * 4096 - 1))
     changed 'level 1 block 0 differs.' hash 8191
     changed 'level 0 block 4 differs.' data $((299 * 4096))
-    tree 5000 1024 --hash-offset 10240
+    checked_tree 5000 1024 --hash-offset 10240
     words+=(10240)
     verdict 'a hash offset' 0 ''
     changed 'level 0 block 39 differs.' data $((5000 * 1024 - 1))
     changed 'level 1 block 0 differs.' hash $((10240 + 4096))
-    tree 1 4096
+    checked_tree 1 4096
     verdict 'one block' 0 ''
     flip "$scratch/tree.data" 9 1
     runs 'check_image: one changed block' 1 '' any "$check_image" "$scratch/tree.data" "$scratch/tree.hash" "$root"
@@ -207,25 +189,14 @@ other_trees() {
 
 # random_changes COUNT: random images with up to three changed bytes, beside this project's veritysetup.
 random_changes() {
-    local i j file length status expected
+    local i status expected
     if [ ! -x "$BIN/veritysetup" ]; then
         echo "left out: random changes beside this project's veritysetup: it is not in $BIN"
         return
     fi
     for ((i = 0; i < $1; i++)); do
-        one_of sha256 sha512 sha1
-        tree $((RANDOM % 700 + 1)) 512 --hash "$chosen" --hash-block-size 512 --format $((RANDOM % 2))
-        for ((j = RANDOM % 4; j > 0; j--)); do
-            one_of data hash hash
-            file=$scratch/tree.$chosen
-            length=$(stat -c %s "$file")
-            # The superblock stays.
-            if [ "$chosen" = data ]; then
-                flip "$file" $((RANDOM * 32768 % length)) 1
-            elif [ "$length" -gt 512 ]; then
-                flip "$file" $((512 + (RANDOM * 32768 + RANDOM) % (length - 512))) 1
-            fi
-        done
+        random_tree
+        words=("$root")
         if ((RANDOM % 4 == 0)); then truncate -s $((RANDOM % 700 * 512)) "$scratch/tree.data"; fi
         status=0
         expected=$("$check_image" "$scratch/tree.data" "$scratch/tree.hash" "$root" 2>&1) || status=$?
@@ -240,7 +211,7 @@ if build examples/check_image.c gcc; then
     other_trees
     random_changes 60
 fi
-if build examples/check_image.c gcc "${watched[@]}"; then
+if build examples/check_image.c gcc "${sanitizers[@]}"; then
     deep_tree
     refused_words
     other_trees

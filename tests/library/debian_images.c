@@ -11,8 +11,10 @@
 #include <stdlib.h>
 #include <string.h>
 
+#include "calls.h"
 #include "chains.h"
 #include "images.h"
+#include "shapes.h"
 #include "support.h"
 
 /* As many data blocks are tried, and as many of them with each change. */

@@ -7,6 +7,7 @@ set -u
 cd "$(dirname "$0")/../.."
 . tests/lib/checks.sh
 . tests/lib/c_programs.sh
+. tests/lib/random_images.sh
 needs gcc gcc
 needs python3 python3
 has_library "$LIB/libverity.a"
@@ -15,7 +16,7 @@ static=("$LIB/libverity.a")
 takes_shared
 draws_data
 for program in refused debian_images; do
-    sources=(tests/library/"$program".c tests/library/{chains,images,part_calls,feeding_calls,support}.c)
+    sources=(tests/library/"$program".c tests/library/{chains,part_calls,feeding_calls,calls,images,shapes,support}.c)
     compiles "$scratch/$program.static" gcc -O2 "${sources[@]}" "${static[@]}"
     compiles "$scratch/$program.shared" gcc -O2 "${sources[@]}" "${shared[@]}"
 done

@@ -18,7 +18,7 @@ static uint64_t some_number(uint64_t limit)
     case 0:
         return limit - 2 + random_below(5);
     case 1:
-        return random_number() >> random_below(64);
+        return any_number();
     default:
         return limit > 0 ? random_below(limit) : 0;
     }

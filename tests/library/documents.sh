@@ -97,13 +97,6 @@ while IFS= read -r command; do
 done < <(sed -nE 's/^[^`]*`(cc [^`]*)`.*/\1/p' "$root/docs/LIBRARY.md")
 same 'docs/LIBRARY.md: how many commands build it' 2 "$commands"
 
-# header_lines FIRST LAST: the header's lines from one that begins so up to one that does, perhaps the same.
-header_lines() {
-    awk -v first=" *     $1" -v last=" *     $2" 'index($0, first) == 1 { shown = 1 }
-        shown { print substr($0, 4) }
-        index($0, last) == 1 { shown = 0 }' "$root/include/verity.h"
-}
-
 # The header's lines, in a program that feeds standard input in pieces of 10000 bytes and writes the hash device:
 #     feed DEVICE [STATE [STOP]]
 # If the file STATE is there, it goes on from what stands there. If there is a word STOP, it ends with status 3 when a
@@ -137,13 +130,13 @@ static int begins(void)
 {
     int status;
 EOC
-    header_lines 'status = verity_build_begin' 'status = verity_build_begin'
+    header_lines 'status = verity_build_begin'
     printf '%s\n' '    return status;' '}' 'static int feeds(const uint8_t *piece, size_t length)' '{' '    int status;'
     header_lines 'for (;;) {' '}'
     printf '%s\n' '    return 0;' '}' '#undef pwrite' 'static int writes_last_block(void)' '{' '    int status;'
     header_lines 'status = verity_build_last_block' '    return 1;'
     printf '%s\n' '    return 0;' '}' 'static int ends(void)' '{' '    int status;'
-    header_lines 'status = verity_build_end' 'status = verity_build_end'
+    header_lines 'status = verity_build_end'
     cat <<'EOC'
     return status;
 }
@@ -318,8 +311,7 @@ same 'functions of man/verity.3' "$(grep -vx 'verity_status\|verity_params' <<<"
 same 'statuses of man/verity.3' "$(sed -nE '/^enum verity_status/,/^}/s/^ *(VERITY_[A-Z_]+) = .*/\1/p' include/verity.h | sort -u)" \
     "$(grep -oE '^\.(It )?Dv .*' man/verity.3 | grep -oE 'VERITY_[A-Z_]+' | sort -u)"
 version=$(sed -nE 's/^## ([0-9.]+) .*/\1/p' CHANGELOG.md | head -n 1)
-same 'version of the header' "$version" \
-    "$(awk '/^#define VERITY_VERSION_/ { printf "%s%s", dot, $3; dot = "." }' include/verity.h)"
+same 'version of the header' "$version" "$(header_version <include/verity.h)"
 same 'version of the page' ".Os libverity $version" "$(grep '^\.Os' man/verity.3)"
 if command -v mandoc >/dev/null; then same 'mandoc -T lint' '' "$(mandoc -T lint -W style man/verity.3 2>/dev/null)"; fi
 finish

@@ -6,19 +6,12 @@
 set -u
 cd "$(dirname "$0")/../.."
 . tests/lib/checks.sh
+. tests/lib/c_programs.sh
 . tests/lib/examples.sh
-LIB=$(realpath "${LIB:-lib}")
-for file in libverity.a libverity.so.2; do
-    if [ ! -e "$LIB/$file" ]; then
-        echo "$0: $LIB/$file is not there: build the library first" >&2
-        exit 1
-    fi
-done
+LIB=$(realpath "$LIB")
+for file in libverity.a libverity.so.2; do has_library "$LIB/$file"; done
 needs gcc gcc
 needs veritysetup cryptsetup-bin
-
-# Longer than any of these takes, on a slow machine too.
-seconds=120
 
 # ------------------------------------------------ boot_check ------------------------------------------------
 
@@ -138,7 +131,7 @@ boot_checks() {
 # served WORD.. COMMAND: runs a command of the shell while nbdkit serves an image. What the command prints goes to
 # $scratch/served, and what nbdkit says to $scratch/said.
 served() {
-    timeout $seconds nbdkit -v -U - "$scratch/nbdkit-verity-plugin.so" "${@:1:$#-1}" --run "${!#}" \
+    timeout "$LONGEST" nbdkit -v -U - "$scratch/nbdkit-verity-plugin.so" "${@:1:$#-1}" --run "${!#}" \
         >"$scratch/served" 2>"$scratch/said" </dev/null
 }
 
@@ -226,8 +219,8 @@ nbdkit_checks() {
 
 python=(env VERITY_LIBRARY="$LIB/libverity.so.2" python3 examples/check_blocks.py)
 
-# fsverity_file NAME LENGTH OPTION..: a file with its tree. Sets digest.
-fsverity_file() {
+# file_with_tree NAME SIZE OPTION..: a file with its tree by Debian's fsverity. Sets digest.
+file_with_tree() {
     local file=$scratch/$1
     sample "$2" >"$file"
     shift 2
@@ -258,12 +251,12 @@ python_checks() {
     has fsverity fsverity 'check_blocks.py: files' || return
     for algorithm in sha256 sha512; do
         for length in 0 1 4096 4097 1000000; do
-            fsverity_file file $length --hash-alg=$algorithm
+            file_with_tree file $length --hash-alg=$algorithm
             runs "check_blocks.py: $algorithm, $length bytes" 0 "$(((length + 4095) / 4096)) blocks are right" '' \
                 "${python[@]}" --fsverity "$scratch/file" "$scratch/file.tree" "$digest"
         done
     done
-    fsverity_file file 1000000
+    file_with_tree file 1000000
     words=("${python[@]}" --fsverity "$scratch/file" "$scratch/file.tree")
     runs 'check_blocks.py: another file digest' 1 '' 'the file digest is another' "${words[@]}" "$(another "$digest")"
     flip "$scratch/file" 999999 1
@@ -362,7 +355,7 @@ stack_of() {
     fi
     # The runner is one word or none.
     # shellcheck disable=SC2086
-    if timeout $seconds $runner "$scratch/stack" "$scratch"/*.path >"$scratch/taken" 2>"$scratch/.err"; then
+    if timeout "$LONGEST" $runner "$scratch/stack" "$scratch"/*.path >"$scratch/taken" 2>"$scratch/.err"; then
         pass
     else
         fail "stack for $name" "tests/library/stack.c ends with $?: $(cat "$scratch/.err")"

@@ -13,12 +13,14 @@
 #include <stdlib.h>
 #include <string.h>
 
+#include "calls.h"
+#include "cuts.h"
 #include "feeding_calls.h"
 #include "images.h"
+#include "shapes.h"
 #include "support.h"
 
 /* Pieces of one byte, of a few, of nearly a block; of any length, and all at once. */
-enum cut { ANY = 0, WHOLE = 1 << 30 };
 static const size_t cuts[] = {1, 7, 4095, 4096, 4097, ANY, WHOLE};
 #define CUTS (sizeof cuts / sizeof *cuts)
 
@@ -114,7 +116,7 @@ static void ends(struct feeding *feeding)
 {
     const struct image *expected = feeding->expected;
     struct tree *tree = &feeding->building.tree;
-    size_t length = digest_size_of(tree->is_file ? tree->file.hash_algorithm : tree->device.hash_algorithm), level;
+    size_t length = digest_size_of_tree(tree), level;
     uint8_t root[VERITY_MAX_DIGEST_SIZE] = {0}, digest[VERITY_MAX_DIGEST_SIZE] = {0}, descriptor[DESCRIPTOR_SIZE];
 
     check(call_build_end(&feeding->building, root, length, digest, tree->is_file ? length : 0) == VERITY_OK, "the end");
@@ -149,18 +151,6 @@ static void asks(struct feeding *feeding)
     ends_asked_for += expected != NULL && size < feeding->expected->size;
 }
 
-/* The next length of piece. */
-static size_t next_length(size_t cut, uint64_t fed, uint64_t left)
-{
-    size_t length = cut;
-
-    if (once_in(8))
-        return 0;
-    if (cut == ANY || (cut < 100 && fed >= MOST_CUT_SMALL))
-        length = (size_t)(random_number() >> (44 + random_below(20)));
-    return length < left ? length : (size_t)left;
-}
-
 /* A copy of struct and memory goes on by itself, with all that is left. */
 static void copy_goes_on(const struct feeding *feeding, uint64_t fed)
 {
@@ -188,7 +178,7 @@ static void feed_all(const struct image *expected, size_t cut)
     feeding.expected = expected;
     copied = once_in(4) ? random_below(expected->size + 1) : UINT64_MAX;
     do {
-        length = next_length(cut, fed, expected->size - fed);
+        length = next_length(cut, fed >= MOST_CUT_SMALL, expected->size - fed);
         /* Some pieces end where the end is known. */
         if (once_in(2) && next_end(expected, fed) - fed < length)
             length = next_end(expected, fed) - fed;

@@ -11,6 +11,7 @@ set -u
 cd "$(dirname "$0")/../.."
 . tests/lib/checks.sh
 . tests/lib/c_programs.sh
+. tests/lib/random_images.sh
 . tests/lib/feeding_programs.sh
 needs gcc gcc
 needs python3 python3
@@ -48,15 +49,14 @@ else
     echo "left out: feeding beside this project's programs: they are not in $BIN"
 fi
 
-sanitizers=(-g -O1 -fsanitize=address,undefined -fno-sanitize-recover=all)
-if ! gcc "${sanitizers[@]}" -x c -o "$scratch/empty" - <<<'int main(void) { return 0; }' 2>/dev/null; then
-    echo 'left out: random feedings: the sanitizers of gcc are not installed (Debian: libasan8, libubsan1)'
+if ! has_sanitizers; then
+    echo "left out: random feedings: $no_sanitizers"
     finish
     exit
 fi
 export ASAN_OPTIONS=detect_leaks=0 UBSAN_OPTIONS=print_stacktrace=1
 if compiles "$scratch/refused" gcc "${sanitizers[@]}" tests/library/feeding_refused.c "${static[@]}"; then
-    tries_refused 'what is refused, watched' "$scratch/refused"
+    tries_refused 'what is refused, under sanitizers' "$scratch/refused"
 fi
 if compiles "$scratch/fuzz" gcc "${sanitizers[@]}" tests/library/feeding_fuzz.c "${static[@]}"; then
     # In four parts, each of which ends in time on a slow machine too.

@@ -3,6 +3,9 @@
 
 #include <string.h>
 
+#include "calls.h"
+#include "shapes.h"
+
 size_t window_length(size_t data_block_size, uint64_t fan_out)
 {
     size_t blocks = 8;
@@ -44,23 +47,23 @@ size_t memory_length_of(const struct tree *tree)
 
 int call_build_memory(const struct tree *tree, size_t *length)
 {
-    struct call call = {.parts = {params_of(tree), FILLS(FIRST_FILLED, "the length", length, sizeof *length)}};
+    struct call call = {.operands = {params_of(tree), FILLS(FIRST_FILLED, "the length", length, sizeof *length)}};
 
     MAKES_EITHER(call, tree->is_file, build_memory, (call.at[0], call.at[1]));
     return call.status;
 }
 
 /* What a call may change of a building: the memory, and the struct or a file's parameters. */
-static void put_building(struct call *call, struct building *building, enum use use)
+static void set_building(struct call *call, struct building *building, enum use use)
 {
-    call->parts[0] = (struct part){MEMORY, use, "the memory", building->memory, building->memory_length, NULL, 0};
+    call->operands[0] = (struct operand){MEMORY, use, "the memory", building->memory, building->memory_length, NULL, 0};
     if (building->tree.is_file) {
-        call->parts[1] = (struct part){PARAMS, use, "the parameters", &building->tree.file, sizeof building->tree.file,
-                                       NULL, sizeof building->tree.file};
+        call->operands[1] = (struct operand){PARAMS, use, "the parameters", &building->tree.file,
+                                             sizeof building->tree.file, NULL, sizeof building->tree.file};
     } else {
-        call->parts[1] = (struct part){BLOCK, use, "the struct", &building->build, sizeof building->build, NULL,
-                                       sizeof building->build};
-        call->parts[2] = params_of(&building->tree);
+        call->operands[1] = (struct operand){BLOCK, use, "the struct", &building->build, sizeof building->build, NULL,
+                                             sizeof building->build};
+        call->operands[2] = params_of(&building->tree);
     }
 }
 
@@ -72,13 +75,13 @@ int call_build_begin(struct building *building)
     struct fsverity_params file;
     struct call call = {.name = building->tree.is_file ? "fsverity_build_begin" : "verity_build_begin"};
 
-    put_building(&call, building, BEGUN);
+    set_building(&call, building, BEGUN);
     random_bytes(memory, building->memory_length);
-    call.parts[0].other = memory;
-    call.parts[0].same = open_length_of(&building->tree);
+    call.operands[0].other = memory;
+    call.operands[0].same = open_length_of(&building->tree);
     memcpy(&file, &building->tree.file, sizeof file);
     file.size = random_number();
-    call.parts[1].other = building->tree.is_file ? (const void *)&file : &build;
+    call.operands[1].other = building->tree.is_file ? (const void *)&file : &build;
     if (building->tree.is_file) {
         MAKES(call, fsverity_build_begin(call.at[1], call.at[0], building->memory_length));
         file.size = 0;
@@ -97,17 +100,17 @@ int call_build_feed(struct building *building, struct bytes piece, struct verity
     struct call call = {.name = building->tree.is_file ? "fsverity_build_feed" : "verity_build_feed"};
     struct fsverity_params before;
 
-    put_building(&call, building, CHANGED);
-    call.parts[3] = READS(PIECE, "the piece", piece.at, piece.length);
-    call.parts[4] = FILLS(FIRST_FILLED, "what it has done", fed, sizeof *fed);
+    set_building(&call, building, CHANGED);
+    call.operands[3] = READS(PIECE, "the piece", piece.at, piece.length);
+    call.operands[4] = FILLS(FIRST_FILLED, "what it has done", fed, sizeof *fed);
     if (!building->tree.is_file) {
         MAKES(call, verity_build_feed(call.at[2], call.at[1], call.at[0], building->memory_length, call.at[3],
                                       piece.length, call.at[4]));
         return call.status;
     }
     memcpy(&before, &building->tree.file, sizeof before);
-    call.parts[2] = call.parts[3];
-    call.parts[3] = (struct part){.what = NULL};
+    call.operands[2] = call.operands[3];
+    call.operands[3] = (struct operand){.what = NULL};
     MAKES(call, fsverity_build_feed(call.at[1], call.at[0], building->memory_length, call.at[2], piece.length));
     if (call.status == VERITY_OK)
         *fed = (struct verity_fed){.taken = piece.length};
@@ -139,9 +142,9 @@ int feed_once(struct building *building, struct bytes piece, struct verity_fed *
 int call_build_last_block(const struct building *building, struct verity_fed *fed)
 {
     struct call call = {.name = "verity_build_last_block",
-                        .parts = {params_of(&building->tree),
-                                  READS(BLOCK, "the struct", &building->build, sizeof building->build),
-                                  FILLS(FIRST_FILLED, "what it has found", fed, sizeof *fed)}};
+                        .operands = {params_of(&building->tree),
+                                     READS(BLOCK, "the struct", &building->build, sizeof building->build),
+                                     FILLS(FIRST_FILLED, "what it has found", fed, sizeof *fed)}};
 
     MAKES(call, verity_build_last_block(call.at[0], call.at[1], call.at[2]));
     return call.status;
@@ -150,19 +153,19 @@ int call_build_last_block(const struct building *building, struct verity_fed *fe
 int call_build_end(struct building *building, uint8_t *root, size_t root_length, uint8_t *digest, size_t digest_length)
 {
     const struct tree *tree = &building->tree;
-    struct call call = {.parts = {params_of(tree),
-                                  {MEMORY, building->is_disturbed ? CHANGED : GOES_ON, "the memory", building->memory,
-                                   building->memory_length, NULL, 0},
-                                  FILLS(FIRST_FILLED, "the root hash", root, root_length)}};
+    struct call call = {.operands = {params_of(tree),
+                                     {MEMORY, building->is_disturbed ? CHANGED : GOES_ON, "the memory",
+                                      building->memory, building->memory_length, NULL, 0},
+                                     FILLS(FIRST_FILLED, "the root hash", root, root_length)}};
 
     if (tree->is_file) {
         call.name = "fsverity_build_end";
-        call.parts[3] = FILLS(SECOND_FILLED, "the digest", digest, digest_length);
+        call.operands[3] = FILLS(SECOND_FILLED, "the digest", digest, digest_length);
         MAKES(call, fsverity_build_end(call.at[0], call.at[1], building->memory_length, call.at[2], root_length,
                                        call.at[3], digest_length));
     } else {
         call.name = "verity_build_end";
-        call.parts[3] = READS(BLOCK, "the struct", &building->build, sizeof building->build);
+        call.operands[3] = READS(BLOCK, "the struct", &building->build, sizeof building->build);
         MAKES(call, verity_build_end(call.at[0], call.at[3], call.at[1], building->memory_length, call.at[2],
                                      root_length));
     }
@@ -172,8 +175,8 @@ int call_build_end(struct building *building, uint8_t *root, size_t root_length,
 int call_write_superblock(const struct verity_params *params, uint8_t *bytes, size_t length)
 {
     struct call call = {.name = "verity_write_superblock",
-                        .parts = {READS(PARAMS, "the parameters", params, sizeof *params),
-                                  FILLS(FIRST_FILLED, "the superblock", bytes, length)}};
+                        .operands = {READS(PARAMS, "the parameters", params, sizeof *params),
+                                     FILLS(FIRST_FILLED, "the superblock", bytes, length)}};
 
     MAKES(call, verity_write_superblock(call.at[0], call.at[1], length));
     return call.status;
@@ -182,9 +185,9 @@ int call_write_superblock(const struct verity_params *params, uint8_t *bytes, si
 int call_descriptor(const struct fsverity_params *params, struct bytes root, uint8_t *descriptor, size_t length)
 {
     struct call call = {.name = "fsverity_descriptor",
-                        .parts = {READS(PARAMS, "the parameters", params, sizeof *params),
-                                  READS(ROOT, "the root hash", root.at, root.length),
-                                  FILLS(FIRST_FILLED, "the descriptor", descriptor, length)}};
+                        .operands = {READS(PARAMS, "the parameters", params, sizeof *params),
+                                     READS(ROOT, "the root hash", root.at, root.length),
+                                     FILLS(FIRST_FILLED, "the descriptor", descriptor, length)}};
 
     MAKES(call, fsverity_descriptor(call.at[0], call.at[1], root.length, call.at[2], length));
     return call.status;
@@ -196,11 +199,11 @@ int call_tree_build_begin(struct building *building)
     static uint8_t memory[MOST_BUFFER];
     struct verity_build build = {random_number(), (size_t)random_number()};
     struct call call = {.name = "fsverity_tree_build_begin",
-                        .parts = {{MEMORY, BEGUN, "the memory", building->memory, building->memory_length, memory,
-                                   open_length_of(&building->tree)},
-                                  {BLOCK, BEGUN, "the struct", &building->build, sizeof building->build, &build,
-                                   sizeof build},
-                                  params_of(&building->tree)}};
+                        .operands = {{MEMORY, BEGUN, "the memory", building->memory, building->memory_length, memory,
+                                      open_length_of(&building->tree)},
+                                     {BLOCK, BEGUN, "the struct", &building->build, sizeof building->build, &build,
+                                      sizeof build},
+                                     params_of(&building->tree)}};
 
     random_bytes(memory, building->memory_length);
     MAKES(call, fsverity_tree_build_begin(call.at[2], call.at[1], call.at[0], building->memory_length));
@@ -212,10 +215,11 @@ int call_tree_build_begin(struct building *building)
 int call_tree_build_feed(struct building *building, struct bytes piece, struct verity_fed *fed)
 {
     struct call call = {.name = "fsverity_tree_build_feed",
-                        .parts = {{MEMORY, CHANGED, "the memory", building->memory, building->memory_length, NULL, 0},
-                                  {BLOCK, CHANGED, "the struct", &building->build, sizeof building->build, NULL, 0},
-                                  params_of(&building->tree), READS(PIECE, "the piece", piece.at, piece.length),
-                                  FILLS(FIRST_FILLED, "what it has done", fed, sizeof *fed)}};
+                        .operands = {{MEMORY, CHANGED, "the memory", building->memory, building->memory_length, NULL,
+                                      0},
+                                     {BLOCK, CHANGED, "the struct", &building->build, sizeof building->build, NULL, 0},
+                                     params_of(&building->tree), READS(PIECE, "the piece", piece.at, piece.length),
+                                     FILLS(FIRST_FILLED, "what it has done", fed, sizeof *fed)}};
 
     MAKES(call, fsverity_tree_build_feed(call.at[2], call.at[1], call.at[0], building->memory_length, call.at[3],
                                          piece.length, call.at[4]));
@@ -225,11 +229,12 @@ int call_tree_build_feed(struct building *building, struct bytes piece, struct v
 int call_tree_build_end_block(struct building *building, size_t level, uint8_t *block, size_t length, uint64_t *index)
 {
     struct call call = {.name = "fsverity_tree_build_end_block",
-                        .parts = {params_of(&building->tree),
-                                  {MEMORY, GOES_ON, "the memory", building->memory, building->memory_length, NULL, 0},
-                                  READS(BLOCK, "the struct", &building->build, sizeof building->build),
-                                  FILLS(FIRST_FILLED, "the block", block, length),
-                                  FILLS(SECOND_FILLED, "the number", index, sizeof *index)}};
+                        .operands = {params_of(&building->tree),
+                                     {MEMORY, GOES_ON, "the memory", building->memory, building->memory_length, NULL,
+                                      0},
+                                     READS(BLOCK, "the struct", &building->build, sizeof building->build),
+                                     FILLS(FIRST_FILLED, "the block", block, length),
+                                     FILLS(SECOND_FILLED, "the number", index, sizeof *index)}};
 
     MAKES(call, fsverity_tree_build_end_block(call.at[0], call.at[2], call.at[1], building->memory_length, level,
                                               call.at[3], length, call.at[4]));
@@ -240,11 +245,12 @@ int call_tree_build_end(struct building *building, uint8_t *root, size_t root_le
                         size_t digest_length)
 {
     struct call call = {.name = "fsverity_tree_build_end",
-                        .parts = {params_of(&building->tree),
-                                  {MEMORY, GOES_ON, "the memory", building->memory, building->memory_length, NULL, 0},
-                                  READS(BLOCK, "the struct", &building->build, sizeof building->build),
-                                  FILLS(FIRST_FILLED, "the root hash", root, root_length),
-                                  FILLS(SECOND_FILLED, "the digest", digest, digest_length)}};
+                        .operands = {params_of(&building->tree),
+                                     {MEMORY, GOES_ON, "the memory", building->memory, building->memory_length, NULL,
+                                      0},
+                                     READS(BLOCK, "the struct", &building->build, sizeof building->build),
+                                     FILLS(FIRST_FILLED, "the root hash", root, root_length),
+                                     FILLS(SECOND_FILLED, "the digest", digest, digest_length)}};
 
     MAKES(call, fsverity_tree_build_end(call.at[0], call.at[2], call.at[1], building->memory_length, call.at[3],
                                         root_length, call.at[4], digest_length));

@@ -1,11 +1,11 @@
-/* Calls of the functions that build trees; see support.h for what is checked of each call. */
+/*
+ * Calls of the functions that build trees, and what verity.h says of the length of their memory by a computation of its
+ * own; see calls.h for what is checked of each call.
+ */
 #ifndef FEEDING_CALLS_H
 #define FEEDING_CALLS_H
 
 #include "support.h"
-
-/* The largest size of data. */
-#define LARGEST (((uint64_t)1 << 63) - 1)
 
 /* What is kept between calls: the parameters, of which a file's have the size, and struct and memory. */
 struct building {

@@ -16,8 +16,10 @@
 #include <stdlib.h>
 #include <string.h>
 
+#include "calls.h"
 #include "feeding_calls.h"
 #include "images.h"
+#include "shapes.h"
 #include "support.h"
 
 #define MOST_DATA ((size_t)1 << 18)
@@ -74,7 +76,7 @@ static const char *const acts[] = {[END_TOO_SHORT] = "ends before all is fed",
 static uint64_t made[2][ACTS], feedings, disturbed;
 
 /* One feeding. */
-struct run {
+struct feeding {
     struct building building;
     /* The undisturbed tree. A file may become longer. */
     const struct image *image;
@@ -95,37 +97,37 @@ struct run {
 /* A state that can be put back, with the hash blocks that were written before it was stored. */
 static struct {
     bool is_there;
-    struct run run;
+    struct feeding feeding;
     uint8_t memory[MOST_MEMORY];
     uint8_t hashes[MOST_DATA];
 } stored;
 
-static void count(const struct run *run, enum act act)
+static void count(const struct feeding *feeding, enum act act)
 {
-    made[run->is_disturbed][act]++;
+    made[feeding->is_disturbed][act]++;
 }
 
-static void draw(struct run *run)
+static void draw(struct feeding *feeding)
 {
-    memset(run, 0, sizeof *run);
-    run->image = &all_images[random_below(image_count)];
-    memcpy(&run->building.tree, &run->image->tree, sizeof run->building.tree);
-    run->shape = run->image->shape;
-    run->size = run->image->size;
+    memset(feeding, 0, sizeof *feeding);
+    feeding->image = &all_images[random_below(image_count)];
+    memcpy(&feeding->building.tree, &feeding->image->tree, sizeof feeding->building.tree);
+    feeding->shape = feeding->image->shape;
+    feeding->size = feeding->image->size;
 }
 
 /* The state of no bytes. No hash block is on the hash device. */
-static void forget(struct run *run)
+static void forget(struct feeding *feeding)
 {
-    run->at = run->left = run->blocks = 0;
-    run->is_waiting = run->has_ended = false;
-    memset(hashes, 0x5a, tree_length(&run->shape));
+    feeding->at = feeding->left = feeding->blocks = 0;
+    feeding->is_waiting = feeding->has_ended = false;
+    memset(hashes, 0x5a, tree_length(&feeding->shape));
 }
 
 /* Begins in memory that stands where memory ends; some calls are watched, and most are not. */
-static void begin(struct run *run)
+static void begin(struct feeding *feeding)
 {
-    struct building *building = &run->building;
+    struct building *building = &feeding->building;
     size_t length = 0, start = random_below(MOST_DATA);
 
     check(call_build_memory(&building->tree, &length) == VERITY_OK && length == memory_length_of(&building->tree),
@@ -136,7 +138,7 @@ static void begin(struct run *run)
     building->memory = place(KEPT, source.at + start, length);
     building->build = (struct verity_build){random_number(), random_number()};
     check(call_build_begin(building) == VERITY_OK, "the beginning");
-    forget(run);
+    forget(feeding);
 }
 
 /* About a limit, below it, or any. */
@@ -153,33 +155,33 @@ static uint64_t some_number(uint64_t limit)
 }
 
 /* Changes something that has to be left alone. What parameters become may be refused. */
-static void disturb(struct run *run)
+static void disturb(struct feeding *feeding)
 {
-    struct building *building = &run->building;
+    struct building *building = &feeding->building;
     struct verity_params *device = &building->tree.device;
     struct fsverity_params *file = &building->tree.file;
 
-    run->is_disturbed = building->is_disturbed = true;
+    feeding->is_disturbed = building->is_disturbed = true;
     switch (random_below(6)) {
     case 0:
-        building->build.closed = (size_t)some_number(run->shape.levels);
-        file->size = some_number(run->size);
+        building->build.closed = (size_t)some_number(feeding->shape.levels);
+        file->size = some_number(feeding->size);
         break;
     case 1:
-        building->build.fed = some_number(run->size);
+        building->build.fed = some_number(feeding->size);
         file->size = once_in(2) ? LARGEST - random_below(5000) : random_number();
         break;
     case 2:
         random_bytes(building->memory, building->memory_length);
         break;
     case 3:
-        run->are_params_disturbed = true;
+        feeding->are_params_disturbed = true;
         device->hash_type ^= 1;
         device->salt_size = (uint32_t)random_below(258);
         file->salt_size = (uint32_t)random_below(34);
         break;
     case 4:
-        run->are_params_disturbed = true;
+        feeding->are_params_disturbed = true;
         device->hash_algorithm = file->hash_algorithm = (uint32_t)random_below(7);
         device->data_blocks = some_number(device->data_blocks);
         break;
@@ -261,8 +263,7 @@ static int end_says(const struct building *building, size_t root_length, size_t 
 {
     struct shape shape;
     int status = begin_says(building, &shape);
-    size_t right = digest_size_of(building->tree.is_file ? building->tree.file.hash_algorithm
-                                                         : building->tree.device.hash_algorithm);
+    size_t right = digest_size_of_tree(&building->tree);
 
     if (status != VERITY_OK)
         return status;
@@ -287,17 +288,11 @@ static int end_says(const struct building *building, size_t root_length, size_t 
 static struct verity_fed last_block(const struct verity_build *build, const struct shape *shape)
 {
     struct verity_fed fed = {0};
-    size_t level;
 
     if (build->fed == 0 || build->closed == 0)
         return fed;
-    fed.block_length = shape->hash_block_size;
-    fed.block_level = build->closed - 1;
+    fed = block_above(shape, build->closed - 1, 0, (build->fed - 1) / shape->data_block_size);
     fed.block_at = fed.block_level * fed.block_length;
-    fed.block_index = (build->fed - 1) / shape->data_block_size;
-    for (level = 0; level <= fed.block_level; level++)
-        fed.block_index /= shape->fan_out;
-    fed.block_start = shape->starts[fed.block_level] + fed.block_index * fed.block_length;
     return fed;
 }
 
@@ -343,123 +338,124 @@ static void check_block(const struct building *building, const struct verity_fed
 }
 
 /* Writes a hash block to the hash device. Undisturbed it is the tree's at its place. */
-static void write_block(const struct run *run, const struct verity_fed *fed)
+static void write_block(const struct feeding *feeding, const struct verity_fed *fed)
 {
-    uint64_t first = run->image->first, at = fed->block_start - first;
+    uint64_t first = feeding->image->first, at = fed->block_start - first;
 
-    check_block(&run->building, fed);
-    if (run->is_disturbed)
+    check_block(&feeding->building, fed);
+    if (feeding->is_disturbed)
         return;
-    if (fed->block_start < first || at > run->image->hashes_length - fed->block_length ||
-        memcmp(run->building.memory + fed->block_at, run->image->hashes + at, fed->block_length) != 0) {
+    if (fed->block_start < first || at > feeding->image->hashes_length - fed->block_length ||
+        memcmp(feeding->building.memory + fed->block_at, feeding->image->hashes + at, fed->block_length) != 0) {
         check(false, "block %" PRIu64 " of level %zu isn't the tree's", fed->block_index, fed->block_level);
         return;
     }
-    memcpy(hashes + at, run->building.memory + fed->block_at, fed->block_length);
+    memcpy(hashes + at, feeding->building.memory + fed->block_at, fed->block_length);
 }
 
-static void store(const struct run *run)
+static void store(const struct feeding *feeding)
 {
     stored.is_there = true;
-    memcpy(&stored.run, run, sizeof stored.run);
-    memcpy(stored.memory, run->building.memory, run->building.memory_length);
-    memcpy(stored.hashes, hashes, tree_length(&run->shape));
+    memcpy(&stored.feeding, feeding, sizeof stored.feeding);
+    memcpy(stored.memory, feeding->building.memory, feeding->building.memory_length);
+    memcpy(stored.hashes, hashes, tree_length(&feeding->shape));
 }
 
 /* The hash block that was handed out last, once more, which is written again. Undisturbed it is really that. */
-static void ask_last_block(struct run *run)
+static void ask_last_block(struct feeding *feeding)
 {
     struct verity_fed fed, says = {0};
-    int status, expected_status = last_block_says(&run->building, &says);
+    int status, expected_status = last_block_says(&feeding->building, &says);
 
-    status = call_build_last_block(&run->building, &fed);
+    status = call_build_last_block(&feeding->building, &fed);
     check(status == expected_status, "the last block: status %d, expected %d", status, expected_status);
     if (status != VERITY_OK)
         return;
     check(memcmp(&fed, &says, sizeof fed) == 0, "the last block: %zu bytes, block %" PRIu64 " of level %zu",
           fed.block_length, fed.block_index, fed.block_level);
-    count(run, fed.block_length > 0 ? LAST_BLOCK : NO_LAST_BLOCK);
+    count(feeding, fed.block_length > 0 ? LAST_BLOCK : NO_LAST_BLOCK);
     if (fed.block_length > 0)
-        write_block(run, &fed);
+        write_block(feeding, &fed);
 }
 
 /*
  * All that came after the state was stored is lost. The last hash block is written, since it might not have been, and
  * feeding goes on after the bytes that the state says.
  */
-static void put_back(struct run *run)
+static void put_back(struct feeding *feeding)
 {
-    uint8_t *memory = run->building.memory;
+    uint8_t *memory = feeding->building.memory;
 
-    memcpy(run, &stored.run, sizeof *run);
-    run->building.memory = memory;
-    memcpy(memory, stored.memory, run->building.memory_length);
-    memcpy(hashes, stored.hashes, tree_length(&run->shape));
-    count(run, PUT_BACK);
-    if (!run->building.tree.is_file)
-        ask_last_block(run);
-    run->left = 0;
-    run->is_waiting = true;
-    if (!run->is_disturbed)
-        run->at = run->building.tree.is_file ? run->building.tree.file.size : run->building.build.fed;
+    memcpy(feeding, &stored.feeding, sizeof *feeding);
+    feeding->building.memory = memory;
+    memcpy(memory, stored.memory, feeding->building.memory_length);
+    memcpy(hashes, stored.hashes, tree_length(&feeding->shape));
+    count(feeding, PUT_BACK);
+    if (!feeding->building.tree.is_file)
+        ask_last_block(feeding);
+    feeding->left = 0;
+    feeding->is_waiting = true;
+    if (!feeding->is_disturbed)
+        feeding->at = feeding->building.tree.is_file ? feeding->building.tree.file.size : feeding->building.build.fed;
 }
 
 /* What was disturbed in struct and memory alone is mended by it. */
-static void begin_anew(struct run *run)
+static void begin_anew(struct feeding *feeding)
 {
     struct shape shape;
-    int says = begin_says(&run->building, &shape), status = call_build_begin(&run->building);
+    int says = begin_says(&feeding->building, &shape), status = call_build_begin(&feeding->building);
 
     check(status == says, "a beginning anew: status %d, expected %d", status, says);
     if (status != VERITY_OK)
         return;
-    count(run, BEGUN_ANEW);
-    if (!run->are_params_disturbed)
-        run->is_disturbed = run->building.is_disturbed = false;
-    forget(run);
+    count(feeding, BEGUN_ANEW);
+    if (!feeding->are_params_disturbed)
+        feeding->is_disturbed = feeding->building.is_disturbed = false;
+    forget(feeding);
 }
 
 /* One call that feeds. Undisturbed all is taken up to the next hash block that closes, and nothing is refused. */
-static void feed(struct run *run)
+static void feed(struct feeding *feeding)
 {
-    struct building *building = &run->building;
-    struct bytes piece = bytes_of(run->image->data + run->at, run->left);
-    int says = feeding_says(building, run->left), status;
+    struct building *building = &feeding->building;
+    struct bytes piece = bytes_of(feeding->image->data + feeding->at, feeding->left);
+    int says = feeding_says(building, feeding->left), status;
     uint64_t before = building->tree.is_file ? building->tree.file.size : building->build.fed, after;
     struct verity_fed fed;
 
     memset(&fed, 0xa5, sizeof fed);
     status = once_in(16) ? call_build_feed(building, piece, &fed) : feed_once(building, piece, &fed);
-    check(status == says && (status == VERITY_OK || run->is_disturbed), "feeding: status %d, expected %d", status,
+    check(status == says && (status == VERITY_OK || feeding->is_disturbed), "feeding: status %d, expected %d", status,
           says);
-    if (run->left == 0)
-        count(run, NO_BYTES);
-    run->is_waiting = run->has_ended = false;
+    if (feeding->left == 0)
+        count(feeding, NO_BYTES);
+    feeding->is_waiting = feeding->has_ended = false;
     if (status == VERITY_OK) {
         after = building->tree.is_file ? building->tree.file.size : building->build.fed;
-        if (fed.taken > run->left || (fed.block_length == 0 && fed.taken < run->left) || after != before + fed.taken) {
-            check(false, "%zu bytes of %zu are taken", fed.taken, run->left);
+        if (fed.taken > feeding->left || (fed.block_length == 0 && fed.taken < feeding->left) ||
+            after != before + fed.taken) {
+            check(false, "%zu bytes of %zu are taken", fed.taken, feeding->left);
         } else if (fed.block_length > 0) {
-            run->at += fed.taken;
-            run->left -= fed.taken;
-            run->blocks++;
-            run->is_waiting = true;
+            feeding->at += fed.taken;
+            feeding->left -= fed.taken;
+            feeding->blocks++;
+            feeding->is_waiting = true;
             if (once_in(16)) {
-                store(run);
-                count(run, STORED_UNWRITTEN);
+                store(feeding);
+                count(feeding, STORED_UNWRITTEN);
             }
-            write_block(run, &fed);
+            write_block(feeding, &fed);
             return;
         }
     }
-    run->at += run->left;
-    run->left = 0;
+    feeding->at += feeding->left;
+    feeding->left = 0;
 }
 
 /* More bytes than a device has. Nothing comes of it. */
-static void feed_too_much(struct run *run)
+static void feed_too_much(struct feeding *feeding)
 {
-    struct building *building = &run->building;
+    struct building *building = &feeding->building;
     uint64_t wanted = bytes_of_device(building), most = building->build.fed > wanted ? 0 : wanted - building->build.fed;
     struct verity_fed fed;
     size_t length;
@@ -472,18 +468,18 @@ static void feed_too_much(struct run *run)
     status = call_build_feed(building, bytes_of(source.at, length), &fed);
     check(status == says && status != VERITY_OK, "too many bytes: status %d, expected %d", status, says);
     if (status == VERITY_TOO_LONG)
-        count(run, run->has_ended ? AFTER_END : TOO_LONG);
+        count(feeding, feeding->has_ended ? AFTER_END : TOO_LONG);
 }
 
 /*
  * The end, whose status is known; and what it gives, if nothing was disturbed. Feeding goes on as if it hadn't been
  * asked for. Answers the status.
  */
-static int end(struct run *run, bool has_right_lengths)
+static int end(struct feeding *feeding, bool has_right_lengths)
 {
-    struct building *building = &run->building;
+    struct building *building = &feeding->building;
     bool is_file = building->tree.is_file;
-    size_t size = digest_size_of(is_file ? building->tree.file.hash_algorithm : building->tree.device.hash_algorithm);
+    size_t size = digest_size_of_tree(&building->tree);
     size_t root_length = has_right_lengths ? size : random_below(65);
     size_t digest_length = !is_file ? 0 : has_right_lengths ? size : random_below(65);
     uint8_t root[65] = {0}, digest[65] = {0};
@@ -493,160 +489,161 @@ static int end(struct run *run, bool has_right_lengths)
 
     check(status == says, "the end: status %d, expected %d", status, says);
     if (status == VERITY_TOO_SHORT)
-        count(run, END_TOO_SHORT);
+        count(feeding, END_TOO_SHORT);
     else if (status == VERITY_WAITING)
-        count(run, END_WAITING);
+        count(feeding, END_WAITING);
     else if (status == VERITY_OK)
-        count(run, run->has_ended ? END_AGAIN : is_file ? END_OF_FILE : END_OF_TREE);
-    run->has_ended = run->has_ended || status == VERITY_OK;
-    if (status != VERITY_OK || run->is_disturbed)
+        count(feeding, feeding->has_ended ? END_AGAIN : is_file ? END_OF_FILE : END_OF_TREE);
+    feeding->has_ended = feeding->has_ended || status == VERITY_OK;
+    if (status != VERITY_OK || feeding->is_disturbed)
         return status;
     if (!is_file) {
-        check(memcmp(root, run->image->root, size) == 0, "the root hash");
+        check(memcmp(root, feeding->image->root, size) == 0, "the root hash");
         return status;
     }
-    check(building->tree.file.size == run->at, "the size");
-    known = end_at(run->image, run->at);
+    check(building->tree.file.size == feeding->at, "the size");
+    known = end_at(feeding->image, feeding->at);
     if (known != NULL) {
         check(memcmp(root, known->root, size) == 0 && memcmp(digest, known->digest, size) == 0,
-              "root hash and digest of %" PRIu64 " bytes", run->at);
-        count(run, END_KNOWN);
+              "root hash and digest of %" PRIu64 " bytes", feeding->at);
+        count(feeding, END_KNOWN);
     }
     return status;
 }
 
 /* The library's own functions accept a data block with the hash blocks that were handed out, or a file's. */
-static void accepts(const struct run *run)
+static void accepts(const struct feeding *feeding)
 {
     static uint8_t path[64 * 1024], block[1024];
-    const struct shape *shape = &run->shape;
+    const struct shape *shape = &feeding->shape;
     uint64_t index = random_below(shape->data_blocks), above = index, at = index * shape->data_block_size;
-    const uint8_t *from = run->building.tree.is_file ? run->image->hashes : hashes;
+    const uint8_t *from = feeding->building.tree.is_file ? feeding->image->hashes : hashes;
     size_t level, found = 0, size = shape->hash_block_size;
     int status;
 
     for (level = 0; level < shape->levels; level++) {
         above /= shape->fan_out;
-        memcpy(path + level * size, from + (shape->starts[level] - run->image->first) + above * size, size);
+        memcpy(path + level * size, from + (shape->starts[level] - feeding->image->first) + above * size, size);
     }
     memset(block, 0, sizeof block);
-    memcpy(block, run->image->data + at,
-           run->size - at < shape->data_block_size ? run->size - at : shape->data_block_size);
-    status = call_check_block(&run->building.tree, index, bytes_of(block, shape->data_block_size),
-                              bytes_of(path, shape->levels * size), bytes_of(run->image->root, shape->digest_size),
+    memcpy(block, feeding->image->data + at,
+           feeding->size - at < shape->data_block_size ? feeding->size - at : shape->data_block_size);
+    status = call_check_block(&feeding->building.tree, index, bytes_of(block, shape->data_block_size),
+                              bytes_of(path, shape->levels * size), bytes_of(feeding->image->root, shape->digest_size),
                               &found);
     check(status == VERITY_OK, "block %" PRIu64 " isn't accepted: status %d", index, status);
 }
 
 /* All was fed. Undisturbed each hash block was handed out once, and all of them are on the hash device. */
-static void end_all(struct run *run)
+static void end_all(struct feeding *feeding)
 {
     uint64_t blocks = 0;
     size_t level;
-    int status = end(run, true);
+    int status = end(feeding, true);
 
-    if (run->is_disturbed)
+    if (feeding->is_disturbed)
         return;
     check(status == VERITY_OK, "the end of all: status %d", status);
-    if (!run->building.tree.is_file) {
-        for (level = 0; level < run->shape.levels; level++)
-            blocks += run->shape.blocks[level];
-        check(run->blocks == blocks, "%" PRIu64 " hash blocks of %" PRIu64, run->blocks, blocks);
-        check(memcmp(hashes, run->image->hashes, tree_length(&run->shape)) == 0, "the hash blocks on the hash device");
+    if (!feeding->building.tree.is_file) {
+        for (level = 0; level < feeding->shape.levels; level++)
+            blocks += feeding->shape.blocks[level];
+        check(feeding->blocks == blocks, "%" PRIu64 " hash blocks of %" PRIu64, feeding->blocks, blocks);
+        check(memcmp(hashes, feeding->image->hashes, tree_length(&feeding->shape)) == 0,
+              "the hash blocks on the hash device");
     }
-    if (run->size > 0 && run->size == run->image->size && once_in(4))
-        accepts(run);
+    if (feeding->size > 0 && feeding->size == feeding->image->size && once_in(4))
+        accepts(feeding);
 }
 
 /* A call, or two, between those that feed. turns counts those after which feeding has to be done again. */
-static void act(struct run *run, int *turns)
+static void act(struct feeding *feeding, int *turns)
 {
     switch (random_below(8)) {
     case 0:
     case 1:
-        end(run, !once_in(8));
+        end(feeding, !once_in(8));
         break;
     case 2:
     case 3:
-        if (!run->building.tree.is_file)
-            ask_last_block(run);
+        if (!feeding->building.tree.is_file)
+            ask_last_block(feeding);
         break;
     case 4:
-        feed_too_much(run);
+        feed_too_much(feeding);
         break;
     case 5:
-        store(run);
-        count(run, STORED);
+        store(feeding);
+        count(feeding, STORED);
         break;
     case 6:
         if (stored.is_there && *turns < MOST_TURNS) {
-            put_back(run);
+            put_back(feeding);
             ++*turns;
         }
         break;
     default:
         if (*turns < MOST_TURNS && once_in(4)) {
-            begin_anew(run);
+            begin_anew(feeding);
             ++*turns;
         }
         break;
     }
 }
 
-static size_t some_length(const struct run *run)
+static size_t some_length(const struct feeding *feeding)
 {
     size_t length = once_in(4) ? random_below(4) : once_in(4) ? random_below(70) : random_below(5000);
 
     /* Most pieces end where the end is known, if they would go beyond. */
-    if (length > next_end(run->image, run->at) - run->at && !once_in(4))
-        length = (size_t)(next_end(run->image, run->at) - run->at);
-    return length > run->size - run->at ? run->size - run->at : length;
+    if (length > next_end(feeding->image, feeding->at) - feeding->at && !once_in(4))
+        length = (size_t)(next_end(feeding->image, feeding->at) - feeding->at);
+    return length > feeding->size - feeding->at ? feeding->size - feeding->at : length;
 }
 
 /* A file may go on after its end, and is longer then: up to where the end is known, if there is such. */
-static bool goes_on(struct run *run)
+static bool goes_on(struct feeding *feeding)
 {
-    uint64_t next = next_end(run->image, run->size);
+    uint64_t next = next_end(feeding->image, feeding->size);
 
-    if (!run->building.tree.is_file || run->size > MOST_DATA / 2 || !once_in(4))
+    if (!feeding->building.tree.is_file || feeding->size > MOST_DATA / 2 || !once_in(4))
         return false;
-    run->size = next == UINT64_MAX || once_in(4) ? run->size + 1 + random_below(600) : next;
-    count(run, GONE_ON);
+    feeding->size = next == UINT64_MAX || once_in(4) ? feeding->size + 1 + random_below(600) : next;
+    count(feeding, GONE_ON);
     return true;
 }
 
-static bool is_all_fed(const struct run *run)
+static bool is_all_fed(const struct feeding *feeding)
 {
-    return run->at == run->size && run->left == 0 && !run->is_waiting;
+    return feeding->at == feeding->size && feeding->left == 0 && !feeding->is_waiting;
 }
 
 static void try_feeding(void)
 {
-    struct run run;
+    struct feeding feeding;
     bool is_to_be_disturbed = once_in(4), was_disturbed = false;
     uint64_t acts_left, steps;
     int turns = 0;
 
-    draw(&run);
-    begin(&run);
+    draw(&feeding);
+    begin(&feeding);
     stored.is_there = false;
     for (steps = 0; steps < MOST_STEPS; steps++) {
-        if (once_in(run.is_waiting ? 2 : 4))
-            act(&run, &turns);
-        if (is_to_be_disturbed && once_in(was_disturbed ? 16 : is_all_fed(&run) ? 1 : 4)) {
-            disturb(&run);
+        if (once_in(feeding.is_waiting ? 2 : 4))
+            act(&feeding, &turns);
+        if (is_to_be_disturbed && once_in(was_disturbed ? 16 : is_all_fed(&feeding) ? 1 : 4)) {
+            disturb(&feeding);
             was_disturbed = true;
         }
-        if (is_all_fed(&run)) {
-            end_all(&run);
-            for (acts_left = random_below(4); acts_left > 0 && is_all_fed(&run); acts_left--)
-                act(&run, &turns);
-            if (is_all_fed(&run) && !goes_on(&run))
+        if (is_all_fed(&feeding)) {
+            end_all(&feeding);
+            for (acts_left = random_below(4); acts_left > 0 && is_all_fed(&feeding); acts_left--)
+                act(&feeding, &turns);
+            if (is_all_fed(&feeding) && !goes_on(&feeding))
                 break;
         }
-        if (run.left == 0 && !(run.is_waiting && once_in(2)))
-            run.left = some_length(&run);
-        feed(&run);
+        if (feeding.left == 0 && !(feeding.is_waiting && once_in(2)))
+            feeding.left = some_length(&feeding);
+        feed(&feeding);
     }
     check(steps < MOST_STEPS, "hash blocks without end");
     feedings++;

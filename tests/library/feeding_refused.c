@@ -1,6 +1,7 @@
 /*
  * What the functions that build trees refuse while they build, beside what refused.c calls; when a hash block is handed
- * out; and that feeding goes on after what was refused, and after an end, which is asked for after every byte.
+ * out; that feeding goes on after what was refused, and after an end, which is asked for after every byte; and lengths
+ * of the memory that stand in the documents.
  *
  *   feeding_refused DATA TREES
  *
@@ -11,8 +12,10 @@
 #include <stdio.h>
 #include <string.h>
 
+#include "calls.h"
 #include "feeding_calls.h"
 #include "images.h"
+#include "shapes.h"
 #include "support.h"
 
 /* The bytes that are fed, and their trees: of 17 data blocks, and of files of blocks of 64, 128 and 512 bytes. */

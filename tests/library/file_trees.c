@@ -6,14 +6,18 @@
  *
  * FILE and the three words after it may come several times: each file begins as the next one, so that the tree of one
  * that ended goes on with the next. SALT, ROOT and DIGEST are in hexadecimal; a file without a tree has TREE /dev/null.
- * The bytes are fed in pieces of all lengths. The last line is 'N passed, M failed'.
+ * The bytes are fed in pieces of all lengths. What is asked too early, or at an end with a wrong length, is refused and
+ * changes nothing. A struct and a memory that no call left have the statuses that verity.h says. The last line is
+ * 'N passed, M failed'.
  */
 #include <inttypes.h>
 #include <stdio.h>
 #include <stdlib.h>
 #include <string.h>
 
-#include "images.h"
+#include "calls.h"
+#include "shapes.h"
+#include "support.h"
 #include "words.h"
 
 enum { MOST_LEVELS = 64, MOST_BLOCK = 65536, MOST_MEMORY = 1 << 22 };
@@ -43,7 +47,7 @@ static struct expected_end ends[16];
 static size_t end_count;
 
 /* The block of a level in the tree that is expected, or null if it has none. */
-static const uint8_t *block_of(const struct expected_end *end, size_t level, uint64_t index)
+static const uint8_t *hash_block_of(const struct expected_end *end, size_t level, uint64_t index)
 {
     if (level >= end->shape.levels || index >= end->shape.blocks[level])
         return NULL;
@@ -72,7 +76,7 @@ static void try_block(const struct verity_fed *fed, const struct expected_end *n
     check(fed->block_start == 0, "a block of a file goes to %" PRIu64, fed->block_start);
     for (i = 0; i < end_count; i++)
         if (ends[i].size > build.fed) {
-            const uint8_t *right = block_of(&ends[i], level, fed->block_index);
+            const uint8_t *right = hash_block_of(&ends[i], level, fed->block_index);
 
             check(right != NULL && memcmp(right, memory + fed->block_at, fed->block_length) == 0,
                   "block %" PRIu64 " of level %zu isn't that of %zu bytes", fed->block_index, level, ends[i].size);
@@ -191,7 +195,7 @@ static void try_end(const struct expected_end *end)
             check(status == VERITY_OK && index == end->shape.blocks[level] - 1, "level %zu of %zu bytes: status %d, "
                   "block %" PRIu64, level, end->size, status, index);
             if (status == VERITY_OK && index < end->shape.blocks[level])
-                check(memcmp(filled, block_of(end, level, index), params->block_size) == 0,
+                check(memcmp(filled, hash_block_of(end, level, index), params->block_size) == 0,
                       "the last block of level %zu of %zu bytes", level, end->size);
             check(handed_out[level] == end->shape.blocks[level] - 1, "level %zu of %zu bytes: %" PRIu64
                   " blocks were handed out", level, end->size, handed_out[level]);
@@ -263,7 +267,7 @@ static void try_disturbed(void)
     int times;
 
     for (times = 0; times < 40; times++) {
-        struct verity_build some = {.fed = random_number() >> random_below(64), .closed = random_below(70)}, before;
+        struct verity_build some = {.fed = any_number(), .closed = random_below(70)}, before;
         size_t length = random_below(3 * params->block_size), level = random_below(70);
         struct tree so_far = tree;
         struct verity_fed fed;

@@ -8,23 +8,23 @@ set -u
 cd "$(dirname "$0")/../.."
 . tests/lib/checks.sh
 . tests/lib/c_programs.sh
+. tests/lib/random_images.sh
 needs gcc gcc
 needs python3 python3
 needs_other fsverity fsverity
 has_library "$LIB/libverity.a"
 
 takes_shared
-sources=(tests/library/{file_trees,images,support,words}.c)
+sources=(tests/library/{file_trees,calls,words,shapes,support}.c)
 programs=()
 if compiles "$scratch/static" gcc -O2 "${sources[@]}" "$LIB/libverity.a"; then programs+=(static); fi
 if compiles "$scratch/shared.program" gcc -O2 "${sources[@]}" "${shared[@]}"; then programs+=(shared.program); fi
-sanitizers=(-g -O1 -fsanitize=address,undefined -fno-sanitize-recover=all)
-if gcc "${sanitizers[@]}" -x c -o "$scratch/empty" - <<<'int main(void) { return 0; }' 2>/dev/null; then
-    if compiles "$scratch/watched" gcc "${sanitizers[@]}" "${sources[@]}" "$LIB/libverity.a"; then
-        programs+=(watched)
+if has_sanitizers; then
+    if compiles "$scratch/sanitized" gcc "${sanitizers[@]}" "${sources[@]}" "$LIB/libverity.a"; then
+        programs+=(sanitized)
     fi
 else
-    echo 'left out: under sanitizers: the sanitizers of gcc are not installed (Debian: libasan8, libubsan1)'
+    echo "left out: under sanitizers: $no_sanitizers"
 fi
 export ASAN_OPTIONS=detect_leaks=0
 
@@ -64,13 +64,6 @@ tries sha256 65536 aa 65536 200000 4000000
 random_salt 32
 tries sha256 2048 "$salt" $((RANDOM * 3)) $((RANDOM * 7 + 98304)) $((RANDOM * 40 + 327680)) $((RANDOM * 60 + 1638400))
 
-# header_lines FIRST LAST: the header's lines from the first one that begins so up to the next one that does.
-header_lines() {
-    awk -v first=" *     $1" -v last=" *     $2" 'index($0, first) == 1 && !shown { shown = 1 }
-        shown == 1 { print substr($0, 4) }
-        shown == 1 && index($0, last) == 1 { shown = 2 }' include/verity.h
-}
-
 # A program of the header's lines that reads standard input in pieces of 10000 bytes, keeps the blocks, and writes the
 # tree to a file.
 {
@@ -98,7 +91,7 @@ static int begins(void)
 {
     int status;
 EOC
-    header_lines 'status = fsverity_tree_build_begin' 'status = fsverity_tree_build_begin'
+    header_lines 'status = fsverity_tree_build_begin'
     printf '%s\n' '    return status;' '}' 'static int feeds(const uint8_t *piece, size_t length)' '{' '    int status;'
     header_lines 'do {' '} while (length > 0);'
     printf '%s\n' '    return status;' '}' 'static int ends(void)' '{' '    int status;' '    size_t level;' \

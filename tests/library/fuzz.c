@@ -1,35 +1,29 @@
 /*
- * Calls the library with random and with spoiled input, the same for the same seed.
+ * Calls the library with random and with changed input, the same for the same seed.
  *
  *   fuzz SEED CALLS CHAINS
  *
  * CHAINS is a file of chains.py: data blocks with paths that are accepted. After so many calls it says how many they
- * were, and 'N passed, M failed'. What has to hold of every call is in support.c.
+ * were, and 'N passed, M failed'. What has to hold of every call is in calls.c.
  */
 #include <inttypes.h>
 #include <stdio.h>
 #include <stdlib.h>
 #include <string.h>
 
+#include "calls.h"
 #include "chains.h"
 #include "disturbed_parts.h"
 #include "images.h"
 #include "part_calls.h"
+#include "shapes.h"
 #include "support.h"
-
-#define LARGEST (((uint64_t)1 << 63) - 1)
 
 /* Longer blocks and paths are not tried, so that a run ends soon. */
 #define MOST_TRIED ((size_t)1 << 20)
 
 static struct image *chains;
 static size_t chain_count;
-
-/* Any length of number is as likely as another. */
-static uint64_t some_number(void)
-{
-    return random_number() >> random_below(64);
-}
 
 /* Numbers at which something ends. */
 static uint64_t edge(void)
@@ -59,12 +53,12 @@ static void draw_device(struct verity_params *params)
     params->data_block_size = once_in(32) ? (uint32_t)edge() : some_size(512, 11);
     params->hash_block_size = once_in(32) ? (uint32_t)edge() : some_size(512, 11);
     params->salt_size = once_in(16) ? (uint32_t)(once_in(2) ? edge() : random_number()) : (uint32_t)random_below(257);
-    params->data_blocks = once_in(8) ? edge() : some_number();
+    params->data_blocks = once_in(8) ? edge() : any_number();
     if (once_in(8) && params->data_block_size > 0)
         params->data_blocks = LARGEST / params->data_block_size + random_below(3) - 1;
-    params->no_superblock = once_in(2) ? 0 : (uint32_t)some_number();
+    params->no_superblock = once_in(2) ? 0 : (uint32_t)any_number();
     unit = params->no_superblock ? params->hash_block_size : SUPERBLOCK_SIZE;
-    params->hash_offset = once_in(4) ? edge() : once_in(2) ? 0 : some_number();
+    params->hash_offset = once_in(4) ? edge() : once_in(2) ? 0 : any_number();
     if (!once_in(16) && unit > 0)
         params->hash_offset -= params->hash_offset % unit;
 }
@@ -75,7 +69,7 @@ static void draw_file(struct fsverity_params *params)
     params->hash_algorithm = once_in(32) ? (uint32_t)edge() : 1 + (uint32_t)random_below(2);
     params->block_size = once_in(32) ? (uint32_t)edge() : some_size(64u * params->hash_algorithm, 13);
     params->salt_size = once_in(16) ? (uint32_t)(once_in(2) ? edge() : random_number()) : (uint32_t)random_below(33);
-    params->size = once_in(4) ? edge() : some_number();
+    params->size = once_in(4) ? edge() : any_number();
 }
 
 static void draw_tree(struct tree *tree)
@@ -98,7 +92,7 @@ static uint64_t number_about(uint64_t limit)
     case 3:
         return limit - 1;
     default:
-        return limit > 0 ? random_below(limit) : some_number();
+        return limit > 0 ? random_below(limit) : any_number();
     }
 }
 
@@ -510,9 +504,9 @@ static void change_what_has_no_part(struct chain *chain)
 
     random_bytes(device->uuid, sizeof device->uuid);
     device->no_superblock = once_in(2) ? 0 : 1;
-    device->hash_offset = some_number() / 524288 / 4 * 524288;
+    device->hash_offset = any_number() / 524288 / 4 * 524288;
     other = chain->tree;
-    other.device.data_blocks = chain->index + 1 + some_number() / 4096;
+    other.device.data_blocks = chain->index + 1 + any_number() / 4096;
     other.file.size = other.file.size / other.file.block_size * other.file.block_size + 1 +
                       random_below(other.file.block_size);
     shape = shape_of(&other);

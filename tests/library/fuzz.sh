@@ -1,11 +1,12 @@
 #!/usr/bin/env bash
-# Two million calls of the library with random and with spoiled input: superblocks, parameters, blocks, paths, root
+# Two million calls of the library with random and with changed input: superblocks, parameters, blocks, paths, root
 # hashes and lengths. Each answer is the one that an own reading of verity.h gives, and just what has to be accepted is.
 # SEED=N draws other input, CALLS=N makes so many calls, LIB=FOLDER takes the library of another folder.
 set -u
 cd "$(dirname "$0")/../.."
 . tests/lib/checks.sh
 . tests/lib/c_programs.sh
+. tests/lib/random_images.sh
 . tests/lib/feeding_programs.sh
 needs gcc gcc
 needs python3 python3

@@ -87,89 +87,7 @@ drops C99 gcc -std=c99
 if command -v g++ >/dev/null; then drops C++17 g++ -std=c++17; fi
 
 # The places of the fields, and what the library fills there by a superblock in which each field differs.
-cat >"$scratch/layout.c" <<'EOC'
-#include <stdio.h>
-#include <string.h>
-#include "verity.h"
-
-#define AT(type, field, offset) _Static_assert(offsetof(struct type, field) == (offset), #field)
-AT(verity_params, hash_algorithm, 0);
-AT(verity_params, hash_type, 4);
-AT(verity_params, data_block_size, 8);
-AT(verity_params, hash_block_size, 12);
-AT(verity_params, data_blocks, 16);
-AT(verity_params, hash_offset, 24);
-AT(verity_params, no_superblock, 32);
-AT(verity_params, salt_size, 36);
-AT(verity_params, salt, 40);
-AT(verity_params, uuid, 296);
-_Static_assert(sizeof(struct verity_params) == 312, "verity_params");
-AT(fsverity_params, hash_algorithm, 0);
-AT(fsverity_params, block_size, 4);
-AT(fsverity_params, size, 8);
-AT(fsverity_params, salt_size, 16);
-AT(fsverity_params, salt, 20);
-_Static_assert(sizeof(struct fsverity_params) == 56, "fsverity_params");
-AT(verity_build, fed, 0);
-AT(verity_build, closed, 8);
-_Static_assert(sizeof(struct verity_build) == 16, "verity_build");
-AT(verity_fed, taken, 0);
-AT(verity_fed, block_length, 8);
-AT(verity_fed, block_at, 16);
-AT(verity_fed, block_start, 24);
-AT(verity_fed, block_index, 32);
-AT(verity_fed, block_level, 40);
-_Static_assert(sizeof(struct verity_fed) == 48, "verity_fed");
-AT(verity_part, level, 0);
-AT(verity_part, part, 8);
-AT(verity_part, fed, 16);
-AT(verity_part, closed, 24);
-_Static_assert(sizeof(struct verity_part) == 32, "verity_part");
-AT(verity_join, level, 0);
-AT(verity_join, taken, 8);
-AT(verity_join, closed, 16);
-_Static_assert(sizeof(struct verity_join) == 24, "verity_join");
-
-static void show(const char *name, const unsigned char *bytes, size_t length)
-{
-    size_t i;
-
-    printf("%s", name);
-    for (i = 0; i < length; i++)
-        printf("%s%02x", i ? "" : " ", bytes[i]);
-    printf("\n");
-}
-
-/* Reads a superblock into the middle of painted bytes, and prints these; and the digest of parameters of raw bytes. */
-int main(void)
-{
-    unsigned char superblock[512], digest[64];
-    static const unsigned char root[64];
-    union {
-        struct verity_params params;
-        unsigned char bytes[sizeof(struct verity_params)];
-    } filled[3];
-    union {
-        struct fsverity_params params;
-        unsigned char bytes[sizeof(struct fsverity_params)];
-    } file;
-    size_t i;
-
-    if (fread(superblock, 1, 512, stdin) != 512)
-        return 2;
-    memset(filled, 0xa5, sizeof filled);
-    printf("%d\n", verity_read_superblock(superblock, 512, 0x1122334455667788, &filled[1].params));
-    for (i = 0; i < 3; i++)
-        show(i == 1 ? "read" : "beside", filled[i].bytes, sizeof filled[i]);
-    /* Algorithm 2, blocks of 2048 bytes, size 0x0807060504030201, 3 bytes of salt. */
-    memset(file.bytes, 0xa5, sizeof file);
-    memcpy(file.bytes, "\2\0\0\0\0\10\0\0\1\2\3\4\5\6\7\10\3\0\0\0abc", 23);
-    printf("%d\n", fsverity_file_digest(&file.params, root, 64, digest, 64));
-    show("digest", digest, 64);
-    return 0;
-}
-EOC
-if compiles "$scratch/layout" gcc "$scratch/layout.c" "$LIB/libverity.a"; then
+if compiles "$scratch/structs" gcc tests/library/structs.c "$LIB/libverity.a"; then
     # SHA-384, type 1, data blocks of 1024, hash blocks of 4096, 0x0000010203040506 blocks, salt 'salt'.
     ALGORITHM=sha384 HASH_TYPE=1 UUID=000102030405060708090a0b0c0d0e0f
     superblock 1024 4096 $((0x010203040506)) 73616c74 >"$scratch/superblock"
@@ -178,13 +96,13 @@ if compiles "$scratch/layout" gcc "$scratch/layout.c" "$LIB/libverity.a"; then
     read_bytes+=73616c74$(printf '00%.0s' $(seq 252))000102030405060708090a0b0c0d0e0f
     descriptor 01020b03 $((0x0807060504030201)) "$(printf '%0128d' 0)" 616263 >"$scratch/descriptor"
     same 'length of the descriptor' 256 "$(stat -c %s "$scratch/descriptor")"
-    "$scratch/layout" <"$scratch/superblock" >"$scratch/layout.txt"
+    "$scratch/structs" <"$scratch/superblock" >"$scratch/structs.txt"
     same 'the structs' "0
 beside $paint
 read $read_bytes
 beside $paint
 0
-digest $(sha512 "$scratch/descriptor")" "$(cat "$scratch/layout.txt")"
+digest $(sha512 "$scratch/descriptor")" "$(cat "$scratch/structs.txt")"
 fi
 
 same 'functions of the header' 60 "$(wc -l <<<"$functions")"

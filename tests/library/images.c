@@ -4,43 +4,6 @@
 #include <stdlib.h>
 #include <string.h>
 
-uint64_t number_of(const char *text)
-{
-    char *end;
-    uint64_t number = strtoull(text, &end, 10);
-
-    if (*text == '\0' || *end != '\0')
-        give_up("a number is expected");
-    return number;
-}
-
-void *memory_of(size_t length)
-{
-    void *bytes = calloc(1, length + 1);
-
-    if (bytes == NULL)
-        give_up("no memory");
-    return bytes;
-}
-
-struct bytes content_of(const char *name)
-{
-    FILE *file = fopen(name, "rb");
-    uint8_t *bytes;
-    size_t length;
-    long end;
-
-    if (file == NULL || fseek(file, 0, SEEK_END) != 0 || (end = ftell(file)) < 0)
-        give_up("a file can't be read");
-    length = (size_t)end;
-    bytes = memory_of(length);
-    rewind(file);
-    if (fread(bytes, 1, length, file) != length)
-        give_up("a file can't be read");
-    fclose(file);
-    return bytes_of(bytes, length);
-}
-
 struct images open_images(const char *trees, const char *data)
 {
     struct images images = {.file = fopen(trees, "rb"), .data = bytes_of((const uint8_t *)"", 0)};
@@ -58,7 +21,7 @@ static void read_bytes(struct images *images, void *bytes, size_t length)
         give_up("a tree ends early");
 }
 
-static void put_parameters(struct image *image, const uint32_t words[8], const uint64_t numbers[8],
+static void set_parameters(struct image *image, const uint32_t words[8], const uint64_t numbers[8],
                            const uint8_t salt[SALT_ROOM], const uint8_t uuid[UUID_SIZE])
 {
     struct verity_params *device = &image->tree.device;
@@ -93,7 +56,7 @@ bool next_image(struct images *images, struct image *image)
     read_bytes(images, numbers, sizeof numbers);
     read_bytes(images, salt, sizeof salt);
     read_bytes(images, uuid, sizeof uuid);
-    put_parameters(image, words, numbers, salt, uuid);
+    set_parameters(image, words, numbers, salt, uuid);
     image->shape = shape_of(&image->tree);
     image->is_one = words[7];
     image->index = numbers[2];

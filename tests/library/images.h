@@ -4,7 +4,7 @@
 
 #include <stdio.h>
 
-#include "support.h"
+#include "shapes.h"
 
 /* Root hash and digest of a file that has so many of the bytes. */
 struct end {
@@ -53,10 +53,5 @@ bool has_place(const struct image *image);
 /* The end of a file that has so many bytes, null if it isn't known; and the least size beyond for which it is. */
 const struct end *end_at(const struct image *image, uint64_t size);
 uint64_t next_end(const struct image *image, uint64_t size);
-
-/* The bytes of a file, a number in decimal digits, and so many zeros. Without them the program ends. */
-struct bytes content_of(const char *name);
-uint64_t number_of(const char *text);
-void *memory_of(size_t length);
 
 #endif

@@ -51,7 +51,7 @@ installs_library() {
         # What is stripped is compared apart.
         if [[ " $* " = *' STRIP=yes '* && $file != *.a ]]; then continue; fi
         same_bytes "$folder: $file" "$(built_in "$target")/$file" "$folder/${libraries:-$prefix/lib}/$file"
-    done < <(parts_of "$target")
+    done < <(built_files "$target")
 }
 
 # builds NAME COMPILER WORD..: the program is built of user.c by these words.
@@ -154,7 +154,7 @@ for target in x86_64 aarch64; do
     folder=$scratch/empty/$(built_in $target) make='make library' compiler=cc
     if [ $target = aarch64 ]; then make+=' TARGET=aarch64' compiler=aarch64-linux-gnu-gcc; fi
     refuses "no library for $target" "run '$make' first" -C "$scratch/empty" install-library TARGET=$target
-    while read -r _ file; do : >"$folder/$file"; done < <(parts_of $target)
+    while read -r _ file; do : >"$folder/$file"; done < <(built_files $target)
     while read -r _ file; do
         case $file in
         *.a) why="run '$make' first" ;;
@@ -163,7 +163,7 @@ for target in x86_64 aarch64; do
         rm "$folder/$file"
         refuses "without $file for $target" "$why" -C "$scratch/empty" install-library TARGET=$target
         : >"$folder/$file"
-    done < <(parts_of $target)
+    done < <(built_files $target)
 done
 
 # installs_empty FOLDER TARGET: installs the files in place of the library.

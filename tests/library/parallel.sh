@@ -7,13 +7,13 @@ set -u
 cd "$(dirname "$0")/../.."
 . tests/lib/checks.sh
 . tests/lib/c_programs.sh
+. tests/lib/random_images.sh
 . tests/lib/examples.sh
 LIB=$(realpath "$LIB")
 has_library "$LIB/libverity.a"
 needs gcc gcc
 needs_other veritysetup cryptsetup-bin
 RANDOM=$SEED
-watched=(-g -O1 -fsanitize=address,undefined -fno-sanitize-recover=all)
 export ASAN_OPTIONS=detect_leaks=0
 
 # same_image NAME: made.hash is tree.hash of Debian's veritysetup, which after the superblock of a single data block,
@@ -49,29 +49,6 @@ verdict() {
     same "$1: status of $BIN/veritysetup" $(($2 * 2)) $status
     said=$(sed -E 's/^Verification failed: //; s/, (child [0-9]+|spare bytes)\.$/ differs./' <<<"$said")
     same "$1: message of $BIN/veritysetup" "$3" "$said"
-}
-
-# changed MESSAGE FILE OFFSET [FILE OFFSET]: one or two changed bytes.
-changed() {
-    flip "$scratch/tree.$2" "$3" 16
-    if [ $# -gt 3 ]; then flip "$scratch/tree.$4" "$5" 1; fi
-    verdict "$2 $3 ${*:4}" 1 "$1"
-    flip "$scratch/tree.$2" "$3" 16
-    if [ $# -gt 3 ]; then flip "$scratch/tree.$4" "$5" 1; fi
-}
-
-# cut_hash LENGTH MESSAGE: the hash device ends early.
-cut_hash() {
-    cp "$scratch/tree.hash" "$scratch/whole"
-    truncate -s "$1" "$scratch/tree.hash"
-    verdict "a hash device of $1 bytes" "${3:-1}" "$2"
-    mv "$scratch/whole" "$scratch/tree.hash"
-}
-
-# tree BLOCKS BLOCK_SIZE OPTION..: makes the image anew.
-tree() {
-    rm -f "$scratch"/tree.*
-    image tree "$@"
 }
 
 # Trees of no level up to three, about powers of the fan-out, by more threads than there are parts, too; and data with
@@ -122,24 +99,13 @@ named_differences() {
 
 # random_changes COUNT: random images with up to three changed bytes, beside this project's veritysetup.
 random_changes() {
-    local i j file length status said
+    local i status said
     if [ ! -x "$BIN/veritysetup" ]; then
         echo "left out: random changes beside this project's veritysetup: it is not in $BIN"
         return
     fi
     for ((i = 0; i < $1; i++)); do
-        one_of sha256 sha512 sha1
-        tree $((RANDOM % 700 + 1)) 512 --hash "$chosen" --hash-block-size 512 --format $((RANDOM % 2))
-        for ((j = RANDOM % 4; j > 0; j--)); do
-            one_of data hash hash
-            file=$scratch/tree.$chosen
-            length=$(stat -c %s "$file")
-            if [ "$chosen" = data ]; then
-                flip "$file" $(((RANDOM * 32768 + RANDOM) % length)) 1
-            elif [ "$length" -gt 512 ]; then
-                flip "$file" $((512 + (RANDOM * 32768 + RANDOM) % (length - 512))) 1
-            fi
-        done
+        random_tree
         status=0
         said=$("$parallel_format" verify $((RANDOM % 8 + 1)) "$scratch/tree.data" "$scratch/tree.hash" "$root" 2>&1) \
             || status=$?
@@ -175,7 +141,7 @@ if build examples/parallel_format.c gcc; then
     random_changes 40
     refused_words
 fi
-if build examples/parallel_format.c gcc "${watched[@]}"; then
+if build examples/parallel_format.c gcc "${sanitizers[@]}"; then
     tree 16385 4096
     formats 'under sanitizers' 4
     named_differences

@@ -14,10 +14,11 @@
 #include <inttypes.h>
 #include <limits.h>
 #include <stdio.h>
-#include <stdlib.h>
 #include <string.h>
 
-#include "images.h"
+#include "calls.h"
+#include "shapes.h"
+#include "support.h"
 #include "words.h"
 
 /* ---------------------------------------- Parameters that are the same ---------------------------------------- */
@@ -36,8 +37,8 @@ static const struct verity_params trusted_device = {
     each(nothing, VERITY_OK, (void)params) \
     each(algorithm, VERITY_DIFFERS, params->hash_algorithm = VERITY_SHA512) \
     each(type, VERITY_DIFFERS, params->hash_type = 0) \
-    each(data_size, VERITY_DIFFERS, params->data_block_size = 512) \
-    each(hash_size, VERITY_DIFFERS, params->hash_block_size = 4096) \
+    each(data_block_size, VERITY_DIFFERS, params->data_block_size = 512) \
+    each(hash_block_size, VERITY_DIFFERS, params->hash_block_size = 4096) \
     each(fewer_blocks, VERITY_DIFFERS, params->data_blocks--) \
     each(shorter_salt, VERITY_DIFFERS, params->salt_size--) \
     each(longer_salt, VERITY_DIFFERS, params->salt_size++) \
@@ -50,8 +51,8 @@ static const struct verity_params trusted_device = {
     each(uuid, VERITY_OK, params->uuid[15] ^= 1) \
     each(faulty_algorithm, VERITY_BAD_HASH_ALGORITHM, params->hash_algorithm = 6) \
     each(faulty_type, VERITY_BAD_HASH_TYPE, params->hash_type = 2) \
-    each(faulty_data_size, VERITY_BAD_DATA_BLOCK_SIZE, params->data_block_size = 256) \
-    each(faulty_hash_size, VERITY_BAD_HASH_BLOCK_SIZE, params->hash_block_size = 1025) \
+    each(faulty_data_block_size, VERITY_BAD_DATA_BLOCK_SIZE, params->data_block_size = 256) \
+    each(faulty_hash_block_size, VERITY_BAD_HASH_BLOCK_SIZE, params->hash_block_size = 1025) \
     each(faulty_salt, VERITY_BAD_SALT_SIZE, params->salt_size = 257) \
     each(faulty_offset, VERITY_BAD_HASH_OFFSET, params->hash_offset = 1) \
     each(no_blocks, VERITY_NO_DATA, params->data_blocks = 0) \

@@ -13,18 +13,17 @@ needs gcc gcc
 has_library "$LIB/libverity.a"
 
 takes_shared
-sources=(tests/library/{parameters,images,support,words}.c)
+sources=(tests/library/{parameters,calls,words,shapes,support}.c)
 compiles "$scratch/static" gcc -O2 "${sources[@]}" "$LIB/libverity.a" || finish
 compiles "$scratch/shared.program" gcc -O2 "${sources[@]}" "${shared[@]}" || finish
 adds 'with the static library' "$scratch/static" checks
 adds 'with the shared library' "$scratch/shared.program" checks
-sanitizers=(-g -O1 -fsanitize=address,undefined -fno-sanitize-recover=all)
-if gcc "${sanitizers[@]}" -x c -o "$scratch/empty" - <<<'int main(void) { return 0; }' 2>/dev/null; then
-    if compiles "$scratch/watched" gcc "${sanitizers[@]}" "${sources[@]}" "$LIB/libverity.a"; then
-        adds 'under sanitizers' env ASAN_OPTIONS=detect_leaks=0 "$scratch/watched" checks
+if has_sanitizers; then
+    if compiles "$scratch/sanitized" gcc "${sanitizers[@]}" "${sources[@]}" "$LIB/libverity.a"; then
+        adds 'under sanitizers' env ASAN_OPTIONS=detect_leaks=0 "$scratch/sanitized" checks
     fi
 else
-    echo 'left out: under sanitizers: the sanitizers of gcc are not installed (Debian: libasan8, libubsan1)'
+    echo "left out: under sanitizers: $no_sanitizers"
 fi
 
 # says EXPECTED WORD..: what the program prints, with either library.
@@ -51,10 +50,10 @@ says "$version $version" version
 # Images: hash function, hash type, data block size, hash block size, number of blocks, hash offset.
 if command -v veritysetup >/dev/null; then
     head -c $((300 * 4096)) /dev/zero >"$scratch/data"
-    while read -r hash type data_size hash_size count offset; do
+    while read -r hash type data_block_size hash_block_size count offset; do
         rm -f "$scratch/hashes"
-        options=(--hash "$hash" --format "$type" --data-block-size "$data_size" --hash-block-size "$hash_size"
-            --data-blocks "$count" --hash-offset "$offset" --salt aa)
+        options=(--hash "$hash" --format "$type" --data-block-size "$data_block_size"
+            --hash-block-size "$hash_block_size" --data-blocks "$count" --hash-offset "$offset" --salt aa)
         runs "veritysetup format ${options[*]}" 0 any '' veritysetup format "${options[@]}" "$scratch/data" \
             "$scratch/hashes"
         says "$(stat -c %s "$scratch/hashes")" end "$scratch/hashes" "$offset"
@@ -72,13 +71,13 @@ sha1 0 4096 1024 300 1048576
 sha384 1 2048 4096 2 8192
 sha224 0 4096 512 300 65536
 EOT
-    while read -r type data_size hash_size count offset; do
+    while read -r type data_block_size hash_block_size count offset; do
         rm -f "$scratch/hashes"
-        options=(--format "$type" --data-block-size "$data_size" --hash-block-size "$hash_size" --data-blocks "$count"
-            --hash-offset "$offset" --salt aa)
+        options=(--format "$type" --data-block-size "$data_block_size" --hash-block-size "$hash_block_size"
+            --data-blocks "$count" --hash-offset "$offset" --salt aa)
         runs "veritysetup format --no-superblock ${options[*]}" 0 any '' veritysetup format --no-superblock \
             "${options[@]}" "$scratch/data" "$scratch/hashes"
-        says "$(stat -c %s "$scratch/hashes")" bare "$type" "$data_size" "$hash_size" "$count" "$offset"
+        says "$(stat -c %s "$scratch/hashes")" bare "$type" "$data_block_size" "$hash_block_size" "$count" "$offset"
     done <<'EOT'
 1 4096 4096 300 0
 1 4096 4096 300 4096

@@ -1,8 +1,7 @@
 /* Calls of the functions that build trees from parts; see part_calls.h. */
 #include "part_calls.h"
 
-#include <string.h>
-
+#include "calls.h"
 #include "feeding_calls.h"
 
 /* How many levels stand above so many data blocks. */
@@ -162,17 +161,6 @@ int join_end_says(const struct join_shape *shape, const struct verity_join *join
     return status;
 }
 
-/* The hash block of a level that stands above a data block, or above the block of a level below, of this number. */
-static struct verity_fed block_above(const struct shape *shape, size_t level, size_t below, uint64_t number)
-{
-    struct verity_fed fed = {.block_length = shape->hash_block_size, .block_level = level, .block_index = number};
-
-    for (; below <= level; below++)
-        fed.block_index /= shape->fan_out;
-    fed.block_start = shape->starts[level] + fed.block_index * fed.block_length;
-    return fed;
-}
-
 struct verity_fed last_block_of_part(const struct part_shape *shape, const struct verity_part *part)
 {
     struct verity_fed fed = {0};
@@ -199,8 +187,8 @@ struct verity_fed last_block_of_join(const struct join_shape *shape, const struc
 
 int call_part_count(const struct tree *tree, size_t level, uint64_t *parts, uint64_t *blocks)
 {
-    struct call call = {.parts = {params_of(tree), FILLS(FIRST_FILLED, "how many parts", parts, sizeof *parts),
-                                  FILLS(SECOND_FILLED, "their data blocks", blocks, sizeof *blocks)}};
+    struct call call = {.operands = {params_of(tree), FILLS(FIRST_FILLED, "how many parts", parts, sizeof *parts),
+                                     FILLS(SECOND_FILLED, "their data blocks", blocks, sizeof *blocks)}};
 
     MAKES_EITHER(call, tree->is_file, part_count, (call.at[0], level, call.at[1], call.at[2]));
     return call.status;
@@ -208,30 +196,30 @@ int call_part_count(const struct tree *tree, size_t level, uint64_t *parts, uint
 
 int call_part_memory(const struct tree *tree, size_t level, size_t *length)
 {
-    struct call call = {.parts = {params_of(tree), FILLS(FIRST_FILLED, "the length", length, sizeof *length)}};
+    struct call call = {.operands = {params_of(tree), FILLS(FIRST_FILLED, "the length", length, sizeof *length)}};
 
     MAKES_EITHER(call, tree->is_file, part_memory, (call.at[0], level, call.at[1]));
     return call.status;
 }
 
 /* Memory of which the bytes before these have to be the same in both calls, though other bytes stood there. */
-static struct part begun_memory(uint8_t *memory, size_t length, size_t same)
+static struct operand begun_memory(uint8_t *memory, size_t length, size_t same)
 {
     static uint8_t other[MOST_BUFFER];
 
     random_bytes(other, length);
-    return (struct part){MEMORY, BEGUN, "the memory", memory, length, other, same};
+    return (struct operand){MEMORY, BEGUN, "the memory", memory, length, other, same};
 }
 
 /* In the second call something else stands in all that is begun. Of the memory the window's bytes don't count yet. */
 int call_part_begin(struct part_building *building, size_t level, uint64_t number)
 {
     struct verity_part other = {(size_t)random_number(), random_number(), random_number(), (size_t)random_number()};
-    struct call call = {.parts = {params_of(&building->tree),
-                                  {BLOCK, BEGUN, "the struct", &building->part, sizeof building->part, &other,
-                                   sizeof building->part},
-                                  begun_memory(building->memory, building->memory_length,
-                                               level * shape_of(&building->tree).hash_block_size)}};
+    struct call call = {.operands = {params_of(&building->tree),
+                                     {BLOCK, BEGUN, "the struct", &building->part, sizeof building->part, &other,
+                                      sizeof building->part},
+                                     begun_memory(building->memory, building->memory_length,
+                                                  level * shape_of(&building->tree).hash_block_size)}};
 
     MAKES_EITHER(call, building->tree.is_file, part_begin,
                  (call.at[0], level, number, call.at[1], call.at[2], building->memory_length));
@@ -244,11 +232,12 @@ int call_part_begin(struct part_building *building, size_t level, uint64_t numbe
 int call_part_feed(struct part_building *building, struct bytes piece, struct verity_fed *fed)
 {
     struct verity_part before = building->part;
-    struct call call = {.parts = {params_of(&building->tree),
-                                  {BLOCK, CHANGED, "the struct", &building->part, sizeof building->part, NULL, 0},
-                                  {MEMORY, CHANGED, "the memory", building->memory, building->memory_length, NULL, 0},
-                                  BYTES(PIECE, "the piece", piece),
-                                  FILLS(FIRST_FILLED, "what it has done", fed, sizeof *fed)}};
+    struct call call = {.operands = {params_of(&building->tree),
+                                     {BLOCK, CHANGED, "the struct", &building->part, sizeof building->part, NULL, 0},
+                                     {MEMORY, CHANGED, "the memory", building->memory, building->memory_length, NULL,
+                                      0},
+                                     BYTES(PIECE, "the piece", piece),
+                                     FILLS(FIRST_FILLED, "what it has done", fed, sizeof *fed)}};
 
     MAKES_EITHER(call, building->tree.is_file, part_feed,
                  (call.at[0], call.at[1], call.at[2], building->memory_length, call.at[3], piece.length, call.at[4]));
@@ -258,9 +247,9 @@ int call_part_feed(struct part_building *building, struct bytes piece, struct ve
 
 int call_part_last_block(const struct part_building *building, struct verity_fed *fed)
 {
-    struct call call = {.parts = {params_of(&building->tree),
-                                  READS(BLOCK, "the struct", &building->part, sizeof building->part),
-                                  FILLS(FIRST_FILLED, "what it has found", fed, sizeof *fed)}};
+    struct call call = {.operands = {params_of(&building->tree),
+                                     READS(BLOCK, "the struct", &building->part, sizeof building->part),
+                                     FILLS(FIRST_FILLED, "what it has found", fed, sizeof *fed)}};
 
     MAKES_EITHER(call, building->tree.is_file, part_last_block, (call.at[0], call.at[1], call.at[2]));
     return call.status;
@@ -268,11 +257,11 @@ int call_part_last_block(const struct part_building *building, struct verity_fed
 
 int call_part_end(struct part_building *building, uint8_t *digest, size_t digest_length)
 {
-    struct call call = {.parts = {params_of(&building->tree),
-                                  READS(BLOCK, "the struct", &building->part, sizeof building->part),
-                                  {MEMORY, building->is_disturbed ? CHANGED : GOES_ON, "the memory", building->memory,
-                                   building->memory_length, NULL, 0},
-                                  FILLS(FIRST_FILLED, "the digest", digest, digest_length)}};
+    struct call call = {.operands = {params_of(&building->tree),
+                                     READS(BLOCK, "the struct", &building->part, sizeof building->part),
+                                     {MEMORY, building->is_disturbed ? CHANGED : GOES_ON, "the memory",
+                                      building->memory, building->memory_length, NULL, 0},
+                                     FILLS(FIRST_FILLED, "the digest", digest, digest_length)}};
 
     MAKES_EITHER(call, building->tree.is_file, part_end,
                  (call.at[0], call.at[1], call.at[2], building->memory_length, call.at[3], digest_length));
@@ -281,7 +270,7 @@ int call_part_end(struct part_building *building, uint8_t *digest, size_t digest
 
 int call_join_memory(const struct tree *tree, size_t level, size_t *length)
 {
-    struct call call = {.parts = {params_of(tree), FILLS(FIRST_FILLED, "the length", length, sizeof *length)}};
+    struct call call = {.operands = {params_of(tree), FILLS(FIRST_FILLED, "the length", length, sizeof *length)}};
 
     MAKES_EITHER(call, tree->is_file, join_memory, (call.at[0], level, call.at[1]));
     return call.status;
@@ -291,11 +280,11 @@ int call_join_begin(struct joining *joining, size_t level)
 {
     struct verity_join other = {(size_t)random_number(), random_number(), (size_t)random_number()};
     struct join_shape shape = join_shape_of(&joining->tree, level);
-    struct call call = {.parts = {params_of(&joining->tree),
-                                  {BLOCK, BEGUN, "the struct", &joining->join, sizeof joining->join, &other,
-                                   sizeof joining->join},
-                                  begun_memory(joining->memory, joining->memory_length,
-                                               shape.levels * shape.tree.hash_block_size)}};
+    struct call call = {.operands = {params_of(&joining->tree),
+                                     {BLOCK, BEGUN, "the struct", &joining->join, sizeof joining->join, &other,
+                                      sizeof joining->join},
+                                     begun_memory(joining->memory, joining->memory_length,
+                                                  shape.levels * shape.tree.hash_block_size)}};
 
     MAKES_EITHER(call, joining->tree.is_file, join_begin,
                  (call.at[0], level, call.at[1], call.at[2], joining->memory_length));
@@ -307,11 +296,11 @@ int call_join_begin(struct joining *joining, size_t level)
 int call_join_feed(struct joining *joining, struct bytes digests, struct verity_fed *fed)
 {
     size_t level = joining->join.level;
-    struct call call = {.parts = {params_of(&joining->tree),
-                                  {BLOCK, CHANGED, "the struct", &joining->join, sizeof joining->join, NULL, 0},
-                                  {MEMORY, CHANGED, "the memory", joining->memory, joining->memory_length, NULL, 0},
-                                  BYTES(PIECE, "the digests", digests),
-                                  FILLS(FIRST_FILLED, "what it has done", fed, sizeof *fed)}};
+    struct call call = {.operands = {params_of(&joining->tree),
+                                     {BLOCK, CHANGED, "the struct", &joining->join, sizeof joining->join, NULL, 0},
+                                     {MEMORY, CHANGED, "the memory", joining->memory, joining->memory_length, NULL, 0},
+                                     BYTES(PIECE, "the digests", digests),
+                                     FILLS(FIRST_FILLED, "what it has done", fed, sizeof *fed)}};
 
     MAKES_EITHER(call, joining->tree.is_file, join_feed,
                  (call.at[0], call.at[1], call.at[2], joining->memory_length, call.at[3], digests.length, call.at[4]));
@@ -321,9 +310,9 @@ int call_join_feed(struct joining *joining, struct bytes digests, struct verity_
 
 int call_join_last_block(const struct joining *joining, struct verity_fed *fed)
 {
-    struct call call = {.parts = {params_of(&joining->tree),
-                                  READS(BLOCK, "the struct", &joining->join, sizeof joining->join),
-                                  FILLS(FIRST_FILLED, "what it has found", fed, sizeof *fed)}};
+    struct call call = {.operands = {params_of(&joining->tree),
+                                     READS(BLOCK, "the struct", &joining->join, sizeof joining->join),
+                                     FILLS(FIRST_FILLED, "what it has found", fed, sizeof *fed)}};
 
     MAKES_EITHER(call, joining->tree.is_file, join_last_block, (call.at[0], call.at[1], call.at[2]));
     return call.status;
@@ -334,13 +323,13 @@ int call_join_end(const struct joining *joining, uint8_t *root, size_t root_leng
 {
     bool is_file = joining->tree.is_file;
     struct call call = {.name = is_file ? "fsverity_join_end" : "verity_join_end",
-                        .parts = {params_of(&joining->tree),
-                                  READS(BLOCK, "the struct", &joining->join, sizeof joining->join),
-                                  READS(MEMORY, "the memory", joining->memory, joining->memory_length),
-                                  FILLS(FIRST_FILLED, "the root hash", root, root_length)}};
+                        .operands = {params_of(&joining->tree),
+                                     READS(BLOCK, "the struct", &joining->join, sizeof joining->join),
+                                     READS(MEMORY, "the memory", joining->memory, joining->memory_length),
+                                     FILLS(FIRST_FILLED, "the root hash", root, root_length)}};
 
     if (is_file) {
-        call.parts[4] = FILLS(SECOND_FILLED, "the digest", digest, digest_length);
+        call.operands[4] = FILLS(SECOND_FILLED, "the digest", digest, digest_length);
         MAKES(call, fsverity_join_end(call.at[0], call.at[1], call.at[2], joining->memory_length, call.at[3],
                                       root_length, call.at[4], digest_length));
     } else {

@@ -1,11 +1,11 @@
 /*
  * Calls of the functions that build trees from parts, and what verity.h says of parts and joins by a computation of its
- * own; see support.h for what is checked of each call.
+ * own; see calls.h for what is checked of each call.
  */
 #ifndef PART_CALLS_H
 #define PART_CALLS_H
 
-#include "support.h"
+#include "shapes.h"
 
 /* A part of a level: the first fault of parameters, level and number, or what it is made of. */
 struct part_shape {

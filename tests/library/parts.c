@@ -21,19 +21,24 @@
 #include <stdlib.h>
 #include <string.h>
 
+#include "calls.h"
+#include "cuts.h"
 #include "disturbed_parts.h"
 #include "images.h"
 #include "part_calls.h"
+#include "shapes.h"
 #include "support.h"
 
 /* Pieces of one byte, of a few, of nearly a block; of any length, and all at once. */
-enum { ANY = 0, WHOLE = 1 << 30 };
 static const size_t cuts[] = {1, 7, 511, 512, 513, 4096, ANY, WHOLE};
 enum { CUTS = sizeof cuts / sizeof *cuts };
 
 /* As many bytes are cut so that pieces have less than a hundred, or fewer if the memory is large; then their length is
    any. */
-#define MOST_CUT_SMALL(memory_length) (4000 / (1 + (memory_length) / 8192))
+static size_t most_cut_small(size_t memory_length)
+{
+    return 4000 / (1 + memory_length / 8192);
+}
 
 /* How many digests come at once: one, two, a few, any number, and all. */
 static const size_t counts[] = {1, 2, 5, ANY, WHOLE};
@@ -301,7 +306,7 @@ static bool is_none(const struct verity_fed *fed)
 }
 
 /* What the last hash block is, after a call that did this. */
-static void put_last(struct verity_fed *last, const struct verity_fed *fed)
+static void set_last(struct verity_fed *last, const struct verity_fed *fed)
 {
     if (fed->block_length == 0 && fed->taken == 0)
         return;
@@ -490,19 +495,6 @@ static bool is_to_be_stored(size_t memory_length)
     return work.way->storing != NEVER && once_in((work.way->storing == ALWAYS ? 1 : 4) + memory_length / 16384);
 }
 
-/* The next length of a piece. */
-static size_t next_length(const struct part_work *part)
-{
-    size_t length = work.way->cut;
-    uint64_t left = part->size - part->at;
-
-    if (once_in(8))
-        return 0;
-    if (length == ANY || (length < 100 && work.fed >= MOST_CUT_SMALL(part->building.memory_length)))
-        length = (size_t)(random_number() >> (44 + random_below(20)));
-    return length < left ? length : (size_t)left;
-}
-
 /* How far the caller goes after a call, and what is left of its piece. */
 static void goes_on(struct part_work *part, const struct verity_fed *fed)
 {
@@ -534,7 +526,7 @@ static void feed_part(struct part_work *part)
                      "%zu bytes after %" PRIu64 " of part %" PRIu64 ": status %d", piece.length, before, part->number,
                      status)))
         return;
-    put_last(&part->last, &fed);
+    set_last(&part->last, &fed);
     is_stored = is_to_be_stored(building->memory_length);
     if (fed.block_length > 0) {
         expect(fed.taken < piece.length || building->part.fed == part->shape.bytes,
@@ -571,7 +563,8 @@ static bool step_part(struct part_work *part)
     if (once_in(16))
         end_part(part, digest);
     if (part->left == 0 && !part->is_waiting)
-        part->left = next_length(part);
+        part->left = next_length(work.way->cut, work.fed >= most_cut_small(part->building.memory_length),
+                                 part->size - part->at);
     feed_part(part);
     return work.has_stopped || is_fed(part);
 }
@@ -791,7 +784,7 @@ static void feed_join(struct join_work *join, uint64_t count)
                      "%" PRIu64 " digests after %" PRIu64 " of %" PRIu64 ": status %d", join->left, before, count,
                      status)))
         return;
-    put_last(&join->last, &fed);
+    set_last(&join->last, &fed);
     is_stored = is_to_be_stored(joining->memory_length);
     if (fed.block_length > 0) {
         note_block_of_join(join, &fed);

@@ -8,6 +8,7 @@ set -u
 cd "$(dirname "$0")/../.."
 . tests/lib/checks.sh
 . tests/lib/c_programs.sh
+. tests/lib/random_images.sh
 . tests/lib/feeding_programs.sh
 needs gcc gcc
 needs python3 python3
@@ -41,30 +42,22 @@ if compiles "$scratch/with_shared" gcc -O2 "${sources[@]}" "${shared[@]}"; then
     large_parts 'large blocks, shared' "$scratch/with_shared"
     feeds_images "$scratch/with_shared" 4 4 $((1 << 17))
 fi
-sanitizers=(-g -O1 -fsanitize=address,undefined -fno-sanitize-recover=all)
 export ASAN_OPTIONS=detect_leaks=0 UBSAN_OPTIONS=print_stacktrace=1
-if ! gcc "${sanitizers[@]}" -x c -o "$scratch/empty" - <<<'int main(void) { return 0; }' 2>/dev/null; then
-    echo 'left out: under sanitizers: the sanitizers of gcc are not installed (Debian: libasan8, libubsan1)'
-elif compiles "$scratch/watched" gcc "${sanitizers[@]}" "${sources[@]}" "$LIB/libverity.a"; then
-    builds_parts 'all settings, watched' "$scratch/watched" $((1 << 13)) 256
-    breaks_parts 'mistakes of the caller, watched' "$scratch/watched"
-    feeds_images "$scratch/watched" 3 3 $((1 << 17))
+if ! has_sanitizers; then
+    echo "left out: under sanitizers: $no_sanitizers"
+elif compiles "$scratch/sanitized" gcc "${sanitizers[@]}" "${sources[@]}" "$LIB/libverity.a"; then
+    builds_parts 'all settings, under sanitizers' "$scratch/sanitized" $((1 << 13)) 256
+    breaks_parts 'mistakes of the caller, under sanitizers' "$scratch/sanitized"
+    feeds_images "$scratch/sanitized" 3 3 $((1 << 17))
 fi
 
-# header_line BEGIN: the header's line that begins so; header_loop NAME STRUCT: its loop, with another function.
-header_line() {
-    grep -F -m 1 " *     $1" include/verity.h | cut -c4-
-}
-
+# header_loop NAME STRUCT: the header's loop, with another function.
 header_loop() {
-    awk '/^ \*     for \(;;\) \{/ && !shown { shown = 1 }
-        shown == 1 { print substr($0, 4) }
-        shown == 1 && /^ \*     \}/ { shown = 2 }' include/verity.h |
-        sed "s/verity_build_feed(&params, &build,/$1(\&params, \&$2,/"
+    header_lines 'for (;;) {' '}' | sed "s/verity_build_feed(&params, &build,/$1(\&params, \&$2,/"
 }
 
-# A program of these lines: it builds the parts of a level of the data on standard input, the last one first, in pieces
-# of 10000 bytes, and writes hash device and root hash.
+# A program of the header's lines: it builds the parts of a level of the data on standard input, the last one first, in
+# pieces of 10000 bytes, and writes hash device and root hash.
 #     lines DEVICE LEVEL
 {
     cat <<'EOC'
@@ -90,21 +83,21 @@ static int counts_parts(void)
 {
     int status;
 EOC
-    header_line 'status = verity_part_count'
+    header_lines 'status = verity_part_count'
     printf '%s\n' '    return status;' '}' 'static int begins_part(uint64_t number)' '{' '    int status;'
-    header_line 'status = verity_part_begin'
+    header_lines 'status = verity_part_begin'
     printf '%s\n' '    return status;' '}' 'static int feeds_part(const uint8_t *piece, size_t length)' '{' \
         '    int status;'
     header_loop verity_part_feed part
     printf '%s\n' '    return 0;' '}' 'static int ends_part(uint8_t *digest)' '{' '    int status;'
-    header_line 'status = verity_part_end'
+    header_lines 'status = verity_part_end'
     printf '%s\n' '    return status;' '}' 'static int begins_join(void)' '{' '    int status;'
-    header_line 'status = verity_join_begin'
+    header_lines 'status = verity_join_begin'
     printf '%s\n' '    return status;' '}' 'static int feeds_join(const uint8_t *piece, size_t length)' '{' \
         '    int status;'
     header_loop verity_join_feed join
     printf '%s\n' '    return 0;' '}' 'static int ends_join(void)' '{' '    int status;'
-    header_line 'status = verity_join_end'
+    header_lines 'status = verity_join_end'
     cat <<'EOC'
     return status;
 }

@@ -1,13 +1,14 @@
 #!/usr/bin/env bash
 # The library on the first x86-64 processor, which qemu imitates: what is built for x86-64 builds trees and checks
 # blocks there, static and shared, and glibc's loader passes over the shared one for x86-64-v3. What is built for
-# x86-64-v3 is seen to end there by an illegal instruction. And for which processors `make library` builds, and what it
-# does without a compiler that links. SEED=N draws other settings and input, LIB=FOLDER takes the library of another
+# x86-64-v3 is seen to end there by an illegal instruction. And for which processors `make library` and `make programs`
+# build, and what the former does without a compiler that links. SEED=N draws other settings and input, LIB=FOLDER takes the library of another
 # folder.
 set -u
 cd "$(dirname "$0")/../.."
 . tests/lib/checks.sh
 . tests/lib/c_programs.sh
+. tests/lib/random_images.sh
 . tests/lib/feeding_programs.sh
 needs gcc gcc
 needs qemu-x86_64 qemu-user
@@ -83,10 +84,7 @@ same 'make programs CPU=x86-64-v2' 'x86-64-v2 x86-64-v2' \
 # Where nothing has changed, nothing is proved: a shared library that is gone is linked, and without the compiler that
 # links it none is left. Here `rt` doesn't prove, so that no check waits for it.
 built=$scratch/built
-tools=$(path_without rt)
-printf '%s\n' '#!/usr/bin/env bash' "if [ \"\$*\" = version ]; then exec '$(type -P rt)' version; fi" \
-    'echo "rt: nothing is proved here"' 'exit 1' >"$tools/rt"
-chmod +x "$tools/rt"
+tools=$(path_without_proofs)
 cp -r "$LIB" "$built"
 
 # remakes PATH TARGET [CPU]: library.sh over the copy, with the programs of this PATH.

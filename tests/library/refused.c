@@ -10,8 +10,10 @@
 #include <stdlib.h>
 #include <string.h>
 
+#include "calls.h"
 #include "feeding_calls.h"
 #include "part_calls.h"
+#include "shapes.h"
 #include "support.h"
 
 /* 300 data blocks of 512 bytes, three levels of 16 digests each; and the same bytes as a file. */
@@ -153,8 +155,9 @@ struct fault {
 FAULT(algorithm, VERITY_BAD_HASH_ALGORITHM,
       device->hash_algorithm = file->hash_algorithm = tree_file->hash_algorithm = 6)
 FAULT(type, VERITY_BAD_HASH_TYPE, device->hash_type = 2)
-FAULT(data_size, VERITY_BAD_DATA_BLOCK_SIZE, device->data_block_size = file->block_size = tree_file->block_size = 513)
-FAULT(hash_size, VERITY_BAD_HASH_BLOCK_SIZE, device->hash_block_size = 256)
+FAULT(data_block_size, VERITY_BAD_DATA_BLOCK_SIZE,
+      device->data_block_size = file->block_size = tree_file->block_size = 513)
+FAULT(hash_block_size, VERITY_BAD_HASH_BLOCK_SIZE, device->hash_block_size = 256)
 FAULT(salt, VERITY_BAD_SALT_SIZE, device->salt_size = file->salt_size = tree_file->salt_size = 257)
 FAULT(offset, VERITY_BAD_HASH_OFFSET, device->hash_offset = 1)
 FAULT(no_data, VERITY_NO_DATA, device->data_blocks = file->size = 0)
@@ -224,8 +227,8 @@ FAULT(one_digest, VERITY_TOO_LONG, now.digests_length = 32)
 FAULT(join_too_short, VERITY_TOO_SHORT, now.joins[DEVICE].join.taken = now.joins[FILES].join.taken = PART_COUNT - 1)
 FAULT(join_waiting, VERITY_WAITING, now.joins[DEVICE].join.closed = now.joins[FILES].join.closed = 1)
 
-#define PARAMS_OF_DEVICE &algorithm, &type, &data_size, &hash_size, &salt, &offset, &no_data, &too_large
-#define PARAMS_OF_BUILD &algorithm, &data_size, &salt
+#define PARAMS_OF_DEVICE &algorithm, &type, &data_block_size, &hash_block_size, &salt, &offset, &no_data, &too_large
+#define PARAMS_OF_BUILD &algorithm, &data_block_size, &salt
 #define PARAMS_OF_FILE PARAMS_OF_BUILD, &no_data, &too_large
 #define ROOT_FAULTS &short_root, &long_root, &no_root, &longest_root
 #define DIGEST_FAULTS &short_digest, &long_digest, &no_digest, &longest_digest
@@ -249,7 +252,8 @@ static const struct row {
     const struct fault *faults[24];
 } rows[] = {
     {"verity_read_superblock", read_superblock, DEVICE,
-     {&short_superblock, &signature, &version, &type, &data_size, &hash_size, &algorithm, &salt, &no_data, &too_large}},
+     {&short_superblock, &signature, &version, &type, &data_block_size, &hash_block_size, &algorithm, &salt, &no_data,
+      &too_large}},
     {"verity_level_count", level_count, DEVICE, {PARAMS_OF_DEVICE}},
     {"verity_level_start", level_start, DEVICE, {PARAMS_OF_DEVICE, &no_level}},
     {"verity_hash_block_start", hash_block_start, DEVICE, {PARAMS_OF_DEVICE, &no_block, &no_level}},
@@ -497,7 +501,7 @@ static const struct limit {
     {FILES, BLOCKS, VERITY_TOO_LARGE, 4, {LARGEST - 510, LARGEST, LARGEST + 1, UINT64_MAX}},
 };
 
-static void put_field(struct tree *tree, enum field field, uint64_t number)
+static void set_field(struct tree *tree, enum field field, uint64_t number)
 {
     uint32_t *small[] = {[ALGORITHM] = tree->is_file ? &tree->file.hash_algorithm : &tree->device.hash_algorithm,
                          [TYPE] = &tree->device.hash_type,
@@ -543,7 +547,7 @@ static void try_limit(const struct limit *limit, uint64_t number_in_field)
         is_tree = row->kind == TREES && limit->kind == FILES && limit->field != BLOCKS &&
                   row->call != algorithm_by_name;
         building = &now.buildings[is_tree ? TREES : limit->kind];
-        put_field(&building->tree, limit->field, number_in_field);
+        set_field(&building->tree, limit->field, number_in_field);
         /* The computation that other expected values rest on says the same. */
         check(shape_of(&building->tree).status == limit->status, "%" PRIu64 ": expected otherwise", number_in_field);
         if ((row->kind != limit->kind && !is_tree) || row->call == read_superblock ||

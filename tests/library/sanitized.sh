@@ -7,14 +7,14 @@ set -u
 cd "$(dirname "$0")/../.."
 . tests/lib/checks.sh
 . tests/lib/c_programs.sh
+. tests/lib/random_images.sh
 . tests/lib/feeding_programs.sh
 needs gcc gcc
 needs python3 python3
 has_library "$LIB/libverity.a"
 
-sanitizers=(-g -O1 -fsanitize=address,undefined -fno-sanitize-recover=all)
-if ! gcc "${sanitizers[@]}" -x c -o "$scratch/empty" - <<<'int main(void) { return 0; }' 2>/dev/null; then
-    echo "$0: the sanitizers of gcc are not installed (Debian: libasan8, libubsan1)"
+if ! has_sanitizers; then
+    echo "$0: $no_sanitizers"
     exit "$LEFT_OUT"
 fi
 
@@ -53,13 +53,13 @@ if compiles "$scratch/overrun" gcc "${sanitizers[@]}" "$scratch/overrun.c" "$LIB
     done
 fi
 
-watched=("${sanitizers[@]}" tests/library/chains.c "${feeding_sources[@]}" "$LIB/libverity.a")
-if compiles "$scratch/refused" gcc tests/library/refused.c "${watched[@]}"; then adds 'refused' "$scratch/refused"; fi
-if compiles "$scratch/images" gcc tests/library/debian_images.c "${watched[@]}"; then
+rest=("${sanitizers[@]}" tests/library/chains.c "${feeding_sources[@]}" "$LIB/libverity.a")
+if compiles "$scratch/refused" gcc tests/library/refused.c "${rest[@]}"; then adds 'refused' "$scratch/refused"; fi
+if compiles "$scratch/debian_images" gcc tests/library/debian_images.c "${rest[@]}"; then
     draws_data
-    tries_images "$scratch/images" 10 6 $((1 << 21))
+    tries_images "$scratch/debian_images" 10 6 $((1 << 21))
 fi
-if compiles "$scratch/fuzz" gcc tests/library/fuzz.c "${watched[@]}"; then
+if compiles "$scratch/fuzz" gcc tests/library/fuzz.c "${rest[@]}"; then
     tries_random "$scratch/fuzz" 300000
 fi
 finish

@@ -25,8 +25,10 @@
 #include <stdlib.h>
 #include <string.h>
 
+#include "calls.h"
 #include "feeding_calls.h"
 #include "images.h"
+#include "shapes.h"
 #include "support.h"
 
 /* A build. fed is what the last call has handed out, which isn't written yet. */
@@ -47,7 +49,8 @@ static uint64_t with_ends, ends_asked_for;
 
 /* Storing. */
 
-static size_t length_of_params(bool is_file)
+/* How long the parameters are, and of a device the struct with them: what stands before the memory. */
+static size_t length_of_structs(bool is_file)
 {
     return is_file ? sizeof(struct fsverity_params) : sizeof(struct verity_params) + sizeof(struct verity_build);
 }
@@ -56,42 +59,42 @@ static size_t length_of_params(bool is_file)
 static struct bytes stored(struct building *building)
 {
     bool is_file = building->tree.is_file;
-    size_t start = length_of_params(is_file);
-    uint8_t *bytes = memory_of(start + building->memory_length);
+    size_t memory_at = length_of_structs(is_file);
+    uint8_t *bytes = memory_of(memory_at + building->memory_length);
 
     if (is_file) {
-        memcpy(bytes, &building->tree.file, start);
+        memcpy(bytes, &building->tree.file, memory_at);
     } else {
         memcpy(bytes, &building->tree.device, sizeof building->tree.device);
         memcpy(bytes + sizeof building->tree.device, &building->build, sizeof building->build);
     }
-    memcpy(bytes + start, building->memory, building->memory_length);
+    memcpy(bytes + memory_at, building->memory, building->memory_length);
     random_bytes((uint8_t *)&building->tree.file, sizeof building->tree.file);
     random_bytes((uint8_t *)&building->tree.device, sizeof building->tree.device);
     random_bytes((uint8_t *)&building->build, sizeof building->build);
     random_bytes(building->memory, building->memory_length);
-    return bytes_of(bytes, start + building->memory_length);
+    return bytes_of(bytes, memory_at + building->memory_length);
 }
 
 /* The same in other memory, whose length the parameters say. */
 static void restore(struct building *building, struct bytes bytes)
 {
     bool is_file = building->tree.is_file;
-    size_t start = length_of_params(is_file);
+    size_t memory_at = length_of_structs(is_file);
 
-    if (bytes.length < start)
+    if (bytes.length < memory_at)
         give_up("what was stored is too short");
     if (is_file) {
-        memcpy(&building->tree.file, bytes.at, start);
+        memcpy(&building->tree.file, bytes.at, memory_at);
     } else {
         memcpy(&building->tree.device, bytes.at, sizeof building->tree.device);
         memcpy(&building->build, bytes.at + sizeof building->tree.device, sizeof building->build);
     }
     if (call_build_memory(&building->tree, &building->memory_length) != VERITY_OK ||
-        bytes.length != start + building->memory_length)
+        bytes.length != memory_at + building->memory_length)
         give_up("what was stored has another length");
     building->memory = memory_of(building->memory_length);
-    memcpy(building->memory, bytes.at + start, building->memory_length);
+    memcpy(building->memory, bytes.at + memory_at, building->memory_length);
 }
 
 /* Writes the hash block that is handed out to the hash device. */
@@ -179,7 +182,7 @@ static void end(struct work *work)
 {
     const struct image *image = work->image;
     bool is_file = image->tree.is_file;
-    size_t length = digest_size_of(is_file ? image->tree.file.hash_algorithm : image->tree.device.hash_algorithm);
+    size_t length = digest_size_of_tree(&image->tree);
     uint8_t root[VERITY_MAX_DIGEST_SIZE] = {0}, digest[VERITY_MAX_DIGEST_SIZE] = {0};
     uint64_t size = bytes_fed(&work->building);
     const struct end *expected = end_at(image, size);

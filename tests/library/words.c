@@ -5,6 +5,7 @@
 #include <stdlib.h>
 #include <string.h>
 
+#include "shapes.h"
 #include "support.h"
 
 size_t bytes_of_text(const char *text, uint8_t *bytes, size_t room)

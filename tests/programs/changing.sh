@@ -6,7 +6,7 @@ cd "$(dirname "$0")/../.."
 . tests/lib/checks.sh
 . tests/lib/stated_images.sh
 . tests/lib/digests.sh
-. tests/lib/running.sh
+. tests/lib/background.sh
 has_program fsverity
 has_program veritysetup
 
@@ -89,18 +89,13 @@ has_read_much() {
 # at_one_time: a second format over the same HASH runs while the first one is stopped. Both end with 0, and verify finds
 # that neither tree stands.
 at_one_time() {
-    local tries=5 first second root
+    local first second root
     anew
     rm -f "$hash"
-    until starts "$BIN/veritysetup" format --salt=aa --uuid "$UUID" "$data" "$hash" && waits_for has_read_much "$data" &&
-        kill -STOP "$pid" && waits_for is_stopped && is_within "$data"; do
-        tries=$((tries - 1))
-        if [ "$tries" -eq 0 ]; then
-            fail 'two runs at one time' 'the first was never stopped'
-            return
-        fi
-        { kill -KILL "$pid"; wait "$pid"; } 2>/dev/null
-    done
+    if ! stopped_once has_read_much "$data" "$BIN/veritysetup" format --salt=aa --uuid "$UUID" "$data" "$hash"; then
+        fail 'two runs at one time' 'the first was never stopped'
+        return
+    fi
     second=$("$BIN/veritysetup" format --salt=bb --uuid "$UUID" "$data" "$hash" | sed -n "s/^Root hash: *$TAB//p")
     kill -CONT "$pid"
     ended 'two runs at one time: the first' 0 any ''

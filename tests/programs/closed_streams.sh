@@ -12,16 +12,6 @@ has_program veritysetup
 fsverity=$BIN/fsverity
 veritysetup=$BIN/veritysetup
 
-# without STREAMS COMMAND..: runs a command with these standard streams closed.
-without() {
-    # shellcheck disable=SC2016
-    bash -c '
-        for stream in $0; do
-            case $stream in 0) exec <&- ;; 1) exec >&- ;; 2) exec 2>&- ;; esac
-        done
-        exec "$@"' "$@"
-}
-
 # prints NAME STATUS TEXT MESSAGE COMMAND..: a command that prints a text if standard output is open, and ends with
 # this status and message if it is closed; the message is seen if standard error is open.
 prints() {
@@ -29,17 +19,17 @@ prints() {
     shift 4
     if [[ $closed = *1* ]]; then text=; else status=0 message=; fi
     if [[ $closed = *2* ]]; then message=; fi
-    runs "$name" "$status" "$text" "$message" without "$closed" "$@"
+    runs "$name" "$status" "$text" "$message" with_closed "$closed" "$@"
 }
 
 data=$scratch/data
-image=$scratch/image
+stated=$scratch/stated
 hash=$scratch/hash
-image_17 "$data" "$image"
+image_17 "$data" "$stated"
 cp "$data" "$scratch/data_before"
 cp "$data" "$scratch/changed"
 flip "$scratch/changed" 0 1
-cp "$image" "$scratch/image_before"
+cp "$stated" "$scratch/stated_before"
 
 file=$scratch/file
 sample 4097 >"$file"
@@ -74,14 +64,14 @@ hash_devices() {
     rm -f "$hash"
     prints "$name: format" 4 "$(report "$hash" 512 512 17 - "$root")" 'Cannot write output.' \
         "$veritysetup" format "${image_17_options[@]}" "$data" "$hash"
-    same_bytes "$name: format: the hash file" "$image" "$hash"
-    prints "$name: dump" 4 "$(report "$image" 512 512 17 -)" 'Cannot write output.' "$veritysetup" dump "$image"
-    runs "$name: verify" 0 '' '' without "$closed" "$veritysetup" verify "$data" "$image" "$root"
+    same_bytes "$name: format: the hash file" "$stated" "$hash"
+    prints "$name: dump" 4 "$(report "$stated" 512 512 17 -)" 'Cannot write output.' "$veritysetup" dump "$stated"
+    runs "$name: verify" 0 '' '' with_closed "$closed" "$veritysetup" verify "$data" "$stated" "$root"
     if [[ $closed = *2* ]]; then message=; fi
     runs "$name: verify of changed data" 2 '' "$message" \
-        without "$closed" "$veritysetup" verify "$scratch/changed" "$image" "$root"
+        with_closed "$closed" "$veritysetup" verify "$scratch/changed" "$stated" "$root"
     same_bytes "$name: the data" "$scratch/data_before" "$data"
-    same_bytes "$name: the image" "$scratch/image_before" "$image"
+    same_bytes "$name: the hash file" "$scratch/stated_before" "$stated"
 }
 
 # ends_in_turn NAME ENDS COMMAND..: the command ends in these ways, one after another, the more files it may have open.
@@ -111,18 +101,18 @@ few_open_files() {
         return
     fi
     wrong=$(printf '%064d' 0)
-    ends_in_turn verify "$(unopened 'Cannot open' 4 "$data" "$image")
+    ends_in_turn verify "$(unopened 'Cannot open' 4 "$data" "$stated")
 Verification failed: root hash is $root.
-status 2" "$veritysetup" verify "$data" "$image" "$wrong"
-    ends_in_turn 'verify without a superblock' "$(unopened 'Cannot open' 4 "$data" "$image")
+status 2" "$veritysetup" verify "$data" "$stated" "$wrong"
+    ends_in_turn 'verify without a superblock' "$(unopened 'Cannot open' 4 "$data" "$stated")
 Verification failed: root hash is $root.
 status 2" "$veritysetup" verify --no-superblock --data-block-size 512 --hash-block-size 512 --hash-offset 512 --salt=- \
-        "$data" "$image" "$wrong"
-    ends_in_turn dump "$(unopened 'Cannot open' 4 "$image")
-$(report "$image" 512 512 17 -)" "$veritysetup" dump "$image"
+        "$data" "$stated" "$wrong"
+    ends_in_turn dump "$(unopened 'Cannot open' 4 "$stated")
+$(report "$stated" 512 512 17 -)" "$veritysetup" dump "$stated"
     ends_in_turn format "$(unopened 'Cannot open' 4 "$data" "$hash")
 $(report "$hash" 512 512 17 - "$root")" "$veritysetup" format "${image_17_options[@]}" "$data" "$hash"
-    same_bytes 'few open files: format: the hash file' "$image" "$hash"
+    same_bytes 'few open files: format: the hash file' "$stated" "$hash"
     ends_in_turn digest "$(unopened 'fsverity: cannot open' 1 "$file")
 $line" "$fsverity" digest "$file"
     ends_in_turn 'output files' "$(unopened 'fsverity: cannot open' 1 "$file" "$tree" "$made")

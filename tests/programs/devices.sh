@@ -11,12 +11,12 @@ has_program veritysetup
 needs_loops
 
 data=$scratch/data
-image=$scratch/image
-image_17 "$data" "$image"
+stated=$scratch/stated
+image_17 "$data" "$stated"
 cp "$data" "$scratch/data_before"
 sample 8192 >"$scratch/hash_file"
 cp "$scratch/hash_file" "$scratch/expected"
-dd if="$image" of="$scratch/expected" conv=notrunc status=none
+dd if="$stated" of="$scratch/expected" conv=notrunc status=none
 
 loop_over "$data"
 data_device=$loop
@@ -43,12 +43,12 @@ same_bytes 'the data stays' "$scratch/data_before" "$data"
 runs 'format of two devices' 0 "$(report "$hash_device" 512 512 17 - "$root")" '' \
     "$BIN/veritysetup" format "${image_17_options[@]}" "$data_device" "$hash_device"
 sync
-same_bytes 'format of two devices: the image' "$scratch/expected" "$scratch/hash_file"
+same_bytes 'format of two devices: the hash device' "$scratch/expected" "$scratch/hash_file"
 runs 'verify of two devices' 0 '' '' "$BIN/veritysetup" verify "$data_device" "$hash_device" "$root"
 runs 'more data blocks than a device has' 4 '' 'Data ends before the end of block 17.' \
     "$BIN/veritysetup" format "${image_17_options[@]}" --data-blocks 18 "$data_device" "$hash_device"
 sync
-same_bytes 'more data blocks than a device has: the image' "$scratch/expected" "$scratch/hash_file"
+same_bytes 'more data blocks than a device has: the hash device' "$scratch/expected" "$scratch/hash_file"
 runs 'the digest of a device' 0 "sha256:$(digest "$(root "$data")" 8704) $data_device" '' \
     "$BIN/fsverity" digest "$data_device"
 finish

@@ -8,8 +8,8 @@ has_program veritysetup
 veritysetup=$BIN/veritysetup
 
 data=$scratch/data.img
-image=$scratch/image.img
-image_17 "$data" "$image"
+stated=$scratch/stated.img
+image_17 "$data" "$stated"
 hash=$scratch/hash.img
 
 images() {
@@ -23,11 +23,11 @@ images() {
     rm "$hash"
     runs '17 blocks' 0 "$(report "$hash" 512 512 17 - "$root")" '' \
         "$veritysetup" format "$data" "$hash" "${image_17_options[@]}"
-    same_bytes '17 blocks: the hash file' "$image" "$hash"
+    same_bytes '17 blocks: the hash file' "$stated" "$hash"
 
     head -c 4096 /dev/zero | tr '\0' w >"$hash"
     cp "$hash" "$scratch/expected"
-    dd if="$image" of="$scratch/expected" conv=notrunc status=none
+    dd if="$stated" of="$scratch/expected" conv=notrunc status=none
     runs '17 blocks onto a longer file' 0 "$(report "$hash" 512 512 17 - "$root")" '' \
         "$veritysetup" format "${image_17_options[@]}" "$data" "$hash"
     same_bytes '17 blocks onto a longer file: other bytes stay' "$scratch/expected" "$hash"
@@ -102,7 +102,7 @@ short_data() {
 # Hash areas elsewhere than at the start of HASH, and without a superblock.
 areas() {
     local tree=$scratch/tree
-    tail -c +513 "$image" >"$tree"
+    tail -c +513 "$stated" >"$tree"
     rm -f "$hash"
     runs 'no superblock' 0 "$(report "$hash" 512 512 17 - "$root" | bare)" '' \
         "$veritysetup" format --no-superblock "${image_17_options[@]}" "$data" "$hash"
@@ -115,7 +115,7 @@ areas() {
     same_bytes 'no superblock at an offset: the bytes before stay' "$scratch/expected" "$hash"
 
     rm "$hash"
-    { zeros 1024 && cat "$image"; } >"$scratch/expected"
+    { zeros 1024 && cat "$stated"; } >"$scratch/expected"
     runs 'an offset' 0 any '' "$veritysetup" format --hash-offset 1024 "${image_17_options[@]}" "$data" "$hash"
     same_bytes 'an offset: zeros before it' "$scratch/expected" "$hash"
 }
@@ -136,12 +136,12 @@ one_file() {
         bash -c 'cd "$1"; shift; "$@"' - "$scratch" "$(realpath "$veritysetup")" format "${image_17_options[@]}" "$both" both
     same_bytes 'one file: by a relative path: it stays' "$data" "$both"
 
-    { cat "$data" && cat "$image"; } >"$scratch/expected"
+    { cat "$data" && cat "$stated"; } >"$scratch/expected"
     for name in "$both" "$scratch/./both" "$scratch/link" "$scratch/hard"; do
         head -c 8704 "$data" >"$both"
         runs "one file: $name after the data" 0 "$(report "$name" 512 512 17 - "$root")" '' \
             "$veritysetup" format --data-blocks 17 --hash-offset 8704 "${image_17_options[@]}" "$both" "$name"
-        same_bytes "one file: $name after the data: image" "$scratch/expected" "$both"
+        same_bytes "one file: $name after the data: all bytes" "$scratch/expected" "$both"
         runs "one file: $name: verify" 0 '' '' "$veritysetup" verify --hash-offset 8704 "$both" "$name" "$root"
     done
     runs 'one file: made again with all blocks' 1 '' "$overlap" \
@@ -160,30 +160,30 @@ permissions() {
     done
 }
 
-# If the report can't be written the image is whole all the same.
+# If the report can't be written the hash file is whole all the same.
 outputs() {
     local unwritten='Cannot write output.'
     rm -f "$hash"
     runs 'output on a full device' 4 '' "$unwritten" \
         bash -c '"$@" >/dev/full' - "$veritysetup" format "${image_17_options[@]}" "$data" "$hash"
-    same_bytes 'output on a full device: the hash file' "$image" "$hash"
+    same_bytes 'output on a full device: the hash file' "$stated" "$hash"
 
     rm -f "$hash"
     runs 'a closed standard output' 4 '' "$unwritten" \
-        bash -c '"$@" >&-' - "$veritysetup" format "${image_17_options[@]}" "$data" "$hash"
-    same_bytes 'a closed standard output: the hash file' "$image" "$hash"
+        with_closed 1 "$veritysetup" format "${image_17_options[@]}" "$data" "$hash"
+    same_bytes 'a closed standard output: the hash file' "$stated" "$hash"
 
     rm -f "$hash"
     runs 'all streams closed' 4 '' '' \
-        bash -c '"$@" <&- >&- 2>&-' - "$veritysetup" format "${image_17_options[@]}" "$data" "$hash"
-    same_bytes 'all streams closed: the hash file' "$image" "$hash"
+        with_closed '0 1 2' "$veritysetup" format "${image_17_options[@]}" "$data" "$hash"
+    same_bytes 'all streams closed: the hash file' "$stated" "$hash"
 
     rm -f "$hash"
     mkfifo "$scratch/unread"
     runs 'a pipe that nobody reads' 4 '' "$unwritten" \
         bash -c 'p=$1; shift; exec 8<>"$p"; exec 9>"$p"; exec 8>&-; "$@" >&9' - "$scratch/unread" \
         "$veritysetup" format "${image_17_options[@]}" "$data" "$hash"
-    same_bytes 'a pipe that nobody reads: the hash file' "$image" "$hash"
+    same_bytes 'a pipe that nobody reads: the hash file' "$stated" "$hash"
 }
 
 memory() {

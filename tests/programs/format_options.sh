@@ -8,8 +8,8 @@ has_program veritysetup
 veritysetup=$BIN/veritysetup
 
 data=$scratch/data.img
-image=$scratch/image.img
-image_17 "$data" "$image"
+stated=$scratch/stated.img
+image_17 "$data" "$stated"
 hash=$scratch/hash.img
 
 # report_has NAME LABEL PATTERN: a line of the report in $scratch/.out.

@@ -5,7 +5,7 @@ set -u
 cd "$(dirname "$0")/../.."
 . tests/lib/checks.sh
 . tests/lib/stated_images.sh
-. tests/lib/running.sh
+. tests/lib/background.sh
 has_program veritysetup
 veritysetup=$BIN/veritysetup
 

@@ -8,38 +8,38 @@ has_program fsverity
 has_program veritysetup
 
 # A name space of its own, in which an empty file system stands over /dev.
-bare=(unshare --mount)
-if [ "$(id -u)" -ne 0 ]; then bare=(unshare --map-root-user --mount); fi
-bare+=(sh -c 'mount -t tmpfs none /dev && exec "$@"' -)
-if ! "${bare[@]}" test ! -e /dev/null 2>/dev/null; then
+without_devices=(unshare --mount)
+if [ "$(id -u)" -ne 0 ]; then without_devices=(unshare --map-root-user --mount); fi
+without_devices+=(sh -c 'mount -t tmpfs none /dev && exec "$@"' -)
+if ! "${without_devices[@]}" test ! -e /dev/null 2>/dev/null; then
     echo "$0: /dev can't be hidden here"
     exit $LEFT_OUT
 fi
 
 data=$scratch/data.img
-image=$scratch/image.img
+stated=$scratch/stated.img
 hash=$scratch/hash.img
-image_17 "$data" "$image"
-veritysetup=("${bare[@]}" "$BIN/veritysetup")
+image_17 "$data" "$stated"
+veritysetup=("${without_devices[@]}" "$BIN/veritysetup")
 
 runs 'format' 0 "$(report "$hash" 512 512 17 - "$root")" '' \
     "${veritysetup[@]}" format "${image_17_options[@]}" "$data" "$hash"
-same_bytes 'format: the hash file' "$image" "$hash"
+same_bytes 'format: the hash file' "$stated" "$hash"
 runs 'format with a drawn salt and UUID' 0 any '' "${veritysetup[@]}" format "$data" "$hash"
-runs 'dump' 0 "$(report "$image" 512 512 17 -)" '' "${veritysetup[@]}" dump "$image"
-runs 'verify' 0 '' '' "${veritysetup[@]}" verify "$data" "$image" "$root"
+runs 'dump' 0 "$(report "$stated" 512 512 17 -)" '' "${veritysetup[@]}" dump "$stated"
+runs 'verify' 0 '' '' "${veritysetup[@]}" verify "$data" "$stated" "$root"
 flip "$data" 8192 255
 runs 'verify of changed data' 2 '' 'Verification failed: level 0 block 1, child 16.' \
-    "${veritysetup[@]}" verify "$data" "$image" "$root"
+    "${veritysetup[@]}" verify "$data" "$stated" "$root"
 flip "$data" 8192 255
 
 : >"$scratch/empty"
-runs 'digest' 0 "sha256:3d248ca542a24fc62d1c43b916eae5016878e2533c88238480b26128a1f1af95 $scratch/empty" '' \
-    "${bare[@]}" "$BIN/fsverity" digest "$scratch/empty"
+runs 'digest' 0 "sha256:$DIGEST_OF_EMPTY $scratch/empty" '' \
+    "${without_devices[@]}" "$BIN/fsverity" digest "$scratch/empty"
 
-# No report lands in the image if standard streams are closed.
+# No report lands in the hash file if standard streams are closed.
 rm "$hash"
 runs 'all streams closed' 4 '' '' \
-    bash -c '"$@" <&- >&- 2>&-' - "${veritysetup[@]}" format "${image_17_options[@]}" "$data" "$hash"
-same_bytes 'all streams closed: the hash file' "$image" "$hash"
+    with_closed '0 1 2' "${veritysetup[@]}" format "${image_17_options[@]}" "$data" "$hash"
+same_bytes 'all streams closed: the hash file' "$stated" "$hash"
 finish

@@ -12,7 +12,7 @@ veritysetup=$BIN/veritysetup
 
 data=$scratch/data.img
 hash=$scratch/hash.img
-image=$scratch/image.img
+stated=$scratch/stated.img
 
 # image_of SALT: the image of 17 data blocks, whose salted digests $salted gives; eight digests fill a hash block, so
 # there are three and one. Sets `root`.
@@ -20,13 +20,13 @@ image_of() {
     sample 8704 >"$data"
     hash_blocks "$data" 512 512 "$salted" >"$scratch/level0"
     hash_blocks "$scratch/level0" 512 512 "$salted" >"$scratch/level1"
-    { superblock 512 512 17 "$1" && cat "$scratch/level1" "$scratch/level0"; } >"$image"
+    { superblock 512 512 17 "$1" && cat "$scratch/level1" "$scratch/level0"; } >"$stated"
     root=$(sh -c "$salted" <"$scratch/level1" | cut -c1-128)
 }
 
 # changed OFFSET TEXT: verify names the block of a changed byte of the hash file.
 changed() {
-    cp "$image" "$hash"
+    cp "$stated" "$hash"
     flip "$hash" "$1" 1
     runs "byte $1 of the hash file" 2 '' "Verification failed: $2" "$veritysetup" verify "$data" "$hash" "$root"
 }
@@ -38,13 +38,13 @@ current() {
     image_of abcdef
     runs 'format' 0 "$(report "$hash" 512 512 17 abcdef "$root")" '' \
         "$veritysetup" format "${options[@]}" --salt=abcdef "$data" "$hash"
-    same_bytes 'format: the hash file' "$image" "$hash"
-    runs 'dump' 0 "$(report "$image" 512 512 17 abcdef)" '' "$veritysetup" dump "$image"
-    runs 'verify' 0 '' '' "$veritysetup" verify "$data" "$image" "$root"
+    same_bytes 'format: the hash file' "$stated" "$hash"
+    runs 'dump' 0 "$(report "$stated" 512 512 17 abcdef)" '' "$veritysetup" dump "$stated"
+    runs 'verify' 0 '' '' "$veritysetup" verify "$data" "$stated" "$root"
     runs 'verify: another root hash' 2 '' "Verification failed: root hash is $root." \
-        "$veritysetup" verify "$data" "$image" "$(printf '%0128d' 0)"
+        "$veritysetup" verify "$data" "$stated" "$(printf '%0128d' 0)"
     runs 'verify: a root hash of SHA-256' 1 '' 'Root hash is not valid.' \
-        "$veritysetup" verify "$data" "$image" "${root:64}"
+        "$veritysetup" verify "$data" "$stated" "${root:64}"
     changed 512 'level 1 block 0, child 0.'
     changed 703 'level 1 block 0, child 2.'
     changed 704 'level 1 block 0, spare bytes.'
@@ -57,11 +57,11 @@ current() {
 original() {
     salted='{ cat && printf "\253\315\357"; } | sha512sum'
     image_of abcdef
-    set_byte "$image" $HASH_TYPE_AT 00
+    set_byte "$stated" $HASH_TYPE_AT 00
     rm -f "$hash"
     runs 'hash type 0' 0 any '' "$veritysetup" format "${options[@]}" --format 0 --salt=abcdef "$data" "$hash"
-    same_bytes 'hash type 0: the hash file' "$image" "$hash"
-    runs 'hash type 0: verify' 0 '' '' "$veritysetup" verify "$data" "$image" "$root"
+    same_bytes 'hash type 0: the hash file' "$stated" "$hash"
+    runs 'hash type 0: verify' 0 '' '' "$veritysetup" verify "$data" "$stated" "$root"
 }
 
 # described SIZE ROOT SALT: the file digest of blocks of 4096, SHA-512 of the descriptor.

@@ -13,7 +13,7 @@ veritysetup=$BIN/veritysetup
 
 data=$scratch/data.img
 hash=$scratch/hash.img
-image=$scratch/image.img
+stated=$scratch/stated.img
 tree=$scratch/tree
 
 # repeated COUNT FILE: writes a file's bytes so many times.
@@ -21,9 +21,9 @@ repeated() {
     yes "$2" | head -n "$1" | tr '\n' '\0' | xargs -0 -r cat
 }
 
-# large_image BLOCK COUNT: data of COUNT blocks, zeros but for the last one, with its tree and its image, which has a
-# superblock in a block of its own. Data blocks and hash blocks have BLOCK bytes. Sets `root`, `counts` to the number of
-# hash blocks of each level, and `options` to what format needs to make it.
+# large_image BLOCK COUNT: data of COUNT blocks, zeros but for the last one, with its tree and its hash device, which has
+# a superblock in a block of its own. Data blocks and hash blocks have BLOCK bytes. Sets `root`, `counts` to the number
+# of hash blocks of each level, and `options` to what format needs to make it.
 large_image() {
     local count=$2 above fan digest_size
     block=$1
@@ -50,21 +50,21 @@ large_image() {
         count=$above
     done
     root=$("${ALGORITHM}sum" <"$scratch/last" | cut -d' ' -f1)
-    superblock "$block" "$block" "$2" '' | filled "$block" | cat - "$tree" >"$image"
+    superblock "$block" "$block" "$2" '' | filled "$block" | cat - "$tree" >"$stated"
     options=(--hash "$ALGORITHM" --data-block-size "$block" --hash-block-size "$block" --salt=- --uuid "$UUID")
 }
 
-# byte_of LEVEL NUMBER: prints at which byte of the image a hash block begins.
+# byte_of LEVEL NUMBER: prints at which byte of HASH a hash block begins.
 byte_of() {
     local before=1 level
     for ((level = $1 + 1; level < ${#counts[@]}; level++)); do before=$((before + counts[level])); done
     echo $((block * (before + $2)))
 }
 
-# differs FILE BYTE TEXT: verify names what differs if a byte of data or image is turned, and both are right again then.
+# differs FILE BYTE TEXT: verify names what differs if a byte of DATA or HASH is turned, and both are right again then.
 differs() {
     flip "$1" "$2" 1
-    runs "byte $2 of ${1##*/}" 2 '' "Verification failed: $3." "$veritysetup" verify "$data" "$image" "$root"
+    runs "byte $2 of ${1##*/}" 2 '' "Verification failed: $3." "$veritysetup" verify "$data" "$stated" "$root"
     flip "$1" "$2" 1
 }
 
@@ -72,7 +72,7 @@ differs() {
 makes() {
     runs "$1: format" 0 "$(report "$hash" "$block" "$block" "$2" - "$root")" '' \
         "$veritysetup" format "${options[@]}" "$data" "$hash"
-    same_bytes "$1: format: the hash file" "$image" "$hash"
+    same_bytes "$1: format: the hash file" "$stated" "$hash"
 }
 
 # digests_it NAME WORD..: fsverity gives the digest, the tree and the descriptor of this data. HEAD is how the
@@ -95,25 +95,25 @@ many_blocks() {
     same "$name: hash blocks" '4098 257 17 2 1' "${counts[*]}"
     makes "$name" $count
     HEAD=01010900 digests_it "$name" --block-size 512
-    runs "$name: verify" 0 '' '' "$veritysetup" verify "$data" "$image" "$root"
+    runs "$name: verify" 0 '' '' "$veritysetup" verify "$data" "$stated" "$root"
     runs "$name: another root hash" 2 '' "Verification failed: root hash is $root." \
-        "$veritysetup" verify "$data" "$image" "$(printf '%064d' 0)"
+        "$veritysetup" verify "$data" "$stated" "$(printf '%064d' 0)"
 
     differs "$data" $((65536 * 512)) 'level 0 block 4096, child 65536'
     differs "$data" $((65553 * 512 - 1)) 'level 0 block 4097, child 65552'
-    differs "$image" "$(byte_of 0 1000)" 'level 0 block 1000, child 16000'
-    differs "$image" $(($(byte_of 0 4097) + 511)) 'level 0 block 4097, spare bytes'
-    differs "$image" $(($(byte_of 1 256) + 32)) 'level 1 block 256, child 4097'
+    differs "$stated" "$(byte_of 0 1000)" 'level 0 block 1000, child 16000'
+    differs "$stated" $(($(byte_of 0 4097) + 511)) 'level 0 block 4097, spare bytes'
+    differs "$stated" $(($(byte_of 1 256) + 32)) 'level 1 block 256, child 4097'
     for level in 2 3 4; do
-        differs "$image" "$(byte_of $level 0)" "level $level block 0, child 0"
+        differs "$stated" "$(byte_of $level 0)" "level $level block 0, child 0"
     done
 
-    head -c -1 "$image" >"$hash"
+    head -c -1 "$stated" >"$hash"
     runs "$name: a hash file that is a byte short" 2 '' 'Verification failed: level 0 block 4097 is missing.' \
         "$veritysetup" verify "$data" "$hash" "$root"
     truncate -s -1 "$data"
     runs "$name: data that is a byte short" 4 '' 'Data ends before the end of block 65552.' \
-        "$veritysetup" verify "$data" "$image" "$root"
+        "$veritysetup" verify "$data" "$stated" "$root"
 }
 
 # With SHA-512 the same number has 8195, 1025, 129, 17, 3 and 1 hash blocks.
@@ -122,8 +122,8 @@ many_levels() {
     large_image 512 $count
     same "$name: hash blocks" '8195 1025 129 17 3 1' "${counts[*]}"
     makes "$name" $count
-    differs "$image" "$(byte_of 5 0)" 'level 5 block 0, child 0'
-    differs "$image" $(($(byte_of 5 0) + 511)) 'level 5 block 0, spare bytes'
+    differs "$stated" "$(byte_of 5 0)" 'level 5 block 0, child 0'
+    differs "$stated" $(($(byte_of 5 0) + 511)) 'level 5 block 0, spare bytes'
 }
 
 # A block more than 1 GiB.
@@ -163,10 +163,10 @@ large_files() {
     done
 }
 
-# An image of 17 blocks after 4 GiB and after 1 TiB of HASH, with and without its superblock.
+# The hash area of 17 blocks after 4 GiB and after 1 TiB of HASH, with and without its superblock.
 far_offsets() {
     local offset after bare=(--no-superblock --salt=- --data-block-size 512 --hash-block-size 512)
-    image_17 "$data" "$image"
+    image_17 "$data" "$stated"
     for offset in $(((1 << 32) + 512)) $(((1 << 40) + 512)); do
         after=$((offset + 512))
         rm -f "$hash"
@@ -174,17 +174,17 @@ far_offsets() {
             "$veritysetup" format "${image_17_options[@]}" --hash-offset "$offset" "$data" "$hash"
         same "offset $offset: the length of the hash file" $((offset + 2048)) "$(stat -c %s "$hash")"
         tail -c 2048 "$hash" >"$scratch/written"
-        same_bytes "offset $offset: format: the image" "$image" "$scratch/written"
+        same_bytes "offset $offset: format: the hash area" "$stated" "$scratch/written"
         rm "$hash"
         runs "offset $offset: format without a superblock" 0 any '' \
             "$veritysetup" format "${image_17_options[@]}" --no-superblock --hash-offset "$after" "$data" "$hash"
         tail -c 2048 "$hash" >"$scratch/written"
-        zeros 512 | cat - <(tail -c 1536 "$image") >"$scratch/expected"
+        zeros 512 | cat - <(tail -c 1536 "$stated") >"$scratch/expected"
         same_bytes "offset $offset: format without a superblock: the tree" "$scratch/expected" "$scratch/written"
 
         rm "$hash"
         truncate -s "$offset" "$hash"
-        cat "$image" >>"$hash"
+        cat "$stated" >>"$hash"
         runs "offset $offset: dump" 0 "$(report "$hash" 512 512 17 -)" '' \
             "$veritysetup" dump --hash-offset "$offset" "$hash"
         far_verify 0 '' "$root"

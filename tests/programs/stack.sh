@@ -18,7 +18,7 @@ for function in sha256 sha512 sha1; do
         within "$BIN/veritysetup" format --hash "$function" --data-block-size "$block" --hash-block-size "$block" \
             --salt=abcd "$data" "$hash" >"$scratch/report" 2>&1
         same "format, $function, blocks of $block" 0 $?
-        root=$(sed -nE 's/^Root hash:\s*//p' "$scratch/report")
+        root=$(root_in "$scratch/report")
         runs "verify, $function, blocks of $block" 0 '' '' within "$BIN/veritysetup" verify "$data" "$hash" "$root"
         runs "dump, $function, blocks of $block" 0 any '' within "$BIN/veritysetup" dump "$hash"
         if [ "$function" = sha1 ]; then continue; fi

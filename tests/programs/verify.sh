@@ -8,8 +8,8 @@ has_program veritysetup
 veritysetup=$BIN/veritysetup
 
 data=$scratch/data.img
-image=$scratch/image.img
-image_17 "$data" "$image"
+stated=$scratch/stated.img
+image_17 "$data" "$stated"
 hash=$scratch/hash.img
 
 # refuses_superblock NAME TEXT FILE: dump and verify refuse a superblock alike.
@@ -18,16 +18,16 @@ refuses_superblock() {
     runs "verify: $1" 1 '' "$2" "$veritysetup" verify "$data" "$3" "$root"
 }
 
-# with_changed_byte NAME TEXT OFFSET HEX: image 17 with one byte changed is refused as a superblock.
+# with_changed_byte NAME TEXT OFFSET HEX: HASH with one byte changed is refused as a superblock.
 with_changed_byte() {
-    cp "$image" "$hash"
+    cp "$stated" "$hash"
     set_byte "$hash" "$3" "$4"
     refuses_superblock "$1" "$2" "$hash"
 }
 
 superblocks() {
-    runs 'dump' 0 "$(report "$image" 512 512 17 -)" '' "$veritysetup" dump "$image"
-    cp "$image" "$hash"
+    runs 'dump' 0 "$(report "$stated" 512 512 17 -)" '' "$veritysetup" dump "$stated"
+    cp "$stated" "$hash"
     # Behind the zero of the name, in the pads, and in the salt, of which no byte counts.
     for offset in $((ALGORITHM_AT + 7)) $((DATA_BLOCK_SIZE_AT - 1)) $FIRST_PAD_AT $((SALT_AT - 1)) $SALT_AT \
         $((LAST_PAD_AT - 1)) $LAST_PAD_AT $((SUPERBLOCK_SIZE - 1)); do
@@ -36,7 +36,7 @@ superblocks() {
     runs 'dump: pads are ignored' 0 "$(report "$hash" 512 512 17 -)" '' "$veritysetup" dump "$hash"
     runs 'verify: pads are ignored' 0 '' '' "$veritysetup" verify "$data" "$hash" "$root"
 
-    head -c $((SUPERBLOCK_SIZE - 1)) "$image" >"$scratch/short"
+    head -c $((SUPERBLOCK_SIZE - 1)) "$stated" >"$scratch/short"
     refuses_superblock '511 bytes' 'Superblock is too short.' "$scratch/short"
     : >"$scratch/empty"
     refuses_superblock 'an empty file' 'Superblock is too short.' "$scratch/empty"
@@ -54,9 +54,11 @@ superblocks() {
 # Superblocks and trees elsewhere than at the start of HASH, and trees without a superblock.
 areas() {
     local tree=$scratch/tree options=(--no-superblock --data-block-size 512 --hash-block-size 512)
-    runs 'dump at an offset past the end' 1 '' 'Superblock is too short.' "$veritysetup" dump --hash-offset 2048 "$image"
-    runs 'dump at an offset with other bytes' 1 '' 'No verity superblock.' "$veritysetup" dump --hash-offset 512 "$image"
-    { sample 1024 && cat "$image"; } >"$hash"
+    runs 'dump at an offset past the end' 1 '' 'Superblock is too short.' \
+        "$veritysetup" dump --hash-offset 2048 "$stated"
+    runs 'dump at an offset with other bytes' 1 '' 'No verity superblock.' \
+        "$veritysetup" dump --hash-offset 512 "$stated"
+    { sample 1024 && cat "$stated"; } >"$hash"
     runs 'dump at an offset' 0 "$(report "$hash" 512 512 17 -)" '' "$veritysetup" dump --hash-offset 1024 "$hash"
     runs 'verify at an offset' 0 '' '' "$veritysetup" verify --hash-offset 1024 "$data" "$hash" "$root"
     flip "$hash" 2048 1
@@ -71,16 +73,16 @@ areas() {
             "$veritysetup" "$1" --hash-offset 511 "${@:2}"
     done
     runs 'verify with a superblock reads no other option' 0 '' '' \
-        "$veritysetup" verify --hash md5 --salt x --data-blocks 0 "$data" "$image" "$root"
+        "$veritysetup" verify --hash md5 --salt x --data-blocks 0 "$data" "$stated" "$root"
     # What pins the parameters: all of them as options, and the offset of the tree behind the superblock.
     runs 'verify by pinned parameters' 0 '' '' \
-        "$veritysetup" verify "${options[@]}" --salt=- --data-blocks 17 --hash-offset 512 "$data" "$image" "$root"
+        "$veritysetup" verify "${options[@]}" --salt=- --data-blocks 17 --hash-offset 512 "$data" "$stated" "$root"
     runs 'verify by pinned parameters: another salt' 2 '' any \
-        "$veritysetup" verify "${options[@]}" --salt=00 --data-blocks 17 --hash-offset 512 "$data" "$image" "$root"
+        "$veritysetup" verify "${options[@]}" --salt=00 --data-blocks 17 --hash-offset 512 "$data" "$stated" "$root"
     runs 'verify by pinned parameters: another number of blocks' 2 '' any \
-        "$veritysetup" verify "${options[@]}" --salt=- --data-blocks 16 --hash-offset 512 "$data" "$image" "$root"
+        "$veritysetup" verify "${options[@]}" --salt=- --data-blocks 16 --hash-offset 512 "$data" "$stated" "$root"
 
-    tail -c +513 "$image" >"$tree"
+    tail -c +513 "$stated" >"$tree"
     runs 'verify without a superblock' 0 '' '' "$veritysetup" verify "${options[@]}" --salt=- "$data" "$tree" "$root"
     runs 'verify without a superblock and salt' 1 '' 'Salt is not valid.' \
         "$veritysetup" verify "${options[@]}" "$data" "$tree" "$root"
@@ -89,7 +91,7 @@ areas() {
     runs 'verify without a superblock: another root hash' 2 '' "Verification failed: root hash is $root." \
         "$veritysetup" verify "${options[@]}" --salt=- "$data" "$tree" "$(printf '%064d' 0)"
     runs 'verify without a superblock: a superblock is no tree' 2 '' 'Verification failed: level 0 block 0, child 0.' \
-        "$veritysetup" verify "${options[@]}" --salt=- "$data" "$image" "$root"
+        "$veritysetup" verify "${options[@]}" --salt=- "$data" "$stated" "$root"
     runs 'verify without a superblock: missing data' 4 '' "Cannot open $scratch/missing." \
         "$veritysetup" verify "${options[@]}" --salt x "$scratch/missing" "$tree" "$root"
 }
@@ -97,7 +99,7 @@ areas() {
 # Data and hash area in one file, by whichever names, with and without a superblock: what is wrong there is found.
 one_file() {
     local both=$scratch/both name bare=(--no-superblock --data-block-size 512 --hash-block-size 512 --salt=-)
-    cat "$data" "$image" >"$both"
+    cat "$data" "$stated" >"$both"
     ln -s both "$scratch/both_soft"
     ln "$both" "$scratch/both_hard"
     for name in "$both" "$scratch/./both" "$scratch/both_soft" "$scratch/both_hard"; do
@@ -123,17 +125,17 @@ in_one_file() {
 # Data without a whole block is refused without a superblock, and too short for one.
 no_data() {
     local size file bare=(--no-superblock --data-block-size 512 --hash-block-size 512 --salt=-)
-    tail -c +513 "$image" >"$scratch/tree"
+    tail -c +513 "$stated" >"$scratch/tree"
     for size in 0 1 511; do
         file=$scratch/data.$size
         head -c "$size" "$data" >"$file"
-        names "$size bytes of data" 'Data ends before the end of block 0.' 4 "$file" "$image"
+        names "$size bytes of data" 'Data ends before the end of block 0.' 4 "$file" "$stated"
         runs "verify without a superblock: $size bytes of data" 1 '' 'No data blocks.' \
             "$veritysetup" verify "${bare[@]}" "$file" "$scratch/tree" "$root"
         runs "verify without a superblock: 17 blocks of $size bytes" 4 '' 'Data ends before the end of block 0.' \
             "$veritysetup" verify "${bare[@]}" --data-blocks 17 "$file" "$scratch/tree" "$root"
     done
-    names 'the null device as data' 'Data ends before the end of block 0.' 4 /dev/null "$image"
+    names 'the null device as data' 'Data ends before the end of block 0.' 4 /dev/null "$stated"
     runs 'verify without a superblock: the null device as data' 1 '' 'No data blocks.' \
         "$veritysetup" verify "${bare[@]}" /dev/null "$scratch/tree" "$root"
 }
@@ -145,17 +147,17 @@ names() {
 
 trees() {
     local other
-    names 'the right image' '' 0 "$data" "$image"
-    names 'a root hash in capitals' '' 0 "$data" "$image" "${root^^}"
+    names 'the right image' '' 0 "$data" "$stated"
+    names 'a root hash in capitals' '' 0 "$data" "$stated" "${root^^}"
     other=$(printf '%064d' 0)
-    names 'another root hash' "Verification failed: root hash is $root." 2 "$data" "$image" "$other"
-    names 'a root hash of 63 digits' 'Root hash is not valid.' 1 "$data" "$image" "${root:1}"
-    names 'a root hash of 66 digits' 'Root hash is not valid.' 1 "$data" "$image" "00$root"
-    names 'a root hash that is not hexadecimal' 'Root hash is not valid.' 1 "$data" "$image" "${other//0/g}"
+    names 'another root hash' "Verification failed: root hash is $root." 2 "$data" "$stated" "$other"
+    names 'a root hash of 63 digits' 'Root hash is not valid.' 1 "$data" "$stated" "${root:1}"
+    names 'a root hash of 66 digits' 'Root hash is not valid.' 1 "$data" "$stated" "00$root"
+    names 'a root hash that is not hexadecimal' 'Root hash is not valid.' 1 "$data" "$stated" "${other//0/g}"
 
     cp "$data" "$scratch/changed"
     flip "$scratch/changed" 8192 255
-    names 'a byte of data block 16' 'Verification failed: level 0 block 1, child 16.' 2 "$scratch/changed" "$image"
+    names 'a byte of data block 16' 'Verification failed: level 0 block 1, child 16.' 2 "$scratch/changed" "$stated"
 
     changed_hash 1023 'Verification failed: level 1 block 0, spare bytes.'
     changed_hash 1024 'Verification failed: level 0 block 0, child 0.'
@@ -170,25 +172,25 @@ trees() {
     names 'bytes of two levels' 'Verification failed: level 0 block 1, child 16.' 2 "$data" "$hash"
 }
 
-# changed_hash OFFSET TEXT: the lowest bit of one byte of image 17 is turned.
+# changed_hash OFFSET TEXT: the lowest bit of one byte of HASH is turned.
 changed_hash() {
-    cp "$image" "$hash"
+    cp "$stated" "$hash"
     flip "$hash" "$1" 1
     names "byte $1 of the hash file" "$2" 2 "$data" "$hash"
 }
 
 lengths() {
-    head -c 2047 "$image" >"$hash"
+    head -c 2047 "$stated" >"$hash"
     names 'a hash file cut by a byte' 'Verification failed: level 0 block 1 is missing.' 2 "$data" "$hash"
-    head -c 512 "$image" >"$hash"
+    head -c 512 "$stated" >"$hash"
     names 'a hash file of a superblock alone' 'Verification failed: level 0 block 0 is missing.' 2 "$data" "$hash"
     head -c 8703 "$data" >"$scratch/cut"
-    names 'data cut by a byte' 'Data ends before the end of block 16.' 4 "$scratch/cut" "$image"
-    cp "$image" "$hash"
+    names 'data cut by a byte' 'Data ends before the end of block 16.' 4 "$scratch/cut" "$stated"
+    cp "$stated" "$hash"
     flip "$hash" 1024 1
     names 'a difference before the end of cut data' 'Verification failed: level 0 block 0, child 0.' 2 "$scratch/cut" "$hash"
     { cat "$data" && echo more; } >"$scratch/longer"
-    names 'data past the covered blocks' '' 0 "$scratch/longer" "$image"
+    names 'data past the covered blocks' '' 0 "$scratch/longer" "$stated"
 
     # The most data blocks that there can be: their tree lies past what a file system can hold.
     superblock 512 512 18014398509481983 '' >"$hash"
@@ -201,34 +203,34 @@ files() {
     runs 'dump: a missing file' 4 '' "Cannot open $scratch/missing." "$veritysetup" dump "$scratch/missing"
     runs 'dump: the null device' 1 '' 'Superblock is too short.' "$veritysetup" dump /dev/null
     runs 'dump: a folder' 4 '' "Cannot open $scratch." "$veritysetup" dump "$scratch"
-    runs 'verify: a folder as the data' 4 '' "Cannot open $scratch." "$veritysetup" verify "$scratch" "$image" "$root"
+    runs 'verify: a folder as the data' 4 '' "Cannot open $scratch." "$veritysetup" verify "$scratch" "$stated" "$root"
     runs 'verify: a folder as the hash file' 4 '' "Cannot open $scratch." "$veritysetup" verify "$data" "$scratch" "$root"
     for file in data hash; do
-        if [ $file = data ]; then words=("$scratch" "$image"); else words=("$data" "$scratch"); fi
+        if [ $file = data ]; then words=("$scratch" "$stated"); else words=("$data" "$scratch"); fi
         runs "verify without a superblock: a folder as the $file" 4 '' "Cannot open $scratch." "$veritysetup" verify \
             --no-superblock --data-block-size 512 --hash-block-size 512 --salt=- "${words[@]}" "$root"
     done
-    names 'missing data' "Cannot open $scratch/missing." 4 "$scratch/missing" "$image"
+    names 'missing data' "Cannot open $scratch/missing." 4 "$scratch/missing" "$stated"
     names 'a missing hash file' "Cannot open $scratch/missing." 4 "$data" "$scratch/missing"
     names 'missing data and a missing hash file' "Cannot open $scratch/none." 4 "$scratch/none" "$scratch/missing"
     names 'a bad root hash and a missing hash file' "Cannot open $scratch/missing." 4 "$data" "$scratch/missing" abc
     absent 'verify makes no file' "$scratch/missing"
-    cp "$image" "$hash"
+    cp "$stated" "$hash"
     chmod 444 "$hash"
     names 'a hash file that is read-only' '' 0 "$data" "$hash"
     chmod 644 "$hash"
-    same_bytes 'verify writes nothing' "$image" "$hash"
+    same_bytes 'verify writes nothing' "$stated" "$hash"
 }
 
 outputs() {
     local unwritten='Cannot write output.'
-    runs 'dump: output on a full device' 4 '' "$unwritten" bash -c '"$@" >/dev/full' - "$veritysetup" dump "$image"
-    runs 'dump: a closed standard output' 4 '' "$unwritten" bash -c '"$@" >&-' - "$veritysetup" dump "$image"
+    runs 'dump: output on a full device' 4 '' "$unwritten" bash -c '"$@" >/dev/full' - "$veritysetup" dump "$stated"
+    runs 'dump: a closed standard output' 4 '' "$unwritten" with_closed 1 "$veritysetup" dump "$stated"
     runs 'verify: a closed standard error' 2 '' '' \
-        bash -c '"$@" 2>&-' - "$veritysetup" verify "$data" "$image" "$(printf '%064d' 0)"
+        with_closed 2 "$veritysetup" verify "$data" "$stated" "$(printf '%064d' 0)"
     runs 'verify: standard error on a full device' 2 '' '' \
-        bash -c '"$@" 2>/dev/full' - "$veritysetup" verify "$data" "$image" "$(printf '%064d' 0)"
-    runs 'verify: all streams closed' 0 '' '' bash -c '"$@" <&- >&- 2>&-' - "$veritysetup" verify "$data" "$image" "$root"
+        bash -c '"$@" 2>/dev/full' - "$veritysetup" verify "$data" "$stated" "$(printf '%064d' 0)"
+    runs 'verify: all streams closed' 0 '' '' with_closed '0 1 2' "$veritysetup" verify "$data" "$stated" "$root"
 }
 
 memory() {

@@ -5,9 +5,11 @@ import posixpath
 import random
 from collections import namedtuple
 
-from layouts import SUPERBLOCK_FIELDS, SUPERBLOCK_SIZE
+from layouts import SUPERBLOCK_FIELDS, SUPERBLOCK_SIZE, superblock
+from reading import OUTPUTS
+from texts import chance
 from trees import Settings, Tree, put
-from veritysetup_expected import NAMES, superblock
+from veritysetup_expected import ALGORITHMS
 
 DATA, HASH = "data", "hash"
 UUID = "00112233-4455-4677-8899-aabbccddeeff"
@@ -16,8 +18,8 @@ UUID = "00112233-4455-4677-8899-aabbccddeeff"
 # An option's text stands after = if it is joined, and else as the next word.
 Part = namedtuple("Part", "kind name text joined", defaults=[None, True])
 
-OTHER_NAMES = ["SHA256", "sha-256", "SHA-1", "sha2-512", "2.16.840.1.101.3.4.2.1"]
-OTHER_NAMES += ["md5", "sha3-256", "sha512-256", "ripemd160"]
+OTHER_SPELLINGS = ["SHA256", "sha-256", "SHA-1", "sha2-512", "2.16.840.1.101.3.4.2.1"]
+OTHER_NAMES = OTHER_SPELLINGS + ["md5", "sha3-256", "sha512-256", "ripemd160"]
 NOT_NAMES = ["", " sha256", "sha256 ", "sha_256", "sha512/256", "crc32", "-"]
 SALTS = ["ab", "AbCd", "-", "", "00" * 32, "ff" * 256]
 NOT_SALTS = ["a", "0xab", "ab ", " ab", "--", "ab-cd", "zz", "ff" * 257]
@@ -31,7 +33,6 @@ THEIR_OPTIONS += ["--check-at-most-once", "--use-tasklets", "--deferred", "--roo
 THEIR_OPTIONS += ["-v", "-s", "-sab", "-hsha1", "-salt=ab"]
 NOBODYS_OPTIONS = ["--unknown", "--unknown=1", "--salz=ab", "-x", "---", "--=x", "-compact"]
 OUTPUT_NAMES = ["tree", "folder", "none/tree", "", DATA, "./data", "older"]
-OUTPUTS = ["out-merkle-tree", "out-descriptor"]
 # What stands for the folder of the files, as an absolute name begins.
 ITS_FOLDER = "@folder"
 # The names outside that folder, and that of a pipe in it.
@@ -49,7 +50,7 @@ def words_of(part):
     return [f"--{part.name}" if part.kind == "flag" else part.name]
 
 
-class Folder:
+class LinkedFolder:
     """What a folder has beside a folder in it: files, their bytes by name; further names of them; symbolic links, what
     is in each by name; and whether there is a named pipe."""
 
@@ -86,8 +87,8 @@ class Case:
     # With what umask it is run.
     umask = 0o022
 
-    def __init__(self, program, parts, scene, odd):
-        self.program, self.scene, self.odd = program, scene, odd
+    def __init__(self, program, parts, before, odd):
+        self.program, self.before, self.odd = program, before, odd
         # After `--` all are words.
         end = next((place for place, part in enumerate(parts) if part.kind == "end"), len(parts))
         self.parts = parts[: end + 1] + [Part("word", word) for part in parts[end + 1 :] for word in words_of(part)]
@@ -120,10 +121,6 @@ class Odd(random.Random):
     """A generator that counts what odd things were drawn."""
 
     odd = 0
-
-
-def chance(rng, share):
-    return rng.random() < share
 
 
 def is_odd(rng, share):
@@ -173,7 +170,7 @@ def tree_options(rng, chosen, at, bare):
 def settings(rng):
     count = rng.choice([0, 1, 1, 2, 3, 9, 17, 20])
     salt = bytes.fromhex(rng.choice(["ab", "", "00" * 32, "0123456789abcdef"]))
-    return Settings(rng.choice(NAMES), rng.choice(SIZES), rng.choice(SIZES), salt, count, rng.choice([1, 1, 0]))
+    return Settings(rng.choice(ALGORITHMS), rng.choice(SIZES), rng.choice(SIZES), salt, count, rng.choice([1, 1, 0]))
 
 
 def parts_of(rng, command, options, flags, beside):
@@ -199,9 +196,9 @@ def format_case(rng):
         # So many digests that some are written while there is data to be read.
         chosen = chosen._replace(data_block=512, count=200)
     content = rng.randbytes(chosen.count * chosen.data_block + rng.choice([0, 0, 0, 1, 100]))
-    scene = Folder({DATA: content})
+    before = LinkedFolder({DATA: content})
     if chance(rng, 0.3):
-        scene.files[HASH] = rng.randbytes(rng.choice([0, 100, 512, 600, 4096, 4700, 9000, 30000]))
+        before.files[HASH] = rng.randbytes(rng.choice([0, 100, 512, 600, 4096, 4700, 9000, 30000]))
     at = rng.choice([0, 0, 0, 1, 2, 8, 16]) * (chosen.hash_block if bare else SUPERBLOCK_SIZE)
     names = [DATA, HASH]
     if is_one:
@@ -210,7 +207,7 @@ def format_case(rng):
         names[rng.randrange(2)] = rng.choice(["missing/file", "", "folder"])
     options = tree_options(rng, chosen, at, bare)
     parts = parts_of(rng, "format", options, ["no-superblock"] if bare else [], names)
-    return Case("veritysetup", parts, scene, rng.odd)
+    return Case("veritysetup", parts, before, rng.odd)
 
 
 def image_case(rng):
@@ -242,10 +239,10 @@ def image_case(rng):
         place = at + start + rng.randrange(size)
         device[place] = rng.choice([0, 1, 0xFF, device[place] ^ 0x20, device[place] ^ 1 << rng.randrange(8)])
     names = [DATA, HASH]
-    scene = Folder({DATA: bytes(data), HASH: bytes(device)})
+    before = LinkedFolder({DATA: bytes(data), HASH: bytes(device)})
     if is_one:
         names = [DATA, DATA]
-        scene = Folder({DATA: bytes(data + device[len(data) :])})
+        before = LinkedFolder({DATA: bytes(data + device[len(data) :])})
     root = tree.root.hex()
     wrong = [root[:-1], root[:-2], root + "00", "0" * len(root), "x" * len(root), ""]
     root = text(rng, [root, root, root.upper()], wrong)
@@ -253,19 +250,19 @@ def image_case(rng):
         options = {} if at == 0 else {"hash-offset": number(rng, at)}
         if chance(rng, 0.1):
             options[rng.choice(["salt", "hash", "uuid", "data-blocks"])] = "ab"
-        return Case("veritysetup", parts_of(rng, "dump", options, [], names[1:]), scene, rng.odd)
+        return Case("veritysetup", parts_of(rng, "dump", options, [], names[1:]), before, rng.odd)
     options = tree_options(rng, chosen, at, bare)
     if not bare:
         options = {name: value for name, value in options.items() if name == "hash-offset" or chance(rng, 0.2)}
     if chance(rng, 0.9):
         options.pop("uuid", None)
     parts = parts_of(rng, "verify", options, ["no-superblock"] if bare else [], names + [root])
-    return Case("veritysetup", parts, scene, rng.odd)
+    return Case("veritysetup", parts, before, rng.odd)
 
 
 def digest_case(rng):
     data = rng.randbytes(rng.choice([0, 1, 100, 4096, 9000, 40000]))
-    scene = Folder({DATA: data, "more": b"more", "older": b"older"})
+    before = LinkedFolder({DATA: data, "more": b"more", "older": b"older"})
     names = rng.choice([[DATA], [DATA], [DATA, "more"]])
     if is_odd(rng, 0.2):
         names = rng.choice([[DATA, "missing"], ["missing"], ["folder"], [""], ["-"]])
@@ -282,7 +279,7 @@ def digest_case(rng):
         if chance(rng, 0.25):
             options[name] = text(rng, ["tree", "descriptor", "older"], OUTPUT_NAMES)
     flags = [name for name in ("compact", "for-builtin-sig") if chance(rng, 0.2)]
-    return Case("fsverity", parts_of(rng, "digest", options, flags, names), scene, rng.odd)
+    return Case("fsverity", parts_of(rng, "digest", options, flags, names), before, rng.odd)
 
 
 def renamed(rng, case):
@@ -290,7 +287,7 @@ def renamed(rng, case):
     places = case.named()
     if not places:
         return case
-    place, folder = rng.choice(places), case.scene
+    place, folder = rng.choice(places), case.before
     part = case.parts[place]
     old = part.name if part.kind == "word" else part.text
     kind = rng.randrange(10)
@@ -357,13 +354,13 @@ def changed(rng, case):
         else:
             dashed = rng.choice(["--compact", "-1", "--", "-x", "-"])
             parts[place] = parts[place]._replace(text=dashed, joined=chance(rng, 0.4))
-    elif kind == 10 and case.scene.files.get(DATA):
-        case.scene.files["d\udcffta"] = case.scene.files[DATA]
+    elif kind == 10 and case.before.files.get(DATA):
+        case.before.files["d\udcffta"] = case.before.files[DATA]
         parts = [part._replace(name="d\udcffta") if part == Part("word", DATA) else part for part in parts]
     elif given:
         # The last word is an option that lacks its text.
         parts.append(Part("flag", parts[rng.choice(given)].name))
-    return Case(case.program, parts, case.scene, rng.odd)
+    return Case(case.program, parts, case.before, rng.odd)
 
 
 def all_texts(case):

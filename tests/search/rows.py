@@ -4,21 +4,21 @@ first cell."""
 
 import re
 
-from lines import DEVICES, OUTPUTS, PIPE, PROC_FILE
+from lines import DEVICES, OTHER_SPELLINGS, PIPE, PROC_FILE
+from reading import OUTPUTS
+from veritysetup_expected import ALGORITHMS
 
 STATUS, LINES, NAMED, FILES, MODES = "status", "lines", "line of the UUID", "files", "modes of new files"
 ALL = {STATUS, LINES, NAMED, FILES, MODES}
 UUID_LINE = re.compile(r"^(UUID: +\t)(.*)\n", re.MULTILINE)
-NUMBERS = ["format", "data-block-size", "hash-block-size", "data-blocks", "hash-offset"]
+NUMBER_OPTIONS = ["format", "data-block-size", "hash-block-size", "data-blocks", "hash-offset"]
 FLAGS = ["no-superblock", "compact", "for-builtin-sig"]
-NAMES = {
-    "veritysetup": NUMBERS + ["hash", "salt", "uuid", "no-superblock"],
+OPTION_NAMES = {
+    "veritysetup": NUMBER_OPTIONS + ["hash", "salt", "uuid", "no-superblock"],
     "fsverity": ["hash-alg", "block-size", "salt", "compact", "for-builtin-sig"] + OUTPUTS,
 }
 REFUSED = {"veritysetup": 1, "fsverity": 2}
 KERNEL_COMMANDS = ["open", "close", "status", "create", "remove", "measure", "sign", "enable", "dump_metadata"]
-HASHES = ["sha256", "sha512", "sha384", "sha224", "sha1"]
-OTHER_SPELLINGS = ["SHA256", "sha-256", "SHA-1", "sha2-512", "2.16.840.1.101.3.4.2.1"]
 
 # Program, first cell, and function of each row.
 ROWS = []
@@ -46,7 +46,7 @@ def refused_row(program, text):
 
 def is_refused(case, ours):
     """Ours refuses the words, and touches no file."""
-    return ours.status == REFUSED[case.program] and not ours.out and ours.files == case.scene.files
+    return ours.status == REFUSED[case.program] and not ours.out and ours.files == case.before.files
 
 
 def says(outcome, text):
@@ -70,7 +70,7 @@ def is_signed(text):
 def led_to(case, place):
     """To what the word beside the options that has this place leads."""
     words = case.beside()
-    return case.scene.leads_to(words[place]) if place < len(words) else None
+    return case.before.leads_to(words[place]) if place < len(words) else None
 
 
 # Lines that ours refuses.
@@ -125,7 +125,7 @@ def is_dash_value(case):
     "veritysetup", "`veritysetup`: a number with a sign or white space before it, such as `+4096` or `' 4096'`"
 )
 def has_signed_number(case):
-    return any_text(case, NUMBERS, is_signed)
+    return any_text(case, NUMBER_OPTIONS, is_signed)
 
 
 @refused_row("fsverity", "a block size with a sign or white space before it, such as `+4096` or `' 4096'`")
@@ -135,7 +135,7 @@ def has_signed_size(case):
 
 @refused_row("veritysetup", "hash functions")
 def is_other_hash(case):
-    return any_text(case, ["hash"], lambda text: text not in HASHES + OTHER_SPELLINGS)
+    return any_text(case, ["hash"], lambda text: text not in ALGORITHMS + OTHER_SPELLINGS)
 
 
 @refused_row("veritysetup", "other spellings of a hash function, such as `SHA256`, `sha-256` or `sha2-256`")
@@ -145,7 +145,7 @@ def is_other_spelling(case):
 
 @refused_row("veritysetup", "`dump` with another option than `--hash-offset`")
 def is_dump_with_others(case):
-    return case.command() == "dump" and has_any(case, set(NAMES["veritysetup"]) - {"hash-offset"})
+    return case.command() == "dump" and has_any(case, set(OPTION_NAMES["veritysetup"]) - {"hash-offset"})
 
 
 @refused_row("veritysetup", "`verify` with `--uuid`")
@@ -180,7 +180,7 @@ def lacks_salt(case):
 
 @refused_row("fsverity", "a shortened option, such as `--hash-al`")
 def is_shortened(case):
-    return any(part.kind in ("option", "flag") and part.name not in NAMES["fsverity"] for part in case.parts)
+    return any(part.kind in ("option", "flag") and part.name not in OPTION_NAMES["fsverity"] for part in case.parts)
 
 
 @refused_row("fsverity", "the number of a hash function, such as `--hash-alg=1`")
@@ -249,7 +249,7 @@ def is_other_root(case, ours, theirs):
     {STATUS},
 )
 def is_number_ignored(case, ours, theirs):
-    is_wrong = any_text(case, NUMBERS[:-1], lambda text: not re.fullmatch("[0-9]+", text) or int(text) >= 2**32)
+    is_wrong = any_text(case, NUMBER_OPTIONS[:-1], lambda text: not re.fullmatch("[0-9]+", text) or int(text) >= 2**32)
     return case.command() == "verify" and not case.has("no-superblock") and is_wrong and theirs.status == 1
 
 
@@ -277,19 +277,19 @@ def is_empty_made(case, ours, theirs):
     "veritysetup", "`format`: DATA that can't be opened, a folder, or a pipe that is open at its other end", {FILES}
 )
 def is_made_without_data(case, ours, theirs):
-    is_unread = led_to(case, 0) not in case.scene.files and says(ours, "Cannot open")
+    is_unread = led_to(case, 0) not in case.before.files and says(ours, "Cannot open")
     return is_unread and ours.status == theirs.status == 4 and is_one_made(case, ours, theirs)
 
 
 @outcome_row("veritysetup", "a file of `/proc` as DATA", {STATUS, FILES})
 def is_proc_data(case, ours, theirs):
     is_data = case.command() in ("format", "verify") and led_to(case, 0) == PROC_FILE
-    return is_data and (ours.status, theirs.status) == (4, 1) and ours.files == case.scene.files
+    return is_data and (ours.status, theirs.status) == (4, 1) and ours.files == case.before.files
 
 
 @outcome_row("veritysetup", "HASH is a symbolic link that leads nowhere")
 def is_made_behind_link(case, ours, theirs):
-    is_dangling = len(case.beside()) > 1 and case.scene.is_dangling(case.beside()[1])
+    is_dangling = len(case.beside()) > 1 and case.before.is_dangling(case.beside()[1])
     return case.command() == "format" and is_dangling and (ours.status, theirs.status) == (0, 4)
 
 
@@ -309,7 +309,7 @@ def is_lost(case, ours, theirs):
 )
 def is_device_read(case, ours, theirs):
     is_device = led_to(case, 0) in DEVICES or (case.command() == "verify" and led_to(case, 1) in DEVICES)
-    return is_device and theirs.status == 4 and ours.files == case.scene.files
+    return is_device and theirs.status == 4 and ours.files == case.before.files
 
 
 @outcome_row(
@@ -341,8 +341,8 @@ def is_not_written_to_end(case, ours, theirs):
 
 
 def is_one_made(case, ours, theirs):
-    made = [content for name, content in theirs.files.items() if name not in case.scene.files]
-    return ours.files == case.scene.files and made == [b""]
+    made = [content for name, content in theirs.files.items() if name not in case.before.files]
+    return ours.files == case.before.files and made == [b""]
 
 
 @outcome_row("veritysetup", "a refused UUID", {FILES})
@@ -357,7 +357,7 @@ def is_uuid_taken(case, ours, theirs):
 
 @outcome_row("veritysetup", "HASH that can't be made, or that can be read and not written", {STATUS})
 def is_not_opened(case, ours, theirs):
-    is_hash = case.command() == "format" and led_to(case, 0) in case.scene.files and says(ours, "Cannot open")
+    is_hash = case.command() == "format" and led_to(case, 0) in case.before.files and says(ours, "Cannot open")
     return is_hash and (ours.status, theirs.status) == (4, 1)
 
 
@@ -400,17 +400,17 @@ def has_small_uuid(case, ours, theirs):
 
 def outputs(case, names=OUTPUTS):
     """To what the output files' names lead."""
-    return [case.scene.leads_to(text) for name in names for text in case.texts(name) if text]
+    return [case.before.leads_to(text) for name in names for text in case.texts(name) if text]
 
 
 def inputs(case):
-    return [case.scene.leads_to(word) for word in case.beside()]
+    return [case.before.leads_to(word) for word in case.beside()]
 
 
 @outcome_row("fsverity", "an option that is refused, after an output file", {FILES})
 def is_made_first(case, ours, theirs):
-    changed = [name for name, content in theirs.files.items() if case.scene.files.get(name) != content]
-    is_emptied = all(case.scene.leads_to(name) in outputs(case) and not theirs.files[name] for name in changed)
+    changed = [name for name, content in theirs.files.items() if case.before.files.get(name) != content]
+    is_emptied = all(case.before.leads_to(name) in outputs(case) and not theirs.files[name] for name in changed)
     return is_refused(case, ours) and theirs.status == 2 and is_emptied
 
 
@@ -442,7 +442,7 @@ def is_output_missing(case, ours, theirs):
 
 @outcome_row("fsverity", "a folder as the second output file", {FILES})
 def is_second_folder(case, ours, theirs):
-    return ours.status == 1 and says(theirs, "for writing: Is a directory") and ours.files == case.scene.files
+    return ours.status == 1 and says(theirs, "for writing: Is a directory") and ours.files == case.before.files
 
 
 @outcome_row("fsverity", "two output files, of which one can't be opened", {FILES})
@@ -486,4 +486,4 @@ def is_written_by_all(case, ours, theirs):
 @outcome_row("veritysetup", "several faults at once", {STATUS, FILES})
 @outcome_row("fsverity", "several faults at once", {STATUS, FILES})
 def is_faulty_twice(case, ours, theirs):
-    return case.odd > 1 and ours.status and theirs.status and ours.files == case.scene.files
+    return case.odd > 1 and ours.status and theirs.status and ours.files == case.before.files

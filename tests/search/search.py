@@ -43,28 +43,28 @@ FAILED, DIFFERENT = "failed", "different"
 ENDLESS = "none within a minute"
 
 
-def set_up(scene, folder):
+def set_up(before, folder):
     """Makes a folder as a case has it, and goes there."""
     os.chdir("/")
     shutil.rmtree(folder, ignore_errors=True)
     os.makedirs(os.path.join(folder, "folder"))
     os.chdir(folder)
-    for name, content in scene.files.items():
-        if name not in scene.twins:
+    for name, content in before.files.items():
+        if name not in before.twins:
             with open(os.fsencode(name), "wb") as file:
                 file.write(content)
-    for name, other in scene.twins.items():
+    for name, other in before.twins.items():
         os.link(os.fsencode(other), name)
-    for name, other in scene.links.items():
+    for name, other in before.links.items():
         os.symlink(os.fsencode(other.replace(ITS_FOLDER, folder)), name)
-    if scene.has_pipe:
+    if before.has_pipe:
         os.mkfifo(PIPE)
 
 
 @contextmanager
-def opened_pipe(scene):
+def opened_pipe(before):
     """A file of what goes through the pipe of a case, which is open at both ends, so that nobody waits for somebody."""
-    if not scene.has_pipe:
+    if not before.has_pipe:
         yield io.BytesIO()
         return
     with open(os.open(PIPE, os.O_RDWR | os.O_NONBLOCK), "rb") as pipe:
@@ -73,14 +73,14 @@ def opened_pipe(scene):
 
 def run(program, case, folder):
     """Runs a program in a folder with the files of a case."""
-    set_up(case.scene, folder)
+    set_up(case.before, folder)
     command = [os.fsencode(word.replace(ITS_FOLDER, folder)) for word in [program, *case.words()]]
-    with opened_pipe(case.scene) as pipe:
+    with opened_pipe(case.before) as pipe:
         try:
             ended = subprocess.run(command, stdin=subprocess.DEVNULL, capture_output=True, timeout=60, umask=case.umask)
         except subprocess.TimeoutExpired:
             return Outcome(ENDLESS, "", "", {}, {})
-        files, modes = what_stands(case.scene)
+        files, modes = what_stands(case.before)
         through = pipe.read()
     if through:
         files[PIPE] = through
@@ -88,18 +88,18 @@ def run(program, case, folder):
     return Outcome(ended.returncode, out, err, files, modes)
 
 
-def what_stands(scene):
+def what_stands(before):
     """The files that stand in the folder after a run, by name with their bytes, and the modes of the new ones."""
     files, modes = {}, {}
-    others = {"folder": stat.S_IFDIR, **dict.fromkeys(scene.links, stat.S_IFLNK)}
-    if scene.has_pipe:
+    others = {"folder": stat.S_IFDIR, **dict.fromkeys(before.links, stat.S_IFLNK)}
+    if before.has_pipe:
         others[PIPE] = stat.S_IFIFO
     for name in os.listdir():
         mode = os.lstat(os.fsencode(name)).st_mode
         if stat.S_IFMT(mode) == others.get(name):
             del others[name]
         else:
-            if name not in scene.files:
+            if name not in before.files:
                 modes[name] = stat.S_IMODE(mode)
             with open(os.fsencode(name), "rb") as file:
                 files[name] = file.read(MOST_READ)
@@ -117,7 +117,7 @@ def without_drawn(case, outcome):
     if not case.has("uuid") and not case.has("no-superblock"):
         out = re.sub(r"^(UUID: +\t).*$", r"\1drawn", out, flags=re.MULTILINE)
     for name, content in files.items():
-        if content == case.scene.files.get(name):
+        if content == case.before.files.get(name):
             continue
         if not case.has("salt"):
             files[name] = bytes(len(content))
@@ -176,7 +176,7 @@ def told(seed, which, case, left, ours, theirs):
         said = (outcome.err.strip() or outcome.out.strip()).split("\n")[-1][:150]
         modes = "".join(f", {file!r} with mode {mode:03o}" for file, mode in sorted(outcome.modes.items()))
         lines.append(f"{name}: status {outcome.status}; {said!r}; {sizes(outcome.files)}{modes}")
-    return "\n    ".join(lines + [f"before: {sizes(case.scene.files)}"])
+    return "\n    ".join(lines + [f"before: {sizes(case.before.files)}"])
 
 
 def sizes(files):

@@ -4,11 +4,10 @@ by plain option texts: what other texts mean is for the second reading alone."""
 import re
 import shutil
 
-from fsverity_expected import OUTPUTS
 from fsverity_expected import chosen as chosen_way
-from reading import Refused, read_line, uuid_text
+from reading import OUTPUTS, Refused, read_line, uuid_text
 from trees import Shape
-from veritysetup_expected import chosen, compared, described, offset_of
+from veritysetup_expected import chosen, compared, offset_of
 
 # What superblocks are refused for by both.
 REFUSED_BY_BOTH = re.compile(
@@ -17,7 +16,7 @@ REFUSED_BY_BOTH = re.compile(
 VALUES = re.compile(r"^(UUID|Hash type|Data blocks|Data block size|Hash block size|Hash algorithm|Salt):\s*(.*)$", re.M)
 
 
-def compare(program, words, scene, ours, drawn, run):
+def compare(program, words, before, ours, drawn, run):
     """What differs, as a list of texts, or None if Debian's program isn't asked. `ours` is the outcome that was
     expected and found; `run` runs a program with words, on the files of the case."""
     line = read_line(program, words)
@@ -30,7 +29,7 @@ def compare(program, words, scene, ours, drawn, run):
     try:
         if program == "fsverity":
             return digest(line, ours, theirs)
-        return {"format": format_run, "dump": dump, "verify": verify}[line.command](line, scene, ours, drawn, theirs)
+        return {"format": format_run, "dump": dump, "verify": verify}[line.command](line, before, ours, drawn, theirs)
     except Refused:
         return None
 
@@ -55,24 +54,24 @@ def option_words(area):
     return words + ["--no-superblock"] if area.uuid is None else words
 
 
-def format_run(line, scene, ours, drawn, theirs):
+def format_run(line, before, ours, drawn, theirs):
     """Both make the same HASH and tell the same root hash."""
     if ours.status != 0:
         return None
-    area = chosen(line.options, len(scene.content(line.words[0])), drawn)
+    area = chosen(line.options, len(before.content(line.words[0])), drawn)
     # A superblock alone is padded there, or can't be written.
     alone = area.settings.count == 1 and area.uuid is not None
     if alone and area.offset:
         return None
-    named = [] if area.uuid is None else [f"--uuid={uuid_text(area.uuid)}"]
-    found = theirs("format", *option_words(area), *named, *line.words)
-    name = scene.name(line.words[1])
-    image, other = ours.files[name], found.files.get(name, b"")
-    if alone and not any(other[len(image) :]):
-        other = other[: len(image)]
+    uuid = [] if area.uuid is None else [f"--uuid={uuid_text(area.uuid)}"]
+    found = theirs("format", *option_words(area), *uuid, *line.words)
+    name = before.name(line.words[1])
+    made, other = ours.files[name], found.files.get(name, b"")
+    if alone and not any(other[len(made) :]):
+        other = other[: len(made)]
     roots = [re.findall(rb"^Root hash:\s*(\S+)$", out, re.M) for out in (ours.out, found.out)]
     differences = same("status", 0, found.status) + same("root hash", *roots)
-    return differences + ([] if image == other else ["beside Debian's program, HASH is another one"])
+    return differences + ([] if made == other else ["beside Debian's program, HASH is another one"])
 
 
 def values(report):
@@ -80,7 +79,7 @@ def values(report):
     return [(label, value.strip()) for label, value in VALUES.findall(report.decode())]
 
 
-def dump(line, scene, ours, drawn, theirs):
+def dump(line, before, ours, drawn, theirs):
     """Both tell the same values, or refuse the superblock."""
     offset = offset_of(line.options)
     if ours.status == 4 or offset >= 2**63:
@@ -93,9 +92,9 @@ def dump(line, scene, ours, drawn, theirs):
     return None
 
 
-def verify(line, scene, ours, drawn, theirs):
+def verify(line, before, ours, drawn, theirs):
     """Both accept the image, or neither does; with status 2 if whole blocks differ."""
-    area, data, device, _ = compared(line, scene)
+    area, data, device, _ = compared(line, before)
     if area.offset >= 2**63 or " is not UTF-8: " in ours.err:
         return None
     words = option_words(area) if area.uuid is None else [f"--hash-offset={area.offset}"]

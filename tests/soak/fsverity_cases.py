@@ -2,12 +2,11 @@
 
 import texts
 from layouts import FILE_ALGORITHMS
-from reading import Scene
+from reading import OUTPUTS, Folder
 from texts import chance
 
 FILES = ["one", "two", "three file", "vierte-é", "a\nb", "-", "sha256:x"]
 FORMS = ["compact", "for-builtin-sig"]
-OUTPUTS = ["out-merkle-tree", "out-descriptor"]
 ABSENT = ["absent", "none/there", "", "x" * 300]
 
 
@@ -39,35 +38,35 @@ def digest_case(rng):
     """digest of one file or several, of which one may be absent."""
     given, size, fan = options(rng)
     names = rng.sample(FILES, rng.choice([1, 1, 1, 2, 3, 5]))
-    scene = Scene({name: content(rng, size, fan) for name in names})
+    before = Folder({name: content(rng, size, fan) for name in names})
     if chance(rng, 0.15):
         names.insert(rng.randint(0, len(names)), rng.choice(ABSENT))
     if chance(rng, 0.1):
         names.append(rng.choice(names))
-    return scene, ["digest"] + texts.words(rng, given, flags(rng), names)
+    return before, ["digest"] + texts.words(rng, given, flags(rng), names)
 
 
 def output_case(rng):
     """digest with output files: new ones, old ones, the input, one for both, or one that can't be made."""
     given, size, fan = options(rng)
     name = rng.choice(FILES)
-    scene = Scene({name: content(rng, size, fan), "old": rng.randbytes(rng.randint(0, 9000))})
+    before = Folder({name: content(rng, size, fan), "old": rng.randbytes(rng.randint(0, 9000))})
     for output in OUTPUTS:
         if chance(rng, 0.8):
             usual = ["tree" if output == OUTPUTS[0] else "descriptor"] * 6
             given[output] = rng.choice([*usual, "old", "old", "same", "./same", name, "./" + name, "other", "none/new"])
-    scene.links["other"] = rng.choice([name, "old"])
+    before.links["other"] = rng.choice([name, "old"])
     names = [name]
     if chance(rng, 0.08):
         names = rng.choice([["absent"], [name, name], [name, "absent"]])
-    return scene, ["digest"] + texts.words(rng, given, flags(rng), names)
+    return before, ["digest"] + texts.words(rng, given, flags(rng), names)
 
 
 def option_case(rng):
     """digest with one wrong text or several."""
     given, size, fan = options(rng)
     names = rng.sample(FILES, rng.choice([1, 1, 2]))
-    scene = Scene({name: content(rng, min(size, 8192), fan)[:20000] for name in names})
+    before = Folder({name: content(rng, min(size, 8192), fan)[:20000] for name in names})
     for _ in range(rng.choice([1, 1, 2, 3])):
         kind = rng.randrange(4)
         if kind == 0:
@@ -79,4 +78,4 @@ def option_case(rng):
             given["salt"] = texts.not_salt(rng, 32)
         else:
             given[rng.choice(OUTPUTS)] = "new"
-    return scene, ["digest"] + texts.words(rng, given, flags(rng), names)
+    return before, ["digest"] + texts.words(rng, given, flags(rng), names)

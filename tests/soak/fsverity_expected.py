@@ -5,37 +5,34 @@ import struct
 from collections import namedtuple
 
 from layouts import FILE_ALGORITHMS
-from layouts import descriptor as packed
-from reading import USAGE, Outcome, Refused, hexadecimal, is_block_size, not_utf8, number, read_line
-from trees import FS_VERITY, Settings, Tree
-
-OUTPUTS = ["out-merkle-tree", "out-descriptor"]
+from reading import OUTPUTS, USAGE, Outcome, Refused, hexadecimal, is_block_size, not_utf8, number, read_line
+from trees import FileTree
 
 # How files are digested: function, block size and salt.
 Way = namedtuple("Way", "name block salt")
 
 
-def expected(words, scene):
+def expected(words, before):
     """The outcome of a run."""
     message = not_utf8(words)
     if message:
-        return Outcome(2, b"", message, scene.files)
+        return Outcome(2, b"", message, before.files)
     line = read_line("fsverity", words)
     if line is None:
-        return Outcome(2, b"", USAGE, scene.files)
+        return Outcome(2, b"", USAGE, before.files)
     try:
         way = chosen(line)
     except Refused as refused:
-        return Outcome(refused.status, b"", refused.message, scene.files)
+        return Outcome(refused.status, b"", refused.message, before.files)
     if any(name in line.options for name in OUTPUTS):
-        return with_outputs(line, way, scene)
+        return with_outputs(line, way, before)
     out = b""
     for path in line.words:
-        data = scene.content(path)
+        data = before.content(path)
         if data is None:
-            return Outcome(1, out, f"fsverity: cannot open {path}.", scene.files)
-        out += printed(line.options, way, descriptor(way, data)[0], path)
-    return Outcome(0, out, "", scene.files)
+            return Outcome(1, out, f"fsverity: cannot open {path}.", before.files)
+        out += printed(line.options, FileTree(*way, data), path)
+    return Outcome(0, out, "", before.files)
 
 
 def chosen(line):
@@ -55,51 +52,44 @@ def chosen(line):
     return Way(name, block, salt)
 
 
-def descriptor(way, data):
-    """The 256 bytes about a file, and its tree, the top level first."""
-    count = -(-len(data) // way.block)
-    root, stored = b"", b""
-    settings = Settings(way.name, way.block, way.block, way.salt, count, FS_VERITY)
-    if count:
-        tree = Tree(settings, 0, data.ljust(count * way.block, b"\0"))
-        root, stored = tree.root, bytes(tree.on(b""))
-    return packed(settings, len(data), root), stored
-
-
-def printed(options, way, described, path):
+def printed(options, tree, path):
     """The line of a file."""
-    digest = hashlib.new(way.name, described).digest()
+    digest, name = tree.digest, tree.settings.name
     ending = "" if "compact" in options else f" {path}"
     if "for-builtin-sig" in options:
-        text = (b"FSVerity" + struct.pack("<HH", FILE_ALGORITHMS[way.name], len(digest)) + digest).hex()
+        text = (b"FSVerity" + struct.pack("<HH", FILE_ALGORITHMS[name], len(digest)) + digest).hex()
     else:
-        text = digest.hex() if "compact" in options else f"{way.name}:{digest.hex()}"
+        text = digest.hex() if "compact" in options else f"{name}:{digest.hex()}"
     return f"{text}{ending}\n".encode()
 
 
-def with_outputs(line, way, scene):
+def with_outputs(line, way, before):
     """The run over one file with output files."""
     (path,) = line.words
-    data = scene.content(path)
+    data = before.content(path)
     if data is None:
-        return Outcome(1, b"", f"fsverity: cannot open {path}.", scene.files)
-    described, stored = descriptor(way, data)
-    given = [(line.options[name], text) for name, text in zip(OUTPUTS, [stored, described]) if name in line.options]
-    files = dict(scene.files)
+        return Outcome(1, b"", f"fsverity: cannot open {path}.", before.files)
+    tree = FileTree(*way, data)
+    given = [
+        (line.options[name], text)
+        for name, text in zip(OUTPUTS, [tree.stored, tree.descriptor])
+        if name in line.options
+    ]
+    files = dict(before.files)
     # Before anything is cut, each name is held against the files that are there.
-    known = [scene.name(path)]
+    known = [before.name(path)]
     for output, _ in given:
-        if scene.name(output) in known:
+        if before.name(output) in known:
             return Outcome(1, b"", f"fsverity: cannot open {output}.", files)
-        if scene.content(output) is not None:
-            known.append(scene.name(output))
+        if before.content(output) is not None:
+            known.append(before.name(output))
     made = []
     for output, _ in given:
-        name = scene.name(output)
+        name = before.name(output)
         if name is None or name in made:
             return Outcome(1, b"", f"fsverity: cannot open {output}.", files)
         files[name] = b""
         made.append(name)
     for output, text in given:
-        files[scene.name(output)] = text
-    return Outcome(0, printed(line.options, way, described, path), "", files)
+        files[before.name(output)] = text
+    return Outcome(0, printed(line.options, tree, path), "", files)

@@ -71,10 +71,10 @@ def changed(rng, words):
 
 def line_case(rng, make):
     """The files of another run, and its words with some changes."""
-    scene, words = make(rng)
+    before, words = make(rng)
     for _ in range(rng.choice([1, 1, 1, 2, 3])):
         words = changed(rng, words)
-    return scene, words
+    return before, words
 
 
 def veritysetup_case(rng):

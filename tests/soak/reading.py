@@ -1,4 +1,5 @@
-"""What words and texts mean: a second reading of docs/DEFINITIONS.md, "Texts of options", and of the manual pages."""
+"""What words and texts mean: a second reading of docs/DEFINITIONS.md, "Texts of options", and of the manual pages. And
+what a run begins with and comes to."""
 
 import os
 import posixpath
@@ -16,6 +17,7 @@ USAGE = object()
 # The options with a value, the flags, and the least and the greatest number of words beside them, of each command.
 Command = namedtuple("Command", "options flags least most")
 PLACE = ["hash-offset"]
+OUTPUTS = ["out-merkle-tree", "out-descriptor"]
 TREE = ["hash", "format", "data-block-size", "hash-block-size", "data-blocks", "salt"]
 COMMANDS = {
     "veritysetup": {
@@ -25,7 +27,7 @@ COMMANDS = {
     },
     "fsverity": {
         "digest": Command(
-            ["hash-alg", "block-size", "salt", "out-merkle-tree", "out-descriptor"],
+            ["hash-alg", "block-size", "salt"] + OUTPUTS,
             ["compact", "for-builtin-sig"],
             1,
             float("inf"),
@@ -46,7 +48,7 @@ class Refused(Exception):
         self.message = message
 
 
-class Scene:
+class Folder:
     """The files of a folder: their bytes by name, and further names of them."""
 
     def __init__(self, files, links=None):

@@ -51,7 +51,7 @@ BROKEN = "cases that ended the soak's own code"
 MOST_READ = 2**26
 FAULTS = ["status", "output", "message", "byte", "file"]
 
-Case = namedtuple("Case", "kind program scene words has_hard_links has_peer")
+Case = namedtuple("Case", "kind program before words has_hard_links has_peer")
 Found = namedtuple("Found", "status out err files")
 
 
@@ -59,19 +59,19 @@ def make_case(seed, which):
     """The case of a seed and a number."""
     rng = random.Random(f"{seed} {which}")
     kind, program, make, _ = rng.choices(KINDS, [kind[3] for kind in KINDS])[0]
-    scene, words = make(rng)
-    while is_far(program, scene, words):
-        scene, words = make(rng)
-    return Case(kind, program, scene, words, rng.random() < 0.5, rng.randrange(PEER) == 0)
+    before, words = make(rng)
+    while is_far(program, before, words):
+        before, words = make(rng)
+    return Case(kind, program, before, words, rng.random() < 0.5, rng.randrange(PEER) == 0)
 
 
-def is_far(program, scene, words):
+def is_far(program, before, words):
     """Whether format would put a tree so far into a file that the file couldn't be compared."""
     line = read_line(program, words)
     if line is None or line.command != "format" or (number(line.options.get("hash-offset", "0")) or 0) < 2**24:
         return False
     try:
-        length = len(scene.content(line.words[0]) or b"")
+        length = len(before.content(line.words[0]) or b"")
         veritysetup_expected.chosen(line.options, length, veritysetup_expected.drawn_by(b""))
     except Refused:
         return False
@@ -84,10 +84,10 @@ def lay_out(folder, case):
     shutil.rmtree(folder, ignore_errors=True)
     os.mkdir(folder)
     os.chdir(folder)
-    for name, content in case.scene.files.items():
+    for name, content in case.before.files.items():
         with open(name, "wb") as file:
             file.write(content)
-    for name, target in case.scene.links.items():
+    for name, target in case.before.links.items():
         (os.link if case.has_hard_links else os.symlink)(target, name)
 
 
@@ -101,7 +101,7 @@ def run(program, words, folder, case):
         return Found("none within two minutes", b"", b"", {})
     files = {}
     for name in os.listdir():
-        if name not in case.scene.links:
+        if name not in case.before.links:
             with open(name, "rb") as file:
                 files[name] = file.read(MOST_READ)
     return Found(ended.returncode, ended.stdout, ended.stderr, files)
@@ -139,14 +139,14 @@ def judge(case, folder, programs):
     found = run(os.path.join(programs, case.program), case.words, folder, case)
     drawn = veritysetup_expected.drawn_by(found.out)
     if case.program == "veritysetup":
-        expected = veritysetup_expected.expected(case.words, case.scene, drawn)
+        expected = veritysetup_expected.expected(case.words, case.before, drawn)
     else:
-        expected = fsverity_expected.expected(case.words, case.scene)
+        expected = fsverity_expected.expected(case.words, case.before)
     texts = differences(case, expected, found)
     if texts or not case.has_peer:
         return texts, False
     peer = lambda program, words: run(program, words, folder, case)
-    more = debian.compare(case.program, case.words, case.scene, expected, drawn, peer)
+    more = debian.compare(case.program, case.words, case.before, expected, drawn, peer)
     return more or [], more is not None
 
 

@@ -1,4 +1,5 @@
-"""Random texts of options, right and wrong ones, and random bytes; all of it follows from the generator given."""
+"""Random texts of options, right and wrong ones, words of them, and random bytes; all of it follows from the generator
+given."""
 
 NOT_NUMBERS = [
     "",
@@ -56,18 +57,18 @@ def count(rng, fan, most):
     """A number of blocks, often one at a border of the fan-out, and at most `most`."""
     borders = [power + step for power in (fan, fan * fan) for step in (-1, 0, 1)]
     few = [0, 1, 1, 2, 3]
-    wanted = rng.choice([rng.choice(few), rng.choice(borders), rng.randint(0, 300), rng.randint(0, 40)])
-    return min(wanted, most)
+    drawn = rng.choice([rng.choice(few), rng.choice(borders), rng.randint(0, 300), rng.randint(0, 40)])
+    return min(drawn, most)
 
 
 def content(rng, size):
-    """Bytes of data: zeros, noise, one piece again and again, or noise with a long run of one byte."""
+    """Bytes of data: zeros, noise, one pattern again and again, or noise with a long run of one byte."""
     kind = rng.randrange(8)
     if kind == 0:
         return bytes(size)
     if kind == 1:
-        piece = rng.randbytes(rng.choice([1, 512, 1024]))
-        return (piece * (size // len(piece) + 1))[:size]
+        pattern = rng.randbytes(rng.choice([1, 512, 1024]))
+        return (pattern * (size // len(pattern) + 1))[:size]
     if kind == 2:
         return rng.randbytes(size // 2) + bytes([rng.randrange(256)]) * (size - size // 2)
     return rng.randbytes(size)

@@ -2,10 +2,10 @@
 
 import texts
 from layouts import SUPERBLOCK_FIELDS, SUPERBLOCK_SIZE, superblock
-from reading import Scene
+from reading import Folder
 from texts import chance
 from trees import Settings, Shape, Tree, put
-from veritysetup_expected import NAMES, Area, placed
+from veritysetup_expected import ALGORITHMS, Area, placed
 
 DATA, HASH = "data", "hash"
 HARD_SIZES = [2**31, 2**32, 2**40, 2**62, 2**63 - 4096, 2**63 - 1024, 2**63 - 512, 2**63, 2**64 - 512]
@@ -16,7 +16,7 @@ FIELDS = [*SUPERBLOCK_FIELDS.items(), ("all", (0, SUPERBLOCK_SIZE))]
 
 def settings(rng):
     """Settings with so few blocks that the data isn't long."""
-    name, hash_type = rng.choice(NAMES), rng.randrange(2)
+    name, hash_type = rng.choice(ALGORITHMS), rng.randrange(2)
     data_block, hash_block = texts.block_size(rng), texts.block_size(rng)
     salt = bytes.fromhex(texts.salt(rng, 256))
     few = Settings(name, data_block, hash_block, salt, 0, hash_type)
@@ -43,7 +43,7 @@ def option_texts(rng, chosen, at):
     return {name: text for name, (text, needed) in given.items() if needed or chance(rng, 0.3)}
 
 
-def spoil(rng, options):
+def make_wrong(rng, options):
     """Makes the text of one option wrong, or right in a way that no other option agrees with."""
     name = rng.choice(
         ["hash", "format", "data-block-size", "hash-block-size", "data-blocks", "salt", "hash-offset", "uuid"]
@@ -67,10 +67,10 @@ def spoil(rng, options):
         options[name] = texts.number(rng, rng.choice(texts.NOT_BLOCK_SIZES))
 
 
-def old_hash(rng, scene):
+def old_hash(rng, before):
     """Lets HASH be there before, now and then."""
     if chance(rng, 0.5):
-        scene.files[HASH] = rng.randbytes(rng.choice([0, 1, 511, 512, 513, 5000, rng.randint(0, 40000)]))
+        before.files[HASH] = rng.randbytes(rng.choice([0, 1, 511, 512, 513, 5000, rng.randint(0, 40000)]))
 
 
 def format_case(rng):
@@ -78,14 +78,14 @@ def format_case(rng):
     chosen = settings(rng)
     bare = chance(rng, 0.2)
     tail = rng.choice([0, 0, 1, rng.randrange(chosen.data_block)])
-    scene = Scene({DATA: texts.content(rng, chosen.count * chosen.data_block + tail)})
+    before = Folder({DATA: texts.content(rng, chosen.count * chosen.data_block + tail)})
     at = offset(rng, chosen.hash_block if bare else SUPERBLOCK_SIZE)
     names = [DATA, HASH]
     options = {}
     if chance(rng, 0.15):
-        names, at = one_file(rng, scene, chosen)
+        names, at = one_file(rng, before, chosen)
     else:
-        old_hash(rng, scene)
+        old_hash(rng, before)
     if chance(rng, 0.3):
         step = rng.choice([-1, 0, 0, 0, 1, 2, rng.randint(-5, 5), 10**6])
         options["data-blocks"] = texts.number(rng, max(0, chosen.count + step))
@@ -94,14 +94,14 @@ def format_case(rng):
         options["uuid"] = texts.uuid(rng)
     if chance(rng, 0.05):
         del options["salt"]
-    return scene, ["format"] + texts.words(rng, options, ["no-superblock"] if bare else [], names)
+    return before, ["format"] + texts.words(rng, options, ["no-superblock"] if bare else [], names)
 
 
-def one_file(rng, scene, chosen):
+def one_file(rng, before, chosen):
     """HASH is DATA, under its own or under another name, and the hash area most often begins after the data."""
     names = [DATA, rng.choice([DATA, "./data", "other"])]
     if names[1] == "other":
-        scene.links["other"] = DATA
+        before.links["other"] = DATA
     if chance(rng, 0.2):
         names.reverse()
     covered = chosen.count * chosen.data_block
@@ -113,15 +113,15 @@ def one_file(rng, scene, chosen):
 def option_case(rng):
     """A command with one wrong text or several."""
     chosen = settings(rng)
-    scene = Scene({DATA: texts.content(rng, min(chosen.count * chosen.data_block, 40000))})
-    old_hash(rng, scene)
+    before = Folder({DATA: texts.content(rng, min(chosen.count * chosen.data_block, 40000))})
+    old_hash(rng, before)
     options = option_texts(rng, chosen, offset(rng, 512))
     command = rng.choice(["format", "format", "format", "verify", "verify", "dump"])
     flags = ["no-superblock"] if chance(rng, 0.9 if command == "verify" else 0.3) else []
     if command == "format" and chance(rng, 0.7):
         options["uuid"] = texts.uuid(rng)
     for _ in range(rng.choice([1, 1, 1, 2, 3, 4])):
-        spoil(rng, options)
+        make_wrong(rng, options)
     if command == "verify":
         options.pop("uuid", None)
         if chance(rng, 0.05):
@@ -131,21 +131,22 @@ def option_case(rng):
     beside = {"format": [DATA, HASH], "dump": [HASH], "verify": [DATA, HASH, texts.root(rng, bytes(32))]}[command]
     if chance(rng, 0.05):
         beside[rng.randrange(len(beside))] = rng.choice(["absent", "none/there", "none"])
-    return scene, [command] + texts.words(rng, options, flags, beside)
+    return before, [command] + texts.words(rng, options, flags, beside)
 
 
 def image(rng):
     """A whole image: its area, data, device and root hash."""
     chosen = settings(rng)
     chosen = chosen._replace(count=max(1, chosen.count))
-    named = None if chance(rng, 0.25) else rng.randbytes(16)
-    at = offset(rng, chosen.hash_block if named is None else SUPERBLOCK_SIZE)
-    area = placed(chosen, at, named)
+    bare = chance(rng, 0.25)
+    uuid = None if bare else rng.randbytes(16)
+    at = offset(rng, chosen.hash_block if bare else SUPERBLOCK_SIZE)
+    area = placed(chosen, at, uuid)
     data = texts.content(rng, chosen.count * chosen.data_block)
     tree = Tree(chosen, area.base, data)
     device = tree.on(rng.randbytes(rng.choice([0, 0, at])))
-    if named is not None:
-        put(device, at, superblock(chosen, named))
+    if not bare:
+        put(device, at, superblock(chosen, uuid))
     return area, bytearray(data), device, tree.root
 
 
@@ -194,11 +195,11 @@ def verify_case(rng):
     if chance(rng, 0.5 if bare else 0.05):
         options["data-blocks"] = texts.number(rng, max(0, chosen.count + rng.choice([0, 0, 0, 1, -1, 7])))
     if chance(rng, 0.05):
-        spoil(rng, options)
+        make_wrong(rng, options)
         options.pop("uuid", None)
-    scene = Scene({DATA: bytes(data), HASH: bytes(device)})
+    before = Folder({DATA: bytes(data), HASH: bytes(device)})
     beside = [DATA, HASH, texts.root(rng, root)]
-    return scene, ["verify"] + texts.words(rng, options, ["no-superblock"] if bare else [], beside)
+    return before, ["verify"] + texts.words(rng, options, ["no-superblock"] if bare else [], beside)
 
 
 def hostile(rng, text):
@@ -208,7 +209,7 @@ def hostile(rng, text):
     value = rng.choice([*hard, rng.getrandbits(8 * size), 1 << rng.randrange(8 * size)]) % 256**size
     field = value.to_bytes(size, "little")
     if name == "name" and chance(rng, 0.8):
-        chosen = rng.choice(NAMES + texts.NOT_NAMES).encode()
+        chosen = rng.choice(ALGORITHMS + texts.NOT_NAMES).encode()
         field = (chosen + bytes(chance(rng, 0.7)) + rng.randbytes(size)).ljust(size, b"\0")[:size]
     if name in ("data_block", "hash_block") and chance(rng, 0.5):
         field = texts.block_size(rng).to_bytes(size, "little")
@@ -234,7 +235,7 @@ def superblock_case(rng):
     if chance(rng, 0.05):
         huge = rng.choice([512, 1024, *HARD_SIZES]) + rng.choice([0, 0, 512])
         options["hash-offset"] = texts.number(rng, huge % 2**64)
-    scene = Scene({DATA: bytes(data), HASH: bytes(device)})
+    before = Folder({DATA: bytes(data), HASH: bytes(device)})
     if chance(rng, 0.6):
-        return scene, ["dump"] + texts.words(rng, options, [], [rng.choice([HASH, "./hash"])])
-    return scene, ["verify"] + texts.words(rng, options, [], [DATA, HASH, texts.root(rng, root)])
+        return before, ["dump"] + texts.words(rng, options, [], [rng.choice([HASH, "./hash"])])
+    return before, ["verify"] + texts.words(rng, options, [], [DATA, HASH, texts.root(rng, root)])

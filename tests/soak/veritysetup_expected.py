@@ -5,9 +5,9 @@ from collections import namedtuple
 
 from layouts import SIGNATURE, SUPERBLOCK_SIZE, read_superblock, superblock
 from reading import USAGE, Outcome, Refused, hexadecimal, is_block_size, not_utf8, number, read_line, uuid, uuid_text
-from trees import MOST_BYTES, Settings, Shape, Tree, put, verdict
+from trees import MOST_BYTES, Settings, Shape, Tree, base_of, put, settings_in, verdict
 
-NAMES = ["sha256", "sha512", "sha384", "sha224", "sha1"]
+ALGORITHMS = ["sha256", "sha512", "sha384", "sha224", "sha1"]
 
 # What is drawn if no salt or no UUID is given.
 Drawn = namedtuple("Drawn", "salt uuid")
@@ -28,26 +28,26 @@ def drawn_by(report):
     return Drawn(bytes.fromhex(salt[1]) if salt else bytes(32), bytes(drawn))
 
 
-def expected(words, scene, drawn):
+def expected(words, before, drawn):
     """The outcome of a run."""
     message = not_utf8(words)
     if message:
-        return Outcome(1, b"", message, scene.files)
+        return Outcome(1, b"", message, before.files)
     line = read_line("veritysetup", words)
     if line is None:
-        return Outcome(1, b"", USAGE, scene.files)
+        return Outcome(1, b"", USAGE, before.files)
     try:
         if line.command == "format":
-            return format_run(line, scene, drawn)
+            return format_run(line, before, drawn)
         if line.command == "dump":
-            return dump_run(line, scene)
-        return verify_run(line, scene)
+            return dump_run(line, before)
+        return verify_run(line, before)
     except Refused as refused:
-        return Outcome(refused.status, b"", refused.message, scene.files)
+        return Outcome(refused.status, b"", refused.message, before.files)
 
 
-def opened(scene, path):
-    content = scene.content(path)
+def opened(before, path):
+    content = before.content(path)
     if content is None:
         raise Refused(4, f"Cannot open {path}.")
     return content
@@ -88,14 +88,14 @@ def chosen(options, length, drawn):
     hash_type, data_block, hash_block, count, offset = numbers(options)
     name = options.get("hash", "sha256")
     bare = "no-superblock" in options
-    salt, named = chosen_salt(options, drawn), chosen_uuid(options, drawn)
+    salt, uuid = chosen_salt(options, drawn), chosen_uuid(options, drawn)
     for wrong, message in [
-        (name not in NAMES, "Unknown hash algorithm."),
+        (name not in ALGORITHMS, "Unknown hash algorithm."),
         (hash_type > 1, "Hash type must be 0 or 1."),
         (not is_block_size(data_block, 512), "Option --data-block-size is not a valid block size."),
         (not is_block_size(hash_block, 512), "Option --hash-block-size is not a valid block size."),
         (salt is None, "Salt is not valid."),
-        (named is None, "UUID is not valid."),
+        (uuid is None, "UUID is not valid."),
     ]:
         if wrong:
             raise Refused(1, message)
@@ -103,37 +103,37 @@ def chosen(options, length, drawn):
         raise Refused(1, "Hash offset is not valid.")
     if count is None:
         count = length // data_block
-    return placed(Settings(name, data_block, hash_block, salt, count, hash_type), offset, None if bare else named)
+    return placed(Settings(name, data_block, hash_block, salt, count, hash_type), offset, None if bare else uuid)
 
 
-def placed(settings, offset, named):
+def placed(settings, offset, uuid):
     """The hash area of settings at an offset."""
-    first = offset if named is None else offset + SUPERBLOCK_SIZE
-    base = -(-first // settings.hash_block)
+    first = offset if uuid is None else offset + SUPERBLOCK_SIZE
+    base = base_of(settings.hash_block, offset, uuid is None)
     if settings.count == 0:
         raise Refused(1, "No data blocks.")
     if first > MOST_BYTES or Shape(settings, base).is_too_large():
         raise Refused(1, "Data or hash area is too large.")
-    return Area(settings, base, offset, named)
+    return Area(settings, base, offset, uuid)
 
 
-def format_run(line, scene, drawn):
+def format_run(line, before, drawn):
     data_path, hash_path = line.words
-    data = opened(scene, data_path)
+    data = opened(before, data_path)
     area = chosen(line.options, len(data), drawn)
-    settings, name = area.settings, scene.name(hash_path)
+    settings, name = area.settings, before.name(hash_path)
     covered = settings.count * settings.data_block
-    if name == scene.name(data_path) and area.offset < covered:
+    if name == before.name(data_path) and area.offset < covered:
         raise Refused(1, "Data area and hash area overlap.")
     if covered > len(data):
         raise Refused(4, f"Data ends before the end of block {len(data) // settings.data_block}.")
     if name is None:
         raise Refused(4, f"Cannot open {hash_path}.")
     tree = Tree(settings, area.base, data)
-    device = tree.on(scene.files.get(name, b""))
+    device = tree.on(before.files.get(name, b""))
     if area.uuid is not None:
         put(device, area.offset, superblock(settings, area.uuid))
-    return Outcome(0, report(hash_path, area, tree.root), "", scene.files | {name: bytes(device)})
+    return Outcome(0, report(hash_path, area, tree.root), "", before.files | {name: bytes(device)})
 
 
 def report(path, area, root=None):
@@ -177,33 +177,33 @@ def described(device, offset):
         (fields.hash_type > 1, f"Superblock hash type {fields.hash_type} is not supported."),
         (not is_block_size(fields.data_block, 512), f"Superblock data block size {fields.data_block} is not valid."),
         (not is_block_size(fields.hash_block, 512), f"Superblock hash block size {fields.hash_block} is not valid."),
-        (fields.name not in NAMES, "Superblock hash algorithm is not supported."),
+        (fields.name not in ALGORITHMS, "Superblock hash algorithm is not supported."),
         (fields.salt_size > 256, f"Superblock salt size {fields.salt_size} is not valid."),
         (fields.count == 0, "No data blocks."),
         (fields.count * fields.data_block > MOST_BYTES, "Data or hash area is too large."),
     ]:
         if wrong:
             raise Refused(1, message)
-    return Settings(*(getattr(fields, name) for name in Settings._fields)), fields.uuid
+    return settings_in(fields), fields.uuid
 
 
-def dump_run(line, scene):
+def dump_run(line, before):
     (path,) = line.words
     offset = offset_of(line.options)
-    settings, named = described(opened(scene, path), offset)
-    return Outcome(0, report(path, Area(settings, None, offset, named)), "", scene.files)
+    settings, uuid = described(opened(before, path), offset)
+    return Outcome(0, report(path, Area(settings, None, offset, uuid)), "", before.files)
 
 
-def compared(line, scene):
+def compared(line, before):
     """The hash area that verify goes by, the data, the device, and the root hash."""
     data_path, hash_path, root_text = line.words
     if "no-superblock" in line.options:
-        data = opened(scene, data_path)
+        data = opened(before, data_path)
         area = chosen(line.options, len(data), None)
         root = root_of(area.settings, root_text)
-        return area, data, opened(scene, hash_path), root
+        return area, data, opened(before, hash_path), root
     offset = offset_of(line.options)
-    data, device = opened(scene, data_path), opened(scene, hash_path)
+    data, device = opened(before, data_path), opened(before, hash_path)
     area = placed(described(device, offset)[0], offset, b"")
     return area, data, device, root_of(area.settings, root_text)
 
@@ -215,7 +215,7 @@ def root_of(settings, text):
     return root
 
 
-def verify_run(line, scene):
-    area, data, device, root = compared(line, scene)
+def verify_run(line, before):
+    area, data, device, root = compared(line, before)
     status, message = verdict(Tree(area.settings, area.base, data), device, root)
-    return Outcome(status, b"", message if status else "", scene.files)
+    return Outcome(status, b"", message if status else "", before.files)

@@ -1,6 +1,6 @@
 #!/usr/bin/env bash
 # A program with a fault, by which the soak shows that it sees one: runs the program of the same name in the folder
-# REAL, and spoils what FAULT names.
+# REAL, and makes wrong what FAULT names.
 set -u
 real=$REAL/${0##*/}
 case $FAULT in

@@ -3,11 +3,10 @@
 import os
 import re
 import shutil
-import subprocess
 import tempfile
 
 import functions
-from crates import Crates
+from crates import Crates, copy_crates, link
 from groups import functions_of, texts_of
 from verdicts import LINE, Verdict, together, verdict_on
 
@@ -134,20 +133,3 @@ def write(folder, texts):
     for path, text in texts.items():
         with open(f"{folder}/{path}", "w", encoding="utf-8") as file:
             file.write(text)
-
-
-def link(folder, to):
-    """Copies a folder, by links where that can be: a check replaces such a file, and changes none."""
-    if subprocess.run(["cp", "-al", folder, to], stderr=subprocess.DEVNULL).returncode != 0:
-        shutil.rmtree(to, ignore_errors=True)
-        subprocess.run(["cp", "-a", folder, to], check=True)
-
-
-def copy_crates(top, to, names=None, left_out=("out", "must-fail", "wrong-bodies")):
-    """Copies the crates of these names, or all, without these folders of theirs."""
-    os.makedirs(f"{to}/crates", exist_ok=True)
-    for name in names or sorted(os.listdir(f"{top}/crates")):
-        at = f"{top}/crates/{name}"
-        shutil.copytree(at, f"{to}/crates/{name}", ignore=lambda folder, names: left_out if folder == at else ())
-    for name in ("crates.txt", "HANDLES"):
-        shutil.copy(f"{top}/{name}", to)

@@ -1,4 +1,4 @@
-"""The functions of a source file: where they stand, and the names that a check gives them."""
+"""The functions of a source file: where they stand, the names that a check gives them, and the file without some."""
 
 import re
 from collections import namedtuple
@@ -69,7 +69,7 @@ def functions_in(path, text, types):
     """The functions of a source file. `types` has the paths of the crate's types."""
     module = module_of(path)
     # `opened` has what stands before each brace that is open, `head` what stands before the next one.
-    found, opened, head, is_clause, depth = [], [], None, False, 0
+    found, opened, head, in_clause, depth = [], [], None, False, 0
     for it in SCAN.finditer(text):
         word = it.group()
         if word in ("(", "["):
@@ -79,12 +79,12 @@ def functions_in(path, text, types):
         elif word in ("impl", "trait", "mod", "fn") and head is None:
             name = re.match(r"\s*(\w+)", text[it.end():])
             if name or word == "impl":
-                head, is_clause = (word, it.start(), it.end(), name and name.group(1), len(opened)), False
+                head, in_clause = (word, it.start(), it.end(), name and name.group(1), len(opened)), False
         elif word in ("requires", "ensures", "ghost"):
-            is_clause = True
+            in_clause = True
         elif word == "{":
             # The braces of a clause, and those within them, are before a function's body.
-            if head is None or is_clause or len(opened) > head[4]:
+            if head is None or in_clause or len(opened) > head[4]:
                 opened.append(None)
             else:
                 name = head[3] if head[0] in ("fn", "mod") else head_name(text[head[2]:it.start()])
@@ -93,7 +93,7 @@ def functions_in(path, text, types):
                     name = types.get(own, own) + plus + arguments
                 opened.append((head[0], head[1], it.end(), name))
                 head = None
-            is_clause = False
+            in_clause = False
         elif word == "}" and opened:
             kind, start, body, name = opened.pop() or (None, 0, 0, "")
             if kind == "fn":
@@ -103,7 +103,7 @@ def functions_in(path, text, types):
                 is_default = any(entry and entry[0] == "trait" for entry in opened)
                 found.append(Function(start, body, it.end(), "::".join([*inside, name]), is_default))
         elif word == ";" and depth == 0 and (head is None or len(opened) == head[4]):
-            head, is_clause = None, False
+            head, in_clause = None, False
     return found
 
 

@@ -5,10 +5,17 @@ import re
 import signal
 import subprocess
 
-from checks import copy_crates, link
+from crates import copy_crates, link
+from verdicts import HOW, NAME_GONE, Verdict, what_goal
 
 # The last line of a gate's log.
 ENDED = re.compile(r"^gate: ended with status \d+$", re.M)
+
+# What `rt ci` shows of a refused body: the first goal that isn't met, cut after so many letters.
+SHOWN = 160
+ENSURES = re.compile(
+    r"it is not proved that what the function ensures holds when it returns \(`[^`]+`\)(; the facts known there allow .*)?"
+)
 
 
 class Gate:
@@ -90,3 +97,26 @@ def is_alive(path):
     except ProcessLookupError:
         return False
     return True
+
+
+def shows_clause(text, shown):
+    """Whether a note says that a clause of the contract isn't met, and not only at a limit of the search."""
+    found = ENSURES.match(text)
+    return found is not None and (found[1] is not None or found.end() == len(text) and len(shown) < SHOWN)
+
+
+def verdict_of_gate(line, crate, functions):
+    """What `rt ci` says of a body that it has tried by itself: that it is refused, only if it is one function that has
+    to refuse it and what is shown stands in that."""
+    shown = (line or "").partition("refused, as it must be: ")[2]
+    if len(functions) > 1 or NAME_GONE.search(shown):
+        return Verdict("nothing", f"the gate shows no refusal in {' and '.join(functions)}: {line}")
+    note = re.match(r"(?:note: )?(src/\S+?):(\d+):\d+: (.*)", shown)
+    proof = re.match(r"(?:\./)?proofs/(\S+)/\w+\.antt:\d+:\d+: error: `([^`]+)`", shown)
+    for function in functions:
+        if note and crate.is_within(function, note[1], int(note[2])):
+            return Verdict("refused", f"{function}: {note[3]}", shows_clause(note[3], shown))
+        if proof and proof[1] == function.replace("::", "/"):
+            how = HOW["by hand"]
+            return Verdict("refused", f"{function}: {proof[2]} ({how})", what_goal(proof[2]) is None)
+    return Verdict("nothing", f"the gate shows no refusal in {' and '.join(functions)}: {line}")

@@ -6,7 +6,8 @@ import sys
 
 sys.dont_write_bytecode = True
 
-from verdicts import verdict_of_gate, verdict_on
+from gate import verdict_of_gate
+from verdicts import verdict_on
 
 ENSURES = "it is not proved that what the function ensures holds when it returns"
 LIMIT = "; `search` gave up at one of its limits"

@@ -1,4 +1,4 @@
-"""The lines of a run, and its counts."""
+"""The lines of a run, its counts, and why what a change came to isn't right."""
 
 from crates import SPANS, SPENT
 

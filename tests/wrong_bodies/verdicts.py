@@ -11,7 +11,7 @@ Verdict = namedtuple("Verdict", "kind text is_clause", defaults=("", False))
 LINE = re.compile(r"^fn (\S+): (.*)$", re.M)
 OPEN = re.compile(r"`search` did not prove ((?:`[^`]+`(?:, | and )?)+)")
 REFUSED = re.compile(r"it stands on ((?:`[^`]+`(?:, | and )?)+), which antt refuses")
-NAMES = re.compile(r"has no field|is not in scope|has no `|that can be named|was not admitted|is no name")
+NAME_GONE = re.compile(r"has no field|is not in scope|has no `|that can be named|was not admitted|is no name")
 
 # How the prover shows that a goal isn't met, the plainest first.
 HOW = {
@@ -49,14 +49,14 @@ def verdict_on(said, crate, function):
     proofs = f"./proofs/{function.replace('::', '/')}/"
     errors = [it for it in said.split("\n") if it.startswith(proofs) and ": error" in it]
     notes = [it for it in said.split("\n") if is_note_in(crate, function, it)]
-    found, gone = [], [it for it in errors if NAMES.search(it)]
+    found, gone = [], [it for it in errors if NAME_GONE.search(it)]
     for text in lines.values():
         for goal in quoted(OPEN, text):
             found.append((how_open(next((it for it in notes if f"(`{goal}`)" in it), "")), goal))
         # Goals of functions that it calls are refused there.
         for goal in (it.split(".")[-1] for it in quoted(REFUSED, text) if f".proofs.{function.replace('::', '.')}." in it):
             said_of_it = [it for it in errors if f"`{goal}`" in it]
-            if said_of_it and all(NAMES.search(it) for it in said_of_it):
+            if said_of_it and all(NAME_GONE.search(it) for it in said_of_it):
                 gone.insert(0, said_of_it[0])
             else:
                 found.append(("by hand", goal))
@@ -110,33 +110,3 @@ def together(verdicts, wanted):
     if other:
         return other
     return Verdict(wanted, "; ".join(it.text for it in verdicts), all(it.is_clause for it in verdicts))
-
-
-# What `rt ci` shows of a refused body: the first goal that isn't met, cut after so many letters.
-SHOWN = 160
-ENSURES = re.compile(
-    r"it is not proved that what the function ensures holds when it returns \(`[^`]+`\)(; the facts known there allow .*)?"
-)
-
-
-def is_clause(text, shown):
-    """Whether a note says that a clause of the contract isn't met, and not only at a limit of the search."""
-    found = ENSURES.match(text)
-    return found is not None and (found[1] is not None or found.end() == len(text) and len(shown) < SHOWN)
-
-
-def verdict_of_gate(line, crate, functions):
-    """What `rt ci` says of a body that it has tried by itself: that it is refused, only if it is one function that has to
-    refuse it and what is shown stands in that."""
-    shown = (line or "").partition("refused, as it must be: ")[2]
-    if len(functions) > 1 or NAMES.search(shown):
-        return Verdict("nothing", f"the gate shows no refusal in {' and '.join(functions)}: {line}")
-    note = re.match(r"(?:note: )?(src/\S+?):(\d+):\d+: (.*)", shown)
-    proof = re.match(r"(?:\./)?proofs/(\S+)/\w+\.antt:\d+:\d+: error: `([^`]+)`", shown)
-    for function in functions:
-        if note and crate.is_within(function, note[1], int(note[2])):
-            return Verdict("refused", f"{function}: {note[3]}", is_clause(note[3], shown))
-        if proof and proof[1] == function.replace("::", "/"):
-            how = HOW["by hand"]
-            return Verdict("refused", f"{function}: {proof[2]} ({how})", what_goal(proof[2]) is None)
-    return Verdict("nothing", f"the gate shows no refusal in {' and '.join(functions)}: {line}")

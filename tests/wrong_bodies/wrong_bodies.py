@@ -29,15 +29,15 @@ import time
 sys.dont_write_bytecode = True
 
 from bodies import Change, bodies_of
-from checks import Checks, Tests, copy_crates
+from checks import Checks, Tests
 from counts import Counts
-from crates import Crate, Crates
-from gate import Gate
+from crates import Crate, Crates, copy_crates
+from gate import Gate, verdict_of_gate
 from groups import functions_of, groups_of
 from kept import Kept
 from report import Report, fault
 from shapes import differing
-from verdicts import Verdict, verdict_of_gate
+from verdicts import Verdict
 
 # A check takes up to 4 GiB, most of it after some time.
 NEEDED_MEMORY, NEEDED_AFTER = 5 << 30, 45

@@ -4,7 +4,6 @@ those of the trees of tests/lib/trees.py."""
 import array
 import copy
 import ctypes
-import hashlib
 import io
 import mmap
 import os
@@ -19,8 +18,7 @@ import unittest
 
 import verity
 from handlers import interrupted, with_handler
-from layouts import descriptor
-from trees import FS_VERITY, Settings, Tree
+from trees import FileTree
 
 A = "bce75948b9e7510293f8f2720412af9697c1479281323f3f220623fb8e94b557"
 EMPTY = "3d248ca542a24fc62d1c43b916eae5016878e2533c88238480b26128a1f1af95"
@@ -28,11 +26,7 @@ EMPTY = "3d248ca542a24fc62d1c43b916eae5016878e2533c88238480b26128a1f1af95"
 
 def expected(data, name="sha256", block=4096, salt=b""):
     """The file digest by a second reading of the definitions."""
-    settings = Settings(name, block, block, salt, -(-len(data) // block), FS_VERITY)
-    root = bytes(hashlib.new(name).digest_size)
-    if data:
-        root = Tree(settings, 0, data.ljust(settings.count * block, b"\0")).root
-    return hashlib.new(name, descriptor(settings, len(data), root)).hexdigest()
+    return FileTree(name, block, salt, data).digest.hex()
 
 
 class Habits(unittest.TestCase):

@@ -8,7 +8,7 @@ import unittest
 
 import verity
 from layouts import superblock
-from trees import Settings, Shape
+from trees import Settings, Shape, base_of
 
 FIRST = {"data_blocks": 300, "salt": b"\xab\xcd", "uuid": bytes(range(16))}
 
@@ -171,17 +171,17 @@ class Places(unittest.TestCase):
             size, count = 512 << numbers.randrange(8), numbers.randrange(1, 1 << numbers.randrange(1, 40))
             offset, bare = size * numbers.randrange(9), bool(numbers.randrange(2))
             params = verity.Params(count, name, 1, 4096, size, offset, bare)
-            shape = Shape(Settings(name, 4096, size, b"", count, 1), -(-(offset + 512 * (not bare)) // size))
-            self.assertEqual(params.level_count, len(shape.sizes))
+            shape = Shape(Settings(name, 4096, size, b"", count, 1), base_of(size, offset, bare))
+            self.assertEqual(params.level_count, len(shape.level_sizes))
             self.assertEqual(params.digest_size, shape.length)
             self.assertEqual(params.hash_area_end, shape.end * size)
-            for level, blocks in enumerate(shape.sizes):
+            for level, blocks in enumerate(shape.level_sizes):
                 self.assertEqual(params.level_start(level), (shape.place(level, 0) * size, blocks))
                 index = numbers.randrange(count)
                 place = shape.place(level, index // shape.fan ** (level + 1))
                 self.assertEqual(params.hash_block_start(index, level), place * size)
             for call in params.level_start, lambda level, it=params: it.hash_block_start(0, level):
                 with self.assertRaises(verity.NoSuchLevel):
-                    call(len(shape.sizes))
+                    call(len(shape.level_sizes))
             with self.assertRaises(verity.NoSuchBlock):
                 params.hash_block_start(count, 0)

@@ -10,19 +10,18 @@ import unittest
 
 import verity
 from handlers import with_handler
-from trees import Settings, Tree, put
+from trees import Settings, Tree, base_of, put
 
 
 class Image:
     """An image: its parameters, its data, the hash device, and the root hash."""
 
-    def __init__(self, seed, count=300, name="sha256", size=512, hash_size=512, offset=0, bare=False, kind=1):
+    def __init__(self, seed, count=300, name="sha256", size=512, hash_block_size=512, offset=0, bare=False, kind=1):
         numbers = random.Random(seed)
-        self.params = verity.Params(count, name, kind, size, hash_size, offset, bare, numbers.randbytes(9))
-        base = -(-(offset + 512 * (not bare)) // hash_size)
+        self.params = verity.Params(count, name, kind, size, hash_block_size, offset, bare, numbers.randbytes(9))
         self.data = numbers.randbytes(count * size)
-        settings = Settings(name, size, hash_size, self.params.salt, count, kind)
-        self.tree = Tree(settings, base, self.data)
+        settings = Settings(name, size, hash_block_size, self.params.salt, count, kind)
+        self.tree = Tree(settings, base_of(hash_block_size, offset, bare), self.data)
         self.hashes = bytes(self.tree.on(bytearray(numbers.randbytes(offset))))
         self.root = self.tree.root
 
@@ -42,11 +41,12 @@ class Image:
 
 def images():
     """Of no level to four, with blocks of several sizes, of all hash functions and both types."""
-    for number, (count, size, hash_size) in enumerate(
+    for number, (count, size, hash_block_size) in enumerate(
         ((1, 512, 4096), (2, 4096, 512), (16, 512, 512), (17, 512, 512), (300, 512, 512), (140, 1024, 4096))
     ):
         for name in "sha256", "sha512", "sha1":
-            yield Image(number, count, name, size, hash_size, hash_size * number, number % 2 == 1, number // 2 % 2)
+            offset, bare = hash_block_size * number, number % 2 == 1
+            yield Image(number, count, name, size, hash_block_size, offset, bare, number // 2 % 2)
 
 
 def flipped(data, at):
@@ -73,9 +73,9 @@ class Building(unittest.TestCase):
                 self.assertEqual(builder.root_hash(), image.root)
                 self.assertEqual(builder.root_hash(), image.root)
                 self.assertEqual(builder.feed(b""), [])
-                sizes = [len(level) for level in image.tree.levels]
-                self.assertEqual(places, {(level, i) for level, size in enumerate(sizes) for i in range(size)})
-                begin = image.params.hash_area_end - sum(sizes) * image.params.hash_block_size
+                counts = image.tree.level_sizes
+                self.assertEqual(places, {(level, i) for level, count in enumerate(counts) for i in range(count)})
+                begin = image.params.hash_area_end - sum(counts) * image.params.hash_block_size
                 self.assertEqual(device[begin:], image.hashes[begin:])
                 self.assertIs(builder.params, image.params)
 
@@ -265,7 +265,7 @@ class Reading(unittest.TestCase):
 
     def test_changed(self):
         numbers = random.Random(7)
-        for image in Image(6, 20), Image(7, 40, hash_size=1024, name="sha512", kind=0), Image(8, 1):
+        for image in Image(6, 20), Image(7, 40, hash_block_size=1024, name="sha512", kind=0), Image(8, 1):
             params, tree = image.params, image.tree
             every = set(range(params.data_blocks))
             for index in {0, params.data_blocks - 1}:

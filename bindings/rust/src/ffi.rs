@@ -221,7 +221,7 @@ mod tests {
     /// What a program in C says of the header, which the script compares with this.
     #[test]
     #[ignore = "tests/bindings/rust.sh reads what it prints"]
-    fn layout() {
+    fn structs() {
         let params = Params {
             hash_algorithm: 0,
             hash_type: 0,

@@ -81,7 +81,7 @@ struct Made<'a, T> {
     hashes: &'a [u8],
     root: Root,
     size: usize,
-    hash_size: usize,
+    hash_block_size: usize,
     levels: usize,
 }
 
@@ -132,7 +132,7 @@ impl<T: Tree + Clone> Made<'_, T> {
                     bytes.extend_from_slice(block);
                     Ok::<(), Error>(())
                 });
-                bytes[level * self.hash_size + random.below(self.hash_size)] ^= 1;
+                bytes[level * self.hash_block_size + random.below(self.hash_block_size)] ^= 1;
                 let changed = Path::new(self.tree, index, bytes).unwrap();
                 match changed.check(&self.root, &whole) {
                     Err(Error::Differs { level: found }) => assert!(found == level || found == level + 1),
@@ -140,7 +140,7 @@ impl<T: Tree + Clone> Made<'_, T> {
                 }
             }
         }
-        let length = self.levels * self.hash_size;
+        let length = self.levels * self.hash_block_size;
         assert!(Path::new(self.tree, 0, vec![0; length]).is_ok());
         assert!(matches!(Path::new(self.tree, 0, vec![0; length + 1]), Err(Error::BadLength)));
         for index in [count, count + 1, u64::MAX] {
@@ -206,7 +206,7 @@ impl<T: Tree + Clone> Made<'_, T> {
                 Ok::<(), Error>(())
             });
             let mut hashes = self.hashes.to_vec();
-            hashes[starts[level] as usize + random.below(self.hash_size)] ^= 0x80;
+            hashes[starts[level] as usize + random.below(self.hash_block_size)] ^= 0x80;
             let mut reader = self.reader(self.data, &hashes);
             for _ in 0..2 {
                 assert_eq!(level_of(&reader.block(index).unwrap_err()), Some(level + 1));
@@ -336,14 +336,14 @@ fn images() {
     for _ in 0..support::count(24) {
         let salt = random.some(&[0, 1, 32, 256, 77]);
         let sizes = [512, 1024, 2048, 4096];
-        let (data_size, hash_size) = (sizes[random.below(4)], sizes[random.below(4)]);
+        let (data_block_size, hash_block_size) = (sizes[random.below(4)], sizes[random.below(4)]);
         let has_superblock = random.below(3) > 0;
         let data_blocks = [1, 2, 16, 17, 128, 129, 257, 1 + random.below(700) as u64][random.below(8)];
         let settings = Settings {
             algorithm: ["sha256", "sha512", "sha1", "sha224", "sha384"][random.below(5)].parse().unwrap(),
             hash_type: random.below(2) as u32,
-            data_block_size: data_size,
-            hash_block_size: hash_size,
+            data_block_size,
+            hash_block_size,
             data_blocks,
             // veritysetup takes no other places for each of these.
             hash_offset: 4096 * random.below(3) as u64,
@@ -351,7 +351,7 @@ fn images() {
             salt: &salt,
             uuid: if has_superblock { random.bytes(16).try_into().unwrap() } else { [0; 16] },
         };
-        let data = random.bytes((data_blocks * u64::from(data_size)) as usize);
+        let data = random.bytes((data_blocks * u64::from(data_block_size)) as usize);
         let (root, hashes) = veritysetup(&settings, &data);
         let params = Params::new(&settings).unwrap();
         assert_eq!(params.settings(), settings);
@@ -392,8 +392,8 @@ fn images() {
             data: &data,
             hashes: &hashes,
             root: root.parse().unwrap(),
-            size: data_size as usize,
-            hash_size: hash_size as usize,
+            size: data_block_size as usize,
+            hash_block_size: hash_block_size as usize,
             levels: params.levels(),
         };
         made.paths(&mut random);
@@ -456,7 +456,7 @@ fn files() {
             hashes: &tree,
             root,
             size: block_size as usize,
-            hash_size: block_size as usize,
+            hash_block_size: block_size as usize,
             levels: params.levels(),
         };
         made.paths(&mut random);

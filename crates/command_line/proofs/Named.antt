@@ -1,5 +1,6 @@
 -- The command that a parse enters is one of the program's own.
-use Rattle.std.proofs.Common.{◌≡◌, ◌≢◌, ◌∙◌, ◌||◌, ap, ap₂, refl, sym, subst, Bool, true, false, cond, List, [], ◌∷◌, map, Option, Some, None, option_map, inl, inr, ◌⊎◌}
+use Rattle.std.proofs.Common.{◌≡◌, ◌≢◌, ◌∙◌, ap, ap₂, refl, sym, subst, Bool, true, false, cond, List, [], ◌∷◌, map, Option, Some, None, option_map, inl, inr, ◌⊎◌}
+use Rattle.std.proofs.lemmas.Bool.{or_right}
 use Rattle.std.specs.Prelude.{Box}
 use Rattle.std.specs.Box.{box_value}
 use Rattle.std.specs.List.{find}
@@ -95,10 +96,6 @@ leaf_names : (above : Shape) (subs : List Shape)
 leaf_names above [] = refl
 leaf_names above (s ∷ rest) = ap₂ ◌∷◌ (leaf_name (inherited above s)) (leaf_names above rest)
 
-or_true : (x : Bool) → (x || true) ≡ true
-or_true true = refl
-or_true false = refl
-
 -- the subcommands of the built command are those of the app, if the command `help` is off
 pub names_stay : (a : App) → a.top.disable_help_subcommand ≡ true → sub_names (built a) ≡ sub_names a
 names_stay a off = go a.top.is_built
@@ -108,7 +105,7 @@ names_stay a off = go a.top.is_built
     go false =
         let flagged = on_top with_version_flag (on_top with_help_flag (with_inherited (on_top with_leaf_noted (on_top marked_built a)))) in
         ap (λ b. sub_names (with_built_subs (on_top with_filled_rules (cond b flagged (with_subcommand flagged help_shape)))))
-        (ap (λ d. a.top.is_leaf || d) off ∙ or_true a.top.is_leaf)
+        (or_right a.top.is_leaf a.top.disable_help_subcommand off)
         ∙ leaf_names (with_leaf_noted (marked_built a.top)) a.subs
 
 -- the subcommand that the words name is one of the app's own, for each app without the command `help`

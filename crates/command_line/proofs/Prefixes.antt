@@ -1,5 +1,5 @@
 -- Texts of which the first bytes were written.
-use Rattle.std.proofs.Common.{◌≡◌, ℕ, zero, suc, ◌+◌, ◌<◌, add-one, get_or, List, [], ◌∷◌, ◌++◌, length, take, drop, Option, Some, None, Result, Ok, Err, OnOk, IfErr, sym, ◌∙◌, ap, subst, arith, append-nil, append_assoc, inl, inr}
+use Rattle.std.proofs.Common.{◌≡◌, ℕ, zero, suc, ◌+◌, ◌<◌, add-one, get_or, List, [], ◌∷◌, ◌++◌, length, take, drop, Option, Some, None, Result, Ok, Err, OnOk, IfErr, sym, ◌∙◌, ap, subst, arith, append-nil, append_assoc, refl, inl, inr}
 use Rattle.std.specs.Prelude.{slice_get}
 use Rattle.std.specs.List.{flat_map}
 use Rattle.std.proofs.lemmas.Grind.{flat_map-append}
@@ -7,7 +7,7 @@ use Rattle.std.proofs.lemmas.List.{take_all, take-append-le, take-append-drop}
 use Rattle.std.proofs.lemmas.Option.{slice_get-get_or}
 use Rattle.std.proofs.Math.Seq.{take-append-add}
 use Rattle.std.proofs.lemmas.Bool.{cases_lt}
-use Rattle.std.specs.Io.KnownBytes.{Appends}
+use Rattle.std.specs.Io.KnownBytes.{Appends, Keeps}
 use Rattle.verity_io.proofs.KnownLemmas.{appends_twice}
 use Rattle.verity_io.specs.Putting.{bytes_taken}
 use Rattle.verity_io.specs.declared.putting.PutFault.{PutFault}
@@ -17,6 +17,15 @@ use Rattle.command_line.specs.Writing.{AppendsPrefix}
 pub appends_nothing : (held : Option (List ℕ)) → Appends held held []
 appends_nothing None = tt
 appends_nothing (Some bytes) = sym (append-nil bytes)
+
+pub Keeps-refl : (held : Option (List ℕ)) → Keeps held held
+Keeps-refl None = tt
+Keeps-refl (Some bytes) = refl
+
+pub appends_kept : (before after : Option (List ℕ)) → Keeps before after → Appends before after []
+appends_kept None after kept = tt
+appends_kept (Some xs) None kept = absurd kept
+appends_kept (Some xs) (Some ys) kept = kept ∙ sym (append-nil xs)
 
 -- all of the text was written
 pub prefix_whole : (text : List ℕ) (before after : Option (List ℕ)) → Appends before after text

@@ -18,9 +18,9 @@ pub use files::opening::{
 pub use options::algorithms::algorithm_or_default;
 pub use options::numbers::{DEFAULT_BLOCK_SIZE, number_or, read_number};
 pub use options::salts::read_salt;
-pub use progress::progress_line::{ErasingWriter, ProgressLine};
 pub use progress::progress_reader::ProgressReader;
 pub use progress::progress_runtime::ProgressRuntime;
+pub use progress::shown_progress::{ErasingWriter, ShownProgress};
 pub use words::arguments::{Argument, CommandTable, program};
 pub use words::borrowed::{text_of, texts_of};
 pub use words::copies::{copied_value, copied_values, is_given};

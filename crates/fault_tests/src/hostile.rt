@@ -1,5 +1,5 @@
-//! Superblocks and trees from an attacker: dump and verify end with a status that says so and one line, and change
-//! nothing.
+//! Superblocks and trees from an attacker: dump and verify end with a status and one line that say what is wrong, or
+//! find nothing wrong, and change nothing.
 use fixtures::{Image, SUPERBLOCK_FIELDS, SUPERBLOCK_SIZE, flip, flip_bit, image_of, lay};
 use std::alloc::{AllocError, Global};
 use std::test::Fail;
@@ -20,8 +20,8 @@ fn is_an_end(status: u8, may: &[u8], msgs: &[u8]) -> bool {
     may.contains(&status) && lines == 1 && msgs.ends_with(b"\n")
 }
 
-/// Dumps a hash device, and verifies it against the data of an image. The result is the status of verify, or none if one
-/// of the two didn't end as it may, or changed the device.
+/// Dumps a hash device, and verifies it against the data of an image. The result is the status of verify, or none if
+/// one of the two didn't end as it may, or changed the device.
 fn verified(alloc: Global, image: &Image, bytes: &[u8]) -> Result<Option<u8>, AllocError> {
     let mut out = Vec::new(alloc);
     let mut msgs = Vec::new(alloc);
@@ -103,7 +103,7 @@ fn verified_with_change(alloc: Global, image: &Image, at: usize) -> Result<Optio
 
 /// Every status but that of too little memory comes up.
 #[test]
-fn superblocks_with_a_spoiled_field_are_judged(rt: HostRuntime) -> Result<(), Fail> {
+fn superblocks_with_a_changed_field_are_judged(rt: HostRuntime) -> Result<(), Fail> {
     let image = salted_image(rt.alloc())?;
     let mut numbers = Numbers { state: 17 };
     let mut seen = [false; 5];

@@ -20,25 +20,25 @@ pub enum Pass {
 
 impl Pass {
     /// The message if this data block can't be read.
-    fn unread(self, alloc: Global, block: usize) -> Result<String, AllocError> {
+    fn unread(self, alloc: Global, index: usize) -> Result<String, AllocError> {
         match self {
             Pass::Format(_, _) | Pass::Verify => {
-                format!(in alloc; "Cannot read data block {block}.\n")
+                format!(in alloc; "Cannot read data block {index}.\n")
             }
             Pass::Digest(name) | Pass::DigestTo(name, _) => {
-                format!(in alloc; "fsverity: cannot read block {block}: {name}.\n")
+                format!(in alloc; "fsverity: cannot read block {index}: {name}.\n")
             }
         }
     }
 
     /// The message if this hash block can't be written or read.
-    fn stopped(self, alloc: Global, level: usize, block: usize) -> Result<String, AllocError> {
+    fn stopped(self, alloc: Global, level: usize, index: usize) -> Result<String, AllocError> {
         let what = match self {
             Pass::Format(_, _) => "Cannot write hash",
             Pass::Verify => "Cannot read hash",
             Pass::Digest(_) | Pass::DigestTo(_, _) => "fsverity: cannot write tree",
         };
-        format!(in alloc; "{what} block {block} of level {level}.\n")
+        format!(in alloc; "{what} block {index} of level {level}.\n")
     }
 
     /// The call by which a pass writes or reads a hash block at its place, and what that leaves.
@@ -48,15 +48,15 @@ impl Pass {
         tree: &Tree,
         size: usize,
         level: usize,
-        block: usize,
+        index: usize,
     ) -> Result<(Call, Effect), AllocError> {
         let (file, start) = match self {
             Pass::Format(file, start) => (file, start),
             Pass::DigestTo(_, file) => (file, 0),
             Pass::Verify | Pass::Digest(_) => return Ok((Call::Read, Effect::Nothing)),
         };
-        let at = tree.offset_of(level, block, size).saturating_add(start);
-        let bytes = tree.block(level, block, size).to_vec(alloc)?;
+        let at = tree.offset_of(level, index, size).saturating_add(start);
+        let bytes = tree.block(level, index, size).to_vec(alloc)?;
         Ok((Call::Write, Effect::Put(file, at, bytes)))
     }
 }
@@ -106,13 +106,13 @@ impl Scene {
         tree: &Tree,
         size: usize,
         level: usize,
-        block: usize,
+        index: usize,
     ) -> Result<(), AllocError> {
         if matches!(pass, Pass::Digest(_)) {
             return Ok(());
         }
-        let (call, effect) = pass.call_of_block(self.alloc, tree, size, level, block)?;
-        let message = pass.stopped(self.alloc, level, block)?;
+        let (call, effect) = pass.call_of_block(self.alloc, tree, size, level, index)?;
+        let message = pass.stopped(self.alloc, level, index)?;
         self.calls(Call::Seek, message.as_str(), Effect::Nothing)?;
         self.calls(call, message.as_str(), effect)
     }

@@ -7,7 +7,7 @@ use memory_runtime::{Call, Disk, Kind, MemoryRuntime};
 use std::alloc::{AllocError, Global};
 use std::io;
 use std::test::Fail;
-use veritysetup::ProgressLine;
+use veritysetup::ShownProgress;
 
 /// A trial that doesn't end as the steps say: the call that fails and its number, the room for the output and for the
 /// messages, and what is wrong.
@@ -75,12 +75,12 @@ impl Scene {
         let disk = Disk::new(self.alloc);
         disk.make_kind("/dev/null", Kind::Character, Vec::new(self.alloc))?;
         disk.make_kind(".", Kind::Folder, Vec::new(self.alloc))?;
-        self.put_files(&disk)?;
+        self.make_files(&disk)?;
         Ok(disk)
     }
 
     /// Makes the files on a disk.
-    fn put_files(&self, disk: &Disk) -> io::Result<()> {
+    fn make_files(&self, disk: &Disk) -> io::Result<()> {
         for (name, bytes) in &self.files {
             disk.make(name, bytes.to_vec(self.alloc)?)?;
         }
@@ -90,7 +90,7 @@ impl Scene {
     /// Runs the program over a disk.
     fn run(&self, disk: &Disk, trial: &Trial) -> RunOutput {
         let runtime = MemoryRuntime::new(self.alloc, disk, self.words.as_str());
-        let progress = ProgressLine::new(&runtime);
+        let progress = ShownProgress::new(&runtime);
         let mut out = LimitedWriter::new(Vec::new(self.alloc), trial.room, 7);
         out.takes_nothing = trial.takes_nothing;
         let mut msgs = LimitedWriter::new(Vec::new(self.alloc), trial.message_room, 7);
@@ -125,8 +125,8 @@ impl Scene {
     }
 
     /// All trials: each call of a kind fails in turn, and then one more than there are, so that nothing fails; the
-    /// output ends at each length, and fails there or takes nothing; and the messages end at each length after the first
-    /// call of a kind has failed.
+    /// output ends at each length, and fails there or takes nothing; and the messages end at each length after the
+    /// first call of a kind has failed.
     fn trials(&self, whole: &Ending, first: Call) -> Result<Vec<Trial>, AllocError> {
         let mut trials = Vec::new(self.alloc);
         for (call, made) in CALLS.iter().zip(whole.calls.iter()) {

@@ -53,12 +53,7 @@ impl Setup {
     /// The tree above the data.
     pub fn tree(&self, alloc: Global) -> Result<Tree, AllocError> {
         let mut shape = Shape::new(alloc, self.algorithm, self.sizes, self.slots);
-        let salt = self.salt.to_vec(alloc)?;
-        if self.hash_type == 0 {
-            shape.after = salt;
-        } else {
-            shape.before = salt;
-        }
+        shape.set_salt(self.hash_type, self.salt.to_vec(alloc)?);
         shape.tree(alloc, data(alloc, self.covered())?.as_slice(), self.levels)
     }
 
@@ -93,8 +88,9 @@ impl Setup {
         }
     }
 
-    /// Format: the system is asked whether HASH is there, the data is read once, each hash block is written as it closes, then the superblock, then the report is
-    /// printed, and the system is asked to sync all of it, and the folder of a new file if that can be opened.
+    /// Format: the system is asked whether HASH is there, the data is read once, each hash block is written as it
+    /// closes, then the superblock, then the report is printed, and the system is asked to sync all of it, and the
+    /// folder of a new file if that can be opened.
     pub fn format(&self, alloc: Global) -> Result<Scene, AllocError> {
         let mut scene = Scene::new(alloc, Program::Veritysetup, self.words_of_format(alloc)?)?;
         self.adds_files(&mut scene)?;

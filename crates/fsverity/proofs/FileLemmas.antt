@@ -5,40 +5,22 @@ use Rattle.std.proofs.lemmas.Bool.{cases_lt}
 use Rattle.std.proofs.lemmas.List.{take_all}
 use Rattle.std.proofs.lemmas.Slice.Eq.{bytes_eq-Decides}
 use Rattle.std.specs.Str.{bytes_eq}
-use Rattle.verity_hash.specs.Hashing.{digest_len_of, hash_of}
+use Rattle.verity_hash.specs.Hashing.{hash_of}
 use Rattle.verity_hash.specs.declared.algorithm.Algorithm.{Algorithm}
-use Rattle.verity_hash.specs.declared.algorithm.Algorithm.TheVariants.{Sha256, Sha512, Sha1, Sha224, Sha384}
 use Rattle.verity_hash.specs.declared.salting.SaltRule.TheVariants.{PaddedBefore}
 use Rattle.verity_hash.proofs.HashLemmas.{length-hash_of}
 use Rattle.verity_plan.specs.Plans.{block_count, plan_of_file}
-use Rattle.verity_plan.specs.Settings.{IsValid, TreeSettingsFields, is_of_fsverity}
+use Rattle.verity_plan.specs.Settings.{IsValid, TreeSettingsFields}
 use Rattle.verity_plan.proofs.CountLemmas.{le-div_ceil}
 use Rattle.verity_plan.proofs.FanLemmas.{fan-two, some_data}
 use Rattle.verity_format.specs.Descriptors.{DescriptorFields, descriptor_bytes, digest_of_file}
-use Rattle.verity_format.proofs.DescriptorLemmas.{one-descriptor}
+use Rattle.verity_format.proofs.DescriptorLemmas.{algorithm_by_length, one-descriptor}
 use Rattle.verity_tree.specs.Collisions.{TreesCollide}
 use Rattle.verity_tree.specs.Levels.{cut, data_blocks, root, root_of_file}
 use Rattle.verity_tree.proofs.BindingLemmas.{bytes-bound}
 use Rattle.verity_tree.proofs.PathSteps.{bytes_eq-false}
 use Rattle.fsverity.specs.Runs.FileCollisions.{FilesCollide, blocks_of_file, descriptor_of_file}
 use Rattle.fsverity.proofs.DigestLemmas.{length-root_of_file, root_of_some}
-
--- a hash function of fs-verity by the length of its digests
-algorithm-same : (a b : Algorithm) → is_of_fsverity a ≡ true → is_of_fsverity b ≡ true
-    → digest_len_of a ≡ digest_len_of b → a ≡ b
-algorithm-same Sha256 Sha256 of_a of_b e = refl
-algorithm-same Sha256 Sha512 of_a of_b e = absurd (omega (arith, e))
-algorithm-same Sha256 Sha1 of_a of_b e = cc
-algorithm-same Sha256 Sha224 of_a of_b e = cc
-algorithm-same Sha256 Sha384 of_a of_b e = cc
-algorithm-same Sha512 Sha256 of_a of_b e = absurd (omega (arith, e))
-algorithm-same Sha512 Sha512 of_a of_b e = refl
-algorithm-same Sha512 Sha1 of_a of_b e = cc
-algorithm-same Sha512 Sha224 of_a of_b e = cc
-algorithm-same Sha512 Sha384 of_a of_b e = cc
-algorithm-same Sha1 b of_a of_b e = cc
-algorithm-same Sha224 b of_a of_b e = cc
-algorithm-same Sha384 b of_a of_b e = cc
 
 -- a file without bytes is empty
 same-empty : (x y : List ℕ) → length x ≡ 0 → length y ≡ 0 → x ≡ y
@@ -85,7 +67,7 @@ files-bound-by s t x y valid other of_s of_t small less digests =
         let bytes = descriptor_bytes (descriptor_of_file s x) in
         let others = descriptor_bytes (descriptor_of_file t y) in
         let one : s.algorithm ≡ t.algorithm =
-        algorithm-same s.algorithm t.algorithm (valid.known of_s) (other.known of_t)
+        algorithm_by_length s.algorithm t.algorithm (valid.known of_s) (other.known of_t)
         (sym (length-hash_of s.algorithm bytes) ∙ ap length digests ∙ length-hash_of t.algorithm others) in
         inr (inl (record {
           differ = bytes_eq-false _ _ apart;

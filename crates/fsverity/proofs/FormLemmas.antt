@@ -1,6 +1,5 @@
--- Facts on the lines of files: what a form asks of a digest, and what a writer holds after nothing was written.
-use Rattle.std.proofs.Common.{◌≡◌, ℕ, ◌<◌, List, length, Option, Some, None, true, refl, arith}
-use Rattle.std.specs.Io.KnownBytes.{Keeps}
+-- What a form asks of a digest.
+use Rattle.std.proofs.Common.{◌≡◌, ℕ, ◌<◌, List, length, true, arith}
 use Rattle.verity_hash.specs.Hashing.{digest_len_of}
 use Rattle.verity_hash.specs.declared.algorithm.Algorithm.{Algorithm}
 use Rattle.verity_hash.specs.declared.algorithm.Algorithm.TheVariants.{Sha256, Sha512, Sha1, Sha224, Sha384}
@@ -21,12 +20,7 @@ has_number Sha384 known = absurd cc
 -- a digest of an algorithm of fs-verity fits each form
 pub fits_form : (form : Form) (a : Algorithm) (digest : List ℕ) → is_of_fsverity a ≡ true →
     length digest ≡ digest_len_of a → FitsForm form a digest
-fits_form Full a digest known whole = tt
-fits_form Compact a digest known whole = tt
-fits_form Builtin a digest known whole = (has_number a known, whole)
-fits_form CompactBuiltin a digest known whole = (has_number a known, whole)
-
--- a writer keeps what it holds if nothing was written
-pub Keeps-same : (held : Option (List ℕ)) → Keeps held held
-Keeps-same None = tt
-Keeps-same (Some bytes) = refl
+fits_form Full a digest known long = tt
+fits_form Compact a digest known long = tt
+fits_form Builtin a digest known long = (has_number a known, long)
+fits_form CompactBuiltin a digest known long = (has_number a known, long)

@@ -1,28 +1,30 @@
 -- A run over files, file after file.
 use Rattle.std.proofs.Common.{◌≡◌, ◌≢◌, ℕ, zero, suc, ◌+◌, ◌<◌, ◌≤◌, List, [], ◌∷◌, ◌++◌, length, take, Bool, true}
-use Rattle.std.proofs.Common.{false, inl, inr, Option, Some, None, Result, Ok, Err, refl, ap, sym, subst, ◌∙◌, not}
-use Rattle.std.proofs.Common.{add-one, append-nil, arith}
+use Rattle.std.proofs.Common.{false, inl, inr, Option, Some, None, Result, Ok, Err, refl, ap, sym, subst, not}
+use Rattle.std.proofs.Common.{add-one, arith}
 use Rattle.std.specs.Prelude.{◌↔◌, ◌⊎◌, IfErr, IsErr, IsErrAnd, IsOk, OnOk, slice_get}
 use Rattle.std.proofs.lemmas.Option.{get_or_from_slice_get}
 use Rattle.std.specs.List.{prefix_len}
-use Rattle.std.specs.Io.KnownBytes.{Appends, Keeps}
+use Rattle.std.specs.Io.KnownBytes.{Appends}
+use Rattle.command_line.proofs.Prefixes.{Keeps-refl, appends_kept}
 use Rattle.command_line.specs.Writing.{AppendsPrefix}
 use Rattle.verity_io.proofs.KnownLemmas.{appends_twice}
 use Rattle.verity_plan.specs.Settings.{TreeSettingsFields}
-use Rattle.fsverity.proofs.FormLemmas.{Keeps-same}
 use Rattle.fsverity.specs.Faults.{IsTold, result_status, status_failed, status_of}
-use Rattle.fsverity.specs.Texts.Lines.{line}
+use Rattle.fsverity.specs.Texts.Lines.{digest_line}
 use Rattle.fsverity.specs.Texts.Messages.{run_fault_message}
 use Rattle.fsverity.specs.Openers.Opening.{OpenerChange}
-use Rattle.fsverity.specs.Runs.Digest.{EndsAt, HasReason, IsLargeAt, IsPartOfLine, first_without_digest, has_digest}
-use Rattle.fsverity.specs.Runs.Digested.{AreLines, DigestInput, IsDigestAt, line_at}
+use Rattle.fsverity.specs.Runs.Digest.{EndsAt, HasReason, IsLargeAt, IsPartOfDigestLine, first_without_digest}
+use Rattle.fsverity.specs.Runs.Digest.{has_digest}
+use Rattle.fsverity.specs.Runs.Digested.{AreDigestLines, DigestInput, IsDigestAt, digest_line_at}
 use Rattle.fsverity.specs.Runs.DigestSteps.{HasDigestAt, StopsRun, StopsStep, WritesStep}
 use Rattle.fsverity.specs.declared.fault.Fault.{Fault}
 use Rattle.fsverity.specs.declared.fault.Fault.TheVariants as ending
 use Rattle.fsverity.specs.declared.runs.digest_fault.DigestFault.TheVariants.{TooLarge, SourceShort, SourceFailed}
 use Rattle.fsverity.specs.declared.runs.digest_fault.DigestFault.TheVariants.{DeviceFailed, Memory}
 use Rattle.fsverity.specs.declared.runs.run_fault.RunFault.{RunFault}
-use Rattle.fsverity.specs.declared.runs.run_fault.RunFault.TheVariants.{NotOpened, Digest, NotWritten}
+use Rattle.fsverity.specs.declared.runs.run_fault.RunFault.TheVariants.{Unopened, Digest, DigestLineMemory}
+use Rattle.fsverity.specs.declared.runs.run_fault.RunFault.TheVariants.{DigestLineUnwritten}
 
 -- one more element passes
 pub passes_more : {A : Type 0} (p : A → Bool) (xs : List A) (i : ℕ) (x : A) → slice_get xs i ≡ Some x → p x ≡ true →
@@ -54,20 +56,15 @@ passes_to p (y ∷ ys) (suc i) x is fails le = go (passes_to p ys i x is fails) 
         rw e (omega (arith, same))
     go next false e = let none : suc i ≤ 0 = rw e at le in absurd (omega (arith, none))
 
--- nothing was added
-appends_kept : (before after : Option (List ℕ)) → Keeps before after → Appends before after []
-appends_kept None after kept = tt
-appends_kept (Some xs) None kept = absurd kept
-appends_kept (Some xs) (Some ys) kept = kept ∙ sym (append-nil xs)
-
 -- a step that stopped before its line was made
 pub wrote_nothing : (s : TreeSettingsFields) (line_of : List ℕ → List ℕ) (told : Type 0) (files : List (Option (List ℕ))) (i : ℕ)
-    (fault : RunFault) (result : Result (Unit {0}) RunFault) (held : Option (List ℕ)) → fault ≢ NotWritten →
+    (fault : RunFault) (result : Result (Unit {0}) RunFault) (held : Option (List ℕ)) → fault ≢ DigestLineUnwritten →
     IsErr result → IsErrAnd result (λ f. f ≡ fault) → WritesStep s line_of told files i result held held
 wrote_nothing s line_of told files i fault (Ok done) held other err same = cc
-wrote_nothing s line_of told files i fault (Err NotOpened) held other err same = Keeps-same held
-wrote_nothing s line_of told files i fault (Err (Digest cause)) held other err same = Keeps-same held
-wrote_nothing s line_of told files i fault (Err NotWritten) held other err same = absurd (other (sym same))
+wrote_nothing s line_of told files i fault (Err Unopened) held other err same = Keeps-refl held
+wrote_nothing s line_of told files i fault (Err (Digest cause)) held other err same = Keeps-refl held
+wrote_nothing s line_of told files i fault (Err DigestLineMemory) held other err same = Keeps-refl held
+wrote_nothing s line_of told files i fault (Err DigestLineUnwritten) held other err same = absurd (other (sym same))
 
 -- a digest at an index of the same files, which are still told if they were at first
 same_digest : (s : TreeSettingsFields) (told told' : Type 0) (files files' : List (Option (List ℕ))) (i i' : ℕ) (digest : List ℕ)
@@ -83,52 +80,54 @@ same_digest s told told' files files' i i' digest still same index is = record {
 
 -- the line of a name
 line_named : (run : DigestInput) (i : ℕ) (name digest : List ℕ) → slice_get run.names i ≡ Some name →
-    line_at run i digest ≡ line run.form run.settings.algorithm digest name
+    digest_line_at run i digest ≡ digest_line run.form run.settings.algorithm digest name
 line_named run i name digest named =
-    ap (λ n. line run.form run.settings.algorithm digest n) (get_or_from_slice_get run.names i name [] named)
+    ap (λ n. digest_line run.form run.settings.algorithm digest n) (get_or_from_slice_get run.names i name [] named)
 
 -- one more line
 pub line_more : (run : DigestInput) (told told' : Type 0) (files files' : List (Option (List ℕ))) (i i' : ℕ)
     (name : List ℕ) (old mid new : Option (List ℕ)) → slice_get run.names i ≡ Some name →
     (told → told') → files' ≡ files → i' ≡ i →
-    ((lines : List ℕ) × AreLines run told files i lines × Appends old mid lines) →
+    ((lines : List ℕ) × AreDigestLines run told files i lines × Appends old mid lines) →
     ((digest : List ℕ) × IsDigestAt run.settings told' files' i' digest
-    × Appends mid new (line run.form run.settings.algorithm digest name)) →
-    (lines : List ℕ) × AreLines run told files (i + 1) lines × Appends old new lines
+    × Appends mid new (digest_line run.form run.settings.algorithm digest name)) →
+    (lines : List ℕ) × AreDigestLines run told files (i + 1) lines × Appends old new lines
 line_more run told told' files files' i i' name old mid new named still same index so_far step =
-    let whole : line_at run i step.0 ≡ line run.form run.settings.algorithm step.0 name
+    let whole : digest_line_at run i step.0 ≡ digest_line run.form run.settings.algorithm step.0 name
     = line_named run i name step.0 named in
     let digest : IsDigestAt run.settings told files i step.0
     = same_digest run.settings told told' files files' i i' step.0 still same index step.1 in
-    let more : AreLines run told files (suc i) (so_far.0 ++ line_at run i step.0)
+    let more : AreDigestLines run told files (suc i) (so_far.0 ++ digest_line_at run i step.0)
     = (so_far.0, step.0, so_far.1, digest, refl) in
-    let added : Appends mid new (line_at run i step.0)
+    let added : Appends mid new (digest_line_at run i step.0)
     = subst (λ (text : List ℕ). Appends mid new text) (sym whole) step.2 in (
-      so_far.0 ++ line_at run i step.0,
+      so_far.0 ++ digest_line_at run i step.0,
       rw add-one more,
-      appends_twice old mid new so_far.0 (line_at run i step.0) so_far.2 added,
+      appends_twice old mid new so_far.0 (digest_line_at run i step.0) so_far.2 added,
     )
 
 -- what is written of the line of the file that ends the run
-pub part_of_line : (run : DigestInput) (told told' : Type 0) (files files' : List (Option (List ℕ))) (i i' : ℕ)
+pub part_of_digest_line : (run : DigestInput) (told told' : Type 0) (files files' : List (Option (List ℕ))) (i i' : ℕ)
     (name : List ℕ) (fault : RunFault) (mid new : Option (List ℕ)) → slice_get run.names i ≡ Some name →
     (told → told') → files' ≡ files → i' ≡ i →
-    WritesStep run.settings (λ digest. line run.form run.settings.algorithm digest name) told' files' i' (Err fault)
-    mid new → (part : List ℕ) × IsPartOfLine run told files i fault part × Appends mid new part
-part_of_line run told told' files files' i i' name NotOpened mid new named still same index step =
+    WritesStep run.settings (λ digest. digest_line run.form run.settings.algorithm digest name) told' files' i'
+    (Err fault) mid new → (part : List ℕ) × IsPartOfDigestLine run told files i fault part × Appends mid new part
+part_of_digest_line run told told' files files' i i' name Unopened mid new named still same index step =
     ([], refl, appends_kept mid new step)
-part_of_line run told told' files files' i i' name (Digest cause) mid new named still same index step =
+part_of_digest_line run told told' files files' i i' name (Digest cause) mid new named still same index step =
     ([], refl, appends_kept mid new step)
-part_of_line run told told' files files' i i' name NotWritten mid new named still same index step =
-    let whole : line run.form run.settings.algorithm step.0 name ≡ line_at run i step.0
+part_of_digest_line run told told' files files' i i' name DigestLineMemory mid new named still same index step =
+    ([], refl, appends_kept mid new step)
+part_of_digest_line run told told' files files' i i' name DigestLineUnwritten mid new named still same index step =
+    let whole : digest_line run.form run.settings.algorithm step.0 name ≡ digest_line_at run i step.0
     = sym (line_named run i name step.0 named) in
     let digest : IsDigestAt run.settings told files i step.0
     = same_digest run.settings told told' files files' i i' step.0 still same index step.1 in
-    let fewer : step.2 < length (line_at run i step.0)
+    let fewer : step.2 < length (digest_line_at run i step.0)
     = subst (λ (text : List ℕ). step.2 < length text) whole step.3 in
-    let added : Appends mid new (take step.2 (line_at run i step.0))
+    let added : Appends mid new (take step.2 (digest_line_at run i step.0))
     = subst (λ (text : List ℕ). Appends mid new (take step.2 text)) whole step.4 in
-    (take step.2 (line_at run i step.0), (step.0, digest, step.2, fewer, refl), added)
+    (take step.2 (digest_line_at run i step.0), (step.0, digest, step.2, fewer, refl), added)
 
 -- a file that has a digest is before the first that has none, if no file before it is absent or too large
 before_first_without_digest : (s : TreeSettingsFields) (files : List (Option (List ℕ))) (f : ℕ) → HasDigestAt s files f → f ≤ first_without_digest s files →
@@ -142,10 +141,10 @@ pub stops_run : (s : TreeSettingsFields) (run step : OpenerChange) (f : ℕ) (fa
     (run.told ↔ step.told) → step.files ≡ run.files → step.next_before ≡ f → (run.told → f ≤ first_without_digest s run.files) →
     run.failures_before ≤ step.failures_before → run.failures_after ≡ step.failures_after →
     StopsStep s step fault → HasReason s run f fault
-stops_run s run step f NotOpened told same index within le after (inl absent) =
+stops_run s run step f Unopened told same index within le after (inl absent) =
     let is : slice_get run.files f ≡ Some None = rw (same, index) at absent.1 in
     inl (told.1 absent.0, is, passes_to (has_digest s) run.files f None is refl (within (told.1 absent.0)))
-stops_run s run step f NotOpened told same index within le after (inr rose) = inr (omega (arith, le, after, rose))
+stops_run s run step f Unopened told same index within le after (inr rose) = inr (omega (arith, le, after, rose))
 stops_run s run step f (Digest TooLarge) told same index within le after large = λ t.
     let large' : IsLargeAt s run.files f = rw (same, index) at (large (told.0 t)) in
     (large', passes_to (has_digest s) run.files f (Some large'.0) large'.1 (ap not large'.2) (within t))
@@ -157,7 +156,9 @@ stops_run s run step f (Digest (SourceFailed i)) told same index within le after
 stops_run s run step f (Digest (DeviceFailed level block)) told same index within le after reason = reason
 stops_run s run step f (Digest Memory) told same index within le after one =
     λ t. before_first_without_digest s run.files f (rw (same, index) at (one (told.0 t))) (within t)
-stops_run s run step f NotWritten told same index within le after one =
+stops_run s run step f DigestLineMemory told same index within le after one =
+    λ t. before_first_without_digest s run.files f (rw (same, index) at (one (told.0 t))) (within t)
+stops_run s run step f DigestLineUnwritten told same index within le after one =
     λ t. before_first_without_digest s run.files f (rw (same, index) at (one (told.0 t))) (within t)
 
 -- what holds of a run that is done

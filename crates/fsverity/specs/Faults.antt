@@ -54,9 +54,10 @@ message_of (fault.Outputs cause name) = Some (output_fault_message cause name.no
 
 -- whose call failed, in a run over files; an absent file isn't opened either
 abbrev pub run_side : RunFault → Option Side
-run_side run.NotOpened = Some TheOpener
+run_side run.Unopened = Some TheOpener
 run_side (run.Digest cause) = digesting.side_of cause
-run_side run.NotWritten = None
+run_side run.DigestLineMemory = None
+run_side run.DigestLineUnwritten = None
 
 -- whose call failed, in a run with output files
 abbrev pub output_side : OutputFault → Option Side

@@ -1,5 +1,5 @@
 -- The output files of a run, each of which may be missing, and what a value says of them that a step answers.
--- For the private steps; not needed to read a public contract.
+-- For the private functions; not needed to read a public contract.
 use Rattle.std.specs.Prelude.{◌≡◌, ◌⊎◌, ℕ, List, [], Option, Some, None, IsSome, is_some, option_map}
 use Rattle.std.specs.Borrow.{Bor}
 use Rattle.command_line.specs.declared.files.identity.FileIdentity.{FileIdentity}

@@ -1,12 +1,12 @@
 -- The program over any runtime: the settings that a command line chooses, what it prints, and what a value says of it
 -- that a step answers.
--- For the private steps; not needed to read a public contract.
+-- For the private functions; not needed to read a public contract.
 use Rattle.std.specs.Prelude.{◌≡◌, ◌≢◌, ◌||◌, Bool, true, ℕ, List, [], ◌∷◌, Option, Result, is_some, length, map}
 use Rattle.std.specs.Prelude.{option_copied, option_map, string_bytes}
 use Rattle.std.specs.Io.KnownBytes.{Appends}
 use Rattle.verity_plan.specs.Settings.{TreeSettingsFields}
 use Rattle.fsverity.specs.Options.Settings.{digest_settings}
-use Rattle.fsverity.specs.Runs.Digested.{AreLines}
+use Rattle.fsverity.specs.Runs.Digested.{AreDigestLines}
 use Rattle.fsverity.specs.Texts.Lines.{form_of}
 use Rattle.fsverity.specs.declared.program.done.Done.{Done}
 use Rattle.fsverity.specs.declared.program.done.Done.TheVariants.{Printed, Written}
@@ -26,14 +26,14 @@ line_settings line = digest_settings (option_map string_bytes line.hash_alg) (op
     (option_map string_bytes line.salt) (length line.files.items) (names_output line)
 
 -- each file of these names has its line, in order; which bytes the files have isn't told
-abbrev pub PrintsLines : TreeSettingsFields → Form → List (List ℕ) → Option (List ℕ) → Option (List ℕ) → Type 0
-PrintsLines s form names out out' = (lines : List ℕ)
-    × AreLines (record { settings = s; form = form; names = names }) ⊥ [] (length names) lines
+abbrev pub PrintsDigestLines : TreeSettingsFields → Form → List (List ℕ) → Option (List ℕ) → Option (List ℕ) → Type 0
+PrintsDigestLines s form names out out' = (lines : List ℕ)
+    × AreDigestLines (record { settings = s; form = form; names = names }) ⊥ [] (length names) lines
     × Appends out out' lines
 
 -- what a command line asks to be printed: each file that it names has its line, in its form
 abbrev pub CarriesOut : TreeSettingsFields → Line → Option (List ℕ) → Option (List ℕ) → Type 0
-CarriesOut s line = PrintsLines s (form_of line.compact line.for_builtin_sig) (map string_bytes line.files.items)
+CarriesOut s line = PrintsDigestLines s (form_of line.compact line.for_builtin_sig) (map string_bytes line.files.items)
 
 -- the value says that by these settings and in the line's form as many lines were written as the line names files, and
 -- that it names no output file of one of them

@@ -6,13 +6,14 @@ ghost use Rattle.fsverity.specs.Faults.{IsStatus, IsTold, message_of, result_sta
 ghost use Rattle.fsverity.specs.Texts.Messages.{digest_message, output_fault_message, run_fault_message};
 
 use crate::runs::completed::Completed;
-use crate::texts::messages::{CANNOT_OPEN, DESCRIPTOR_UNWRITTEN, OUTPUT_UNWRITTEN};
+use crate::runs::output_fault::OutputFault;
+use crate::runs::run_fault::RunFault;
+use crate::texts::messages::{CANNOT_OPEN, DESCRIPTOR_UNWRITTEN, OUT_OF_MEMORY, OUTPUT_UNWRITTEN};
 use crate::words::usage::USAGE;
-use crate::{
-    DigestFault, FsOptionFault, LineFault, OUT_OF_MEMORY, OutputFault, PrintFault, RunFault,
-    digest_message, option_message,
+use crate::{DigestFault, FsOptionFault, LineFault, digest_message, option_message};
+use command_line::{
+    PrintFault, WordsFault, not_utf8_message, write_message, write_pieces, write_text,
 };
-use command_line::{WordsFault, not_utf8_message, write_message, write_pieces, write_text};
 use std::alloc::Global;
 use std::io::Write;
 
@@ -95,9 +96,10 @@ fn write_file_message<M: Write>(alloc: Global, fault: &RunFault, name: &str, msg
     ensures prefix { AppendsPrefix (run_fault_message fault.now name.now) (M.contents msgs.old) (M.contents msgs.new) }
 {
     match fault {
-        RunFault::NotOpened => write_pieces(&[CANNOT_OPEN, name, ".\n"], msgs),
+        RunFault::Unopened => write_pieces(&[CANNOT_OPEN, name, ".\n"], msgs),
         RunFault::Digest(fault) => write_digest_message(alloc, fault, name, msgs),
-        RunFault::NotWritten => write_text(OUTPUT_UNWRITTEN, msgs),
+        RunFault::DigestLineMemory => write_text(OUT_OF_MEMORY, msgs),
+        RunFault::DigestLineUnwritten => write_text(OUTPUT_UNWRITTEN, msgs),
     }
 }
 
@@ -117,8 +119,8 @@ fn write_outputs_message<M: Write>(
     match fault {
         OutputFault::Digest(fault) => write_digest_message(alloc, fault, name, msgs),
         OutputFault::Descriptor(_) => write_text(DESCRIPTOR_UNWRITTEN, msgs),
-        OutputFault::Line(PrintFault::Memory) => write_text(OUT_OF_MEMORY, msgs),
-        OutputFault::Line(PrintFault::Output(_)) => write_text(OUTPUT_UNWRITTEN, msgs),
+        OutputFault::DigestLine(PrintFault::Memory) => write_text(OUT_OF_MEMORY, msgs),
+        OutputFault::DigestLine(PrintFault::Output(_)) => write_text(OUTPUT_UNWRITTEN, msgs),
     }
 }
 

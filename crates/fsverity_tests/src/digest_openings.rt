@@ -1,5 +1,5 @@
 //! Which files the program fsverity opens, how and for how long; and names that lead elsewhere.
-use crate::digest_program::{NULL_DEVICE, TWO_READ, disk, run};
+use crate::program_runs::{NULL_DEVICE, TWO_READ, disk, run};
 use fixtures::data;
 use memory_runtime::Call;
 use std::test::Fail;
@@ -39,11 +39,11 @@ fn null_files_are_open_to_the_end(rt: HostRuntime) -> Result<(), Fail> {
     let alloc = rt.alloc();
     for &(null, words, status, held) in &HELD {
         let disk = disk(alloc, null)?;
-        let said = run(alloc, &disk, words);
+        let output = run(alloc, &disk, words);
         let expected = format!(in alloc;
             "open {null}\nopen {null}\nopen {null}\n{held}close {null}\nclose {null}\nclose {null}\n"
         )?;
-        let found = (said.status, disk.held()?);
+        let found = (output.status, disk.held()?);
         assert_eq!(rt; found, (status, expected), "at {words}");
     }
     Ok(())
@@ -90,11 +90,11 @@ fn an_opened_file_is_known_whatever_its_name_leads_to(rt: HostRuntime) -> Result
         for &(name, other, target) in leads.iter() {
             disk.lead(name, other, target)?;
         }
-        let said = run(alloc, &disk, words);
+        let output = run(alloc, &disk, words);
         let all = disk.opened()?;
         let found = (
-            said.status,
-            said.msgs.as_slice(),
+            output.status,
+            output.msgs.as_slice(),
             all.as_str().strip_prefix(TWO_READ),
             disk.calls(Call::Write)? == 0,
             disk.bytes_of("hard")? == data(alloc, 4097)?,
@@ -133,8 +133,8 @@ fn only_an_input_file_needs_the_system_to_say_what_it_is(rt: HostRuntime) -> Res
     for &(number, text) in &UNANSWERED {
         let disk = disk(alloc, NULL_DEVICE)?;
         disk.fail(Call::Metadata, number)?;
-        let said = run(alloc, &disk, words);
-        let found = (said.status, said.msgs.as_slice(), disk.has("made")?);
+        let output = run(alloc, &disk, words);
+        let found = (output.status, output.msgs.as_slice(), disk.has("made")?);
         let status = if text.is_empty() { 0 } else { 1 };
         assert_eq!(rt;
             found,

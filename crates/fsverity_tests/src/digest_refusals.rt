@@ -1,5 +1,5 @@
 //! What the program fsverity refuses, which leaves all files as they are: words, options, and names of files.
-use crate::digest_program::{NULL_DEVICE, TWO_READ, disk, run, said_by};
+use crate::program_runs::{NULL_DEVICE, TWO_READ, disk, output_of, run};
 use memory_runtime::{Call, MemoryRuntime};
 use std::test::Fail;
 
@@ -118,9 +118,9 @@ fn refusals_change_no_file(rt: HostRuntime) -> Result<(), Fail> {
     let alloc = rt.alloc();
     for &(words, text, opened) in &REFUSED {
         let disk = disk(alloc, NULL_DEVICE)?;
-        let said = run(alloc, &disk, words);
+        let output = run(alloc, &disk, words);
         let status = if opened.is_empty() { 2 } else { 1 };
-        let differs = said.differs(status, b"", text.as_bytes());
+        let differs = output.differs(status, b"", text.as_bytes());
         let all = disk.opened()?;
         let found = (differs, all.as_str(), disk.calls(Call::Write)?);
         assert_eq!(rt; found, (None, opened, 0), "at {words}");
@@ -135,7 +135,7 @@ fn a_word_that_is_not_utf8_is_refused(rt: HostRuntime) -> Result<(), Fail> {
     let mut runtime = MemoryRuntime::new(alloc, &disk, "fsverity digest");
     runtime.last_word = Some(b"\xff");
     let text = b"error: argument 2 is not UTF-8: \\xff\n";
-    let differs = said_by(alloc, &runtime).differs(2, b"", text);
+    let differs = output_of(alloc, &runtime).differs(2, b"", text);
     assert_eq!(rt; (differs, disk.opened()?.as_str()), (None, ""));
     Ok(())
 }

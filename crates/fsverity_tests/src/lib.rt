@@ -7,15 +7,17 @@
 #[cfg(test)]
 mod digest_openings;
 #[cfg(test)]
-mod digest_program;
-#[cfg(test)]
 mod digest_refusals;
 #[cfg(test)]
 mod digest_runs;
 #[cfg(test)]
+mod long_words;
+#[cfg(test)]
 mod many_files;
 #[cfg(test)]
 mod option_sets;
+#[cfg(test)]
+mod program_runs;
 #[cfg(test)]
 mod progress;
 #[cfg(test)]

@@ -1,33 +1,14 @@
-//! More than 1000 files, and names of more than 1024 bytes, with ample memory.
-use crate::digest_program::{NULL_DEVICE, run};
-use fixtures::descriptor;
-use fsverity::{DigestFault, digest_message};
-use memory_runtime::{Disk, Kind};
-use sha2::{Digest as Hasher, Sha256};
-use std::alloc::{AllocError, Global};
-use std::io;
+//! More than 1000 files, with ample memory.
+use crate::long_words::{disk_with, line_of};
+use crate::program_runs::{NULL_DEVICE, disk, output_of, run};
+use fixtures::RunOutput;
+use memory_runtime::{Disk, MemoryRuntime};
+use std::alloc::Global;
 use std::test::Fail;
 
-/// A disk with the null device and a file with one byte.
-fn disk_with(alloc: Global, name: &str) -> io::Result<Disk> {
-    let disk = Disk::new(alloc);
-    disk.make_kind(NULL_DEVICE, Kind::Character, Vec::new(alloc))?;
-    disk.make(name, b"a".to_vec(alloc)?)?;
-    Ok(disk)
-}
-
-/// The line of the file with one byte, under a name: its one block is the byte and zeros.
-fn line_of(alloc: Global, name: &str) -> Result<String, AllocError> {
-    let mut block = [0; 4096];
-    block[0] = b'a';
-    let root = Sha256::digest(block.as_slice());
-    let descriptor = descriptor(alloc, &[1, 1, 12, 0], 1, &root, b"")?;
-    let digits = hex::encode(alloc, Sha256::digest(descriptor.as_slice()).as_slice())?;
-    format!(in alloc; "sha256:{digits} {name}\n")
-}
-
-/// The digits of the digest of an empty file, by docs/DEFINITIONS.md.
-const EMPTY: &str = "3d248ca542a24fc62d1c43b916eae5016878e2533c88238480b26128a1f1af95";
+/// What fsverity-utils prints for an empty file, up to its name, as docs/DEFINITIONS.md has it.
+const DIGEST_OF_NONE: &str =
+    "sha256:3d248ca542a24fc62d1c43b916eae5016878e2533c88238480b26128a1f1af95";
 
 /// 1001 empty files, and one with a byte.
 #[test]
@@ -37,7 +18,7 @@ fn as_many_files_are_digested_as_there_are(rt: HostRuntime) -> Result<(), Fail> 
     disk.make("e", Vec::new(alloc))?;
     let names = " e".repeat(alloc, 1001)?;
     let words = format!(in alloc; "fsverity digest{names} f")?;
-    let empty = format!(in alloc; "sha256:{EMPTY} e\n")?;
+    let empty = format!(in alloc; "{DIGEST_OF_NONE} e\n")?;
     let last = line_of(alloc, "f")?;
     let lines = format!(in alloc; "{}{last}", empty.as_str().repeat(alloc, 1001)?)?;
     let output = run(alloc, &disk, words.as_str());
@@ -45,127 +26,41 @@ fn as_many_files_are_digested_as_there_are(rt: HostRuntime) -> Result<(), Fail> 
     Ok(())
 }
 
-/// The names of a file, of a tree's file and of a descriptor's are long.
+/// Runs the program over a disk with the words of a command line and more words.
+fn run_with_more<'a>(
+    alloc: Global,
+    disk: &'a Disk,
+    words: &'a str,
+    more_words: &'a [String],
+) -> RunOutput {
+    let mut runtime = MemoryRuntime::new(alloc, disk, words);
+    runtime.more_words = more_words;
+    output_of(alloc, &runtime)
+}
+
+/// Three names of one empty file, over and over.
+const NAMES: [&str; 3] = ["empty", "void", "nothing"];
+
+/// Each is opened once, in the order of the names.
 #[test]
-fn files_of_long_names_are_digested(rt: HostRuntime) -> Result<(), Fail> {
+fn each_of_5000_files_has_its_line(rt: HostRuntime) -> Result<(), Fail> {
     let alloc = rt.alloc();
-    let name = "f/ä".repeat(alloc, 1100)?;
-    let tree = "t/ö".repeat(alloc, 1100)?;
-    let made = "d/ü".repeat(alloc, 1100)?;
-    let disk = disk_with(alloc, name.as_str())?;
-    let line = line_of(alloc, name.as_str())?;
-    let words = format!(in alloc;
-        "fsverity digest --out-merkle-tree {tree} --out-descriptor {made} {name}"
+    let mut names = Vec::new(alloc);
+    let mut lines = String::new(alloc);
+    let mut opened = String::from_str(
+        alloc,
+        "/dev/null: read\n/dev/null: read\n/dev/null: read\n",
     )?;
-    let output = run(alloc, &disk, words.as_str());
-    let differs = output.differs(0, line.as_bytes(), b"");
-    let made = (
-        disk.has(tree.as_str())?,
-        disk.bytes_of(made.as_str())?.len(),
-    );
-    assert_eq!(rt; (differs, made), (None, (true, 256)));
-    Ok(())
-}
-
-/// What comes before a long word on the command line and after it, the status, and the message, in which a star stands
-/// for the word.
-const REFUSED: [(&str, &str, u8, &str); 4] = [
-    (
-        "fsverity digest --hash-alg ",
-        " f",
-        2,
-        "fsverity: unknown hash algorithm.\n",
-    ),
-    (
-        "fsverity digest --block-size ",
-        " f",
-        2,
-        "fsverity: block size is not valid.\n",
-    ),
-    (
-        "fsverity digest --salt ",
-        " f",
-        2,
-        "fsverity: salt is not valid.\n",
-    ),
-    ("fsverity digest ", "", 1, "fsverity: cannot open *.\n"),
-];
-
-#[test]
-fn long_words_are_refused_with_their_messages(rt: HostRuntime) -> Result<(), Fail> {
-    let alloc = rt.alloc();
-    let disk = disk_with(alloc, "f")?;
-    let long = "ab".repeat(alloc, 1100)?;
-    for &(before, after, status, message) in &REFUSED {
-        let words = format!(in alloc; "{before}{long}{after}")?;
-        let message = message.replace(alloc, "*", long.as_str())?;
-        let output = run(alloc, &disk, words.as_str());
-        let differs = output.differs(status, b"", message.as_bytes());
-        assert_eq!(rt; differs, None, "at {before}");
+    for number in 0..5_000usize {
+        let name = NAMES[number % 3];
+        names.push(String::from_str(alloc, name)?)?;
+        write!(&mut lines, "{DIGEST_OF_NONE} {name}\n")?;
+        write!(&mut opened, "{name}: read\n")?;
     }
-    Ok(())
-}
-
-/// The forms of a line, and whether it ends with the name.
-const FORMS: [(&str, bool); 4] = [
-    ("", true),
-    ("--compact ", false),
-    ("--for-builtin-sig ", true),
-    ("--compact --for-builtin-sig ", false),
-];
-
-#[test]
-fn a_long_name_stands_in_each_form(rt: HostRuntime) -> Result<(), Fail> {
-    let alloc = rt.alloc();
-    let name = "n".repeat(alloc, 1100)?;
-    let disk = disk_with(alloc, name.as_str())?;
-    let end = format!(in alloc; " {name}\n")?;
-    for &(form, is_named) in &FORMS {
-        let words = format!(in alloc; "fsverity digest {form}{name}")?;
-        let output = run(alloc, &disk, words.as_str());
-        let found = (
-            output.status,
-            output.out.ends_with(end.as_bytes()),
-            output.msgs.len(),
-        );
-        assert_eq!(rt; found, (0, is_named, 0), "at {form}");
-    }
-    Ok(())
-}
-
-/// Faults with a long name, and what comes before the name.
-const FAULTS: [(DigestFault, &str); 3] = [
-    (DigestFault::TooLarge, "fsverity: file is too large: "),
-    (
-        DigestFault::SourceShort(7),
-        "fsverity: file ends before the end of block 7: ",
-    ),
-    (
-        DigestFault::SourceFailed(7),
-        "fsverity: cannot read block 7: ",
-    ),
-];
-
-#[test]
-fn a_long_name_stands_in_each_message(rt: HostRuntime) -> Result<(), Fail> {
-    let alloc = rt.alloc();
-    let name = "n".repeat(alloc, 1100)?;
-    for (fault, before) in &FAULTS {
-        let text = digest_message(alloc, fault, name.as_str())?;
-        let expected = format!(in alloc; "{before}{name}.\n")?;
-        assert_eq!(rt; text, expected, "at {before}");
-    }
-    Ok(())
-}
-
-#[test]
-fn long_values_are_taken(rt: HostRuntime) -> Result<(), Fail> {
-    let alloc = rt.alloc();
-    let disk = disk_with(alloc, "f")?;
-    let zeros = "0".repeat(alloc, 1100)?;
-    let words = format!(in alloc; "fsverity digest --block-size {zeros}4096 f")?;
-    let line = line_of(alloc, "f")?;
-    let output = run(alloc, &disk, words.as_str());
-    assert_eq!(rt; output.differs(0, line.as_bytes(), b""), None);
+    let disk = disk(alloc, NULL_DEVICE)?;
+    let output = run_with_more(alloc, &disk, "fsverity digest", names.as_slice());
+    let differs = output.differs(0, lines.as_bytes(), b"");
+    let found = (names.len(), differs, disk.opened()? == opened);
+    assert_eq!(rt; found, (5_000, None, true));
     Ok(())
 }

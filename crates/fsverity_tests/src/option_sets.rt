@@ -1,13 +1,11 @@
 //! Command lines with every set of options: each is read, and the line holds the values that are given.
+use fixtures::{OptionWords, is_in};
 use fsverity::{Line, read_words};
 use std::alloc::{AllocError, Global};
 use std::test::Fail;
 
-/// An option with its value in two words and in one, and the value.
-type Given = (&'static str, &'static str, &'static str);
-
 /// The options with a value.
-const OPTIONS: [Given; 5] = [
+const OPTIONS: [OptionWords; 5] = [
     ("--hash-alg", "--hash-alg=a1", "a1"),
     ("--block-size", "--block-size=b2", "b2"),
     ("--salt", "--salt=c3", "c3"),
@@ -20,14 +18,9 @@ const COMPACT: usize = 5;
 
 const FOR_BUILTIN_SIG: usize = 6;
 
-/// How words are put together: whether options stand in the other order, whether they and their values are one word, and
-/// how many of the two files stand before them.
+/// How words are put together: whether options stand in the other order, whether they and their values are one word,
+/// and how many of the two files stand before them.
 type Layout = (bool, bool, usize);
-
-/// Whether the option of this number is in a set.
-fn is_in(set: u32, number: usize) -> bool {
-    set & 1_u32.wrapping_shl((number % 32) as u32) != 0
-}
 
 /// Adds the words of an option.
 fn push_option(

@@ -1,8 +1,8 @@
 //! The progress line of long work: it is shown only on a terminal, and erased before anything else is written there
 //! and in the end.
-use crate::digest_program::{NULL_DEVICE, disk};
+use crate::program_runs::{NULL_DEVICE, disk};
 use fixtures::{is_plain, shown_before};
-use fsverity::{ErasingWriter, ProgressLine, run_program};
+use fsverity::{ErasingWriter, ShownProgress, run_program};
 use memory_runtime::{Call, MemoryRuntime, StandardError};
 use std::alloc::Global;
 use std::io;
@@ -15,15 +15,15 @@ const STEP: u64 = 1 << 16;
 type Run = (&'static str, u64, bool);
 
 /// What a run writes to a terminal, or, without a step, to a pipe: its messages, and its lines if they don't go
-/// elsewhere. Then how often it is asked whether this is a terminal, and whether the run ends with status 0 and a line if
-/// the lines go elsewhere.
+/// elsewhere. Then how often it is asked whether this is a terminal, and whether the run ends with status 0 and a line
+/// if the lines go elsewhere.
 fn written(alloc: Global, run: Run, step: Option<u64>) -> io::Result<(Vec<u8>, u64, bool)> {
     let (words, failing, is_elsewhere) = run;
     let disk = disk(alloc, NULL_DEVICE)?;
     disk.fail(Call::Write, failing)?;
     let mut runtime = MemoryRuntime::new(alloc, &disk, words);
     runtime.step = step;
-    let progress = ProgressLine::new(&runtime);
+    let progress = ShownProgress::new(&runtime);
     let mut msgs = ErasingWriter::new(&progress, StandardError::new(&disk));
     let mut lines = Vec::new(alloc);
     let status = if is_elsewhere {

@@ -1,5 +1,5 @@
 //! Devices over files: blocks of many lengths at many offsets, up to the largest, and files that refuse an offset.
-use crate::files::Sparse;
+use crate::sparse::Sparse;
 use fixtures::data;
 use std::alloc::Global;
 use std::io;

@@ -81,8 +81,8 @@ fn first_lost(alloc: Global, words: &[String]) -> Result<Option<usize>, Fail> {
     }
 }
 
-/// More than Linux gives to a program: words have 6 MiB at most, and one takes 9 bytes or more (execve(2), "Limits on size
-/// of arguments and environment").
+/// More than Linux gives to a program: words have 6 MiB at most, and one takes 9 bytes or more (execve(2), "Limits on
+/// size of arguments and environment").
 const MORE_THAN_GIVEN: usize = 700_000;
 
 #[test]

@@ -1,5 +1,5 @@
 //! Tests of the libraries below the programs, except trees: sources and devices over files, the bytes of the formats,
-//! and what both command lines share. Expected bytes come from the formats' public pages, expected digests from `sha2`
+//! and what both programs share. Expected bytes come from the formats' public pages, expected digests from `sha2`
 //! over stated bytes.
 #![tactic(auto)]
 
@@ -15,5 +15,9 @@ mod formats;
 mod given_words;
 #[cfg(test)]
 mod printing;
+#[cfg(test)]
+mod progress;
+#[cfg(test)]
+mod sparse;
 #[cfg(test)]
 mod syncs;

@@ -1,5 +1,5 @@
 //! What FileDevice makes of the system's answer to a sync.
-use crate::files::Sparse;
+use crate::sparse::Sparse;
 use std::fs::{Metadata, OpenFile};
 use std::io;
 use std::io::ErrorKind;

@@ -37,10 +37,8 @@ impl Disk {
 
     /// The contents, to be read or changed.
     pub(crate) fn contents(&self) -> io::Result<RefMut<'_, Contents>> {
-        match self.contents.try_borrow_mut() {
-            Ok(contents) => Ok(contents),
-            Err(_) => refused(ErrorKind::ResourceBusy),
-        }
+        let contents = self.contents.try_borrow_mut();
+        contents.map_err(|_| io::Error::from(ErrorKind::ResourceBusy))
     }
 
     /// Makes a file with these bytes.
@@ -82,8 +80,8 @@ impl Disk {
         }
     }
 
-    /// Lets the file of this name end there when its end is sought, whatever bytes it gives: it is as if it became longer
-    /// or shorter after that.
+    /// Lets the file of this name end there when its end is sought, whatever bytes it gives: it is as if it became
+    /// longer or shorter after that.
     pub fn end_at(&self, name: &str, end: u64) -> io::Result<()> {
         let mut contents = self.contents()?;
         let Some(number) = contents.number_of(name) else {
@@ -137,8 +135,9 @@ impl Disk {
         }
     }
 
-    /// What was opened, in order, each in a line such as `hash: read write create`. An opening that failed counts. A line
-    /// ends with `other_mode` if it asks for other permissions of a new file than reading and writing for everybody.
+    /// What was opened, in order, each in a line such as `hash: read write create`. An opening that failed counts. A
+    /// line ends with `other_mode` if it asks for other permissions of a new file than reading and writing for
+    /// everybody.
     pub fn opened(&self) -> io::Result<String> {
         Ok(String::from_str(self.alloc, self.contents()?.opened.as_str())?)
     }

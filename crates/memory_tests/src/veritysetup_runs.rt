@@ -42,8 +42,8 @@ Hash algorithm:  \tsha256
 Salt:            \t-
 ";
 
-/// The size of the image in bytes: the superblock and the tree.
-const IMAGE_SIZE: usize = SUPERBLOCK_SIZE + TREE_SIZE;
+/// The size of the hash device in bytes.
+const DEVICE_SIZE: usize = SUPERBLOCK_SIZE + TREE_SIZE;
 
 /// What a run needs, made before it: the data, a hash device that holds some bytes, and what the run writes to.
 #[derive(Drop)]
@@ -55,7 +55,7 @@ struct Prepared {
 }
 
 fn prepare(alloc: Global, held: &[u8]) -> Result<Prepared, AllocError> {
-    let mut device = Vec::with_capacity(alloc, IMAGE_SIZE)?;
+    let mut device = Vec::with_capacity(alloc, DEVICE_SIZE)?;
     device.extend_from_slice(held)?;
     Ok(Prepared {
         data: vec![in alloc; 0u8; DATA_SIZE]?,
@@ -66,7 +66,7 @@ fn prepare(alloc: Global, held: &[u8]) -> Result<Prepared, AllocError> {
 }
 
 /// The hash device: the superblock and the tree.
-fn image() -> [u8; IMAGE_SIZE] {
+fn hash_device() -> [u8; DEVICE_SIZE] {
     block(&[
         (0, &superblock(1, b"sha256", (512, 512), 257, &[])),
         (SUPERBLOCK_SIZE, &tree()),
@@ -92,7 +92,7 @@ fn is_report(text: &[u8], uuid: &str, words: &[&str]) -> bool {
 }
 
 /// Formats a device that holds some bytes. If the store is refused, the device stays as it was and nothing is read; if
-/// the report is refused, the whole image stands and nothing is printed.
+/// the report is refused, the whole hash device stands and nothing is printed.
 fn format(
     alloc: Global,
     settings: &Settings,
@@ -128,9 +128,9 @@ fn format(
     }
 }
 
-/// Dumps the image.
+/// Dumps the hash device.
 fn dump(alloc: Global) -> RunResult {
-    let Ok(mut made) = prepare(alloc, &image()) else {
+    let Ok(mut made) = prepare(alloc, &hash_device()) else {
         return RunResult::Unprepared;
     };
     let status = run_dump(
@@ -169,7 +169,7 @@ fn verify(alloc: Global, input: &VerifyInput<'_>, held: &[u8], expected: (u8, &[
     }
 }
 
-/// The image's superblock, and the root hash.
+/// The device's superblock, and the root hash.
 const STORED: VerifyInput<'static> = VerifyInput::Stored {
     offset: 0,
     root: ROOT,
@@ -178,7 +178,7 @@ const STORED: VerifyInput<'static> = VerifyInput::Stored {
 #[test]
 fn format_is_whole(rt: HostRuntime) -> Result<(), Fail> {
     let settings = settings_of(&OPTIONS, DATA_SIZE as u64, None)?;
-    let found = format(rt.alloc(), &settings, &[], &image(), UUID);
+    let found = format(rt.alloc(), &settings, &[], &hash_device(), UUID);
     assert_eq!(rt; found, RunResult::Whole);
     Ok(())
 }
@@ -198,7 +198,7 @@ fn dump_is_whole(rt: HostRuntime) {
 
 #[test]
 fn verify_is_whole(rt: HostRuntime) {
-    let found = verify(rt.alloc(), &STORED, &image(), (0, b""));
+    let found = verify(rt.alloc(), &STORED, &hash_device(), (0, b""));
     assert_eq!(rt; found, RunResult::Whole);
 }
 
@@ -216,9 +216,9 @@ fn verify_of_a_tree_alone_is_whole(rt: HostRuntime) -> Result<(), Fail> {
 }
 
 #[test]
-fn verify_of_a_changed_image_is_whole(rt: HostRuntime) {
-    let mut device = image();
-    flip(&mut device, IMAGE_SIZE - 1);
+fn verify_of_a_changed_device_is_whole(rt: HostRuntime) {
+    let mut device = hash_device();
+    flip(&mut device, DEVICE_SIZE - 1);
     let text = b"Verification failed: level 0 block 16, spare bytes.\n".as_slice();
     let found = verify(rt.alloc(), &STORED, &device, (2, text));
     assert_eq!(rt; found, RunResult::Whole);

@@ -135,7 +135,7 @@ pub fn read_path<D: Device>(
     let mut index = i;
     for level in 0..plan.levels() {
         index /= fan;
-        let at = plan.byte(level, index);
+        let at = plan.start(level, index);
         match read_filled(device, at, &mut path[level * size..level * size + size]) {
             Ok(()) => {}
             Err(_) => return Err(level),

@@ -1,4 +1,4 @@
--- For the private steps; not needed to read a public contract.
+-- For the private functions; not needed to read a public contract.
 -- SHA-1 in eight lanes, by the definitions of `sha1`.
 use Rattle.std.specs.Prelude.{◌≡◌, ℕ, ◌<◌, ◌+◌, List, slice_index}
 use Rattle.sha1.specs.Sha1.{rounds, round_constant, add32}

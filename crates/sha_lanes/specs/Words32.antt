@@ -1,4 +1,4 @@
--- For the private steps; not needed to read a public contract.
+-- For the private functions; not needed to read a public contract.
 -- SHA-224 and SHA-256 in eight lanes, by the definitions of `sha2`.
 use Rattle.std.specs.Prelude.{◌≡◌, ℕ, ◌<◌, ◌+◌, ◌/◌, List, take, drop, slice_index}
 use Rattle.sha2.specs.Sha256.{rounds, round_constants, first_words, padded_message, add32}

@@ -1,4 +1,4 @@
--- For the private steps; not needed to read a public contract.
+-- For the private functions; not needed to read a public contract.
 -- SHA-384 and SHA-512 in four lanes, by the definitions of `sha2`.
 use Rattle.std.specs.Prelude.{◌≡◌, ℕ, ◌<◌, ◌+◌, ◌/◌, List, take, drop, slice_index}
 use Rattle.sha2.specs.Sha512.{rounds, round_constants, first_words, padded_message, add64}

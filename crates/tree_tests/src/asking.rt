@@ -1,6 +1,6 @@
-//! Root hashes that are asked for between pieces, as often as one likes, and hash blocks that are asked for again. What is
-//! expected is made from plain lists of bytes.
-use crate::cases::{Case, FILE, Row, SHA256, SHA512};
+//! Root hashes that are asked for between pieces, as often as one likes, and hash blocks that are asked for again. What
+//! is expected is made from plain lists of bytes.
+use crate::cases::{Case, PADDED, Row, SHA256, SHA512};
 use crate::feeding::{end_file, feed_file};
 use crate::trees::small;
 use std::alloc::Global;
@@ -12,7 +12,7 @@ use verity_tree::{FileBuilder, HashBlock, Plan, TreeBuilder};
 /// more. Of each size the number of levels is stated.
 pub const GROWING: [(Row, &[(usize, usize)]); 4] = [
     (
-        (FILE, SHA256, b"", (64, 64), (2, 32), (1, 0)),
+        (PADDED, SHA256, b"", (64, 64), (2, 32), (1, 0)),
         &[
             (1, 0),
             (63, 0),
@@ -30,7 +30,7 @@ pub const GROWING: [(Row, &[(usize, usize)]); 4] = [
         ],
     ),
     (
-        (FILE, SHA512, b"salt", (128, 128), (2, 64), (1, 0)),
+        (PADDED, SHA512, b"salt", (128, 128), (2, 64), (1, 0)),
         &[
             (127, 0),
             (128, 0),
@@ -44,7 +44,7 @@ pub const GROWING: [(Row, &[(usize, usize)]); 4] = [
         ],
     ),
     (
-        (FILE, SHA256, b"salt", (512, 512), (16, 32), (1, 0)),
+        (PADDED, SHA256, b"salt", (512, 512), (16, 32), (1, 0)),
         &[
             (511, 0),
             (512, 0),
@@ -57,7 +57,7 @@ pub const GROWING: [(Row, &[(usize, usize)]); 4] = [
         ],
     ),
     (
-        (FILE, SHA256, b"", (4096, 4096), (128, 32), (1, 0)),
+        (PADDED, SHA256, b"", (4096, 4096), (128, 32), (1, 0)),
         &[
             (4095, 0),
             (4096, 0),
@@ -112,11 +112,11 @@ fn last_of(fed: u64, closed: usize) -> Result<Option<HashBlock>, Fail> {
 
 #[test]
 fn the_last_hash_block_goes_by_the_numbers(rt: HostRuntime) -> Result<(), Fail> {
-    let block = |level, index, byte, at| {
+    let block = |level, index, start, at| {
         Some(HashBlock {
             level,
             index,
-            byte,
+            start,
             at,
         })
     };

@@ -18,13 +18,13 @@ pub const SHA384: Algorithm = Algorithm::Sha384;
 pub const SHA512: Algorithm = Algorithm::Sha512;
 
 /// dm-verity, hash type 1: the salt comes before each block.
-pub const CURRENT: SaltRule = SaltRule::Before;
+pub const BEFORE: SaltRule = SaltRule::Before;
 
 /// dm-verity, hash type 0: the salt comes after each block.
-pub const ORIGINAL: SaltRule = SaltRule::After;
+pub const AFTER: SaltRule = SaltRule::After;
 
 /// fs-verity: the salt comes before each block, padded with zeros to an input block of the hash function.
-pub const FILE: SaltRule = SaltRule::PaddedBefore;
+pub const PADDED: SaltRule = SaltRule::PaddedBefore;
 
 /// The format, by its rule for salts; the function and the salt; the sizes of a data block and a hash block; the
 /// number and the width of a hash block's slots; the number of bytes of data, and of levels above them.
@@ -66,8 +66,13 @@ pub fn salted_shape(
     Ok(shape)
 }
 
-fn settings_of(row: &Row) -> Result<TreeSettings, SettingFault> {
-    let (rule, algorithm, salt, (data_block, hash_block), _, _) = *row;
+/// The settings of a format, by its rule for salts. fs-verity has blocks of one size, the second.
+pub fn settings(
+    rule: SaltRule,
+    algorithm: Algorithm,
+    salt: &[u8],
+    (data_block, hash_block): (u32, u32),
+) -> Result<TreeSettings, SettingFault> {
     let hash_type = match rule {
         SaltRule::Before => HashType::Current,
         SaltRule::After => HashType::Original,
@@ -90,7 +95,7 @@ pub struct Case {
 impl Case {
     pub fn new(alloc: Global, row: &Row) -> Result<Case, Fail> {
         let (rule, algorithm, salt, sizes, slots, (size, levels)) = *row;
-        let plan = Plan::for_bytes(&settings_of(row)?, size as u64, 1)?;
+        let plan = Plan::for_bytes(&settings(rule, algorithm, salt, sizes)?, size as u64, 1)?;
         let mut shape = salted_shape(alloc, algorithm, rule, salt)?;
         (shape.data_block, shape.hash_block) = (sizes.0 as usize, sizes.1 as usize);
         (shape.slots, shape.width) = slots;

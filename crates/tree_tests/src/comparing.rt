@@ -29,7 +29,7 @@ enum Change {
 #[derive(Drop)]
 struct Given {
     data: Vec<u8>,
-    image: Vec<u8>,
+    stored: Vec<u8>,
     root: Digest,
     source_fails: u64,
     device_fails: u64,
@@ -42,7 +42,7 @@ impl Given {
         let tree = small_tree(alloc, data.as_slice(), 2)?;
         Ok(Given {
             root: Digest::from_bytes(tree.root.as_slice()).ok_or("a root hash")?,
-            image: tree.on_device(alloc, 512)?,
+            stored: tree.on_device(alloc, 512)?,
             data,
             source_fails: 0,
             device_fails: 0,
@@ -53,9 +53,9 @@ impl Given {
     fn change(&mut self, change: Change) {
         match change {
             Change::Nothing => {}
-            Change::DeviceByte(at) => flip(&mut self.image, at),
+            Change::DeviceByte(at) => flip(&mut self.stored, at),
             Change::DataByte(at) => flip(&mut self.data, at),
-            Change::DeviceCut(length) => self.image.truncate(length),
+            Change::DeviceCut(length) => self.stored.truncate(length),
             Change::DataCut(length) => self.data.truncate(length),
             Change::SourceFails(call) => self.source_fails = call,
             Change::DeviceFails(call) => self.device_fails = call,
@@ -73,20 +73,24 @@ fn verdict(alloc: Global, change: Change) -> Result<Verdict, Fail> {
     given.change(change);
     let Given {
         data,
-        image,
+        stored,
         root,
         source_fails,
         device_fails,
     } = given;
     let mut source = Fused::new(MemorySource::new(data.as_slice()), source_fails);
-    let mut device = Fused::new(MemoryDevice::new(image), device_fails);
+    let mut device = Fused::new(MemoryDevice::new(stored), device_fails);
     let result = compare(&plan, &mut store, &mut source, &mut device, &root);
     Ok((result, source.inner().rest().len()))
 }
 
 /// A hash block that differs, and where.
-fn differs(level: usize, block: u64, part: Part) -> Result<(), CompareFault> {
-    Err(CompareFault::Differs { level, block, part })
+fn differs(level: usize, index: u64, part: Part) -> Result<(), CompareFault> {
+    Err(CompareFault::Differs {
+        level,
+        block: index,
+        part,
+    })
 }
 
 #[test]

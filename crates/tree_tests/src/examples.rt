@@ -1,4 +1,5 @@
-//! What the tests of hashing side by side and alone share: the hash functions, lengths of salts, and published examples.
+//! What the tests of hashing side by side and alone share: the hash functions, lengths of salts, and published
+//! examples.
 use verity_hash::Algorithm;
 
 pub const FUNCTIONS: [Algorithm; 5] = [

@@ -1,12 +1,12 @@
 //! A stored tree is compared with its data while each read of a hash block fails in turn: which block is named, at
 //! every level, and how much of the data was read.
-use crate::cases::{Case, FILE, Row, SHA256};
+use crate::cases::{Case, PADDED, Row, SHA256};
 use std::alloc::Global;
 use std::test::Fail;
 use verity_tree::{CompareFault, Fused, MemoryDevice, MemorySource, Store, compare};
 
 /// The hash blocks above nine data blocks, with two digests in each, in the order in which they close: the level, the
-/// block, and how many bytes of the data are left then. The last four close with the same data block.
+/// index, and how many bytes of the data are left then. The last four close with the same data block.
 const ORDER: [(usize, u64, usize); 11] = [
     (0, 0, 448),
     (0, 1, 320),
@@ -22,7 +22,7 @@ const ORDER: [(usize, u64, usize); 11] = [
 ];
 
 /// The tree above nine data blocks.
-const NINE: Row = (FILE, SHA256, b"salt", (64, 64), (2, 32), (576, 4));
+const NINE: Row = (PADDED, SHA256, b"salt", (64, 64), (2, 32), (576, 4));
 
 /// The result if this read fails, how many bytes of the data are left, and how many reads were made.
 type Ending = (Result<(), CompareFault>, usize, u64);
@@ -37,9 +37,12 @@ fn ending(alloc: Global, case: &Case, failing: u64) -> Result<Ending, Fail> {
 
 /// The first read whose failure isn't answered with its block, at once, with as much data read as it should be.
 fn first_wrong(alloc: Global, case: &Case) -> Result<Option<u64>, Fail> {
-    for (before, &(level, block, rest)) in ORDER.iter().enumerate() {
+    for (before, &(level, index, rest)) in ORDER.iter().enumerate() {
         let failing = (before as u64).saturating_add(1);
-        let result = Err(CompareFault::DeviceFailed { level, block });
+        let result = Err(CompareFault::DeviceFailed {
+            level,
+            block: index,
+        });
         if ending(alloc, case, failing)? != (result, rest, failing) {
             return Ok(Some(failing));
         }

@@ -1,33 +1,27 @@
 //! Reads within data blocks and each write of a run fail in turn, and the data ends within blocks in turn, for trees of
 //! many fan-outs and sources that give few bytes at a time: the result, how much was read, what the device holds and
 //! how often it was called are compared with trees made from plain lists of bytes. All runs over a tree have one store.
-use crate::cases::{CURRENT, FILE, Row, SHA1, SHA224, SHA256, SHA384, SHA512};
+use crate::cases::{BEFORE, PADDED, Row, SHA1, SHA224, SHA256, SHA384, SHA512};
 use crate::sweep::{Sweep, Tried};
 use std::alloc::Global;
 use std::test::Fail;
 
-/// Fan-outs of 2 to 16. The data blocks fill rows of eight, or leave a last row of a few; the last block may be cut.
+/// Fan-outs of 2 to 16. The data blocks fill batches of eight, or of two or four where a hash block has no more slots,
+/// or leave a last one of a few; the last block may be cut.
 const FANS: [Row; 5] = [
-    (FILE, SHA256, b"salt", (64, 64), (2, 32), (64 * 13 - 9, 4)),
-    (FILE, SHA256, b"salt", (128, 128), (4, 32), (128 * 23, 3)),
+    (PADDED, SHA256, b"salt", (64, 64), (2, 32), (64 * 13 - 9, 4)),
+    (PADDED, SHA256, b"salt", (128, 128), (4, 32), (128 * 23, 3)),
     (
-        FILE,
+        PADDED,
         SHA256,
         b"salt",
         (256, 256),
         (8, 32),
         (256 * 27 - 1, 2),
     ),
+    (BEFORE, SHA256, b"salt", (512, 512), (16, 32), (512 * 23, 2)),
     (
-        CURRENT,
-        SHA256,
-        b"salt",
-        (512, 512),
-        (16, 32),
-        (512 * 23, 2),
-    ),
-    (
-        CURRENT,
+        BEFORE,
         SHA256,
         b"salt",
         (512, 512),
@@ -38,7 +32,7 @@ const FANS: [Row; 5] = [
 
 /// A fan-out of 128.
 const WIDE: [Row; 1] = [(
-    CURRENT,
+    BEFORE,
     SHA256,
     b"salt",
     (512, 4096),
@@ -46,11 +40,11 @@ const WIDE: [Row; 1] = [(
     (512 * 134, 2),
 )];
 
-/// Larger data blocks, in rows of eight in the windows that they are read into, of 32 KiB for blocks of up to 4096 bytes,
-/// and of 128 KiB up to 16384.
+/// Larger data blocks, in batches of eight in the windows that they are read into, of 32 KiB for blocks of up to 4096
+/// bytes, and of 128 KiB up to 16384.
 const LARGE: [Row; 3] = [
     (
-        CURRENT,
+        BEFORE,
         SHA256,
         b"salt",
         (4096, 512),
@@ -58,7 +52,7 @@ const LARGE: [Row; 3] = [
         (4096 * 19, 2),
     ),
     (
-        CURRENT,
+        BEFORE,
         SHA512,
         b"salt",
         (8192, 512),
@@ -66,7 +60,7 @@ const LARGE: [Row; 3] = [
         (8192 * 13, 2),
     ),
     (
-        CURRENT,
+        BEFORE,
         SHA256,
         b"salt",
         (16384, 512),
@@ -75,10 +69,10 @@ const LARGE: [Row; 3] = [
     ),
 ];
 
-/// Larger ones, in rows of eight in the largest window, of 512 KiB.
+/// Larger ones, in batches of eight in the largest window, of 512 KiB.
 const LARGER: [Row; 2] = [
     (
-        CURRENT,
+        BEFORE,
         SHA512,
         b"salt",
         (32768, 512),
@@ -86,7 +80,7 @@ const LARGER: [Row; 2] = [
         (32768 * 11, 2),
     ),
     (
-        CURRENT,
+        BEFORE,
         SHA256,
         b"salt",
         (65536, 512),
@@ -95,10 +89,10 @@ const LARGER: [Row; 2] = [
     ),
 ];
 
-/// The largest: in rows of four in the largest window, and too large for rows.
+/// The largest: in batches of four in the largest window, and in batches of two, which are hashed one by one.
 const LARGEST: [Row; 2] = [
     (
-        CURRENT,
+        BEFORE,
         SHA256,
         b"salt",
         (131_072, 512),
@@ -106,7 +100,7 @@ const LARGEST: [Row; 2] = [
         (131_072 * 5, 1),
     ),
     (
-        CURRENT,
+        BEFORE,
         SHA256,
         b"salt",
         (262_144, 512),
@@ -117,30 +111,23 @@ const LARGEST: [Row; 2] = [
 
 /// The other hash functions, and two to nine data blocks.
 const OTHERS: [Row; 12] = [
-    (CURRENT, SHA1, b"salt", (512, 512), (16, 32), (512 * 19, 2)),
-    (
-        CURRENT,
-        SHA224,
-        b"salt",
-        (512, 512),
-        (16, 32),
-        (512 * 21, 2),
-    ),
-    (CURRENT, SHA384, b"salt", (512, 512), (8, 64), (512 * 14, 2)),
-    (CURRENT, SHA512, b"salt", (512, 512), (8, 64), (512 * 23, 2)),
-    (CURRENT, SHA256, b"salt", (512, 512), (16, 32), (512 * 2, 1)),
-    (CURRENT, SHA256, b"salt", (512, 512), (16, 32), (512 * 3, 1)),
-    (CURRENT, SHA256, b"salt", (512, 512), (16, 32), (512 * 4, 1)),
-    (CURRENT, SHA256, b"salt", (512, 512), (16, 32), (512 * 5, 1)),
-    (CURRENT, SHA256, b"salt", (512, 512), (16, 32), (512 * 6, 1)),
-    (CURRENT, SHA256, b"salt", (512, 512), (16, 32), (512 * 7, 1)),
-    (CURRENT, SHA256, b"salt", (512, 512), (16, 32), (512 * 8, 1)),
-    (CURRENT, SHA256, b"salt", (512, 512), (16, 32), (512 * 9, 1)),
+    (BEFORE, SHA1, b"salt", (512, 512), (16, 32), (512 * 19, 2)),
+    (BEFORE, SHA224, b"salt", (512, 512), (16, 32), (512 * 21, 2)),
+    (BEFORE, SHA384, b"salt", (512, 512), (8, 64), (512 * 14, 2)),
+    (BEFORE, SHA512, b"salt", (512, 512), (8, 64), (512 * 23, 2)),
+    (BEFORE, SHA256, b"salt", (512, 512), (16, 32), (512 * 2, 1)),
+    (BEFORE, SHA256, b"salt", (512, 512), (16, 32), (512 * 3, 1)),
+    (BEFORE, SHA256, b"salt", (512, 512), (16, 32), (512 * 4, 1)),
+    (BEFORE, SHA256, b"salt", (512, 512), (16, 32), (512 * 5, 1)),
+    (BEFORE, SHA256, b"salt", (512, 512), (16, 32), (512 * 6, 1)),
+    (BEFORE, SHA256, b"salt", (512, 512), (16, 32), (512 * 7, 1)),
+    (BEFORE, SHA256, b"salt", (512, 512), (16, 32), (512 * 8, 1)),
+    (BEFORE, SHA256, b"salt", (512, 512), (16, 32), (512 * 9, 1)),
 ];
 
 const EACH: [Tried; 4] = [(usize::MAX, 1), (4095, 1), (7, 1), (1, 1)];
 
-/// One in 13, so that each place in a row of eight is tried, or fewer.
+/// One in 13, so that each place in a batch of eight is tried, or fewer.
 const ONE_IN_SOME: [Tried; 4] = [(usize::MAX, 1), (4095, 3), (7, 13), (1, 13)];
 
 const ONE_IN_MANY: [Tried; 4] = [(usize::MAX, 13), (4095, 53), (7, 53), (1, 131)];
@@ -149,8 +136,8 @@ const LONG_PIECES: [Tried; 2] = [(usize::MAX, 1), (4095, 3)];
 
 const FEW_LONG_PIECES: [Tried; 2] = [(usize::MAX, 2), (4095, 13)];
 
-/// A run that goes wrong: the number of its row, how many bytes its source gives at a time, the calls that fail, and how
-/// many bytes the source has.
+/// A run that goes wrong: the number of its row, how many bytes its source gives at a time, the calls that fail, and
+/// how many bytes the source has.
 type Wrong = (usize, usize, (usize, usize), usize);
 
 fn first_wrong(alloc: Global, rows: &[Row], sources: &[Tried]) -> Result<Option<Wrong>, Fail> {

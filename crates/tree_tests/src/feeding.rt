@@ -1,5 +1,5 @@
 //! Trees that are built as pieces of their data come, beside trees made from plain lists of bytes.
-use crate::cases::{CURRENT, Case, FILE, ORIGINAL, Row, SHA1, SHA224, SHA256, SHA384, SHA512};
+use crate::cases::{AFTER, BEFORE, Case, PADDED, Row, SHA1, SHA224, SHA256, SHA384, SHA512};
 use crate::trees::small;
 use std::alloc::Global;
 use std::test::Fail;
@@ -9,20 +9,20 @@ use verity_tree::{
     Device, Fed, FeedFault, FileBuilder, HashBlock, MemoryDevice, Plan, TreeBuilder, TreeSettings,
 };
 
-/// Powers of the fan-out, a block more and less, a single block, and a last block that isn't full; plain and salted, and
-/// hashed alone and side by side.
+/// Powers of the fan-out, a block more and less, a single block, and a last block that isn't full; plain and salted,
+/// and hashed alone and side by side.
 pub const SHAPES: [Row; 11] = [
-    (CURRENT, SHA256, b"", (512, 512), (16, 32), (512, 0)),
-    (CURRENT, SHA256, b"", (512, 512), (16, 32), (8192, 1)),
-    (CURRENT, SHA256, b"salt", (512, 512), (16, 32), (8704, 2)),
-    (CURRENT, SHA1, b"", (512, 512), (16, 32), (8192, 1)),
-    (ORIGINAL, SHA384, b"salt", (512, 1024), (16, 48), (9216, 2)),
-    (CURRENT, SHA224, b"salt", (1024, 512), (16, 32), (15_360, 1)),
-    (CURRENT, SHA512, b"salt", (4096, 512), (8, 64), (40_960, 2)),
-    (FILE, SHA256, b"salt", (512, 512), (16, 32), (1, 0)),
-    (FILE, SHA256, b"", (64, 64), (2, 32), (1024, 4)),
-    (FILE, SHA256, b"salt", (64, 64), (2, 32), (1025, 5)),
-    (FILE, SHA512, b"salt", (128, 128), (2, 64), (1153, 4)),
+    (BEFORE, SHA256, b"", (512, 512), (16, 32), (512, 0)),
+    (BEFORE, SHA256, b"", (512, 512), (16, 32), (8192, 1)),
+    (BEFORE, SHA256, b"salt", (512, 512), (16, 32), (8704, 2)),
+    (BEFORE, SHA1, b"", (512, 512), (16, 32), (8192, 1)),
+    (AFTER, SHA384, b"salt", (512, 1024), (16, 48), (9216, 2)),
+    (BEFORE, SHA224, b"salt", (1024, 512), (16, 32), (15_360, 1)),
+    (BEFORE, SHA512, b"salt", (4096, 512), (8, 64), (40_960, 2)),
+    (PADDED, SHA256, b"salt", (512, 512), (16, 32), (1, 0)),
+    (PADDED, SHA256, b"", (64, 64), (2, 32), (1024, 4)),
+    (PADDED, SHA256, b"salt", (64, 64), (2, 32), (1025, 5)),
+    (PADDED, SHA512, b"salt", (128, 128), (2, 64), (1153, 4)),
 ];
 
 /// The lengths of pieces: fewer bytes than a block, a block, more, all at once, and 0 for lengths that change.
@@ -30,13 +30,13 @@ const PIECES: [usize; 8] = [1, 7, 512, 4095, 4096, 4097, 50_000, 0];
 
 /// Trees of several windows, of eight data blocks, of four and of one, and about the end of a window.
 const WINDOWS: [Row; 7] = [
-    (CURRENT, SHA256, b"", (512, 512), (16, 32), (66_048, 2)),
-    (FILE, SHA256, b"salt", (512, 512), (16, 32), (4097, 1)),
-    (FILE, SHA256, b"", (4096, 4096), (128, 32), (32_767, 1)),
-    (FILE, SHA256, b"", (4096, 4096), (128, 32), (32_768, 1)),
-    (FILE, SHA256, b"", (4096, 4096), (128, 32), (98_305, 1)),
+    (BEFORE, SHA256, b"", (512, 512), (16, 32), (66_048, 2)),
+    (PADDED, SHA256, b"salt", (512, 512), (16, 32), (4097, 1)),
+    (PADDED, SHA256, b"", (4096, 4096), (128, 32), (32_767, 1)),
+    (PADDED, SHA256, b"", (4096, 4096), (128, 32), (32_768, 1)),
+    (PADDED, SHA256, b"", (4096, 4096), (128, 32), (98_305, 1)),
     (
-        CURRENT,
+        BEFORE,
         SHA256,
         b"",
         (131_072, 4096),
@@ -44,7 +44,7 @@ const WINDOWS: [Row; 7] = [
         (655_361, 1),
     ),
     (
-        CURRENT,
+        BEFORE,
         SHA256,
         b"",
         (524_288, 4096),
@@ -79,14 +79,15 @@ pub fn write(
     let Some(bytes) = memory.get(block.at..block.at.saturating_add(size)) else {
         return Err("a hash block outside the memory".into());
     };
-    match block.byte.checked_add(bytes.len() as u64) {
+    match block.start.checked_add(bytes.len() as u64) {
         Some(end) if end <= MOST_BYTES => {}
         _ => return Err("a hash block too far out".into()),
     }
-    match device.write_at(block.byte, bytes) {
-        Ok(()) => Ok(()),
-        Err(_) => Err("cannot write".into()),
-    }
+    Ok(
+        device
+            .write_at(block.start, bytes)
+            .map_err(|_| "cannot write")?,
+    )
 }
 
 /// Feeds a piece, in memory of the right length.
@@ -191,15 +192,15 @@ fn digest_in_pieces(
 /// Whether a tree that is built in pieces of a length is that from plain lists, and so is a file's root hash.
 fn is_built(alloc: Global, case: &Case, rule: SaltRule, piece: usize) -> Result<bool, Fail> {
     let (plan, data) = (&case.plan, case.data.as_slice());
-    let image = case.tree.on_device(alloc, case.shape.hash_block)?;
+    let expected = case.tree.on_device(alloc, case.shape.hash_block)?;
     let mut device = MemoryDevice::new(vec![in alloc; 0u8; case.shape.hash_block]?);
     let built = build_in_pieces(alloc, plan, data, piece, &mut device)?;
     for is_asked in [false, true] {
-        if rule == FILE && digest_in_pieces(alloc, plan, data, piece, is_asked)? != case.root {
+        if rule == PADDED && digest_in_pieces(alloc, plan, data, piece, is_asked)? != case.root {
             return Ok(false);
         }
     }
-    Ok(built == case.root && device.bytes() == image.as_slice())
+    Ok(built == case.root && device.bytes() == expected.as_slice())
 }
 
 #[test]
@@ -248,7 +249,8 @@ fn memory_has_room_for_open_blocks_and_a_window(rt: HostRuntime) -> Result<(), F
     Ok(())
 }
 
-/// The faults of a builder of the tree above 17 blocks of 512 bytes: for one piece of so many bytes, and then at the end.
+/// The faults of a builder of the tree above 17 blocks of 512 bytes: for one piece of so many bytes, and then at the
+/// end.
 fn faults(alloc: Global, count: usize) -> Result<(Option<FeedFault>, Option<FeedFault>), Fail> {
     let plan = Plan::for_blocks(&small()?, 17, 1)?;
     let mut memory = vec![in alloc; 0u8; TreeBuilder::memory_length(&plan)]?;

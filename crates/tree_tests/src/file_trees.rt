@@ -1,7 +1,7 @@
-//! Trees of files whose length nobody knows beforehand, with each hash block handed out, beside trees made from plain lists
-//! of bytes, and beside what `build` writes.
+//! Trees of files whose length nobody knows beforehand, with each hash block handed out, beside trees made from plain
+//! lists of bytes, and beside what `build` writes.
 use crate::asking::GROWING;
-use crate::cases::{CURRENT, Case, FILE, Row, SHA256, SHA512};
+use crate::cases::{BEFORE, Case, PADDED, Row, SHA256, SHA512};
 use crate::feeding::next_length;
 use crate::trees::small;
 use std::alloc::Global;
@@ -12,16 +12,16 @@ use verity_tree::{
     TreeSettings, build,
 };
 
-/// Files of a block, of powers of the fan-out, and of a byte more, in windows of eight data blocks and of two; after each
-/// piece all that is left is asked for.
+/// Files of a block, of powers of the fan-out, and of a byte more, in windows of eight data blocks and of two; after
+/// each piece all that is left is asked for.
 const SMALL: [Row; 7] = [
-    (FILE, SHA256, b"salt", (512, 512), (16, 32), (1, 0)),
-    (FILE, SHA256, b"", (512, 512), (16, 32), (512, 0)),
-    (FILE, SHA256, b"", (512, 512), (16, 32), (513, 1)),
-    (FILE, SHA256, b"", (64, 64), (2, 32), (1024, 4)),
-    (FILE, SHA256, b"salt", (64, 64), (2, 32), (1025, 5)),
-    (FILE, SHA512, b"salt", (128, 128), (2, 64), (1153, 4)),
-    (CURRENT, SHA256, b"", (512, 1024), (32, 32), (1025, 1)),
+    (PADDED, SHA256, b"salt", (512, 512), (16, 32), (1, 0)),
+    (PADDED, SHA256, b"", (512, 512), (16, 32), (512, 0)),
+    (PADDED, SHA256, b"", (512, 512), (16, 32), (513, 1)),
+    (PADDED, SHA256, b"", (64, 64), (2, 32), (1024, 4)),
+    (PADDED, SHA256, b"salt", (64, 64), (2, 32), (1025, 5)),
+    (PADDED, SHA512, b"salt", (128, 128), (2, 64), (1153, 4)),
+    (BEFORE, SHA256, b"", (512, 1024), (32, 32), (1025, 1)),
 ];
 
 /// The lengths of their pieces: one byte, about those of a block, all at once, and 0 for lengths that change.
@@ -29,13 +29,13 @@ const PIECES: [usize; 7] = [1, 63, 64, 65, 513, 2000, 0];
 
 /// Files of several windows, of eight data blocks and of four, which end with one or a byte after it.
 const LARGER: [Row; 6] = [
-    (FILE, SHA256, b"salt", (512, 512), (16, 32), (8192, 1)),
-    (FILE, SHA256, b"salt", (512, 512), (16, 32), (8193, 2)),
-    (FILE, SHA256, b"", (4096, 4096), (128, 32), (524_288, 1)),
-    (FILE, SHA256, b"", (4096, 4096), (128, 32), (528_385, 2)),
-    (CURRENT, SHA256, b"", (512, 1024), (32, 32), (16_897, 2)),
+    (PADDED, SHA256, b"salt", (512, 512), (16, 32), (8192, 1)),
+    (PADDED, SHA256, b"salt", (512, 512), (16, 32), (8193, 2)),
+    (PADDED, SHA256, b"", (4096, 4096), (128, 32), (524_288, 1)),
+    (PADDED, SHA256, b"", (4096, 4096), (128, 32), (528_385, 2)),
+    (BEFORE, SHA256, b"", (512, 1024), (32, 32), (16_897, 2)),
     (
-        CURRENT,
+        BEFORE,
         SHA512,
         b"salt",
         (131_072, 512),
@@ -193,8 +193,8 @@ impl Placed {
     }
 }
 
-/// Feeds the data of a case in pieces of a length, and puts each hash block that is handed out at its place. All that is
-/// left is asked for after each piece of some bytes too, or only at the end.
+/// Feeds the data of a case in pieces of a length, and puts each hash block that is handed out at its place. All that
+/// is left is asked for after each piece of some bytes too, or only at the end.
 fn feed_all(
     case: &Case,
     fed: &mut Fed,
@@ -233,13 +233,13 @@ fn built(alloc: Global, case: &Case) -> Result<Vec<u8>, Fail> {
     }
 }
 
-/// Whether a file that is fed in pieces of a length hands out, with the last hash blocks of all levels, each hash block of
-/// its tree once, and has its root hash.
+/// Whether a file that is fed in pieces of a length hands out, with the last hash blocks of all levels, each hash block
+/// of its tree once, and has its root hash.
 fn is_whole(alloc: Global, case: &Case, piece: usize, is_asked: bool) -> Result<bool, Fail> {
     let size = case.shape.hash_block;
-    let image = case.tree.on_device(alloc, size)?;
+    let expected = case.tree.on_device(alloc, size)?;
     let mut placed = Placed {
-        device: vec![in alloc; 0u8; image.len()]?,
+        device: vec![in alloc; 0u8; expected.len()]?,
         count: 0,
     };
     let mut fed = Fed::new(alloc, case.plan.settings())?;
@@ -248,12 +248,12 @@ fn is_whole(alloc: Global, case: &Case, piece: usize, is_asked: bool) -> Result<
         let index = fed.end_block(level)??;
         placed.put(case, level, index, fed.block.as_slice())?;
     }
-    let all = image.len() / size.max(1);
+    let all = expected.len() / size.max(1);
     Ok(
         fed.ask()? == case.tree.levels.len()
             && fed.end()?? == case.root
             && placed.count.saturating_add(1) == all
-            && placed.device.as_slice() == image.as_slice()
+            && placed.device.as_slice() == expected.as_slice()
             && placed.device.as_slice() == built(alloc, case)?.as_slice(),
     )
 }
@@ -284,7 +284,8 @@ fn trees_of_files_of_several_windows_are_handed_out(rt: HostRuntime) -> Result<(
     Ok(())
 }
 
-/// Whether the last hash block of each level is that of a case, by its number and its bytes, twice; and the root hash too.
+/// Whether the last hash block of each level is that of a case, by its number and its bytes, twice; and the root hash
+/// too.
 fn has_last_blocks(fed: &mut Fed, case: &Case) -> Result<bool, Fail> {
     let size = case.shape.hash_block;
     let levels = case.tree.levels.len();
@@ -337,8 +338,8 @@ fn files_have_their_last_hash_blocks_at_any_time(rt: HostRuntime) -> Result<(), 
     Ok(())
 }
 
-/// The faults of a builder with these numbers, with blocks of 512 bytes: for a piece of so many bytes, at the end, and for
-/// the last hash block of level 1.
+/// The faults of a builder with these numbers, with blocks of 512 bytes: for a piece of so many bytes, at the end, and
+/// for the last hash block of level 1.
 type Faults = [Option<FeedFault>; 3];
 
 fn faults(alloc: Global, fed: u64, closed: usize, count: usize) -> Result<Faults, Fail> {

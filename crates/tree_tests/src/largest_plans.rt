@@ -1,25 +1,11 @@
 //! The largest plans: as many levels as a plan can have, the longest stores, and a tree of many blocks.
-use crate::cases::{CURRENT, FILE, ORIGINAL, Row, SHA1, SHA224, SHA256, SHA384, SHA512};
+use crate::cases::{AFTER, BEFORE, PADDED, Row, SHA1, SHA224, SHA256, SHA384, SHA512, settings};
 use crate::trees::is_made;
 use std::alloc::Global;
 use std::test::Fail;
 use verity_hash::{Algorithm, SaltRule};
 use verity_io::MOST_BYTES;
-use verity_tree::{HashType, Plan, SettingFault, Store, TreeSettings};
-
-/// The settings of a format, by its rule for salts, without a salt.
-fn settings(
-    rule: SaltRule,
-    algorithm: Algorithm,
-    (data_block, hash_block): (u32, u32),
-) -> Result<TreeSettings, SettingFault> {
-    let hash_type = match rule {
-        SaltRule::Before => HashType::Current,
-        SaltRule::After => HashType::Original,
-        SaltRule::PaddedBefore => return TreeSettings::fsverity(algorithm, &[], hash_block),
-    };
-    TreeSettings::verity(algorithm, hash_type, &[], data_block, hash_block)
-}
+use verity_tree::{Plan, Store, TreeSettings};
 
 /// The number of levels of a plan, the length of its store, and whether a store that is made fits.
 type Numbers = (usize, usize, bool);
@@ -39,24 +25,24 @@ fn largest(alloc: Global, settings: &TreeSettings) -> Result<Numbers, Fail> {
 /// how many bytes its store: an open block for each level, a data block, and a hash block to compare with. The slots of
 /// a hash block of 512 bytes are 16 of 32 bytes or 8 of 64, and in hash type 0 at most 16 of 20 or 28, or 8 of 48.
 const LARGEST: [(SaltRule, Algorithm, (u32, u32), (usize, usize)); 12] = [
-    (FILE, SHA256, (64, 64), (57, 3776)),
-    (FILE, SHA512, (128, 128), (56, 7424)),
-    (FILE, SHA256, (4096, 4096), (8, 40_960)),
-    (FILE, SHA512, (524_288, 524_288), (4, 3_145_728)),
-    (CURRENT, SHA256, (512, 512), (14, 8192)),
-    (CURRENT, SHA512, (512, 512), (18, 10_240)),
-    (ORIGINAL, SHA384, (512, 512), (18, 10_240)),
-    (ORIGINAL, SHA224, (512, 512), (14, 8192)),
-    (CURRENT, SHA1, (4096, 4096), (8, 40_960)),
-    (CURRENT, SHA512, (512, 524_288), (5, 3_146_240)),
-    (CURRENT, SHA512, (524_288, 512), (15, 532_480)),
-    (CURRENT, SHA384, (524_288, 524_288), (4, 3_145_728)),
+    (PADDED, SHA256, (64, 64), (57, 3776)),
+    (PADDED, SHA512, (128, 128), (56, 7424)),
+    (PADDED, SHA256, (4096, 4096), (8, 40_960)),
+    (PADDED, SHA512, (524_288, 524_288), (4, 3_145_728)),
+    (BEFORE, SHA256, (512, 512), (14, 8192)),
+    (BEFORE, SHA512, (512, 512), (18, 10_240)),
+    (AFTER, SHA384, (512, 512), (18, 10_240)),
+    (AFTER, SHA224, (512, 512), (14, 8192)),
+    (BEFORE, SHA1, (4096, 4096), (8, 40_960)),
+    (BEFORE, SHA512, (512, 524_288), (5, 3_146_240)),
+    (BEFORE, SHA512, (524_288, 512), (15, 532_480)),
+    (BEFORE, SHA384, (524_288, 524_288), (4, 3_145_728)),
 ];
 
 #[test]
 fn the_largest_trees_have_stores(rt: HostRuntime) -> Result<(), Fail> {
     for &(rule, algorithm, sizes, (levels, length)) in &LARGEST {
-        let found = largest(rt.alloc(), &settings(rule, algorithm, sizes)?)?;
+        let found = largest(rt.alloc(), &settings(rule, algorithm, &[], sizes)?)?;
         assert_eq!(rt;
             found,
             (levels, length, true),
@@ -66,11 +52,11 @@ fn the_largest_trees_have_stores(rt: HostRuntime) -> Result<(), Fail> {
     Ok(())
 }
 
-/// Trees with two slots in each hash block of 64 bytes, above 1, 2, 4, .. data blocks. The last has one block fewer than
-/// a power of two, as 2^63 bytes are one too many.
+/// Trees with two slots in each hash block of 64 bytes, above 1, 2, 4, .. data blocks. The last has one block fewer
+/// than a power of two, as 2^63 bytes are one too many.
 #[test]
 fn each_number_of_levels_has_a_store(rt: HostRuntime) -> Result<(), Fail> {
-    let two_slots = settings(FILE, SHA256, (64, 64))?;
+    let two_slots = settings(PADDED, SHA256, &[], (64, 64))?;
     for levels in 0..58usize {
         let blocks = (1_u64 << levels).min(MOST_BYTES / 64);
         let plan = Plan::for_blocks(&two_slots, blocks, 0)?;
@@ -84,8 +70,30 @@ fn each_number_of_levels_has_a_store(rt: HostRuntime) -> Result<(), Fail> {
     Ok(())
 }
 
+/// The numbers of a plan of this many of the largest data blocks, with hash blocks of a size.
+fn store_numbers(alloc: Global, size: u32, blocks: u64) -> Result<Numbers, Fail> {
+    let settings = settings(BEFORE, SHA256, &[], (524_288, size))?;
+    numbers_of(alloc, &Plan::for_blocks(&settings, blocks, 1)?)
+}
+
+#[test]
+fn the_longest_store_is_made(rt: HostRuntime) -> Result<(), Fail> {
+    let cases = [
+        (524_288, 17_000_000, (2, 2_097_152, true)),
+        (512, 17_000_000_000_000, (11, 530_432, true)),
+    ];
+    for &(size, blocks, numbers) in &cases {
+        assert_eq!(rt;
+            store_numbers(rt.alloc(), size, blocks)?,
+            numbers,
+            "at {size}"
+        );
+    }
+    Ok(())
+}
+
 /// A tree of 12 levels above 2050 data blocks, the last of which isn't whole.
-const MANY_BLOCKS: Row = (FILE, SHA256, b"", (64, 64), (2, 32), (131_195, 12));
+const MANY_BLOCKS: Row = (PADDED, SHA256, b"", (64, 64), (2, 32), (131_195, 12));
 
 #[test]
 fn a_tree_of_many_blocks_is_made(rt: HostRuntime) -> Result<(), Fail> {

@@ -1,6 +1,7 @@
-//! Tests of trees: how they are built and compared, how their data is read, how single blocks are checked by their
-//! paths, and how blocks are hashed with their salts, alone and side by side. Expected digests come from `sha1` and
-//! `sha2` over stated bytes.
+//! Tests of hashing, plans and trees: how messages and salted blocks are hashed, alone and side by side; a plan's
+//! numbers; how trees are built, also as pieces of their data come and from parts, and compared, also while each read
+//! and write fails in turn; how data is read; and how single blocks are checked by their paths. Expected digests are
+//! published ones, or come from `sha1` and `sha2` over stated bytes.
 #![tactic(auto)]
 
 #[cfg(test)]

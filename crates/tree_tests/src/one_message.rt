@@ -1,6 +1,6 @@
-//! One message hashed alone, in three pieces: the examples of FIPS 180-4 cut at each pair of places, and a long one; and
-//! lengths near the borders of blocks and of the groups of 512 bytes that are hashed at a time, and messages of zeros,
-//! compared with the crates `sha1` and `sha2`.
+//! One message hashed alone, in three pieces: the examples of FIPS 180-4 cut at each pair of places, and a long one;
+//! and lengths near the borders of blocks and of the groups of 512 bytes that are hashed at a time, and messages of
+//! zeros, compared with the crates `sha1` and `sha2`.
 use crate::examples::{EXAMPLES, Example, FUNCTIONS, SALTS};
 use fixtures::{Shape, data, flip_bit};
 use sha_lanes::{sha1_alone, sha224_alone, sha256_alone, sha384_alone, sha512_alone};
@@ -12,7 +12,7 @@ use verity_hash::Algorithm;
 type Message<'a> = (&'a [u8], &'a [u8], &'a [u8]);
 
 /// The digest of a message.
-fn digest_of(
+fn hashed_alone(
     alloc: Global,
     function: Algorithm,
     (first, second, third): Message<'_>,
@@ -41,7 +41,7 @@ fn has_digits(
     places: (usize, usize),
     digits: &str,
 ) -> Result<bool, Fail> {
-    let digest = digest_of(alloc, function, cut(bytes, places.0, places.1))?;
+    let digest = hashed_alone(alloc, function, cut(bytes, places.0, places.1))?;
     Ok(hex::encode(alloc, digest)?.as_str() == digits)
 }
 
@@ -135,7 +135,7 @@ fn are_right(alloc: Global, salt: &[u8], bytes: &[u8]) -> Result<bool, AllocErro
     for function in &FUNCTIONS {
         for message in &messages {
             let expected = expected_digest(alloc, *function, *message)?;
-            if digest_of(alloc, *function, *message)? != expected {
+            if hashed_alone(alloc, *function, *message)? != expected {
                 return Ok(false);
             }
         }
@@ -177,7 +177,7 @@ fn wrong_pair(
 ) -> Result<Option<(usize, usize)>, AllocError> {
     let expected = expected_digest(alloc, function, cut(bytes, 0, 0))?;
     for (from, to) in pairs {
-        if digest_of(alloc, function, cut(bytes, *from, *to))? != expected {
+        if hashed_alone(alloc, function, cut(bytes, *from, *to))? != expected {
             return Ok(Some((*from, *to)));
         }
     }
@@ -267,8 +267,8 @@ fn zeros_have_their_digest(rt: HostRuntime) -> Result<(), Fail> {
     Ok(())
 }
 
-/// The first place in 640 zeros where one bit makes another digest than by `sha1` or `sha2`, with the function. They are
-/// all in the first piece, the second or the third.
+/// The first place in 640 zeros where one bit makes another digest than by `sha1` or `sha2`, with the function. They
+/// are all in the first piece, the second or the third.
 fn wrong_bit(alloc: Global) -> Result<Option<(usize, Wrong)>, AllocError> {
     let mut bytes = vec![in alloc; 0u8; 640]?;
     for at in 0..640usize {

@@ -99,7 +99,8 @@ fn give(builder: &mut JoinBuilder, memory: &mut [u8], digests: &[u8]) -> Result<
     Ok(builder.feed(memory, digests)?)
 }
 
-/// Joins parts by their digests, of which so many come at once, with each hash block written at its place: the root hash.
+/// Joins parts by their digests, of which so many come at once, with each hash block written at its place: the root
+/// hash.
 fn join_parts(
     alloc: Global,
     plan: &Plan,
@@ -143,9 +144,9 @@ fn is_built(
     if level > plan.levels() {
         return Err("no such level".into());
     }
-    let parts = plan.size_under(level);
-    let size = PartBuilder::size(plan, level).saturating_mul(plan.data_block() as u64) as usize;
-    let image = case.tree.on_device(alloc, case.shape.hash_block)?;
+    let parts = plan.count_under(level);
+    let size = PartBuilder::blocks(plan, level).saturating_mul(plan.data_block() as u64) as usize;
+    let expected = case.tree.on_device(alloc, case.shape.hash_block)?;
     let mut device = MemoryDevice::new(vec![in alloc; 0u8; case.shape.hash_block]?);
     let mut digests = Vec::new(alloc);
     for left in 0..parts {
@@ -159,7 +160,7 @@ fn is_built(
         digests = longer;
     }
     let root = join_parts(alloc, plan, level, digests.as_slice(), count, &mut device)?;
-    Ok(root == case.root && device.bytes() == image.as_slice())
+    Ok(root == case.root && device.bytes() == expected.as_slice())
 }
 
 /// The first level, of all and the one above the top, at whose parts a row's tree isn't built, if there is one.

@@ -1,5 +1,5 @@
 //! Data blocks that are checked by their paths: 257 data blocks. All blocks have 512 bytes, so level 2 stands at byte
-//! 512 of the image, level 1 at 1024 and level 0 at 2048. Expected images are made with `sha2`.
+//! 512 of the device, level 1 at 1024 and level 0 at 2048. Expected trees are made with `sha2`.
 use crate::trees::{small, small_tree};
 use fixtures::{Shape, data, flip, with_zeros};
 use std::alloc::{AllocError, Global};
@@ -39,16 +39,16 @@ struct Given {
 }
 
 impl Given {
-    /// Data block `i` with its path. Level 0 of the tree begins with block 4 of the image, level 1 with block 2, level 2
-    /// with block 1.
+    /// Data block `i` with its path. Level 0 of the tree begins with block 4 of the device, level 1 with block 2, level
+    /// 2 with block 1.
     fn new(alloc: Global, i: usize) -> Result<Given, Fail> {
         let data = data(alloc, 131_584)?;
         let tree = small_tree(alloc, data.as_slice(), 3)?;
-        let image = tree.on_device(alloc, 512)?;
+        let device = tree.on_device(alloc, 512)?;
         let path = [
-            block_of(image.as_slice(), (i / 16).saturating_add(4)),
-            block_of(image.as_slice(), (i / 256).saturating_add(2)),
-            block_of(image.as_slice(), 1),
+            block_of(device.as_slice(), (i / 16).saturating_add(4)),
+            block_of(device.as_slice(), (i / 256).saturating_add(2)),
+            block_of(device.as_slice(), 1),
         ];
         Ok(Given {
             block: Vec::from_slice(alloc, block_of(data.as_slice(), i))?,

@@ -134,13 +134,16 @@ impl Sweep {
             }
             before = before.saturating_add(reads);
         }
-        for (closed, (level, block, read)) in self.order.iter().enumerate() {
-            let (level, block) = (*level, *block);
+        for (closed, (level, index, read)) in self.order.iter().enumerate() {
+            let (level, index) = (*level, *index);
             let call = closed.saturating_add(1);
             trials.push(Trial {
                 failing: (0, call),
                 rest: self.after(*read),
-                result: Err(BuildFault::DeviceFailed { level, block }),
+                result: Err(BuildFault::DeviceFailed {
+                    level,
+                    block: index,
+                }),
                 closed,
                 calls: call,
                 ..self.whole()
@@ -154,18 +157,18 @@ impl Sweep {
     fn device_after(&self, alloc: Global, closed: usize) -> Result<Vec<u8>, AllocError> {
         let size = self.case.shape.hash_block;
         let mut device = Vec::new(alloc);
-        for (level, block, _) in self.order.iter().take(closed) {
-            let (level, block) = (*level, *block as usize);
+        for (level, index, _) in self.order.iter().take(closed) {
+            let (level, index) = (*level, *index as usize);
             let at = self
                 .case
                 .tree
-                .offset_of(level, block, size)
+                .offset_of(level, index, size)
                 .saturating_add(size);
             let end = at.saturating_add(size).max(device.len());
             device.resize(end, 0)?;
             lay(
                 &mut device,
-                &[(at, self.case.tree.block(level, block, size))],
+                &[(at, self.case.tree.block(level, index, size))],
             );
         }
         Ok(device)

@@ -1,6 +1,6 @@
-//! Trees of all shapes beside trees made from plain lists of bytes and hashed with `sha1` and `sha2`, a plan's numbers,
-//! and the longest store.
-use crate::cases::{CURRENT, Case, FILE, ORIGINAL, Row, SHA1, SHA224, SHA256, SHA384, SHA512};
+//! Trees of all shapes beside trees made from plain lists of bytes and hashed with `sha1` and `sha2`, and a plan's
+//! numbers.
+use crate::cases::{AFTER, BEFORE, Case, PADDED, Row, SHA1, SHA224, SHA256, SHA384, SHA512};
 use fixtures::{Shape, Tree};
 use std::alloc::{AllocError, Global};
 use std::test::Fail;
@@ -32,23 +32,16 @@ const LARGEST: u32 = 524_288;
 
 /// The last block isn't full in those of an odd size.
 const SHAPES: [Row; 14] = [
-    (CURRENT, SHA256, b"", (512, 512), (16, 32), (512, 0)),
-    (FILE, SHA256, b"salt", (512, 512), (16, 32), (8805, 2)),
-    (FILE, SHA512, b"salt", (128, 128), (2, 64), (1153, 4)),
+    (BEFORE, SHA256, b"", (512, 512), (16, 32), (512, 0)),
+    (PADDED, SHA256, b"salt", (512, 512), (16, 32), (8805, 2)),
+    (PADDED, SHA512, b"salt", (128, 128), (2, 64), (1153, 4)),
+    (BEFORE, SHA512, &[7; 256], (1024, 512), (8, 64), (66_560, 3)),
+    (BEFORE, SHA224, b"salt", (512, 1024), (32, 32), (16_896, 2)),
+    (BEFORE, SHA1, b"", (512, 512), (16, 32), (8704, 2)),
+    (AFTER, SHA1, b"", (512, 512), (16, 20), (8704, 2)),
+    (AFTER, SHA384, b"salt", (512, 512), (8, 48), (4608, 2)),
     (
-        CURRENT,
-        SHA512,
-        &[7; 256],
-        (1024, 512),
-        (8, 64),
-        (66_560, 3),
-    ),
-    (CURRENT, SHA224, b"salt", (512, 1024), (32, 32), (16_896, 2)),
-    (CURRENT, SHA1, b"", (512, 512), (16, 32), (8704, 2)),
-    (ORIGINAL, SHA1, b"", (512, 512), (16, 20), (8704, 2)),
-    (ORIGINAL, SHA384, b"salt", (512, 512), (8, 48), (4608, 2)),
-    (
-        FILE,
+        PADDED,
         SHA256,
         b"salt",
         (16_384, 16_384),
@@ -56,24 +49,24 @@ const SHAPES: [Row; 14] = [
         (147_357, 1),
     ),
     (
-        CURRENT,
+        BEFORE,
         SHA256,
         b"salt",
         (32_768, 512),
         (16, 32),
         (131_072, 1),
     ),
+    (AFTER, SHA512, b"salt", (32_768, 512), (8, 64), (163_739, 1)),
     (
-        ORIGINAL,
+        PADDED,
         SHA512,
-        b"salt",
-        (32_768, 512),
-        (8, 64),
-        (163_739, 1),
+        b"",
+        (32_768, 32_768),
+        (512, 64),
+        (163_839, 1),
     ),
-    (FILE, SHA512, b"", (32_768, 32_768), (512, 64), (163_839, 1)),
     (
-        FILE,
+        PADDED,
         SHA256,
         b"salt",
         (65_536, 65_536),
@@ -81,7 +74,7 @@ const SHAPES: [Row; 14] = [
         (196_507, 1),
     ),
     (
-        CURRENT,
+        BEFORE,
         SHA256,
         b"salt",
         (LARGEST, LARGEST),
@@ -93,7 +86,7 @@ const SHAPES: [Row; 14] = [
 /// Whether a tree is built as from plain lists and found to be that of its data.
 fn is_built(alloc: Global, case: &Case) -> Result<bool, Fail> {
     let mut store = Store::new(alloc, &case.plan)?;
-    let image = case.tree.on_device(alloc, case.shape.hash_block)?;
+    let expected = case.tree.on_device(alloc, case.shape.hash_block)?;
     let mut device = MemoryDevice::new(vec![in alloc; 0u8; case.shape.hash_block]?);
     let mut source = MemorySource::new(case.data.as_slice());
     let mut again = MemorySource::new(case.data.as_slice());
@@ -106,7 +99,7 @@ fn is_built(alloc: Global, case: &Case) -> Result<bool, Fail> {
         built == Ok(case.root)
             && verdict == Ok(())
             && source.rest().is_empty()
-            && device.bytes() == image.as_slice(),
+            && device.bytes() == expected.as_slice(),
     )
 }
 
@@ -135,31 +128,6 @@ fn trees_of_all_shapes_are_made(rt: HostRuntime) -> Result<(), Fail> {
     for row in &SHAPES {
         let made = is_made(rt.alloc(), row)?;
         assert!(rt; made, "at {row:?}");
-    }
-    Ok(())
-}
-
-/// The levels above this many of the largest data blocks, with hash blocks of a size; the length of their store; and
-/// whether a store that is made fits.
-fn store_numbers(alloc: Global, size: u32, blocks: u64) -> Result<(usize, usize, bool), Fail> {
-    let settings = TreeSettings::verity(SHA256, HashType::Current, &[], LARGEST, size)?;
-    let plan = Plan::for_blocks(&settings, blocks, 1)?;
-    let fits = Store::new(alloc, &plan)?.fits(&plan);
-    Ok((plan.levels(), plan.store_length(), fits))
-}
-
-#[test]
-fn the_longest_store_is_made(rt: HostRuntime) -> Result<(), Fail> {
-    let cases = [
-        (LARGEST, 17_000_000, (2, 2_097_152, true)),
-        (512, 17_000_000_000_000, (11, 530_432, true)),
-    ];
-    for &(size, blocks, numbers) in &cases {
-        assert_eq!(rt;
-            store_numbers(rt.alloc(), size, blocks)?,
-            numbers,
-            "at {size}"
-        );
     }
     Ok(())
 }

@@ -1,14 +1,11 @@
 //! How a pass reads its data blocks: several together, each into a row of a window, or the only one into the store. A
 //! source can't see the window, but it sees what stands in the buffer that it is to fill: zeros at first, and later the
 //! data block that was read into the same row before.
-use crate::cases::{CURRENT, FILE, SHA256, SHA512};
+use crate::cases::{BEFORE, PADDED, SHA256, SHA512, settings};
 use std::alloc::Global;
 use std::test::Fail;
 use verity_hash::{Algorithm, Digest, SaltRule};
-use verity_tree::{
-    Failed, HashType, MemoryDevice, Plan, SettingFault, Source, Store, TreeSettings, build,
-    compare, root_only,
-};
+use verity_tree::{Failed, MemoryDevice, Plan, Source, Store, build, compare, root_only};
 
 /// How many reads a source records at most.
 const MOST_READS: usize = 32;
@@ -92,50 +89,42 @@ fn held_in(batches: &[usize]) -> Held {
 /// blocks are read together, one batch after another.
 type Batches = (SaltRule, Algorithm, (u32, u32), &'static [usize]);
 
-/// In windows of 32 and of 128 KiB eight data blocks are read together, and fewer where a hash block closes after fewer.
+/// In windows of 32 and of 128 KiB eight data blocks are read together, and fewer where a hash block closes after
+/// fewer.
 const SMALLER: [Batches; 14] = [
-    (CURRENT, SHA256, (512, 512), &[8, 8, 3]),
-    (CURRENT, SHA256, (512, 512), &[8, 8, 2]),
-    (CURRENT, SHA256, (512, 512), &[8, 5]),
-    (CURRENT, SHA256, (512, 4096), &[8, 8, 8, 4]),
-    (CURRENT, SHA512, (1024, 512), &[8, 8, 1]),
-    (CURRENT, SHA256, (2048, 512), &[8, 8, 8, 7]),
-    (CURRENT, SHA256, (4096, 512), &[8, 8, 8, 4]),
-    (CURRENT, SHA256, (4096, 4096), &[8, 8, 3]),
-    (CURRENT, SHA256, (4096, 4096), &[3]),
-    (FILE, SHA256, (128, 128), &[4, 4, 3]),
-    (FILE, SHA256, (256, 256), &[8, 8, 4]),
-    (FILE, SHA512, (512, 512), &[8, 8, 2]),
-    (CURRENT, SHA256, (8192, 512), &[8, 8, 3]),
-    (CURRENT, SHA512, (16_384, 512), &[8, 3]),
+    (BEFORE, SHA256, (512, 512), &[8, 8, 3]),
+    (BEFORE, SHA256, (512, 512), &[8, 8, 2]),
+    (BEFORE, SHA256, (512, 512), &[8, 5]),
+    (BEFORE, SHA256, (512, 4096), &[8, 8, 8, 4]),
+    (BEFORE, SHA512, (1024, 512), &[8, 8, 1]),
+    (BEFORE, SHA256, (2048, 512), &[8, 8, 8, 7]),
+    (BEFORE, SHA256, (4096, 512), &[8, 8, 8, 4]),
+    (BEFORE, SHA256, (4096, 4096), &[8, 8, 3]),
+    (BEFORE, SHA256, (4096, 4096), &[3]),
+    (PADDED, SHA256, (128, 128), &[4, 4, 3]),
+    (PADDED, SHA256, (256, 256), &[8, 8, 4]),
+    (PADDED, SHA512, (512, 512), &[8, 8, 2]),
+    (BEFORE, SHA256, (8192, 512), &[8, 8, 3]),
+    (BEFORE, SHA512, (16_384, 512), &[8, 3]),
 ];
 
 /// In a window of 512 KiB it is eight too, or as many of the largest data blocks as it has room for.
 const LARGEST: [Batches; 5] = [
-    (CURRENT, SHA256, (32_768, 512), &[8, 3]),
-    (CURRENT, SHA256, (65_536, 65_536), &[8]),
-    (CURRENT, SHA256, (131_072, 512), &[4, 1]),
-    (CURRENT, SHA256, (262_144, 512), &[2, 1]),
-    (CURRENT, SHA256, (524_288, 512), &[1, 1, 1]),
+    (BEFORE, SHA256, (32_768, 512), &[8, 3]),
+    (BEFORE, SHA256, (65_536, 65_536), &[8]),
+    (BEFORE, SHA256, (131_072, 512), &[4, 1]),
+    (BEFORE, SHA256, (262_144, 512), &[2, 1]),
+    (BEFORE, SHA256, (524_288, 512), &[1, 1, 1]),
 ];
 
 /// It is two if a hash block has no more slots, or there are no more data blocks. The only one of all is read into the
 /// store.
 const FEWEST: [Batches; 4] = [
-    (FILE, SHA256, (64, 64), &[2, 2, 2, 1]),
-    (FILE, SHA512, (128, 128), &[2, 2, 1]),
-    (CURRENT, SHA256, (4096, 4096), &[2]),
-    (CURRENT, SHA256, (512, 512), &[1]),
+    (PADDED, SHA256, (64, 64), &[2, 2, 2, 1]),
+    (PADDED, SHA512, (128, 128), &[2, 2, 1]),
+    (BEFORE, SHA256, (4096, 4096), &[2]),
+    (BEFORE, SHA256, (512, 512), &[1]),
 ];
-
-/// The settings of a row, without a salt.
-fn settings_of(row: &Batches) -> Result<TreeSettings, SettingFault> {
-    let (rule, algorithm, (data_block, hash_block), _) = *row;
-    match rule {
-        SaltRule::PaddedBefore => TreeSettings::fsverity(algorithm, &[], hash_block),
-        _ => TreeSettings::verity(algorithm, HashType::Current, &[], data_block, hash_block),
-    }
-}
 
 /// A pass that writes a tree, one that makes the root hash alone, and one that compares the tree: whether they agree,
 /// and what stood in the buffers of each.
@@ -152,10 +141,8 @@ fn passes(alloc: Global, plan: &Plan) -> Result<Passes, Fail> {
         Watcher::new(plan.data_block()),
         Watcher::new(plan.data_block()),
     ];
-    let root: Digest = match build(plan, &mut store, &mut sources[0], &mut device) {
-        Ok(root) => root,
-        Err(_) => return Err("a root hash".into()),
-    };
+    let made = build(plan, &mut store, &mut sources[0], &mut device);
+    let root: Digest = made.map_err(|_| "a root hash")?;
     let alone = root_only(plan, &mut store, &mut sources[1]);
     let verdict = compare(plan, &mut store, &mut sources[2], &mut device, &root);
     let [built, rooted, compared] = &sources;
@@ -167,41 +154,42 @@ fn passes(alloc: Global, plan: &Plan) -> Result<Passes, Fail> {
     Ok((alone == Ok(root) && verdict == Ok(()), read))
 }
 
-/// Whether each pass over the data blocks of a row reads them in its batches, and they agree.
-fn is_read(alloc: Global, row: &Batches) -> Result<bool, Fail> {
-    let batches = row.3;
+/// Whether each pass over a case's data blocks reads them in its batches, and they agree.
+fn is_read(alloc: Global, case: &Batches) -> Result<bool, Fail> {
+    let (rule, algorithm, sizes, batches) = *case;
     let mut blocks = 0_usize;
     for &count in batches {
         blocks = blocks.saturating_add(count);
     }
-    let plan = Plan::for_blocks(&settings_of(row)?, blocks as u64, 0)?;
+    let settings = settings(rule, algorithm, &[], sizes)?;
+    let plan = Plan::for_blocks(&settings, blocks as u64, 0)?;
     let expected = (held_in(batches), blocks);
     Ok(passes(alloc, &plan)? == (true, [expected; 3]))
 }
 
 #[test]
 fn data_blocks_are_read_together_in_windows(rt: HostRuntime) -> Result<(), Fail> {
-    for row in &SMALLER {
-        let read = is_read(rt.alloc(), row)?;
-        assert!(rt; read, "at {row:?}");
+    for case in &SMALLER {
+        let read = is_read(rt.alloc(), case)?;
+        assert!(rt; read, "at {case:?}");
     }
     Ok(())
 }
 
 #[test]
 fn large_data_blocks_are_read_together_in_windows(rt: HostRuntime) -> Result<(), Fail> {
-    for row in &LARGEST {
-        let read = is_read(rt.alloc(), row)?;
-        assert!(rt; read, "at {row:?}");
+    for case in &LARGEST {
+        let read = is_read(rt.alloc(), case)?;
+        assert!(rt; read, "at {case:?}");
     }
     Ok(())
 }
 
 #[test]
 fn few_data_blocks_are_read_together_in_windows(rt: HostRuntime) -> Result<(), Fail> {
-    for row in &FEWEST {
-        let read = is_read(rt.alloc(), row)?;
-        assert!(rt; read, "at {row:?}");
+    for case in &FEWEST {
+        let read = is_read(rt.alloc(), case)?;
+        assert!(rt; read, "at {case:?}");
     }
     Ok(())
 }

@@ -1,26 +1,29 @@
 -- What a builder has answered is what the library for C says of it.
-use Rattle.std.proofs.Common.{◌≡◌, ◌<◌, ◌≤◌, ◌+◌, ℕ, Bool, true, false, List, ◌++◌, length, replicate, take, Option}
-use Rattle.std.proofs.Common.{Some, None, Result, Ok, IfOk, if◌then◌else◌, arith, ap, inl, inr, refl, subst, sym, ◌∙◌}
+use Rattle.std.proofs.Common.{◌≡◌, ◌≢◌, ◌<◌, ◌≤◌, ◌+◌, ℕ, Bool, true, false, List, [], ◌∷◌, ◌++◌, length, replicate}
+use Rattle.std.proofs.Common.{take, Option, Some, None, Result, Ok, IfOk, if◌then◌else◌, arith, ap, inl, inr, refl}
+use Rattle.std.proofs.Common.{subst, sym, ◌∙◌}
 use Rattle.std.proofs.lemmas.Bool.Decides.{nat_tests}
 use Rattle.std.proofs.lemmas.List.{length-replicate}
 use Rattle.std.specs.Prelude.{◌==◌, MatchOption}
 use Rattle.verity_format.specs.Descriptors.{digest_of_file}
-use Rattle.verity_hash.specs.declared.algorithm.Algorithm.{Algorithm as HashFunction}
 use Rattle.verity_plan.specs.Plans.{PlanFields}
 use Rattle.verity_plan.specs.PlanCounts.{level_count_of}
 use Rattle.verity_plan.proofs.CountLemmas.{mul_le}
 use Rattle.verity_plan.specs.Settings.{TreeSettingsFields, digest_len}
 use Rattle.verity_tree.proofs.OpenBlockLemmas.{length-hash}
-use Rattle.verity_tree.specs.Feeding.{Feeds, IsFed, IsFedFile, IsHandedOut, Takes}
+use Rattle.verity_tree.specs.ClosingOrder.{block_index}
+use Rattle.verity_tree.specs.Feeding.{Feeds, IsFed, IsFedFile, IsHandedOut, Takes, given}
 use Rattle.verity_tree.specs.Levels.{root, root_of_file}
 use Rattle.verity_tree.specs.declared.file_builder.FileBuilder.{FileBuilder}
 use Rattle.verity_tree.specs.declared.tree_builder.Fed.{Fed}
 use Rattle.verity_tree.specs.declared.tree_builder.HashBlock.{HashBlock}
 use Rattle.verity_tree.specs.declared.tree_builder.TreeBuilder.{TreeBuilder}
+use Rattle.verity_c.proofs.ParameterLemmas.{one_value, tree_of_sized}
 use Rattle.verity_c.specs.Answers.{file_digest_in}
-use Rattle.verity_c.specs.Building.{HandsOut, IsFedFileTo, IsFedTo, StandsLast, TakesPiece, builder_of, fed_by, fed_of}
-use Rattle.verity_c.specs.Building.{file_builder_of}
-use Rattle.verity_c.specs.Parameters.{algorithm_of, fsverity_tree_by, fsverity_tree_of, plan_of}
+use Rattle.verity_c.specs.Building.{HandsOut, IsFedFileTo, IsFedTo, StandsLast, TakesPiece, block_of, builder_of}
+use Rattle.verity_c.specs.Building.{fed_by, fed_of, file_builder_of, given_by}
+use Rattle.verity_c.specs.BuildingLoop.{hash_block_by}
+use Rattle.verity_c.specs.Parameters.{fsverity_tree_of, plan_of}
 use Rattle.verity_c.specs.declared.build.VerityBuild.{VerityBuild}
 use Rattle.verity_c.specs.declared.build.VerityFed.{VerityFed}
 use Rattle.verity_c.specs.declared.fault.Fault.{Fault}
@@ -34,10 +37,6 @@ builder_of-parts p b is = ap (λ (q : PlanFields). builder_of q (record { fed = 
 
 pub file_builder_of-parts : (s : TreeSettingsFields) (b : FileBuilder) → b.settings ≡ s → b ≡ file_builder_of s b.fed
 file_builder_of-parts s b is = ap (λ (t : TreeSettingsFields). file_builder_of t b.fed) is
-
--- a result has one value
-one_value : {A : Type 0} → (r : Result A Fault) (x y : A) → r ≡ Ok x → r ≡ Ok y → x ≡ y
-one_value r x y is also = cc
 
 -- what was fed to the tree of parameters was fed to the builder of the plan that they make, and the other way round
 pub IsFedTo-at : (params : VerityParams) (p : PlanFields) (build : VerityBuild) (memory fed : List ℕ)
@@ -56,24 +55,19 @@ IsFedTo-of params p b memory fed made is h = record {
   is_fed = subst (λ (a : TreeBuilder). IsFed a memory fed) (builder_of-parts p b is) h;
 }
 
-pub IsFedFileTo-at : (params : FsverityParams) (s : TreeSettingsFields) (memory fed : List ℕ) → fsverity_tree_of params ≡ Ok s
-    → IsFedFileTo params memory fed → IsFedFile (file_builder_of s params.size) memory fed
+pub IsFedFileTo-at : (params : FsverityParams) (s : TreeSettingsFields) (memory fed : List ℕ)
+    → fsverity_tree_of params ≡ Ok s → IsFedFileTo params memory fed
+    → IsFedFile (file_builder_of s params.size) memory fed
 IsFedFileTo-at params s memory fed made h =
     let same : h.tree ≡ s = one_value (fsverity_tree_of params) h.tree s h.made made in
     subst (λ (t : TreeSettingsFields). IsFedFile (file_builder_of t params.size) memory fed) same h.is_fed
-
--- a file's settings don't go by its size
-pub tree-sized : (function : Option HashFunction) (params : FsverityParams) (size : ℕ)
-    → fsverity_tree_by function (record params { size = size }) ≡ fsverity_tree_by function params
-tree-sized None params size = refl
-tree-sized (Some function) params size = refl
 
 pub IsFedFileTo-of : (params : FsverityParams) (s : TreeSettingsFields) (b : FileBuilder) (memory fed : List ℕ)
     → fsverity_tree_of params ≡ Ok s → b.settings ≡ s → IsFedFile b memory fed
     → IsFedFileTo (record params { size = b.fed }) memory fed
 IsFedFileTo-of params s b memory fed made is h = record {
   tree = s;
-  made = tree-sized (algorithm_of params.hash_algorithm) params b.fed ∙ made;
+  made = tree_of_sized params b.fed ∙ made;
   is_fed = subst (λ (a : FileBuilder). IsFedFile a memory fed) (file_builder_of-parts s b is) h;
 }
 
@@ -125,6 +119,27 @@ HandsOut-by p before after fed more memory taken (Some block) some h =
     let stands : (p.settings.hash_block == 0) ≡ false = grind (arith, nat_tests, some) in
     record { order = rw stands h.order; block = λ _. h.stands block refl }
 
+-- the hash block that a struct hands out, in a list of its own and by itself
+pub given-by : (fed : VerityFed) → given (hash_block_by fed) ≡ given_by fed
+given-by fed = by_test (fed.block_length == 0)
+  where
+    by_test : (none : Bool) → given (if none then None else Some (block_of fed))
+        ≡ (if none then [] else block_index fed.block_level fed.block_index ∷ [])
+    by_test true = refl
+    by_test false = refl
+
+pub handed-by : (fed : VerityFed) (holds : HashBlock → Type 0) → (fed.block_length ≢ 0 → holds (block_of fed))
+    → (block : HashBlock) → hash_block_by fed ≡ Some block → holds block
+handed-by fed holds stands block is = by_test (fed.block_length == 0) refl is
+  where
+    by_test : (none : Bool) → (fed.block_length == 0) ≡ none
+        → (if none then None else Some (block_of fed)) ≡ Some block → holds block
+    by_test true test e = absurd cc
+    by_test false test e =
+        let some : 0 < fed.block_length = grind (arith, nat_tests, test) in
+        let same : block_of fed ≡ block = cc in
+        subst holds same (stands (λ zero. absurd (omega (arith, some, zero))))
+
 -- what was taken, in the numbers of the struct
 fed_by-taken : (size taken : ℕ) (closed : Option HashBlock) → (fed_by size taken closed).taken ≡ taken
 fed_by-taken size taken None = refl
@@ -147,7 +162,8 @@ TakesPiece-at params p before after count answer fed made is some h =
 
 pub HandsOut-at : (params : VerityParams) (p : PlanFields) (before : VerityBuild) (after : TreeBuilder)
     (bytes piece memory : List ℕ) (answer : Fed) (fed : VerityFed) → plan_of params ≡ Ok p → fed ≡ fed_of p answer
-    → 0 < p.settings.hash_block → Feeds (builder_of p before) after bytes (take answer.taken piece) memory answer.hash_block
+    → 0 < p.settings.hash_block
+    → Feeds (builder_of p before) after bytes (take answer.taken piece) memory answer.hash_block
     → IfOk (plan_of params)
     (λ q. HandsOut q before (record { fed = after.fed; closed = after.closed }) (bytes ++ take fed.taken piece) memory
     fed)
@@ -191,7 +207,8 @@ pub length-root : (s : TreeSettingsFields) (blocks : List (List ℕ)) → length
 unfolding root
 length-root s blocks = length-hash s _
 
-pub length-root_of_file : (s : TreeSettingsFields) (bytes : List ℕ) → length (root_of_file s (length bytes) bytes) ≡ digest_len s
+pub length-root_of_file : (s : TreeSettingsFields) (bytes : List ℕ)
+    → length (root_of_file s (length bytes) bytes) ≡ digest_len s
 length-root_of_file s bytes = by_test (length bytes == 0) _ (length-root s _)
   where
     by_test : (none : Bool) (made : List ℕ) → length made ≡ digest_len s
@@ -200,7 +217,8 @@ length-root_of_file s bytes = by_test (length bytes == 0) _ (length-root s _)
     by_test false made long = long
 
 -- a file digest, when there is room for just it
-pub file_digest_in-ok : (made : Result TreeSettingsFields Fault) (s : TreeSettingsFields) (size : ℕ) (hash : List ℕ) (room : ℕ)
+pub file_digest_in-ok : (made : Result TreeSettingsFields Fault) (s : TreeSettingsFields) (size : ℕ) (hash : List ℕ)
+    (room : ℕ)
     → made ≡ Ok s → length hash ≡ digest_len s → room ≡ digest_len s
     → file_digest_in made size hash room ≡ Ok (digest_of_file (record { tree = s; size = size; root = hash }))
 file_digest_in-ok made s size hash room is long fits =
@@ -209,14 +227,15 @@ file_digest_in-ok made s size hash room is long fits =
     rw (is, is_long, is_room) refl
 
 -- the root hash of a file's bytes, when there is room for just it
-pub file_root-put : (params : FsverityParams) (s : TreeSettingsFields) (memory fed answer before after : List ℕ)
+pub file_root-set : (params : FsverityParams) (s : TreeSettingsFields) (memory fed answer before after : List ℕ)
     → fsverity_tree_of params ≡ Ok s → IsFedFileTo params memory fed
-    → ((bytes : List ℕ) → IsFedFile (file_builder_of s params.size) memory bytes → answer ≡ root_of_file s (length bytes) bytes)
+    → ((bytes : List ℕ) → IsFedFile (file_builder_of s params.size) memory bytes
+    → answer ≡ root_of_file s (length bytes) bytes)
     → length before ≡ digest_len s → (length answer ≡ length before → after ≡ answer)
     → after ≡ root_of_file s (length fed) fed
-file_root-put params s memory fed answer before after made h answers room put =
+file_root-set params s memory fed answer before after made h answers room copied =
     let is : answer ≡ root_of_file s (length fed) fed = answers fed (IsFedFileTo-at params s memory fed made h) in
-    put (ap length is ∙ length-root_of_file s fed ∙ sym room) ∙ is
+    copied (ap length is ∙ length-root_of_file s fed ∙ sym room) ∙ is
 
 -- and its size
 pub file_size : (params : FsverityParams) (memory fed : List ℕ) → IsFedFileTo params memory fed

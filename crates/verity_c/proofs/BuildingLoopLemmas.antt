@@ -1,7 +1,6 @@
 -- Calls of verity_build_feed build the tree, and so does the loop of verity.h.
-use Rattle.std.proofs.Common.{◌≡◌, ◌≢◌, ℕ, ◌<◌, Bool, true, false, List, [], ◌∷◌, ◌++◌, length, map, take, drop}
-use Rattle.std.proofs.Common.{Some, None, Result, Ok, Err, IfOk, if◌then◌else◌, arith, ap, refl, sym, subst, ◌∙◌}
-use Rattle.std.proofs.Common.{append_assoc, inl, inr}
+use Rattle.std.proofs.Common.{◌≡◌, ℕ, Bool, true, false, List, [], ◌∷◌, ◌++◌, length, map, take, drop, Result, Ok, Err}
+use Rattle.std.proofs.Common.{if◌then◌else◌, arith, ap, refl, sym, subst, ◌∙◌, append_assoc, inl, inr}
 use Rattle.std.proofs.lemmas.Bool.Decides.{nat_tests}
 use Rattle.std.proofs.lemmas.Grind.{flat_map-append}
 use Rattle.std.proofs.lemmas.List.{append-nil, take-append-drop, take_all}
@@ -13,53 +12,23 @@ use Rattle.verity_plan.specs.PlanCounts.{level_count_of}
 use Rattle.verity_plan.specs.Settings.{digest_len}
 use Rattle.verity_tree.proofs.HandedOutLemmas.{calls-build}
 use Rattle.verity_tree.proofs.StandingLemmas.{put-holds}
-use Rattle.verity_tree.specs.ClosingOrder.{BlockIndex, block_index, handed_out}
-use Rattle.verity_tree.specs.Feeding.{BuildsInCalls, FeedCall, Feeds, FeedsCalls, IsFed, IsHandedOut, given}
+use Rattle.verity_tree.specs.ClosingOrder.{BlockIndex, handed_out}
+use Rattle.verity_tree.specs.Feeding.{BuildsInCalls, FeedCall, Feeds, FeedsCalls, IsFed, IsHandedOut}
 use Rattle.verity_tree.specs.Levels.{data_blocks, root}
 use Rattle.verity_tree.specs.TreeOnDevice.{HoldsTree}
-use Rattle.verity_tree.specs.declared.tree_builder.HashBlock.{HashBlock}
-use Rattle.verity_c.proofs.BuildingLemmas.{IsFedTo-at}
-use Rattle.verity_c.proofs.MadeLemmas.{plan-made}
-use Rattle.verity_c.proofs.TrustedBlockLemmas.{fault-not_done}
-use Rattle.verity_c.specs.Building.{HandsOut, IsFedTo, TakesPiece, block_of, builder_of, given_by, memory_length_of}
-use Rattle.verity_c.specs.Building.{with_all_fed, with_memory}
+use Rattle.verity_c.proofs.BuildingLemmas.{IsFedTo-at, given-by, handed-by}
+use Rattle.verity_c.proofs.ParameterLemmas.{of_plan, plan-made}
+use Rattle.verity_c.proofs.StatusLemmas.{fault-not_done}
+use Rattle.verity_c.specs.Building.{HandsOut, IsFedTo, TakesPiece, builder_of, memory_length_of, with_all_fed}
+use Rattle.verity_c.specs.Building.{with_memory}
 use Rattle.verity_c.specs.BuildingLoop.{AreFedBy, BuildsTree, FedPiece, FeedingCall, FeedsPiece, FeedsPieces, IsBegun}
-use Rattle.verity_c.specs.BuildingLoop.{IsFedBy}
-use Rattle.verity_c.specs.BuildingLoop.{Kept, builder_call, bytes_of, calls_of, hash_block_by, taken_by}
+use Rattle.verity_c.specs.BuildingLoop.{IsFedBy, Kept, builder_call, bytes_of, calls_of, hash_block_by, taken_by}
 use Rattle.verity_c.specs.Parameters.{plan_of}
 use Rattle.verity_c.specs.Statuses.{done, status_of}
 use Rattle.verity_c.specs.declared.build.VerityBuild.{VerityBuild}
-use Rattle.verity_c.specs.declared.build.VerityFed.{VerityFed}
 use Rattle.verity_c.specs.declared.fault.Fault.{Fault}
 use Rattle.verity_c.specs.declared.fault.Fault.TheVariants as fault
 use Rattle.verity_c.specs.declared.parameters.VerityParams.{VerityParams}
-
--- what holds of a plan that is made
-pub of_plan : (made : Result PlanFields Fault) (p : PlanFields) (holds : PlanFields → Type 0) → made ≡ Ok p
-    → IfOk made holds
-    → holds p
-of_plan made p holds is fact = rw is at fact
-
--- the hash block that a struct hands out, in a list of its own and by itself
-pub given-by : (fed : VerityFed) → given (hash_block_by fed) ≡ given_by fed
-given-by fed = by_test (fed.block_length == 0)
-  where
-    by_test : (none : Bool) → given (if none then None else Some (block_of fed))
-        ≡ (if none then [] else block_index fed.block_level fed.block_index ∷ [])
-    by_test true = refl
-    by_test false = refl
-
-pub handed-by : (fed : VerityFed) (holds : HashBlock → Type 0) → (fed.block_length ≢ 0 → holds (block_of fed))
-    → (block : HashBlock) → hash_block_by fed ≡ Some block → holds block
-handed-by fed holds stands block is = by_test (fed.block_length == 0) refl is
-  where
-    by_test : (none : Bool) → (fed.block_length == 0) ≡ none
-        → (if none then None else Some (block_of fed)) ≡ Some block → holds block
-    by_test true test e = absurd cc
-    by_test false test e =
-        let some : 0 < fed.block_length = grind (arith, nat_tests, test) in
-        let same : block_of fed ≡ block = cc in
-        subst holds same (stands (λ zero. absurd (omega (arith, some, zero))))
 
 -- a call is one of the builder
 feeds-call : (params : VerityParams) (p : PlanFields) (before : Kept) (call : FeedingCall) (fed : List ℕ)

@@ -1,6 +1,6 @@
 -- What a builder of a file's tree has answered is what the library for C says of it.
 use Rattle.std.proofs.Common.{◌≡◌, ◌<◌, ◌≤◌, ◌+◌, ℕ, true, false, List, ◌++◌, take, Option, Some, None, Result, Ok, Err}
-use Rattle.std.proofs.Common.{IfOk, arith, ap, inl, inr, of_z, refl, subst, sym, to_z, w32, ◌∙◌}
+use Rattle.std.proofs.Common.{IfOk, arith, ap, inl, inr, refl, subst, sym, ◌∙◌}
 use Rattle.std.proofs.lemmas.Bool.Decides.{nat_tests}
 use Rattle.std.specs.Prelude.{◌==◌}
 use Rattle.verity_plan.proofs.CountLemmas.{mul_le}
@@ -11,29 +11,21 @@ use Rattle.verity_tree.specs.declared.feed_fault.FeedFault.{FeedFault}
 use Rattle.verity_tree.specs.declared.file_tree_builder.FileFed.{FileFed}
 use Rattle.verity_tree.specs.declared.file_tree_builder.FileHashBlock.{FileHashBlock}
 use Rattle.verity_tree.specs.declared.file_tree_builder.FileTreeBuilder.{FileTreeBuilder}
-use Rattle.verity_c.specs.FileTrees.{HandsOutOfFile, IsFedTreeTo, TakesFilePiece, fed_by_file, fed_of_file, tree_builder_of}
-use Rattle.verity_c.specs.FileTrees.{with_last_block, with_tree_end}
-use Rattle.verity_c.specs.Parameters.{algorithm_of, fsverity_tree_of}
-use Rattle.verity_c.specs.Statuses.{code_of, fault_of_feed}
+use Rattle.verity_c.specs.FileTrees.{HandsOutOfFile, IsFedTreeTo, TakesFilePiece, fed_by_file, fed_of_file}
+use Rattle.verity_c.specs.FileTrees.{tree_builder_of, with_last_block, with_tree_end}
+use Rattle.verity_c.specs.Parameters.{fsverity_tree_of}
+use Rattle.verity_c.specs.Statuses.{fault_of_feed}
 use Rattle.verity_c.specs.declared.build.VerityBuild.{VerityBuild}
 use Rattle.verity_c.specs.declared.build.VerityFed.{VerityFed}
 use Rattle.verity_c.specs.declared.fault.Fault.{Fault}
-use Rattle.verity_c.specs.declared.fault.Fault.TheVariants.{Differs, Index, Level, Length, Root, Algorithm, HashType}
-use Rattle.verity_c.specs.declared.fault.Fault.TheVariants.{DataBlockSize, HashBlockSize, SaltSize, HashOffset, NoData}
-use Rattle.verity_c.specs.declared.fault.Fault.TheVariants.{TooLarge, Short, Signature, Version, TooLong, TooShort, Waiting}
-use Rattle.verity_c.specs.declared.fault.Fault.TheVariants.{Part}
 use Rattle.verity_c.specs.declared.parameters.FsverityParams.{FsverityParams}
-use Rattle.verity_c.proofs.BuildingLemmas.{tree-sized}
+use Rattle.verity_c.proofs.ParameterLemmas.{one_value}
 
 -- a builder is that of its settings and its two numbers
 tree_builder_of-parts : (s : TreeSettingsFields) (b : FileTreeBuilder) → b.settings ≡ s
     → b ≡ tree_builder_of s (record { fed = b.fed; closed = b.closed })
 tree_builder_of-parts s b is =
     ap (λ (t : TreeSettingsFields). tree_builder_of t (record { fed = b.fed; closed = b.closed })) is
-
--- a result has one value
-one_value : {A : Type 0} → (r : Result A Fault) (x y : A) → r ≡ Ok x → r ≡ Ok y → x ≡ y
-one_value r x y is also = cc
 
 -- what was fed to the tree of parameters was fed to the builder of the settings that they make, and the other way round
 pub IsFedTreeTo-at : (params : FsverityParams) (s : TreeSettingsFields) (build : VerityBuild) (memory fed : List ℕ)
@@ -51,11 +43,6 @@ IsFedTreeTo-of params s b memory fed made is h = record {
   made = made;
   is_fed = subst (λ (a : FileTreeBuilder). IsFedFileTree a memory fed) (tree_builder_of-parts s b is) h;
 }
-
--- the settings of parameters with another size
-pub tree_of_sized : (params : FsverityParams) (size : ℕ)
-    → fsverity_tree_of (record params { size = size }) ≡ fsverity_tree_of params
-tree_of_sized params size = tree-sized (algorithm_of params.hash_algorithm) params size
 
 -- how much of a piece was taken, in the numbers of the struct
 TakesFilePiece-by : (s : TreeSettingsFields) (before : VerityBuild) (after : FileTreeBuilder) (count taken : ℕ)
@@ -120,9 +107,9 @@ taken_of_file s answer fed is =
     ap (λ (f : VerityFed). f.taken) is ∙ fed_by_file-taken s.hash_block answer.taken answer.hash_block
 
 -- both, of the settings that parameters make
-pub TakesFilePiece-at : (params : FsverityParams) (s : TreeSettingsFields) (before : VerityBuild) (after : FileTreeBuilder)
-    (count : ℕ) (answer : FileFed) (fed : VerityFed) → fsverity_tree_of params ≡ Ok s → fed ≡ fed_of_file s answer
-    → 0 < s.hash_block → TakesOfFile (tree_builder_of s before) after count answer
+pub TakesFilePiece-at : (params : FsverityParams) (s : TreeSettingsFields) (before : VerityBuild)
+    (after : FileTreeBuilder) (count : ℕ) (answer : FileFed) (fed : VerityFed) → fsverity_tree_of params ≡ Ok s
+    → fed ≡ fed_of_file s answer → 0 < s.hash_block → TakesOfFile (tree_builder_of s before) after count answer
     → IfOk (fsverity_tree_of params)
     (λ t. TakesFilePiece t before (record { fed = after.fed; closed = after.closed }) count fed)
 TakesFilePiece-at params s before after count answer fed made is some h =
@@ -131,9 +118,9 @@ TakesFilePiece-at params s before after count answer fed made is some h =
     (subst (λ (f : VerityFed). TakesFilePiece s before last count f) (sym is)
     (TakesFilePiece-by s before after count answer.taken answer.hash_block some h))
 
-pub HandsOutOfFile-at : (params : FsverityParams) (s : TreeSettingsFields) (before : VerityBuild) (after : FileTreeBuilder)
-    (bytes piece memory : List ℕ) (answer : FileFed) (fed : VerityFed) → fsverity_tree_of params ≡ Ok s
-    → fed ≡ fed_of_file s answer → 0 < s.hash_block
+pub HandsOutOfFile-at : (params : FsverityParams) (s : TreeSettingsFields) (before : VerityBuild)
+    (after : FileTreeBuilder) (bytes piece memory : List ℕ) (answer : FileFed) (fed : VerityFed)
+    → fsverity_tree_of params ≡ Ok s → fed ≡ fed_of_file s answer → 0 < s.hash_block
     → FeedsFile (tree_builder_of s before) after bytes (take answer.taken piece) memory answer.hash_block
     → IfOk (fsverity_tree_of params) (λ t. HandsOutOfFile t before (record { fed = after.fed; closed = after.closed })
     (bytes ++ take fed.taken piece) memory fed)
@@ -146,7 +133,8 @@ HandsOutOfFile-at params s before after bytes piece memory answer fed made is so
     let there : HandsOutOfFile s before last (bytes ++ take numbers.taken piece) memory numbers =
     subst (λ (n : ℕ). HandsOutOfFile s before last (bytes ++ take n piece) memory numbers) (sym taken) here in
     let all : List ℕ = bytes ++ take fed.taken piece in
-    subst (λ (r : Result TreeSettingsFields Fault). IfOk r (λ t. HandsOutOfFile t before last all memory fed)) (sym made)
+    subst (λ (r : Result TreeSettingsFields Fault). IfOk r (λ t. HandsOutOfFile t before last all memory fed))
+    (sym made)
     (subst (λ (f : VerityFed). HandsOutOfFile s before last (bytes ++ take f.taken piece) memory f) (sym is) there)
 
 -- settings whose tree has the level, or the fault of the builder
@@ -173,26 +161,3 @@ with_tree_end-ok made s build root_room digest_room is root_fits digest_fits non
     let is_root : (root_room == digest_len s) ≡ true = grind (arith, nat_tests, root_fits) in
     let is_digest : (digest_room == digest_len s) ≡ true = grind (arith, nat_tests, digest_fits) in
     rw (is, is_root, is_digest, none) refl
-
--- the status of a fault fits the number that is answered
-pub code-fits : (fault : Fault) → to_z w32 (of_z w32 (code_of fault)) ≡ code_of fault
-code-fits Differs = refl
-code-fits Index = refl
-code-fits Level = refl
-code-fits Length = refl
-code-fits Root = refl
-code-fits Algorithm = refl
-code-fits HashType = refl
-code-fits DataBlockSize = refl
-code-fits HashBlockSize = refl
-code-fits SaltSize = refl
-code-fits HashOffset = refl
-code-fits NoData = refl
-code-fits TooLarge = refl
-code-fits Short = refl
-code-fits Signature = refl
-code-fits Version = refl
-code-fits TooLong = refl
-code-fits TooShort = refl
-code-fits Waiting = refl
-code-fits Part = refl

@@ -1,18 +1,18 @@
 -- What the builder of a join has answered is what the library for C says of it.
-use Rattle.std.proofs.Common.{◌≡◌, ◌∙◌, ◌<◌, ◌≤◌, ◌+◌, ◌-◌, ◌^◌, ℕ, false, true, List, Option, Some, None, Result, Ok, Err}
-use Rattle.std.proofs.Common.{IfOk, if◌then◌else◌, arith, ap, inl, inr, refl, subst, sym}
+use Rattle.std.proofs.Common.{◌≡◌, ◌∙◌, ◌<◌, ◌≤◌, ◌+◌, ◌-◌, ◌^◌, ℕ, false, true, List, Option, Some, None, Result, Ok}
+use Rattle.std.proofs.Common.{Err, IfOk, if◌then◌else◌, arith, ap, inl, inr, refl, subst, sym}
 use Rattle.std.proofs.Math.Nat.{one-le-pow, zero-div, zero-mod}
 use Rattle.std.proofs.lemmas.Bool.Decides.{nat_tests}
 use Rattle.std.proofs.lemmas.Bool.{cases_lt}
 use Rattle.std.specs.Prelude.{◌==◌, ◌||◌, ◌*◌, ◌/◌, ◌%◌, MatchOption, nat_lt, not}
 use Rattle.verity_plan.specs.Plans.{IsPlan, PlanFields, start_byte_of}
-use Rattle.verity_plan.specs.PlanCounts.{level_count_of, size_under}
+use Rattle.verity_plan.specs.PlanCounts.{level_count_of, count_under}
 use Rattle.verity_plan.specs.Settings.{digest_len, fan}
 use Rattle.verity_plan.proofs.CountLemmas.{div_ceil-pos, mul_le}
-use Rattle.verity_plan.proofs.FitLemmas.{fan-pos}
+use Rattle.verity_plan.proofs.FanLemmas.{fan-some}
 use Rattle.verity_tree.proofs.DataBlockLemmas.{blocks-some}
 use Rattle.verity_tree.specs.Parts.{AreDigests, IsHandedOutOfJoin, IsJoined, IsPlacedOfJoin, Joins, TakesOfJoin}
-use Rattle.verity_tree.specs.Parts.{HasLastOfJoin, IsPlacedOfJoin, counts_none_closed, join_fault, part_fault}
+use Rattle.verity_tree.specs.Parts.{HasLastOfJoin, counts_none_closed, join_fault, part_fault}
 use Rattle.verity_tree.specs.declared.feed_fault.FeedFault.{FeedFault}
 use Rattle.verity_tree.specs.declared.join_builder.JoinBuilder.{JoinBuilder}
 use Rattle.verity_tree.specs.declared.part_builder.PartFault.{PartFault}
@@ -40,7 +40,7 @@ pub no-part_fault : (p : PlanFields) (level : ℕ) (fault : PartFault) → IsPla
     → part_fault p level 0 ≡ Some fault → ⊥
 no-part_fault p level fault planned low is =
     let some = div_ceil-pos p.blocks (fan p.settings ^ level)
-    (one-le-pow level (fan p.settings) (fan-pos p.settings planned.valid))
+    (one-le-pow level (fan p.settings) (fan-some p.settings))
     (blocks-some p planned) in
     grind (arith, nat_tests, some, low, is)
 
@@ -188,7 +188,7 @@ with_joined_file-ok p join root_room digest_room root_is digest_is none =
 
 -- what a struct names last, by the numbers of the hash block that its builder names
 last_of_join-placed : (p : PlanFields) (join : VerityJoin) (answer : Option HashBlock)
-    → join.taken ≤ size_under p join.level → join.level + join.closed ≤ level_count_of p
+    → join.taken ≤ count_under p join.level → join.level + join.closed ≤ level_count_of p
     → MatchOption answer (HasLastOfJoin (join_builder_of p join) → ⊥)
     (λ block. HasLastOfJoin (join_builder_of p join) × IsPlacedOfJoin (join_builder_of p join) block)
     → fed_by p.settings.hash_block 0 answer ≡ last_of_join p join
@@ -210,24 +210,25 @@ last_of_join-placed p join (Some block) few low named =
     let own : block.level - join.level ≡ join.closed - 1 = omega (arith, placed.level_is) in
     let at : block.at ≡ (join.closed - 1) * size = placed.at_is ∙ ap (λ (n : ℕ). n * size) own in
     let index : block.index ≡ last_index_of_join p join = placed.index_is in
-    let byte : block.byte ≡ start_byte_of p (join.level + join.closed - 1) (last_index_of_join p join) =
-    placed.byte_is ∙ ap (λ (l : ℕ). start_byte_of p l block.index) level
+    let start : block.start ≡ start_byte_of p (join.level + join.closed - 1) (last_index_of_join p join) =
+    placed.start_is ∙ ap (λ (l : ℕ). start_byte_of p l block.index) level
     ∙ ap (λ (j : ℕ). start_byte_of p (join.level + join.closed - 1) j) index in
-    rw (test, at, byte, index, level) refl
+    rw (test, at, start, index, level) refl
 
 -- the same of the plan that parameters make
 pub last_of_join-at : (plan : Result PlanFields Fault) (p : PlanFields) (join : VerityJoin) (b : JoinBuilder)
     (answer : Option HashBlock) (old fed : VerityFed) → with_parts plan join.level ≡ Ok p → b ≡ join_builder_of p join
     → fed ≡ fed_of p (record { taken = 0; hash_block = answer }) → join.level + join.closed ≤ level_count_of p
-    → join.taken ≤ size_under p join.level → counts_none_closed (join_builder_of p join) ≡ false
+    → join.taken ≤ count_under p join.level → counts_none_closed (join_builder_of p join) ≡ false
     → MatchOption answer (HasLastOfJoin b → ⊥) (λ block. HasLastOfJoin b × IsPlacedOfJoin b block)
     → fed ≡ value_or old (last_of_join_in (with_digests (with_parts plan join.level) join 0) join)
 last_of_join-at plan p join b answer old fed made says is low few apart named =
     let levels : nat_lt (level_count_of p) (join.level + join.closed) ≡ false = grind (arith, nat_tests, low) in
     let none : 0 / digest_len p.settings ≡ 0 = zero-div (digest_len p.settings) in
-    let more : nat_lt (size_under p join.level) (join.taken + 0 / digest_len p.settings) ≡ false =
+    let more : nat_lt (count_under p join.level) (join.taken + 0 / digest_len p.settings) ≡ false =
     rw none (grind (arith, nat_tests, few)) in
-    let whole : (0 % digest_len p.settings == 0) ≡ true = rw (zero-mod (digest_len p.settings)) (grind (arith, nat_tests)) in
+    let whole : (0 % digest_len p.settings == 0) ≡ true =
+    rw (zero-mod (digest_len p.settings)) (grind (arith, nat_tests)) in
     let taken : with_digests (Ok p) join 0 ≡ Ok p = rw (whole, levels, apart, more) refl in
     is
     ∙ last_of_join-placed p join answer few low

@@ -4,7 +4,7 @@ use Rattle.std.proofs.Math.Nat.{zero-div}
 use Rattle.verity_plan.specs.Plans.{HasBlock, IsPlan, PlanFields}
 use Rattle.verity_plan.specs.PlanCounts.{level_count_of}
 use Rattle.verity_plan.specs.Settings.{fan}
-use Rattle.verity_plan.proofs.FitLemmas.{fan-pos}
+use Rattle.verity_plan.proofs.FanLemmas.{fan-some}
 use Rattle.verity_plan.proofs.IndexLemmas.{HasBlock-above}
 use Rattle.verity_tree.proofs.DataBlockLemmas.{blocks-some}
 
@@ -12,4 +12,4 @@ use Rattle.verity_tree.proofs.DataBlockLemmas.{blocks-some}
 pub HasBlock-first : (p : PlanFields) (l : ℕ) → IsPlan p → l < level_count_of p → HasBlock p l 0
 HasBlock-first p l h low =
     subst (HasBlock p l) (zero-div (fan p.settings ^ (l + 1)))
-    (HasBlock-above p 0 l (fan-pos p.settings h.valid) (blocks-some p h) low)
+    (HasBlock-above p 0 l (fan-some p.settings) (blocks-some p h) low)

@@ -5,7 +5,7 @@ use Rattle.std.proofs.lemmas.Bool.{cases_lt}
 use Rattle.verity_plan.proofs.CountLemmas.{mul_le}
 use Rattle.verity_plan.specs.Plans.{PlanFields}
 use Rattle.verity_plan.specs.PlanCounts.{level_count_of}
-use Rattle.verity_c.proofs.BuildingLoopLemmas.{of_plan}
+use Rattle.verity_c.proofs.ParameterLemmas.{of_plan}
 use Rattle.verity_c.specs.Building.{TakesPiece}
 use Rattle.verity_c.specs.BuildingLoop.{FeedingCall, GoesOn, Kept}
 use Rattle.verity_c.specs.Parameters.{plan_of}

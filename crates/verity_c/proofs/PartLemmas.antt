@@ -1,6 +1,6 @@
 -- What the builder of a part has answered is what the library for C says of it.
-use Rattle.std.proofs.Common.{◌≡◌, ◌<◌, ◌≤◌, ◌+◌, ◌*◌, ℕ, false, List, ◌++◌, take, Option, Some, None, Result, Ok}
-use Rattle.std.proofs.Common.{IfOk, arith, ap, inl, inr, refl, subst, sym}
+use Rattle.std.proofs.Common.{◌≡◌, ◌<◌, ◌≤◌, ◌+◌, ◌*◌, ℕ, false, List, ◌++◌, take, Option, Some, None, Result, Ok, IfOk}
+use Rattle.std.proofs.Common.{arith, ap, inl, inr, refl, subst, sym}
 use Rattle.std.proofs.lemmas.Bool.Decides.{nat_tests}
 use Rattle.std.specs.Prelude.{◌==◌, MatchOption}
 use Rattle.verity_plan.specs.Plans.{PlanFields}

@@ -89,7 +89,7 @@ file_path-most s n valid within same =
       | inl large ↦ elim (cases_lt s.hash_block 524288) [
         | inl middle ↦
             let half : s.hash_block ≤ 262144 =
-            halved s.hash_block 18 (block_power _ s.hash_block valid.hash_size) (omega (arith, middle)) in
+            halved s.hash_block 18 (block_power _ s.hash_block valid.hash_block_size) (omega (arith, middle)) in
             let wide : 256 ≤ fan s = omega (arith, fan-wide s, large) in
             let few : n ≤ 281474976710656 =
             blocks-below n s.data_block 32768 281474976710656 within (omega (arith, large, same)) (omega arith) in
@@ -127,7 +127,7 @@ fan-largest s valid large =
       | inl less ↦
           absurd (omega (
             arith,
-            halved s.hash_block 18 (block_power _ s.hash_block valid.hash_size) (omega (arith, less)),
+            halved s.hash_block 18 (block_power _ s.hash_block valid.hash_block_size) (omega (arith, less)),
             large,
           ))
       | inr all ↦ all
@@ -156,7 +156,7 @@ memory-most s n valid within least =
         | inl largest ↦ elim (cases_lt s.data_block 2048) [
           | inl short ↦
               let half : s.data_block ≤ 1024 =
-              halved s.data_block 10 (block_power _ s.data_block valid.data_size) (omega (arith, short)) in
+              halved s.data_block 10 (block_power _ s.data_block valid.data_block_size) (omega (arith, short)) in
               omega (arith, path-most s n valid within least, window-eight s, half)
           | inr long ↦
               let few : n ≤ 4503599627370496 =

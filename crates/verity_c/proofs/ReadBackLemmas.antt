@@ -1,13 +1,12 @@
 -- What is read of a superblock that parameters write are these parameters.
 use Rattle.std.proofs.Common.{◌≡◌, ◌⊎◌, ℕ, ◌-◌, ◌≤◌, Bool, true, false, List, length, take, replicate, Option, Some}
-use Rattle.std.proofs.Common.{None}
-use Rattle.std.proofs.Common.{Result, Ok, if◌then◌else◌, arith, ap, refl, sym, subst, ◌∙◌, inl, inr}
+use Rattle.std.proofs.Common.{None, Result, Ok, if◌then◌else◌, arith, ap, refl, sym, subst, ◌∙◌, inl, inr}
 use Rattle.std.proofs.lemmas.Bool.{eqb-true}
 use Rattle.std.proofs.lemmas.Bool.Decides.{nat_tests}
 use Rattle.std.proofs.lemmas.List.{length-take-le, take_at}
 use Rattle.std.specs.Prelude.{◌==◌}
 use Rattle.verity_hash.specs.Hashing.{with_zeros}
-use Rattle.verity_hash.specs.declared.algorithm.Algorithm.{Algorithm as HashFunction}
+use Rattle.verity_hash.specs.declared.algorithm.Algorithm.{Algorithm}
 use Rattle.verity_hash.specs.declared.algorithm.Algorithm.TheVariants.{Sha1, Sha224, Sha256, Sha384, Sha512}
 use Rattle.verity_format.proofs.LawLemmas.{one-superblock, says-fault_none}
 use Rattle.verity_format.proofs.NameLemmas.{numbered-is}
@@ -19,8 +18,8 @@ use Rattle.verity_plan.specs.Plans.{PlanFields, multiple_of, offset_unit}
 use Rattle.verity_plan.specs.Settings.{TreeSettingsFields, rule_of}
 use Rattle.verity_plan.specs.declared.hash_type.HashType.{HashType}
 use Rattle.verity_tree.proofs.DataBlockLemmas.{blocks-some}
-use Rattle.verity_c.proofs.MadeLemmas.{AreMadeBy, MakesPlan, plan-made}
-use Rattle.verity_c.proofs.SuperblockLemmas.{settings_are, superblock_of-own}
+use Rattle.verity_c.proofs.ParameterLemmas.{AreMadeBy, MakesPlan, made-rule, plan-made, settings_are}
+use Rattle.verity_c.proofs.SuperblockLemmas.{superblock_of-own}
 use Rattle.verity_c.specs.Answers.{ReadsParameters, superblock_in}
 use Rattle.verity_c.specs.Parameters.{algorithm_of, number_of, parameters_of, plan_by, plan_if, plan_of, tree_of}
 use Rattle.verity_c.specs.ReadBack.{HasFields, IsReadBack, read_back}
@@ -28,24 +27,24 @@ use Rattle.verity_c.specs.declared.fault.Fault.{Fault}
 use Rattle.verity_c.specs.declared.parameters.VerityParams.{VerityParams}
 
 -- what a choice gives
-chosen : (test : Bool) (x : HashFunction) (rest : Option HashFunction) (y : HashFunction)
+chosen : (test : Bool) (x : Algorithm) (rest : Option Algorithm) (y : Algorithm)
     → (if test then Some x else rest) ≡ Some y → ((test ≡ true) × (x ≡ y)) ⊎ (rest ≡ Some y)
 chosen true x rest y e = inl (refl, cc)
 chosen false x rest y e = inr e
 
 -- the number of the hash function of a number is that number
-number_of-algorithm_of : (number : ℕ) (function : HashFunction) → algorithm_of number ≡ Some function
-    → number_of function ≡ number
-number_of-algorithm_of number function e =
-    elim (chosen (number == 1) Sha256 _ function e) [
+number_of-algorithm_of : (number : ℕ) (algorithm : Algorithm) → algorithm_of number ≡ Some algorithm
+    → number_of algorithm ≡ number
+number_of-algorithm_of number algorithm e =
+    elim (chosen (number == 1) Sha256 _ algorithm e) [
       | inl here ↦ ap number_of (sym here.1) ∙ sym (eqb-true number 1 here.0)
-      | inr e2 ↦ elim (chosen (number == 2) Sha512 _ function e2) [
+      | inr e2 ↦ elim (chosen (number == 2) Sha512 _ algorithm e2) [
         | inl here ↦ ap number_of (sym here.1) ∙ sym (eqb-true number 2 here.0)
-        | inr e3 ↦ elim (chosen (number == 3) Sha1 _ function e3) [
+        | inr e3 ↦ elim (chosen (number == 3) Sha1 _ algorithm e3) [
           | inl here ↦ ap number_of (sym here.1) ∙ sym (eqb-true number 3 here.0)
-          | inr e4 ↦ elim (chosen (number == 4) Sha224 _ function e4) [
+          | inr e4 ↦ elim (chosen (number == 4) Sha224 _ algorithm e4) [
             | inl here ↦ ap number_of (sym here.1) ∙ sym (eqb-true number 4 here.0)
-            | inr e5 ↦ elim (chosen (number == 5) Sha384 None function e5) [
+            | inr e5 ↦ elim (chosen (number == 5) Sha384 None algorithm e5) [
               | inl here ↦ ap number_of (sym here.1) ∙ sym (eqb-true number 5 here.0)
               | inr none ↦ absurd cc
             ]
@@ -55,10 +54,10 @@ number_of-algorithm_of number function e =
     ]
 
 -- the settings that are asked for
-asked : VerityParams → HashFunction → HashType → TreeSettingsFields
-asked params function of_type = record {
-  algorithm = function;
-  rule = rule_of of_type;
+asked : VerityParams → Algorithm → HashType → TreeSettingsFields
+asked params algorithm hash_type = record {
+  algorithm = algorithm;
+  rule = rule_of hash_type;
   salt = take params.salt_size params.salt;
   data_block = params.data_block_size;
   hash_block = params.hash_block_size;
@@ -73,15 +72,15 @@ length-counting params p fields made =
 
 -- the superblock that parameters write
 superblock_by : VerityParams → PlanFields → HashType → SuperblockFields
-superblock_by params p of_type =
-    record { hash_type = of_type; tree = p.settings; uuid = params.uuid; blocks = p.blocks }
+superblock_by params p hash_type =
+    record { hash_type = hash_type; tree = p.settings; uuid = params.uuid; blocks = p.blocks }
 
 superblock-valid : (params : VerityParams) (p : PlanFields) → HasFields params → (made : MakesPlan params p)
-    → IsValidSuperblock (superblock_by params p made.settings.of_type)
+    → IsValidSuperblock (superblock_by params p made.settings.hash_type)
 unfolding superblock_by
 superblock-valid params p fields made = record {
   tree = made.planned.valid;
-  of_type = ap (λ (s : TreeSettingsFields). s.rule) (settings_are _ p.settings made.settings.made);
+  of_type = made-rule params p.settings made.settings;
   uuid = fields.uuid;
   some = blocks-some p made.planned;
   within = made.planned.data_most;
@@ -90,26 +89,26 @@ superblock-valid params p fields made = record {
 superblock-written : (params : VerityParams) (p : PlanFields) → HasFields params → (made : MakesPlan params p)
     → plan_of params ≡ Ok p
     → superblock_in (plan_of params) params.uuid 512
-    ≡ Ok (superblock_bytes (superblock_by params p made.settings.of_type))
+    ≡ Ok (superblock_bytes (superblock_by params p made.settings.hash_type))
 unfolding superblock_by
 superblock-written params p fields made is =
-    let v = superblock_by params p made.settings.of_type in
+    let v = superblock_by params p made.settings.hash_type in
     rw (is, superblock_of-own v (superblock-valid params p fields made)) refl
 
 -- the parameters that it says
 parameters-back : (params : VerityParams) (p : PlanFields) (offset : ℕ) → HasFields params → (made : MakesPlan params p)
-    → parameters_of (superblock_by params p made.settings.of_type) offset ≡ read_back params offset
+    → parameters_of (superblock_by params p made.settings.hash_type) offset ≡ read_back params offset
 unfolding superblock_by asked
 parameters-back params p offset fields made =
     let by = made.settings in
-    let tree : p.settings ≡ asked params by.function by.of_type = settings_are _ p.settings by.made in
+    let tree : p.settings ≡ asked params by.algorithm by.hash_type = settings_are _ p.settings by.made in
     let with : TreeSettingsFields → ℕ → VerityParams =
-    λ s n. parameters_of (record { hash_type = by.of_type; tree = s; uuid = params.uuid; blocks = n }) offset in
+    λ s n. parameters_of (record { hash_type = by.hash_type; tree = s; uuid = params.uuid; blocks = n }) offset in
     ap (λ (s : TreeSettingsFields). with s p.blocks) tree
-    ∙ ap (with (asked params by.function by.of_type)) made.blocks
+    ∙ ap (with (asked params by.algorithm by.hash_type)) made.blocks
     ∙ rw (
-      number_of-algorithm_of params.hash_algorithm by.function by.numbered,
-      sym (numbered-is params.hash_type by.of_type by.typed),
+      number_of-algorithm_of params.hash_algorithm by.algorithm by.numbered,
+      sym (numbered-is params.hash_type by.hash_type by.typed),
       length-counting params p fields by,
     ) refl
 
@@ -118,7 +117,7 @@ pub read-back : (params : VerityParams) (p : PlanFields) → HasFields params �
     → (bytes : List ℕ) × IsReadBack params bytes
 read-back params p fields is =
     let made = plan-made params p is in
-    let v = superblock_by params p made.settings.of_type in
+    let v = superblock_by params p made.settings.hash_type in
     let valid = superblock-valid params p fields made in
     let bytes = superblock_bytes v in
     let said = text_says v valid in

@@ -5,7 +5,7 @@ use Rattle.std.proofs.lemmas.Bool.Decides.{nat_tests}
 use Rattle.std.proofs.lemmas.List.{drop-replicate, take_at}
 use Rattle.std.specs.Prelude.{◌-◌, ◌==◌, Some, Result, Ok, nat_le}
 use Rattle.verity_hash.specs.Hashing.{with_zeros}
-use Rattle.verity_hash.specs.declared.algorithm.Algorithm.{Algorithm as HashFunction}
+use Rattle.verity_hash.specs.declared.algorithm.Algorithm.{Algorithm}
 use Rattle.verity_hash.specs.declared.algorithm.Algorithm.TheVariants.{Sha256, Sha512, Sha1, Sha224, Sha384}
 use Rattle.verity_format.specs.Superblocks.{IsValidSuperblock, SuperblockFields}
 use Rattle.verity_format.proofs.NameLemmas.{numbered-back}
@@ -21,7 +21,7 @@ use Rattle.verity_plan.specs.declared.hash_type.HashType.TheVariants.{Original, 
 use Rattle.verity_c.specs.Parameters.{algorithm_of, number_of, parameters_of, plan_of, planned, tree_of}
 
 -- a hash function's number is its own
-algorithm_of-number_of : (function : HashFunction) → algorithm_of (number_of function) ≡ Some function
+algorithm_of-number_of : (algorithm : Algorithm) → algorithm_of (number_of algorithm) ≡ Some algorithm
 algorithm_of-number_of Sha256 = refl
 algorithm_of-number_of Sha512 = refl
 algorithm_of-number_of Sha1 = refl
@@ -46,13 +46,15 @@ with-rule tree rule is = ap (settings_with tree) is
 settings-of_parts : (tree : TreeSettingsFields) (hash_type : HashType) → IsValid tree → tree.rule ≡ rule_of hash_type
     → verity_settings tree.algorithm hash_type tree.salt tree.data_block tree.hash_block ≡ Ok tree
 settings-of_parts tree Original valid of_type =
-    verity_settings-ok tree.algorithm Original tree.salt tree.data_block tree.hash_block (rw of_type at valid.data_size)
-    (rw of_type at valid.hash_size)
+    verity_settings-ok tree.algorithm Original tree.salt tree.data_block tree.hash_block
+    (rw of_type at valid.data_block_size)
+    (rw of_type at valid.hash_block_size)
     (rw of_type at valid.salt_most)
     ∙ with-rule tree After (sym of_type)
 settings-of_parts tree Current valid of_type =
-    verity_settings-ok tree.algorithm Current tree.salt tree.data_block tree.hash_block (rw of_type at valid.data_size)
-    (rw of_type at valid.hash_size)
+    verity_settings-ok tree.algorithm Current tree.salt tree.data_block tree.hash_block
+    (rw of_type at valid.data_block_size)
+    (rw of_type at valid.hash_block_size)
     (rw of_type at valid.salt_most)
     ∙ with-rule tree Before (sym of_type)
 

@@ -1,22 +1,20 @@
 -- A block that is accepted by parameters and a root hash with a trusted file digest.
 use Rattle.std.proofs.Common.{◌≡◌, ◌⊎◌, ℕ, ◌*◌, ◌^◌, ◌<◌, ◌≤◌, Bool, true, false, List, [], get_or, length, take}
-use Rattle.std.proofs.Common.{Result}
-use Rattle.std.proofs.Common.{Ok, Err, if◌then◌else◌, arith, ap, refl, sym, subst, ◌∙◌, inl, inr}
+use Rattle.std.proofs.Common.{Result, Ok, Err, if◌then◌else◌, arith, ap, refl, sym, subst, ◌∙◌, inl, inr}
 use Rattle.std.proofs.lemmas.Bool.{eqb-true}
 use Rattle.std.proofs.lemmas.Bool.Decides.{nat_tests}
 use Rattle.std.proofs.lemmas.List.{take_all}
 use Rattle.std.proofs.lemmas.List.FromFn.{get_or-map-range_with_len}
 use Rattle.std.specs.Prelude.{◌==◌, not}
 use Rattle.verity_hash.proofs.HashLemmas.{length-hash_of}
-use Rattle.verity_hash.specs.Hashing.{digest_len_of, hash_of}
-use Rattle.verity_hash.specs.declared.algorithm.Algorithm.{Algorithm as HashFunction}
-use Rattle.verity_hash.specs.declared.algorithm.Algorithm.TheVariants.{Sha256, Sha512}
-use Rattle.verity_format.proofs.DescriptorLemmas.{one-descriptor}
+use Rattle.verity_hash.specs.Hashing.{hash_of}
+use Rattle.verity_hash.specs.declared.algorithm.Algorithm.{Algorithm}
+use Rattle.verity_format.proofs.DescriptorLemmas.{algorithm_by_length, one-descriptor}
 use Rattle.verity_format.specs.Descriptors.{DescriptorFields, IsValidDescriptor, descriptor_bytes, digest_of_file}
 use Rattle.verity_plan.proofs.CountLemmas.{le-div_ceil}
 use Rattle.verity_plan.proofs.FanLemmas.{some_data}
 use Rattle.verity_plan.specs.Plans.{IsPlan, PlanFields, block_count, plan_of_file}
-use Rattle.verity_plan.specs.Settings.{TreeSettingsFields, digest_len, is_of_fsverity}
+use Rattle.verity_plan.specs.Settings.{TreeSettingsFields, digest_len}
 use Rattle.verity_tree.proofs.PathLemmas.{accepted-true}
 use Rattle.verity_tree.proofs.PathSteps.{same_or_two}
 use Rattle.verity_tree.specs.Collisions.{Collide}
@@ -25,20 +23,16 @@ use Rattle.verity_tree.specs.Paths.{ChecksBlock, IsAccepted}
 use Rattle.verity_tree.specs.declared.path.PathFault.{PathFault}
 use Rattle.verity_tree.specs.declared.path.PathFault.TheVariants as of_path
 use Rattle.verity_c.proofs.BuildingLemmas.{length-root_of_file}
-use Rattle.verity_c.proofs.MadeLemmas.{file_plan-made, file_settings-made}
+use Rattle.verity_c.proofs.ParameterLemmas.{file_plan-made, file_settings-made}
+use Rattle.verity_c.proofs.StatusLemmas.{fault-not_done}
 use Rattle.verity_c.specs.Answers.{AnswersBlock, descriptor_in, file_digest_in, with_root}
 use Rattle.verity_c.specs.Building.{digest_of_fed}
 use Rattle.verity_c.specs.Parameters.{fsverity_plan_of, fsverity_tree_of}
-use Rattle.verity_c.specs.Statuses.{code_of, done, path_status}
+use Rattle.verity_c.specs.Statuses.{done, path_status}
 use Rattle.verity_c.specs.TrustedBlocks.{FileBlock, IsAcceptedFor, IsBlockOf, ShowsCollision, descriptor_of_bytes}
 use Rattle.verity_c.specs.declared.fault.Fault.{Fault}
 use Rattle.verity_c.specs.declared.fault.Fault.TheVariants as fault
 use Rattle.verity_c.specs.declared.parameters.FsverityParams.{FsverityParams}
-
--- the status of a fault isn't that of a call that is done
-pub fault-not_done : (why : Fault) → done ≡ code_of why → ⊥
-fault-not_done fault.Differs e = cc
-fault-not_done _ e = cc
 
 -- with the status of a call that is done, a path was accepted
 path-accepted : (p : PlanFields) (i : ℕ) (block path root : List ℕ) (answer : Result Unit PathFault)
@@ -95,21 +89,12 @@ digest-fed : (s : TreeSettingsFields) (bytes digest : List ℕ) → digest_of_fe
     → digest_of_file (descriptor_of_bytes s bytes) ≡ digest
 digest-fed s bytes digest e = cc
 
--- a hash function of fs-verity by the length of its digests
-function-same : (a b : HashFunction) → is_of_fsverity a ≡ true → is_of_fsverity b ≡ true
-    → digest_len_of a ≡ digest_len_of b → a ≡ b
-function-same Sha256 Sha256 of_a of_b e = refl
-function-same Sha256 Sha512 of_a of_b e = absurd (omega (arith, e))
-function-same Sha512 Sha256 of_a of_b e = absurd (omega (arith, e))
-function-same Sha512 Sha512 of_a of_b e = refl
-function-same _ _ of_a of_b e = cc
-
 -- descriptors with one hash are one, or a collision
 one_or_two : (v w : DescriptorFields) → IsValidDescriptor v → IsValidDescriptor w → digest_of_file v ≡ digest_of_file w
     → (v ≡ w) ⊎ Collide w.tree.algorithm (descriptor_bytes v) (descriptor_bytes w)
 one_or_two v w of_v of_w digests =
-    let function : v.tree.algorithm ≡ w.tree.algorithm =
-    function-same v.tree.algorithm w.tree.algorithm (of_v.tree.known of_v.described.0)
+    let algorithms : v.tree.algorithm ≡ w.tree.algorithm =
+    algorithm_by_length v.tree.algorithm w.tree.algorithm (of_v.tree.known of_v.described.0)
     (of_w.tree.known of_w.described.0)
     (sym (length-hash_of v.tree.algorithm (descriptor_bytes v)) ∙ ap length digests
     ∙ length-hash_of w.tree.algorithm (descriptor_bytes w)) in
@@ -117,7 +102,7 @@ one_or_two v w of_v of_w digests =
       | inl same ↦ inl (one-descriptor v w of_v of_w same)
       | inr apart ↦ inr (record {
         differ = apart;
-        one_hash = ap (λ (a : HashFunction). hash_of a (descriptor_bytes v)) (sym function) ∙ digests;
+        one_hash = ap (λ (a : Algorithm). hash_of a (descriptor_bytes v)) (sym algorithms) ∙ digests;
       })
     ]
 

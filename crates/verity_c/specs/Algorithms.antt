@@ -3,39 +3,40 @@
 use Rattle.std.specs.Prelude.{ℕ, ◌+◌, ◌==◌, ◌&&◌, List, length, Option, Some, None, Result, Ok, Err, if◌then◌else◌}
 use Rattle.verity_format.specs.Descriptors.{formatted_digest}
 use Rattle.verity_hash.specs.Hashing.{digest_len_of, name_of}
-use Rattle.verity_hash.specs.declared.algorithm.Algorithm.{Algorithm as HashFunction}
+use Rattle.verity_hash.specs.declared.algorithm.Algorithm.{Algorithm}
 use Rattle.verity_plan.specs.Settings.{is_of_fsverity}
 use Rattle.verity_c.specs.Parameters.{number_of}
 use Rattle.verity_c.specs.Texts.{text_length_in, with_text}
 use Rattle.verity_c.specs.declared.fault.Fault.{Fault}
-use Rattle.verity_c.specs.declared.fault.Fault.TheVariants.{Algorithm, Length}
+use Rattle.verity_c.specs.declared.fault.Fault.TheVariants as fault
 
 -- the length of its digests
-abbrev pub digest_length_in : Option HashFunction → Result ℕ Fault
-digest_length_in None = Err Algorithm
-digest_length_in (Some function) = Ok (digest_len_of function)
+abbrev pub digest_length_in : Option Algorithm → Result ℕ Fault
+digest_length_in None = Err fault.Algorithm
+digest_length_in (Some algorithm) = Ok (digest_len_of algorithm)
 
 -- a buffer with its name and a zero at its beginning, and the name's length, if there is room for both
-abbrev pub name_in : Option HashFunction → List ℕ → Result (List ℕ) Fault
-name_in None buffer = Err Algorithm
-name_in (Some function) buffer = with_text (name_of function) buffer
+abbrev pub name_in : Option Algorithm → List ℕ → Result (List ℕ) Fault
+name_in None buffer = Err fault.Algorithm
+name_in (Some algorithm) buffer = with_text (name_of algorithm) buffer
 
-abbrev pub name_length_in : Option HashFunction → List ℕ → Result ℕ Fault
-name_length_in None buffer = Err Algorithm
-name_length_in (Some function) buffer = text_length_in (name_of function) buffer
+abbrev pub name_length_in : Option Algorithm → List ℕ → Result ℕ Fault
+name_length_in None buffer = Err fault.Algorithm
+name_length_in (Some algorithm) buffer = text_length_in (name_of algorithm) buffer
 
 -- the number of the function that a name is of
-abbrev pub number_in_name : Option HashFunction → Result ℕ Fault
-number_in_name None = Err Algorithm
-number_in_name (Some function) = Ok (number_of function)
+abbrev pub number_in_name : Option Algorithm → Result ℕ Fault
+number_in_name None = Err fault.Algorithm
+number_in_name (Some algorithm) = Ok (number_of algorithm)
 
 -- the formatted digest, if fs-verity has the function, the digest is as long as its digests, and there is room for just
 -- it
-abbrev pub formatted_if : HashFunction → List ℕ → ℕ → Result (List ℕ) Fault
-formatted_if function digest room = if (length digest == digest_len_of function) && (room == 12 + digest_len_of function)
-    then Ok (formatted_digest function digest) else Err Length
+abbrev pub formatted_if : Algorithm → List ℕ → ℕ → Result (List ℕ) Fault
+formatted_if algorithm digest room =
+    if (length digest == digest_len_of algorithm) && (room == 12 + digest_len_of algorithm)
+    then Ok (formatted_digest algorithm digest) else Err fault.Length
 
-abbrev pub formatted_in : Option HashFunction → List ℕ → ℕ → Result (List ℕ) Fault
-formatted_in None digest room = Err Algorithm
-formatted_in (Some function) digest room =
-    if is_of_fsverity function then formatted_if function digest room else Err Algorithm
+abbrev pub formatted_in : Option Algorithm → List ℕ → ℕ → Result (List ℕ) Fault
+formatted_in None digest room = Err fault.Algorithm
+formatted_in (Some algorithm) digest room =
+    if is_of_fsverity algorithm then formatted_if algorithm digest room else Err fault.Algorithm

@@ -1,7 +1,7 @@
 -- What each call of the library for C answers: its status, and what it leaves in what it was handed to fill. A fault leaves
 -- that as it was.
-use Rattle.std.specs.Prelude.{◌≡◌, ℕ, ℤ, ◌+◌, ◌*◌, ◌/◌, ◌^◌, ◌==◌, List, [], length, nat_le, not, Option, Some, None, Result}
-use Rattle.std.specs.Prelude.{Ok, Err, if◌then◌else◌}
+use Rattle.std.specs.Prelude.{◌≡◌, ℕ, ℤ, ◌+◌, ◌*◌, ◌/◌, ◌^◌, ◌==◌, List, [], length, nat_le, not, Option, Some, None}
+use Rattle.std.specs.Prelude.{Result, Ok, Err, if◌then◌else◌}
 use Rattle.verity_format.specs.Descriptors.{DescriptorFields, descriptor_bytes, digest_of_file}
 use Rattle.verity_format.specs.Superblocks.{IsSuperblock, SuperblockFields, superblock_bytes}
 use Rattle.verity_format.specs.CheckedSuperblocks.{superblock_of}

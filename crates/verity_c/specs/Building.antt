@@ -8,8 +8,8 @@ use Rattle.verity_plan.specs.Plans.{PlanFields, start_byte_of}
 use Rattle.verity_plan.specs.PlanCounts.{level_count_of, most_level_count}
 use Rattle.verity_plan.specs.Settings.{TreeSettingsFields, digest_len, fan}
 use Rattle.verity_tree.specs.ClosingOrder.{BlockIndex, block_index, blocks_before, handed_out}
-use Rattle.verity_tree.specs.Feeding.{IsFed, IsFedFile, IsHandedOut, IsPlaced, end_fault, feed_fault}
-use Rattle.verity_tree.specs.Feeding.{feeding_length, file_fault}
+use Rattle.verity_tree.specs.Feeding.{IsFed, IsFedFile, IsHandedOut, IsPlaced, end_fault, feed_fault, feeding_length}
+use Rattle.verity_tree.specs.Feeding.{file_fault}
 use Rattle.verity_tree.specs.Levels.{data_blocks, root, root_of_file}
 use Rattle.verity_tree.specs.declared.feed_fault.FeedFault.{FeedFault}
 use Rattle.verity_tree.specs.declared.file_builder.FileBuilder.{FileBuilder}
@@ -86,11 +86,11 @@ without_block taken = record {
 
 -- the hash block that a struct hands out
 abbrev pub block_of : VerityFed → HashBlock
-block_of fed = record { level = fed.block_level; index = fed.block_index; byte = fed.block_start; at = fed.block_at }
+block_of fed = record { level = fed.block_level; index = fed.block_index; start = fed.block_start; at = fed.block_at }
 
--- what an answer to a piece of a length says, whatever struct and memory were: all of the piece is taken, or a hash block,
--- which is within the memory, is handed out before its end, or after the last byte of all; and after that byte none is left
--- when none is handed out
+-- what an answer to a piece of a length says, whatever struct and memory were: all of the piece is taken, or a hash
+-- block, which is within the memory, is handed out before its end, or after the last byte of all; and after that byte
+-- none is left when none is handed out
 pub record TakesPiece (p : PlanFields) (before after : VerityBuild) (count : ℕ) (fed : VerityFed) : Type 0 where
   pub fed_is : after.fed ≡ before.fed + fed.taken
   pub most : fed.taken ≤ count
@@ -113,8 +113,8 @@ pub record HandsOut (p : PlanFields) (before after : VerityBuild) (bytes memory 
   pub order : handed_out p after.fed after.closed ≡ handed_out p before.fed before.closed ++ given_by fed
   pub block : fed.block_length ≢ 0 → IsHandedOut p bytes memory (block_of fed)
 
--- the hash block that was handed out last, by what a struct counts; all numbers are 0 if it counts none since the latest
--- byte was fed
+-- the hash block that was handed out last, by what a struct counts; all numbers are 0 if it counts none since the
+-- latest byte was fed
 abbrev pub last_index : PlanFields → VerityBuild → ℕ
 last_index p build = blocks_before p.settings build.fed / fan p.settings ^ build.closed
 
@@ -178,14 +178,15 @@ digest_of_fed (Err fault) bytes = Err fault
 digest_of_fed (Ok tree) bytes =
     Ok (digest_of_file (record { tree = tree; size = length bytes; root = root_of_file tree (length bytes) bytes }))
 
--- for a private step, not needed to read a public contract: what a builder has answered, in the numbers of the struct
+-- for a private function, not needed to read a public contract: what a builder has answered, in the numbers of the
+-- struct
 abbrev pub fed_by : ℕ → ℕ → Option HashBlock → VerityFed
 fed_by size taken None = without_block taken
 fed_by size taken (Some block) = record {
   taken = taken;
   block_length = size;
   block_at = block.at;
-  block_start = block.byte;
+  block_start = block.start;
   block_index = block.index;
   block_level = block.level;
 }

@@ -1,13 +1,13 @@
 -- What the calls of the library for C answer that build a file's tree and hand out its hash blocks, while nobody knows
--- the file's length. A hash block that is handed out is the tree's of every file that goes on; those that are left at an
--- end are the tree's of the file that ends there. A fault leaves everything as it was.
-use Rattle.std.specs.Prelude.{◌≡◌, ◌≢◌, ◌<◌, ◌≤◌, ◌⊎◌, ℕ, ◌+◌, ◌==◌, List, ◌++◌, length, not, Option, Some, None, Result, Ok, Err}
-use Rattle.std.specs.Prelude.{if◌then◌else◌}
+-- the file's length. A hash block that is handed out is the tree's of every file that goes on; those that are left at
+-- an end are the tree's of the file that ends there. A fault leaves everything as it was.
+use Rattle.std.specs.Prelude.{◌≡◌, ◌≢◌, ◌<◌, ◌≤◌, ◌⊎◌, ℕ, ◌+◌, ◌==◌, List, ◌++◌, length, not, Option, Some, None}
+use Rattle.std.specs.Prelude.{Result, Ok, Err, if◌then◌else◌}
 use Rattle.verity_plan.specs.Plans.{plan_of_file}
 use Rattle.verity_plan.specs.Settings.{TreeSettingsFields, digest_len}
 use Rattle.verity_tree.specs.ClosingOrder.{handed_out}
-use Rattle.verity_tree.specs.FileTrees.{IsFedFileTree, IsFinal, IsPlacedInFile, file_blocks, last_block_fault, end_index}
-use Rattle.verity_tree.specs.FileTrees.{piece_fault, root_fault}
+use Rattle.verity_tree.specs.FileTrees.{IsFedFileTree, IsFinal, IsPlacedInFile, file_blocks, last_block_fault}
+use Rattle.verity_tree.specs.FileTrees.{end_index, piece_fault, root_fault}
 use Rattle.verity_tree.specs.TreeOnDevice.{tree_block}
 use Rattle.verity_tree.specs.declared.file_tree_builder.FileFed.{FileFed}
 use Rattle.verity_tree.specs.declared.file_tree_builder.FileHashBlock.{FileHashBlock}
@@ -63,8 +63,9 @@ end_index_in (Ok tree) build level = Ok (end_index tree build.fed level)
 abbrev pub file_block_of : VerityFed → FileHashBlock
 file_block_of fed = record { level = fed.block_level; index = fed.block_index; at = fed.block_at }
 
--- what an answer to a piece of a length says, whatever struct and memory were: all of the piece is taken, and then no hash
--- block waits, or a hash block, which is within the memory, is handed out before its end; it has no place on a device
+-- what an answer to a piece of a length says, whatever struct and memory were: all of the piece is taken, and then no
+-- hash block waits, or a hash block, which is within the memory, is handed out before its end; it has no place on a
+-- device
 pub record TakesFilePiece (tree : TreeSettingsFields) (before after : VerityBuild) (count : ℕ) (fed : VerityFed) : Type 0
   where
     pub fed_is : after.fed ≡ before.fed + fed.taken
@@ -80,15 +81,16 @@ pub record TakesFilePiece (tree : TreeSettingsFields) (before after : VerityBuil
     pub before_end : fed.block_length ≢ 0 → fed.taken < count
     pub rises : fed.block_length ≢ 0 → fed.taken ≡ 0 → after.closed ≡ before.closed + 1
 
--- with these bytes fed, a struct hands out the next hash block in closing order, of a file of any size that has them, or
--- none: its bytes in the memory are the tree's of every file that goes on
+-- with these bytes fed, a struct hands out the next hash block in closing order, of a file of any size that has them,
+-- or none: its bytes in the memory are the tree's of every file that goes on
 pub record HandsOutOfFile (tree : TreeSettingsFields) (before after : VerityBuild) (bytes memory : List ℕ)
     (fed : VerityFed) : Type 0 where
   pub order : (size : ℕ) → after.fed ≤ size → handed_out (plan_of_file tree size) after.fed after.closed
       ≡ handed_out (plan_of_file tree size) before.fed before.closed ++ given_by fed
   pub block : fed.block_length ≢ 0 → IsFinal tree bytes memory (file_block_of fed)
 
--- for a private step, not needed to read a public contract: what a builder has answered, in the numbers of the struct
+-- for a private function, not needed to read a public contract: what a builder has answered, in the numbers of the
+-- struct
 abbrev pub fed_by_file : ℕ → ℕ → Option FileHashBlock → VerityFed
 fed_by_file size taken None = without_block taken
 fed_by_file size taken (Some block) = record {

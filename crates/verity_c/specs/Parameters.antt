@@ -4,31 +4,31 @@
 use Rattle.std.specs.Prelude.{ℕ, ◌==◌, length, take, nat_le, Option, Some, None, Result, Ok, Err, if◌then◌else◌}
 use Rattle.verity_hash.specs.Hashing.{with_zeros}
 use Rattle.verity_hash.specs.declared.algorithm.Algorithm.TheVariants as algorithm
-use Rattle.verity_hash.specs.declared.algorithm.Algorithm.{Algorithm as HashFunction}
+use Rattle.verity_hash.specs.declared.algorithm.Algorithm.{Algorithm}
 use Rattle.verity_format.specs.Superblocks.{SuperblockFields}
 use Rattle.verity_plan.specs.Plans.{PlanFields, multiple_of, offset_unit, plan_at, plan_for_bytes}
 use Rattle.verity_plan.specs.Settings.{TreeSettingsFields, most_verity_salt, type_number, most_salt}
 use Rattle.verity_plan.specs.CheckedSettings.{fsverity_settings, type_of_number, verity_settings}
-use Rattle.verity_plan.specs.declared.hash_type.HashType.{HashType as TypeOfHash}
+use Rattle.verity_plan.specs.declared.hash_type.HashType.{HashType}
 use Rattle.verity_plan.specs.declared.plan_fault.PlanFault.{PlanFault}
 use Rattle.verity_plan.specs.declared.setting_fault.SettingFault.{SettingFault}
-use Rattle.verity_plan.specs.declared.setting_fault.SettingFault.TheVariants.{Algorithm as UnknownAlgorithm}
+use Rattle.verity_plan.specs.declared.setting_fault.SettingFault.TheVariants as setting
 use Rattle.verity_hash.specs.declared.salting.SaltRule.TheVariants.{PaddedBefore}
 use Rattle.verity_c.specs.Statuses.{fault_of_plan, fault_of_setting}
 use Rattle.verity_c.specs.declared.fault.Fault.{Fault}
-use Rattle.verity_c.specs.declared.fault.Fault.TheVariants.{Algorithm, HashType, SaltSize, HashOffset}
+use Rattle.verity_c.specs.declared.fault.Fault.TheVariants as fault
 use Rattle.verity_c.specs.declared.parameters.FsverityParams.{FsverityParams}
 use Rattle.verity_c.specs.declared.parameters.VerityParams.{VerityParams}
 
 -- the number of a hash function, and the hash function of a number
-abbrev pub number_of : HashFunction → ℕ
+abbrev pub number_of : Algorithm → ℕ
 number_of algorithm.Sha256 = 1
 number_of algorithm.Sha512 = 2
 number_of algorithm.Sha1 = 3
 number_of algorithm.Sha224 = 4
 number_of algorithm.Sha384 = 5
 
-abbrev pub algorithm_of : ℕ → Option HashFunction
+abbrev pub algorithm_of : ℕ → Option Algorithm
 algorithm_of number = if number == 1 then Some algorithm.Sha256
     else (if number == 2 then Some algorithm.Sha512
     else (if number == 3 then Some algorithm.Sha1
@@ -38,14 +38,14 @@ algorithm_of number = if number == 1 then Some algorithm.Sha256
 -- the settings, if no more bytes of the salt are to count than there can be
 abbrev pub if_salt_fits : Result TreeSettingsFields SettingFault → ℕ → ℕ → Result TreeSettingsFields Fault
 if_salt_fits (Err fault) size most = Err (fault_of_setting fault)
-if_salt_fits (Ok tree) size most = if nat_le size most then Ok tree else Err SaltSize
+if_salt_fits (Ok tree) size most = if nat_le size most then Ok tree else Err fault.SaltSize
 
 -- the settings of dm-verity that parameters make, or the first fault
-abbrev pub tree_by : Option HashFunction → Option TypeOfHash → VerityParams → Result TreeSettingsFields Fault
-tree_by None hash_type params = Err Algorithm
-tree_by (Some function) None params = Err HashType
-tree_by (Some function) (Some hash_type) params = if_salt_fits
-    (verity_settings function hash_type (take params.salt_size params.salt) params.data_block_size
+abbrev pub tree_by : Option Algorithm → Option HashType → VerityParams → Result TreeSettingsFields Fault
+tree_by None hash_type params = Err fault.Algorithm
+tree_by (Some algorithm) None params = Err fault.HashType
+tree_by (Some algorithm) (Some hash_type) params = if_salt_fits
+    (verity_settings algorithm hash_type (take params.salt_size params.salt) params.data_block_size
     params.hash_block_size)
     params.salt_size most_verity_salt
 
@@ -59,7 +59,7 @@ planned (Err fault) = Err (fault_of_plan fault)
 
 -- the plan of a tree at the hash offset, if that is a multiple of its unit
 abbrev pub plan_if : Option ℕ → TreeSettingsFields → VerityParams → Result PlanFields Fault
-plan_if None tree params = Err HashOffset
+plan_if None tree params = Err fault.HashOffset
 plan_if (Some offset) tree params =
     planned (plan_at tree params.data_blocks offset (params.no_superblock == 0))
 
@@ -72,19 +72,20 @@ plan_by (Ok tree) params =
 abbrev pub plan_of : VerityParams → Result PlanFields Fault
 plan_of params = plan_by (tree_of params) params
 
--- the settings of fs-verity that parameters make, or the first fault
 -- the settings of fs-verity that parameters make, whether or not there are as many bytes of the salt as are to count
-abbrev pub fsverity_settings_by : Option HashFunction → FsverityParams → Result TreeSettingsFields SettingFault
-fsverity_settings_by None params = Err UnknownAlgorithm
-fsverity_settings_by (Some function) params = fsverity_settings function (take params.salt_size params.salt) params.block_size
+abbrev pub fsverity_settings_by : Option Algorithm → FsverityParams → Result TreeSettingsFields SettingFault
+fsverity_settings_by None params = Err setting.Algorithm
+fsverity_settings_by (Some algorithm) params =
+    fsverity_settings algorithm (take params.salt_size params.salt) params.block_size
 
 abbrev pub fsverity_settings_of : FsverityParams → Result TreeSettingsFields SettingFault
 fsverity_settings_of params = fsverity_settings_by (algorithm_of params.hash_algorithm) params
 
-abbrev pub fsverity_tree_by : Option HashFunction → FsverityParams → Result TreeSettingsFields Fault
-fsverity_tree_by None params = Err Algorithm
-fsverity_tree_by (Some function) params = if_salt_fits
-    (fsverity_settings function (take params.salt_size params.salt) params.block_size)
+-- the settings of fs-verity that parameters make, or the first fault
+abbrev pub fsverity_tree_by : Option Algorithm → FsverityParams → Result TreeSettingsFields Fault
+fsverity_tree_by None params = Err fault.Algorithm
+fsverity_tree_by (Some algorithm) params = if_salt_fits
+    (fsverity_settings algorithm (take params.salt_size params.salt) params.block_size)
     params.salt_size (most_salt PaddedBefore)
 
 abbrev pub fsverity_tree_of : FsverityParams → Result TreeSettingsFields Fault

@@ -1,18 +1,18 @@
 -- What the calls of the library for C answer that build a tree from parts, and join them by their digests: for a plan
 -- that parameters of either format make, or the first fault of the parameters. Whoever reads a contract need not know
 -- how memory holds what was fed or taken. A fault leaves everything as it was.
-use Rattle.std.specs.Prelude.{◌≡◌, ◌≢◌, ◌<◌, ◌≤◌, ◌⊎◌, ℕ, ◌+◌, ◌-◌, ◌*◌, ◌/◌, ◌%◌, ◌^◌, ◌==◌, ◌||◌, List, ◌++◌}
-use Rattle.std.specs.Prelude.{min, nat_le, nat_lt, not, Result, Ok, Err, if◌then◌else◌}
+use Rattle.std.specs.Prelude.{◌≡◌, ◌≢◌, ◌<◌, ◌≤◌, ◌⊎◌, ℕ, ◌+◌, ◌-◌, ◌*◌, ◌/◌, ◌%◌, ◌^◌, ◌==◌, ◌||◌, List, ◌++◌, min}
+use Rattle.std.specs.Prelude.{nat_le, nat_lt, not, Result, Ok, Err, if◌then◌else◌}
 use Rattle.verity_format.specs.Descriptors.{digest_of_file}
 use Rattle.verity_plan.specs.Plans.{PlanFields, start_byte_of}
-use Rattle.verity_plan.specs.PlanCounts.{level_count_of, size_under}
+use Rattle.verity_plan.specs.PlanCounts.{level_count_of, count_under}
 use Rattle.verity_plan.specs.Settings.{digest_len, fan}
 use Rattle.verity_tree.specs.ClosingOrder.{blocks_before}
 use Rattle.verity_tree.specs.Feeding.{feeding_length}
 use Rattle.verity_tree.specs.Levels.{data_blocks, root}
 use Rattle.verity_tree.specs.Parts.{AreDigests, IsDigestOfPart, IsFedPart, IsHandedOutOfJoin, IsHandedOutOfPart}
 use Rattle.verity_tree.specs.Parts.{IsJoined, IsPlacedOfJoin, IsPlacedOfPart, digest_fault, digests_fault, first_block}
-use Rattle.verity_tree.specs.Parts.{handed_out_of_join, handed_out_of_part, join_fault, join_length, part_size}
+use Rattle.verity_tree.specs.Parts.{handed_out_of_join, handed_out_of_part, join_fault, join_length, blocks_in_part}
 use Rattle.verity_tree.specs.Parts.{piece_fault, plan_of_part}
 use Rattle.verity_tree.specs.declared.join_builder.JoinBuilder.{JoinBuilder}
 use Rattle.verity_tree.specs.declared.part_builder.PartBuilder.{PartBuilder}
@@ -69,14 +69,14 @@ with_parts (Ok p) level = if nat_lt (level_count_of p) level then Err Level else
 abbrev pub with_part : Result PlanFields Fault → ℕ → ℕ → Result PlanFields Fault
 with_part (Err fault) level part = Err fault
 with_part (Ok p) level part = if nat_lt (level_count_of p) level then Err Level
-    else (if nat_le (size_under p level) part then Err Part else Ok p)
+    else (if nat_le (count_under p level) part then Err Part else Ok p)
 
 -- how many parts a level has, and how many data blocks each but the last one, which has what is left
 abbrev pub part_count_in : Result PlanFields Fault → ℕ → Result ℕ Fault
-part_count_in plan level = number_in (with_parts plan level) (λ p. size_under p level)
+part_count_in plan level = number_in (with_parts plan level) (λ p. count_under p level)
 
-abbrev pub part_size_in : Result PlanFields Fault → ℕ → Result ℕ Fault
-part_size_in plan level = number_in (with_parts plan level) (λ p. min (part_size p level) p.blocks)
+abbrev pub part_blocks_in : Result PlanFields Fault → ℕ → Result ℕ Fault
+part_blocks_in plan level = number_in (with_parts plan level) (λ p. min (blocks_in_part p level) p.blocks)
 
 -- the length of the memory that a part of a level is built in, and of that in which the parts are joined
 abbrev pub part_memory_in : Result PlanFields Fault → ℕ → Result ℕ Fault
@@ -192,7 +192,7 @@ pub record TakesDigests (p : PlanFields) (before after : VerityJoin) (count : �
   pub block_length : (fed.block_length ≡ 0) ⊎ (fed.block_length ≡ p.settings.hash_block)
   pub none : fed.block_length ≡ 0 → fed ≡ without_block fed.taken
   pub all : fed.block_length ≡ 0 → fed.taken ≡ count
-  pub done : fed.block_length ≡ 0 → after.taken ≡ size_under p before.level
+  pub done : fed.block_length ≡ 0 → after.taken ≡ count_under p before.level
       → before.level + after.closed ≡ level_count_of p
   pub placed : fed.block_length ≢ 0 → IsPlacedOfJoin (join_builder_of p after) (block_of fed)
   pub within : fed.block_at + fed.block_length ≤ join_length p before.level

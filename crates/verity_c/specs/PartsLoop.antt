@@ -7,7 +7,7 @@ use Rattle.std.specs.Prelude.{◌≡◌, ◌↔◌, ◌<◌, ⊤, ℕ, ℤ, List
 use Rattle.std.specs.List.{Contains, flat_map, range_with_len}
 use Rattle.verity_format.specs.Descriptors.{digest_of_file}
 use Rattle.verity_plan.specs.Plans.{PlanFields}
-use Rattle.verity_plan.specs.PlanCounts.{size_under}
+use Rattle.verity_plan.specs.PlanCounts.{count_under}
 use Rattle.verity_plan.specs.Settings.{digest_len, fan}
 use Rattle.verity_tree.specs.ClosingOrder.{closed_after, times}
 use Rattle.verity_tree.specs.Feeding.{FeedCall, given, written_all}
@@ -19,9 +19,8 @@ use Rattle.verity_c.specs.Building.{root_in}
 use Rattle.verity_c.specs.BuildingLoop.{hash_block_by}
 use Rattle.verity_c.specs.Parts.{AreNextDigests, HandsOutOfJoin, HandsOutOfPart, IsDigestOfFed, IsFedPartTo, IsJoinedTo}
 use Rattle.verity_c.specs.Parts.{TakesDigests, TakesPartPiece, begun_join, begun_part, file_digest_of, join_builder_of}
-use Rattle.verity_c.specs.Parts.{part_builder_of, with_digests}
-use Rattle.verity_c.specs.Parts.{with_join_memory, with_joined, with_joined_file, with_part_fed, with_part_memory}
-use Rattle.verity_c.specs.Parts.{with_part_piece}
+use Rattle.verity_c.specs.Parts.{part_builder_of, with_digests, with_join_memory, with_joined, with_joined_file}
+use Rattle.verity_c.specs.Parts.{with_part_fed, with_part_memory, with_part_piece}
 use Rattle.verity_c.specs.Statuses.{done, status_of}
 use Rattle.verity_c.specs.declared.build.VerityFed.{VerityFed}
 use Rattle.verity_c.specs.declared.build.VerityJoin.{VerityJoin}
@@ -210,19 +209,19 @@ calls_of_all count parts join =
 -- answers 0, with the root hash, or fsverity_join_end, with the file digest too
 pub record BuildsTreeFromParts (made : Result PlanFields Fault) (p : PlanFields) (level : ℕ) (bytes : List ℕ)
     (parts : ℕ → PartCalls) (join : JoinCalls) : Type 0 where
-  pub part_status : (number : ℕ) → number < size_under p level
+  pub part_status : (number : ℕ) → number < count_under p level
       → part_end_status made (parts number).last.after (digest_len p.settings) ≡ done
-  pub digest_is : (number : ℕ) → number < size_under p level
+  pub digest_is : (number : ℕ) → number < count_under p level
       → (parts number).digest ≡ digest_of_part p level number bytes
   pub is_joined : IsJoinedTo made join.last.after.join join.last.after.memory bytes
   pub once : (l j : ℕ)
-      → times l j (flat_map (λ call. given call.hash_block) (calls_of_all (size_under p level) parts join))
+      → times l j (flat_map (λ call. given call.hash_block) (calls_of_all (count_under p level) parts join))
       ≡ times l j (closed_after (fan p.settings) p.blocks p.blocks)
   pub stands : (writes : List FeedCall) (device : List ℕ)
-      → ((call : FeedCall) → Contains writes call ↔ Contains (calls_of_all (size_under p level) parts join) call)
+      → ((call : FeedCall) → Contains writes call ↔ Contains (calls_of_all (count_under p level) parts join) call)
       → written_all p writes device ≡ tree_on_device p (data_blocks p bytes) device
   pub holds : (writes : List FeedCall) (device : List ℕ)
-      → ((call : FeedCall) → Contains writes call ↔ Contains (calls_of_all (size_under p level) parts join) call)
+      → ((call : FeedCall) → Contains writes call ↔ Contains (calls_of_all (count_under p level) parts join) call)
       → HoldsTree p (written_all p writes device) bytes (root p.settings (data_blocks p bytes))
   pub status : join_end_status made join.last.after (digest_len p.settings) ≡ done
   pub root_is : root_in made bytes ≡ Ok (root p.settings (data_blocks p bytes))

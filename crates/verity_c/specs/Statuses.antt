@@ -15,8 +15,8 @@ use Rattle.verity_tree.specs.declared.path.PathFault.TheVariants as path
 use Rattle.verity_c.specs.declared.fault.Fault.{Fault}
 use Rattle.verity_c.specs.declared.fault.Fault.TheVariants.{Differs, Index, Level, Length, Root, Algorithm, HashType}
 use Rattle.verity_c.specs.declared.fault.Fault.TheVariants.{DataBlockSize, HashBlockSize, SaltSize, HashOffset, NoData}
-use Rattle.verity_c.specs.declared.fault.Fault.TheVariants.{TooLarge, Short, Signature, Version, TooLong, TooShort, Waiting}
-use Rattle.verity_c.specs.declared.fault.Fault.TheVariants.{Part}
+use Rattle.verity_c.specs.declared.fault.Fault.TheVariants.{TooLarge, Short, Signature, Version, TooLong, TooShort}
+use Rattle.verity_c.specs.declared.fault.Fault.TheVariants.{Waiting, Part}
 
 -- the status of a call that has done what it is for
 abbrev pub done : ℤ

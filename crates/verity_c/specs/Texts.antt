@@ -1,12 +1,12 @@
 -- The texts of the library for C: what a status means, and the name of a hash function; and a buffer that a text is
 -- written into, with a zero after it, as texts of C end.
-use Rattle.std.specs.Prelude.{ℕ, ℤ, pos, int_lt, unsigned_abs, ◌+◌, ◌==◌, List, [], ◌∷◌, ◌++◌, codes, drop, length, nat_lt, Option, Some, None, Result}
-use Rattle.std.specs.Prelude.{Ok, Err, if◌then◌else◌}
+use Rattle.std.specs.Prelude.{ℕ, ℤ, pos, int_lt, unsigned_abs, ◌+◌, ◌==◌, List, [], ◌∷◌, ◌++◌, codes, drop, length}
+use Rattle.std.specs.Prelude.{nat_lt, Option, Some, None, Result, Ok, Err, if◌then◌else◌}
 use Rattle.verity_c.specs.declared.fault.Fault.{Fault}
 use Rattle.verity_c.specs.declared.fault.Fault.TheVariants.{Differs, Index, Level, Length, Root, Algorithm, HashType}
 use Rattle.verity_c.specs.declared.fault.Fault.TheVariants.{DataBlockSize, HashBlockSize, SaltSize, HashOffset, NoData}
-use Rattle.verity_c.specs.declared.fault.Fault.TheVariants.{TooLarge, Short, Signature, Version, TooLong, TooShort, Waiting}
-use Rattle.verity_c.specs.declared.fault.Fault.TheVariants.{Part}
+use Rattle.verity_c.specs.declared.fault.Fault.TheVariants.{TooLarge, Short, Signature, Version, TooLong, TooShort}
+use Rattle.verity_c.specs.declared.fault.Fault.TheVariants.{Waiting, Part}
 
 -- what a fault is, in words
 abbrev pub text_of_fault : Fault → List ℕ

@@ -61,7 +61,7 @@ fn check_block_in(
         Ok(plan) => plan,
         Err(fault) => return fault.code(),
     };
-    let Some(root) = digest_of(plan.settings(), root) else {
+    let Some(root) = root_from_bytes(plan.settings(), root) else {
         return Fault::Root.code();
     };
     let answer = check_block(&plan, index, block, path, &root);
@@ -72,7 +72,7 @@ fn check_block_in(
 }
 
 /// A root hash, if it is as long as the digests of a tree.
-pub(crate) fn digest_of(tree: &TreeSettings, root: &[u8]) -> Option<Digest>
+pub(crate) fn root_from_bytes(tree: &TreeSettings, root: &[u8]) -> Option<Digest>
     ensures { result ≡ (if length root.now == digest_len tree.now then Some root.now else None) }
 {
     if root.len() == tree.algorithm().digest_len() {

@@ -7,7 +7,7 @@ ghost use Rattle.verity_c.specs.Parameters.{fsverity_settings_of, fsverity_tree_
 ghost use Rattle.verity_c.specs.Statuses.{done, status_of};
 
 use crate::fault::{DONE, Fault};
-use crate::files::{fsverity_file_digest, put_digest};
+use crate::files::{fsverity_file_digest, set_digest};
 use crate::parameters::FsverityParams;
 use crate::plans::{fsverity_settings_of, fsverity_tree_of};
 use verity_plan::{SettingFault, TreeSettings};
@@ -134,7 +134,7 @@ pub extern "C" fn fsverity_build_end(
     };
     match builder.end(memory) {
         Ok(answer) => {
-            put_digest(&answer, root);
+            set_digest(&answer, root);
             fsverity_file_digest(params, root, digest)
         }
         Err(fault) => Fault::of_feed(fault).code(),

@@ -11,7 +11,7 @@ ghost use Rattle.verity_c.specs.Statuses.{done, status_of};
 use crate::build::{VerityBuild, VerityFed};
 use crate::fault::{DONE, Fault};
 use crate::file_building::tree_in;
-use crate::files::{fsverity_file_digest, put_digest};
+use crate::files::{fsverity_file_digest, set_digest};
 use crate::parameters::FsverityParams;
 use crate::plans::fsverity_settings_of;
 use verity_plan::TreeSettings;
@@ -196,7 +196,7 @@ pub extern "C" fn fsverity_tree_build_end(
     };
     match builder.end(memory) {
         Ok(answer) => {
-            put_digest(&answer, root);
+            set_digest(&answer, root);
             let file = FsverityParams {
                 size: build.fed,
                 ..*params

@@ -4,7 +4,7 @@ ghost use Rattle.verity_c.specs.Answers.{descriptor_bytes_in, descriptor_in, fil
 ghost use Rattle.verity_c.specs.Parameters.{fsverity_tree_of};
 ghost use Rattle.verity_c.specs.Statuses.{status_of};
 
-use crate::blocks::digest_of;
+use crate::blocks::root_from_bytes;
 use crate::fault::{DONE, Fault};
 use crate::parameters::FsverityParams;
 use crate::plans::fsverity_tree_of;
@@ -74,11 +74,8 @@ pub extern "C" fn fsverity_descriptor(
 fn descriptor_of(params: &FsverityParams, root: &[u8]) -> Result<Descriptor, Fault>
     ensures { result ≡ descriptor_in (fsverity_tree_of params.now) params.now.size root.now }
 {
-    let tree = match fsverity_tree_of(params) {
-        Ok(tree) => tree,
-        Err(fault) => return Err(fault),
-    };
-    let Some(root) = digest_of(&tree, root) else {
+    let tree = fsverity_tree_of(params)?;
+    let Some(root) = root_from_bytes(&tree, root) else {
         return Err(Fault::Root);
     };
     match Descriptor::of(&tree, params.size, &root) {
@@ -88,8 +85,8 @@ fn descriptor_of(params: &FsverityParams, root: &[u8]) -> Result<Descriptor, Fau
     }
 }
 
-/// Puts a digest into a buffer of its length.
-pub(crate) fn put_digest(digest: &Digest, buffer: &mut [u8])
+/// Copies a digest into a buffer of its length.
+pub(crate) fn set_digest(digest: &Digest, buffer: &mut [u8])
     ensures { length digest.now ≡ length buffer.old → buffer.new ≡ digest.now }
 {
     let bytes = digest.as_bytes();

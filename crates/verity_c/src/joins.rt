@@ -12,7 +12,7 @@ ghost use Rattle.verity_c.specs.Statuses.{done, status_of};
 
 use crate::build::{VerityFed, VerityJoin};
 use crate::fault::{DONE, Fault};
-use crate::files::{fsverity_file_digest, put_digest};
+use crate::files::{fsverity_file_digest, set_digest};
 use crate::parameters::{FsverityParams, VerityParams};
 use crate::parts::plan_with_level;
 use crate::plans::{fsverity_plan_of, plan_of};
@@ -29,7 +29,7 @@ pub extern "C" fn verity_join_memory(params: &VerityParams, level: usize, length
     ensures status { result ≡ status_of (join_memory_in (plan_of params.now) level) }
     ensures length { length.new ≡ value_or length.old (join_memory_in (plan_of params.now) level) }
 {
-    put_join_memory(plan_of(params), level, length)
+    set_join_memory(plan_of(params), level, length)
 }
 
 /// The same of a file's fs-verity tree.
@@ -42,10 +42,10 @@ pub extern "C" fn fsverity_join_memory(
     ensures status { result ≡ status_of (join_memory_in (fsverity_plan_of params.now) level) }
     ensures length { length.new ≡ value_or length.old (join_memory_in (fsverity_plan_of params.now) level) }
 {
-    put_join_memory(fsverity_plan_of(params), level, length)
+    set_join_memory(fsverity_plan_of(params), level, length)
 }
 
-fn put_join_memory(plan: Result<Plan, Fault>, level: usize, length: &mut usize) -> i32
+fn set_join_memory(plan: Result<Plan, Fault>, level: usize, length: &mut usize) -> i32
     ensures status { result ≡ status_of (join_memory_in plan level) }
     ensures length { length.new ≡ value_or length.old (join_memory_in plan level) }
 {
@@ -247,7 +247,7 @@ pub extern "C" fn verity_join_last_block(
     ensures block { (memory bytes : List ℕ) → IsJoinedTo (plan_of params.now) join.now memory bytes → result ≡ done
         → IfOk (plan_of params.now) (λ p. StandsLastOfJoin p join.now bytes memory fed.new) }
 {
-    put_last_of_join(plan_of(params), join, fed)
+    set_last_of_join(plan_of(params), join, fed)
 }
 
 /// The same of a file's fs-verity tree.
@@ -264,12 +264,12 @@ pub extern "C" fn fsverity_join_last_block(
     ensures block { (memory bytes : List ℕ) → IsJoinedTo (fsverity_plan_of params.now) join.now memory bytes
         → result ≡ done → IfOk (fsverity_plan_of params.now) (λ p. StandsLastOfJoin p join.now bytes memory fed.new) }
 {
-    put_last_of_join(fsverity_plan_of(params), join, fed)
+    set_last_of_join(fsverity_plan_of(params), join, fed)
 }
 
 // A part of its callers, since on x86-64 a function that calls no other may write below the stack pointer.
 #[inline(always)]
-fn put_last_of_join(plan: Result<Plan, Fault>, join: &VerityJoin, fed: &mut VerityFed) -> i32
+fn set_last_of_join(plan: Result<Plan, Fault>, join: &VerityJoin, fed: &mut VerityFed) -> i32
     ensures status { result ≡ status_of (last_of_join_in
         (with_digests (with_parts plan join.now.level) join.now 0) join.now) }
     ensures fed { fed.new ≡ value_or fed.old (last_of_join_in
@@ -284,7 +284,7 @@ fn put_last_of_join(plan: Result<Plan, Fault>, join: &VerityJoin, fed: &mut Veri
     if join.closed > plan.levels() - join.level || counts_none_closed(&plan, join) {
         return Fault::Level.code();
     }
-    if join.taken > plan.size_under(join.level) {
+    if join.taken > plan.count_under(join.level) {
         return Fault::TooLong.code();
     }
     let answer = Fed {
@@ -325,7 +325,7 @@ pub extern "C" fn verity_join_end(
     }
     match builder_of(&plan, join).end(memory) {
         Ok(digest) => {
-            put_digest(&digest, root);
+            set_digest(&digest, root);
             DONE
         }
         Err(fault) => Fault::of_feed(fault).code(),
@@ -367,7 +367,7 @@ pub extern "C" fn fsverity_join_end(
     }
     match builder_of(&plan, join).end(memory) {
         Ok(answer) => {
-            put_digest(&answer, root);
+            set_digest(&answer, root);
             fsverity_file_digest(params, root, digest)
         }
         Err(fault) => Fault::of_feed(fault).code(),
@@ -405,5 +405,5 @@ fn counts_none_closed(plan: &Plan, join: &VerityJoin) -> bool
     requires { join.now.level ≤ level_count_of plan.now }
     ensures { result ≡ counts_none_closed (join_builder_of plan.now join.now) }
 {
-    join.taken == plan.size_under(join.level) && join.closed == 0 && join.level < plan.levels()
+    join.taken == plan.count_under(join.level) && join.closed == 0 && join.level < plan.levels()
 }

@@ -2,7 +2,7 @@
 ghost use Rattle.std.specs.Prelude.{◌≡◌, ◌⊎◌, ℕ, ℤ, ◌+◌, ◌%◌, ◌*◌, ◌≤◌, ◌^◌, ◌<◌, true, List, [], ◌∷◌, ◌++◌, codes, length, Ok};
 ghost use Rattle.std.specs.List.{flat_map};
 ghost use Rattle.verity_format.specs.Superblocks.{IsValidSuperblock, SuperblockFields, superblock_bytes};
-ghost use Rattle.verity_plan.specs.PlanCounts.{level_count_of, size_under};
+ghost use Rattle.verity_plan.specs.PlanCounts.{level_count_of, count_under};
 ghost use Rattle.verity_plan.specs.Plans.{PlanFields, plan_at, superblock_size};
 ghost use Rattle.verity_plan.specs.Settings.{TreeSettingsFields};
 ghost use Rattle.verity_tree.specs.Parts.{bytes_of_part};
@@ -117,14 +117,14 @@ pub fn building_loops_end()
 pub fn calls_build_the_tree_from_parts()
     ensures verity { (params : VerityParams) (p : PlanFields) (level : ℕ) (bytes : List ℕ) (parts : ℕ → PartCalls)
         (join : JoinCalls) → plan_of params ≡ Ok p → p.wanted ≤ length bytes
-        → ((number : ℕ) → number < size_under p level
+        → ((number : ℕ) → number < count_under p level
         → AreCallsOfPart (plan_of params) level number (bytes_of_part p level number bytes) (parts number))
-        → AreCallsOfJoin (plan_of params) level (digests_of (size_under p level) parts) join
+        → AreCallsOfJoin (plan_of params) level (digests_of (count_under p level) parts) join
         → BuildsTreeFromParts (plan_of params) p level bytes parts join }
     ensures fsverity { (params : FsverityParams) (p : PlanFields) (level : ℕ) (bytes : List ℕ) (parts : ℕ → PartCalls)
         (join : JoinCalls) → fsverity_plan_of params ≡ Ok p → p.wanted ≤ length bytes
-        → ((number : ℕ) → number < size_under p level
+        → ((number : ℕ) → number < count_under p level
         → AreCallsOfPart (fsverity_plan_of params) level number (bytes_of_part p level number bytes) (parts number))
-        → AreCallsOfJoin (fsverity_plan_of params) level (digests_of (size_under p level) parts) join
+        → AreCallsOfJoin (fsverity_plan_of params) level (digests_of (count_under p level) parts) join
         → BuildsTreeFromParts (fsverity_plan_of params) p level bytes parts join }
 {}

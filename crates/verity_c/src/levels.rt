@@ -17,7 +17,7 @@ pub extern "C" fn verity_level_count(params: &VerityParams, levels: &mut usize) 
     ensures status { result ≡ status_of (level_count_in (plan_of params.now)) }
     ensures levels { levels.new ≡ value_or levels.old (level_count_in (plan_of params.now)) }
 {
-    put_level_count(plan_of(params), levels)
+    set_level_count(plan_of(params), levels)
 }
 
 /// The same of a file's fs-verity tree.
@@ -26,10 +26,10 @@ pub extern "C" fn fsverity_level_count(params: &FsverityParams, levels: &mut usi
     ensures status { result ≡ status_of (level_count_in (fsverity_plan_of params.now)) }
     ensures levels { levels.new ≡ value_or levels.old (level_count_in (fsverity_plan_of params.now)) }
 {
-    put_level_count(fsverity_plan_of(params), levels)
+    set_level_count(fsverity_plan_of(params), levels)
 }
 
-fn put_level_count(plan: Result<Plan, Fault>, levels: &mut usize) -> i32
+fn set_level_count(plan: Result<Plan, Fault>, levels: &mut usize) -> i32
     ensures status { result ≡ status_of (level_count_in plan) }
     ensures levels { levels.new ≡ value_or levels.old (level_count_in plan) }
 {
@@ -57,7 +57,7 @@ pub extern "C" fn verity_level_start(
     ensures start { start.new ≡ value_or start.old (level_start_in (plan_of params.now) level) }
     ensures blocks { blocks.new ≡ value_or blocks.old (level_blocks_in (plan_of params.now) level) }
 {
-    put_level_start(plan_of(params), level, start, blocks)
+    set_level_start(plan_of(params), level, start, blocks)
 }
 
 /// The same of a file's fs-verity tree, in bytes from the beginning of the tree.
@@ -72,10 +72,10 @@ pub extern "C" fn fsverity_level_start(
     ensures start { start.new ≡ value_or start.old (level_start_in (fsverity_plan_of params.now) level) }
     ensures blocks { blocks.new ≡ value_or blocks.old (level_blocks_in (fsverity_plan_of params.now) level) }
 {
-    put_level_start(fsverity_plan_of(params), level, start, blocks)
+    set_level_start(fsverity_plan_of(params), level, start, blocks)
 }
 
-fn put_level_start(
+fn set_level_start(
     plan: Result<Plan, Fault>,
     level: usize,
     start: &mut u64,
@@ -95,7 +95,7 @@ fn put_level_start(
     // Called for the proof: its contract says that the plan can be carried out, so each level has a block.
     let _planned = plan.blocks();
     *blocks = plan.level_size(level);
-    *start = plan.byte(level, 0);
+    *start = plan.start(level, 0);
     DONE
 }
 
@@ -113,7 +113,7 @@ pub extern "C" fn verity_hash_block_start(
     ensures status { result ≡ status_of (hash_block_start_in (plan_of params.now) index level) }
     ensures start { start.new ≡ value_or start.old (hash_block_start_in (plan_of params.now) index level) }
 {
-    put_hash_block_start(plan_of(params), index, level, start)
+    set_hash_block_start(plan_of(params), index, level, start)
 }
 
 /// The same of a file's fs-verity tree, in bytes from the beginning of the tree.
@@ -127,10 +127,10 @@ pub extern "C" fn fsverity_hash_block_start(
     ensures status { result ≡ status_of (hash_block_start_in (fsverity_plan_of params.now) index level) }
     ensures start { start.new ≡ value_or start.old (hash_block_start_in (fsverity_plan_of params.now) index level) }
 {
-    put_hash_block_start(fsverity_plan_of(params), index, level, start)
+    set_hash_block_start(fsverity_plan_of(params), index, level, start)
 }
 
-fn put_hash_block_start(plan: Result<Plan, Fault>, index: u64, level: usize, start: &mut u64) -> i32
+fn set_hash_block_start(plan: Result<Plan, Fault>, index: u64, level: usize, start: &mut u64) -> i32
     ensures status { result ≡ status_of (hash_block_start_in plan index level) }
     ensures start { start.new ≡ value_or start.old (hash_block_start_in plan index level) }
 {
@@ -144,6 +144,6 @@ fn put_hash_block_start(plan: Result<Plan, Fault>, index: u64, level: usize, sta
     if level >= plan.levels() {
         return Fault::Level.code();
     }
-    *start = plan.byte_above(index, level);
+    *start = plan.start_above(index, level);
     DONE
 }

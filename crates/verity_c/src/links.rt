@@ -3,7 +3,7 @@ ghost use Rattle.std.specs.Prelude.{◌≡◌};
 ghost use Rattle.verity_c.specs.Answers.{link_status_in, top_status_in, with_root};
 ghost use Rattle.verity_c.specs.Parameters.{fsverity_plan_of, plan_of};
 
-use crate::blocks::digest_of;
+use crate::blocks::root_from_bytes;
 use crate::fault::{Fault, link_status};
 use crate::parameters::{FsverityParams, VerityParams};
 use crate::plans::{fsverity_plan_of, plan_of};
@@ -92,7 +92,7 @@ fn check_top_in(plan: Result<Plan, Fault>, index: u64, block: &[u8], root: &[u8]
         Ok(plan) => plan,
         Err(fault) => return fault.code(),
     };
-    match digest_of(plan.settings(), root) {
+    match root_from_bytes(plan.settings(), root) {
         Some(root) => link_status(check_top(&plan, index, block, &root)),
         None => Fault::Root.code(),
     }

@@ -8,13 +8,13 @@ ghost use Rattle.verity_c.specs.Answers.{value_or};
 ghost use Rattle.verity_c.specs.Parameters.{fsverity_plan_of, plan_of};
 ghost use Rattle.verity_c.specs.Parts.{HandsOutOfPart, IsDigestOfFed, IsFedPartTo, StandsLastOfPart, TakesPartPiece};
 ghost use Rattle.verity_c.specs.Parts.{begun_part, last_of_part_in, part_builder_of, part_count_in, part_memory_in};
-ghost use Rattle.verity_c.specs.Parts.{part_size_in, with_part, with_part_fed, with_part_memory, with_part_piece};
+ghost use Rattle.verity_c.specs.Parts.{part_blocks_in, with_part, with_part_fed, with_part_memory, with_part_piece};
 ghost use Rattle.verity_c.specs.Parts.{with_parts};
 ghost use Rattle.verity_c.specs.Statuses.{done, status_of};
 
 use crate::build::{VerityFed, VerityPart};
 use crate::fault::{DONE, Fault};
-use crate::files::put_digest;
+use crate::files::set_digest;
 use crate::parameters::{FsverityParams, VerityParams};
 use crate::plans::{fsverity_plan_of, plan_of};
 use crate::tree_building::fed_of;
@@ -36,9 +36,9 @@ pub extern "C" fn verity_part_count(
 ) -> i32
     ensures status { result ≡ status_of (part_count_in (plan_of params.now) level) }
     ensures parts { parts.new ≡ value_or parts.old (part_count_in (plan_of params.now) level) }
-    ensures blocks { blocks.new ≡ value_or blocks.old (part_size_in (plan_of params.now) level) }
+    ensures blocks { blocks.new ≡ value_or blocks.old (part_blocks_in (plan_of params.now) level) }
 {
-    put_part_count(plan_of(params), level, parts, blocks)
+    set_part_count(plan_of(params), level, parts, blocks)
 }
 
 /// The same of a file's fs-verity tree.
@@ -51,22 +51,22 @@ pub extern "C" fn fsverity_part_count(
 ) -> i32
     ensures status { result ≡ status_of (part_count_in (fsverity_plan_of params.now) level) }
     ensures parts { parts.new ≡ value_or parts.old (part_count_in (fsverity_plan_of params.now) level) }
-    ensures blocks { blocks.new ≡ value_or blocks.old (part_size_in (fsverity_plan_of params.now) level) }
+    ensures blocks { blocks.new ≡ value_or blocks.old (part_blocks_in (fsverity_plan_of params.now) level) }
 {
-    put_part_count(fsverity_plan_of(params), level, parts, blocks)
+    set_part_count(fsverity_plan_of(params), level, parts, blocks)
 }
 
-fn put_part_count(plan: Result<Plan, Fault>, level: usize, parts: &mut u64, blocks: &mut u64) -> i32
+fn set_part_count(plan: Result<Plan, Fault>, level: usize, parts: &mut u64, blocks: &mut u64) -> i32
     ensures status { result ≡ status_of (part_count_in plan level) }
     ensures parts { parts.new ≡ value_or parts.old (part_count_in plan level) }
-    ensures blocks { blocks.new ≡ value_or blocks.old (part_size_in plan level) }
+    ensures blocks { blocks.new ≡ value_or blocks.old (part_blocks_in plan level) }
 {
     let plan = match plan_with_level(plan, level) {
         Ok(plan) => plan,
         Err(fault) => return fault.code(),
     };
-    *parts = plan.size_under(level);
-    *blocks = PartBuilder::size(&plan, level);
+    *parts = plan.count_under(level);
+    *blocks = PartBuilder::blocks(&plan, level);
     DONE
 }
 
@@ -79,7 +79,7 @@ pub extern "C" fn verity_part_memory(params: &VerityParams, level: usize, length
     ensures status { result ≡ status_of (part_memory_in (plan_of params.now) level) }
     ensures length { length.new ≡ value_or length.old (part_memory_in (plan_of params.now) level) }
 {
-    put_part_memory(plan_of(params), level, length)
+    set_part_memory(plan_of(params), level, length)
 }
 
 /// The same of a file's fs-verity tree.
@@ -92,10 +92,10 @@ pub extern "C" fn fsverity_part_memory(
     ensures status { result ≡ status_of (part_memory_in (fsverity_plan_of params.now) level) }
     ensures length { length.new ≡ value_or length.old (part_memory_in (fsverity_plan_of params.now) level) }
 {
-    put_part_memory(fsverity_plan_of(params), level, length)
+    set_part_memory(fsverity_plan_of(params), level, length)
 }
 
-fn put_part_memory(plan: Result<Plan, Fault>, level: usize, length: &mut usize) -> i32
+fn set_part_memory(plan: Result<Plan, Fault>, level: usize, length: &mut usize) -> i32
     ensures status { result ≡ status_of (part_memory_in plan level) }
     ensures length { length.new ≡ value_or length.old (part_memory_in plan level) }
 {
@@ -297,7 +297,7 @@ pub extern "C" fn verity_part_last_block(
     ensures block { (memory bytes : List ℕ) → IsFedPartTo (plan_of params.now) part.now memory bytes → result ≡ done
         → IfOk (plan_of params.now) (λ p. StandsLastOfPart p part.now bytes memory fed.new) }
 {
-    put_last_of_part(plan_of(params), part, fed)
+    set_last_of_part(plan_of(params), part, fed)
 }
 
 /// The same of a file's fs-verity tree.
@@ -314,10 +314,10 @@ pub extern "C" fn fsverity_part_last_block(
     ensures block { (memory bytes : List ℕ) → IsFedPartTo (fsverity_plan_of params.now) part.now memory bytes
         → result ≡ done → IfOk (fsverity_plan_of params.now) (λ p. StandsLastOfPart p part.now bytes memory fed.new) }
 {
-    put_last_of_part(fsverity_plan_of(params), part, fed)
+    set_last_of_part(fsverity_plan_of(params), part, fed)
 }
 
-fn put_last_of_part(plan: Result<Plan, Fault>, part: &VerityPart, fed: &mut VerityFed) -> i32
+fn set_last_of_part(plan: Result<Plan, Fault>, part: &VerityPart, fed: &mut VerityFed) -> i32
     ensures status { result ≡ status_of (last_of_part_in
         (with_part_piece (with_part plan part.now.level part.now.part) part.now 0) part.now) }
     ensures fed { fed.new ≡ value_or fed.old (last_of_part_in
@@ -364,7 +364,7 @@ pub extern "C" fn verity_part_end(
     ensures stays { (bytes : List ℕ) → IsFedPartTo (plan_of params.now) part.now memory.old bytes
         → IsFedPartTo (plan_of params.now) part.now memory.new bytes }
 {
-    put_part_digest(plan_of(params), part, memory, digest)
+    set_part_digest(plan_of(params), part, memory, digest)
 }
 
 /// The same of a file's fs-verity tree.
@@ -384,10 +384,10 @@ pub extern "C" fn fsverity_part_end(
     ensures stays { (bytes : List ℕ) → IsFedPartTo (fsverity_plan_of params.now) part.now memory.old bytes
         → IsFedPartTo (fsverity_plan_of params.now) part.now memory.new bytes }
 {
-    put_part_digest(fsverity_plan_of(params), part, memory, digest)
+    set_part_digest(fsverity_plan_of(params), part, memory, digest)
 }
 
-fn put_part_digest(
+fn set_part_digest(
     plan: Result<Plan, Fault>,
     part: &VerityPart,
     memory: &mut [u8],
@@ -410,7 +410,7 @@ fn put_part_digest(
     }
     match builder_of(&plan, part).end(memory) {
         Ok(answer) => {
-            put_digest(&answer, digest);
+            set_digest(&answer, digest);
             DONE
         }
         Err(fault) => Fault::of_feed(fault).code(),
@@ -436,7 +436,7 @@ fn plan_with_part(plan: Result<Plan, Fault>, level: usize, part: u64) -> Result<
     ensures part { IfOk result (λ p. HasPart p level part) }
 {
     match plan_with_level(plan, level) {
-        Ok(plan) if part >= plan.size_under(level) => Err(Fault::Part),
+        Ok(plan) if part >= plan.count_under(level) => Err(Fault::Part),
         other => other,
     }
 }
@@ -499,9 +499,9 @@ fn own_plan(plan: &Plan, level: usize, part: u64) -> Plan
     requires { HasPart plan.now level part }
     ensures { result ≡ plan_of_part plan.now level part }
 {
-    let size = PartBuilder::size(plan, level);
+    let count = PartBuilder::blocks(plan, level);
     let block = plan.data_block() as u64;
-    let wanted = (plan.wanted() - part * size * block).min(size * block);
+    let wanted = (plan.wanted() - part * count * block).min(count * block);
     match Plan::for_bytes(plan.settings(), wanted, 0) {
         Ok(own) => own,
         // The whole tree has room, so this is never answered.

@@ -81,10 +81,7 @@ fn tree_of(params: &VerityParams) -> Result<TreeSettings, Fault>
 pub(crate) fn plan_of(params: &VerityParams) -> Result<Plan, Fault>
     ensures { result ≡ plan_of params.now }
 {
-    let tree = match tree_of(params) {
-        Ok(tree) => tree,
-        Err(fault) => return Err(fault),
-    };
+    let tree = tree_of(params)?;
     let superblock = params.no_superblock == 0;
     let Some(offset) = multiple_of(offset_unit(superblock, &tree), params.hash_offset) else {
         return Err(Fault::HashOffset);
@@ -119,10 +116,7 @@ pub(crate) fn fsverity_tree_of(params: &FsverityParams) -> Result<TreeSettings, 
 pub(crate) fn fsverity_plan_of(params: &FsverityParams) -> Result<Plan, Fault>
     ensures { result ≡ fsverity_plan_of params.now }
 {
-    let tree = match fsverity_tree_of(params) {
-        Ok(tree) => tree,
-        Err(fault) => return Err(fault),
-    };
+    let tree = fsverity_tree_of(params)?;
     match Plan::for_bytes(&tree, params.size, 0) {
         Ok(plan) => Ok(plan),
         Err(fault) => Err(Fault::of_plan(fault)),

@@ -19,7 +19,7 @@ pub extern "C" fn verity_hash_area_end(params: &VerityParams, end: &mut u64) -> 
     ensures status { result ≡ status_of (hash_area_end_in (plan_of params.now)) }
     ensures end { end.new ≡ value_or end.old (hash_area_end_in (plan_of params.now)) }
 {
-    put_end(plan_of(params), end)
+    set_end(plan_of(params), end)
 }
 
 /// The size of a file's fs-verity tree, in bytes: of all its blocks (Linux kernel, fs-verity page,
@@ -31,10 +31,10 @@ pub extern "C" fn fsverity_tree_size(params: &FsverityParams, size: &mut u64) ->
     ensures status { result ≡ status_of (hash_area_end_in (fsverity_plan_of params.now)) }
     ensures size { size.new ≡ value_or size.old (hash_area_end_in (fsverity_plan_of params.now)) }
 {
-    put_end(fsverity_plan_of(params), size)
+    set_end(fsverity_plan_of(params), size)
 }
 
-fn put_end(plan: Result<Plan, Fault>, end: &mut u64) -> i32
+fn set_end(plan: Result<Plan, Fault>, end: &mut u64) -> i32
     ensures status { result ≡ status_of (hash_area_end_in plan) }
     ensures end { end.new ≡ value_or end.old (hash_area_end_in plan) }
 {

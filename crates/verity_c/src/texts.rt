@@ -37,7 +37,8 @@ fn status_text(status: i32) -> &'static str
     }
 }
 
-/// Writes a text into a buffer, with a zero after it, as texts of C end.
+/// Puts a text at the beginning of a buffer, with a zero after it, as texts of C end. The length becomes the text's.
+/// With no room for both the status is that of `Length`, and buffer and length stay as they were.
 pub(crate) fn put_text(text: &str, buffer: &mut [u8], length: &mut usize) -> i32
     ensures status { result ≡ status_of (with_text text.now buffer.old) }
     ensures text { buffer.new ≡ value_or buffer.old (with_text text.now buffer.old) }

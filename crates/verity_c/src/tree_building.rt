@@ -8,7 +8,7 @@ ghost use Rattle.verity_c.specs.Statuses.{done, status_of};
 
 use crate::build::{VerityBuild, VerityFed};
 use crate::fault::{DONE, Fault};
-use crate::files::put_digest;
+use crate::files::set_digest;
 use crate::parameters::VerityParams;
 use crate::plans::plan_of;
 use verity_plan::Plan;
@@ -189,7 +189,7 @@ pub extern "C" fn verity_build_end(
     };
     match builder.end(memory) {
         Ok(digest) => {
-            put_digest(&digest, root);
+            set_digest(&digest, root);
             DONE
         }
         Err(fault) => Fault::of_feed(fault).code(),
@@ -222,7 +222,7 @@ pub(crate) fn fed_of(plan: &Plan, answer: &Fed) -> VerityFed
             taken: answer.taken,
             block_length: plan.hash_block(),
             block_at: block.at,
-            block_start: block.byte,
+            block_start: block.start,
             block_index: block.index,
             block_level: block.level,
         },

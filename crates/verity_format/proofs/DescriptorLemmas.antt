@@ -7,7 +7,7 @@ use Rattle.byteorder.specs.Endian.{little_bytes, little_number}
 use Rattle.byteorder.specs.Numbers.{little_number-reads_back}
 use Rattle.verity_hash.specs.Hashing.{digest_len_of, with_zeros}
 use Rattle.verity_hash.specs.declared.algorithm.Algorithm.{Algorithm}
-use Rattle.verity_hash.specs.declared.algorithm.Algorithm.TheVariants.{Sha256, Sha512, Sha1, Sha224, Sha384}
+use Rattle.verity_hash.specs.declared.algorithm.Algorithm.TheVariants.{Sha256, Sha512}
 use Rattle.verity_plan.specs.Settings.{TreeSettingsFields, is_of_fsverity, log2}
 use Rattle.verity_plan.proofs.FanLemmas.{block_power, digest_len_of-most, log2-is, some_data}
 use Rattle.verity_plan.proofs.FitLemmas.{power_of_two-is}
@@ -75,22 +75,23 @@ power-log2 n some power =
     let high : n < 2 * 2 ^ p.0 = omega (arith, p.1, some) in
     p.1 ∙ ap (λ (k : ℕ). 2 ^ k) (sym (log2-is n p.0 low high))
 
--- an algorithm of fs-verity by its number
-algorithm-same : (a b : Algorithm) → is_of_fsverity a ≡ true → is_of_fsverity b ≡ true
+-- a hash function of fs-verity by its number
+algorithm_by_number : (a b : Algorithm) → is_of_fsverity a ≡ true → is_of_fsverity b ≡ true
     → algorithm_number a ≡ algorithm_number b → a ≡ b
-algorithm-same Sha256 Sha256 of_a of_b e = refl
-algorithm-same Sha256 Sha512 of_a of_b e = absurd (omega (arith, e))
-algorithm-same Sha256 Sha1 of_a of_b e = cc
-algorithm-same Sha256 Sha224 of_a of_b e = cc
-algorithm-same Sha256 Sha384 of_a of_b e = cc
-algorithm-same Sha512 Sha256 of_a of_b e = absurd (omega (arith, e))
-algorithm-same Sha512 Sha512 of_a of_b e = refl
-algorithm-same Sha512 Sha1 of_a of_b e = cc
-algorithm-same Sha512 Sha224 of_a of_b e = cc
-algorithm-same Sha512 Sha384 of_a of_b e = cc
-algorithm-same Sha1 b of_a of_b e = cc
-algorithm-same Sha224 b of_a of_b e = cc
-algorithm-same Sha384 b of_a of_b e = cc
+algorithm_by_number Sha256 Sha256 of_a of_b e = refl
+algorithm_by_number Sha256 Sha512 of_a of_b e = absurd (omega (arith, e))
+algorithm_by_number Sha512 Sha256 of_a of_b e = absurd (omega (arith, e))
+algorithm_by_number Sha512 Sha512 of_a of_b e = refl
+algorithm_by_number _ _ of_a of_b e = cc
+
+-- and by the length of its digests
+pub algorithm_by_length : (a b : Algorithm) → is_of_fsverity a ≡ true → is_of_fsverity b ≡ true
+    → digest_len_of a ≡ digest_len_of b → a ≡ b
+algorithm_by_length Sha256 Sha256 of_a of_b e = refl
+algorithm_by_length Sha256 Sha512 of_a of_b e = absurd (omega (arith, e))
+algorithm_by_length Sha512 Sha256 of_a of_b e = absurd (omega (arith, e))
+algorithm_by_length Sha512 Sha512 of_a of_b e = refl
+algorithm_by_length _ _ of_a of_b e = cc
 
 -- fields by their parts
 fields_from : TreeSettingsFields → ℕ → List ℕ → DescriptorFields
@@ -114,15 +115,16 @@ one-descriptor v w of_v of_w same =
     let said = descriptor-says v of_v.size of_root in
     let read = subst (λ (bytes : List ℕ). Says bytes w) (sym same) (descriptor-says w of_w.size of_other) in
     let one : v.tree.algorithm ≡ w.tree.algorithm =
-    algorithm-same v.tree.algorithm w.tree.algorithm (of_v.tree.known of_v.described.0)
+    algorithm_by_number v.tree.algorithm w.tree.algorithm (of_v.tree.known of_v.described.0)
     (of_w.tree.known of_w.described.0) (sym said.algorithm ∙ read.algorithm) in
     let lengths : length v.root ≡ length w.root = long ∙ ap digest_len_of one ∙ sym wide in
     let salts : length v.tree.salt ≡ length w.tree.salt = sym said.salt_size ∙ read.salt_size in
     let block : v.tree.data_block ≡ w.tree.data_block =
-    power-log2 v.tree.data_block (some_data v.tree of_v.tree) (block_power _ v.tree.data_block of_v.tree.data_size)
+    power-log2 v.tree.data_block (some_data v.tree of_v.tree)
+    (block_power _ v.tree.data_block of_v.tree.data_block_size)
     ∙ ap (λ (k : ℕ). 2 ^ k) (sym said.block ∙ read.block)
     ∙ sym (power-log2 w.tree.data_block (some_data w.tree of_w.tree)
-    (block_power _ w.tree.data_block of_w.tree.data_size)) in
+    (block_power _ w.tree.data_block of_w.tree.data_block_size)) in
     fields-same v w
     (tree-same v.tree w.tree one (of_v.described.0 ∙ sym of_w.described.0)
     (sym said.salt ∙ ap (λ (n : ℕ). take n (drop 80 (descriptor_bytes v))) salts ∙ read.salt) block

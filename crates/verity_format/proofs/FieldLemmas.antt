@@ -7,7 +7,7 @@ use Rattle.std.proofs.lemmas.List.{replicate-append-replicate, take-replicate, t
 use borrow.Rule.Slice.PartMut.{put_mid}
 use Rattle.verity_hash.specs.Hashing.{with_zeros, IsPadded}
 
--- there are as many bytes of fields as were put
+-- there are as many bytes of fields as were appended
 front_long : (n at : ℕ) (block : List ℕ) → IsPadded n block at → length (take at block) ≡ at
 front_long n at block held = length-take-le at block (omega (arith, held.whole, held.most))
 
@@ -24,7 +24,7 @@ zeros_after n at block held =
     ap (drop at) held.zeros ∙ drop_at (take at block) (replicate (n - length (take at block)) 0) at long
     ∙ ap (λ m. replicate (n - m) 0) long
 
--- the block, with bytes put after its fields
+-- the block, with bytes appended to its fields
 put_mid-with_zeros : (n at k : ℕ) (block xs : List ℕ) → IsPadded n block at → k ≡ length xs
     → put_mid at k block xs ≡ with_zeros n (take at block ++ xs)
 put_mid-with_zeros n at k block xs held same =
@@ -67,7 +67,7 @@ IsPadded-put_mid n at k end block xs held ends same room =
     held_from n end (put_mid at k block xs) (take at block ++ xs) (put_mid-with_zeros n at k block xs held same)
     (take-put_mid n at k end block xs held ends same) (omega (arith, length-append (take at block) xs, long)) room
 
--- the zeros to be put stand there already
+-- the zeros to be appended stand there already
 pub take-zeros : (n at count : ℕ) (block : List ℕ) → IsPadded n block at → at + count ≤ n
     → take (at + count) block ≡ take at block ++ replicate count 0
 take-zeros n at count block held room =
@@ -76,17 +76,18 @@ take-zeros n at count block held room =
     ap (take count) (zeros_after n at block held) ∙ take-replicate count (n - at) 0 less in
     take-add at count block ∙ ap (λ (r : List ℕ). take at block ++ r) zeros
 
-pub IsPadded-zeros : (n at count : ℕ) (block : List ℕ) → IsPadded n block at → at + count ≤ n → IsPadded n block (at + count)
+pub IsPadded-zeros : (n at count : ℕ) (block : List ℕ) → IsPadded n block at → at + count ≤ n
+    → IsPadded n block (at + count)
 IsPadded-zeros n at count block held room =
     let front = take at block in
-    let put = replicate count 0 in
-    let rest = n - length (front ++ put) in
+    let added = replicate count 0 in
+    let rest = n - length (front ++ added) in
     let long = front_long n at block held in
-    let size : length (front ++ put) ≡ at + count =
-    omega (arith, length-append front put, length-replicate {A = ℕ} count 0, long) in
+    let size : length (front ++ added) ≡ at + count =
+    omega (arith, length-append front added, length-replicate {A = ℕ} count 0, long) in
     let all : count + rest ≡ n - length front = omega (arith, size, long) in
-    let same : put ++ replicate rest 0 ≡ replicate (n - length front) 0 =
+    let same : added ++ replicate rest 0 ≡ replicate (n - length front) 0 =
     replicate-append-replicate count rest 0 ∙ ap (λ m. replicate m 0) all in
-    held_from n (at + count) block (front ++ put)
-    (held.zeros ∙ ap (λ (r : List ℕ). front ++ r) (sym same) ∙ sym (append_assoc front put (replicate rest 0)))
+    held_from n (at + count) block (front ++ added)
+    (held.zeros ∙ ap (λ (r : List ℕ). front ++ r) (sym same) ∙ sym (append_assoc front added (replicate rest 0)))
     (take-zeros n at count block held room) (omega (arith, size)) room

@@ -12,14 +12,13 @@ use Rattle.verity_io.specs.Writing.{most_bytes}
 use Rattle.verity_plan.specs.Settings.{TreeSettingsFields, IsValid, digest_len, least_block, rule_of}
 use Rattle.verity_plan.specs.CheckedSettings.{is_verity_block_size, type_of_number}
 use Rattle.verity_plan.specs.declared.hash_type.HashType.{HashType}
-use Rattle.verity_plan.specs.declared.hash_type.HashType.TheVariants.{Original, Current}
+use Rattle.verity_plan.proofs.LimitLemmas.{least-verity, salt_most}
 use Rattle.verity_format.specs.Superblocks.{field, number_at, until_zero, SuperblockFields, IsSuperblock, signature}
 use Rattle.verity_format.specs.CheckedSuperblocks.{superblock_fault, first_failed, superblock_tests}
 use Rattle.verity_format.specs.declared.super_fault.SuperFault.{SuperFault}
 use Rattle.verity_format.proofs.NameLemmas.{name_of-same, named-back, named-is, numbered-back, numbered-is}
 use Rattle.verity_format.proofs.NameLemmas.{type_number-same}
 use Rattle.verity_format.proofs.ReadLemmas.{IsValid-verity}
-use Rattle.verity_format.proofs.TextLemmas.{salt_most}
 
 -- every test is passed
 abbrev AllPass : List (Bool × SuperFault) → Type 0
@@ -79,19 +78,15 @@ fault_none-says s none =
       },
     )
 
-least_512 : (hash_type : HashType) (digest_len : ℕ) → least_block (rule_of hash_type) digest_len ≡ 512
-least_512 Original digest_len = refl
-least_512 Current digest_len = refl
-
 -- bytes that say a superblock pass every test
 pub says-fault_none : (s : List ℕ) (v : SuperblockFields) → IsSuperblock s v → superblock_fault s ≡ None
 says-fault_none s v a =
     let rule = a.valid.of_type in
     let limits = a.valid.tree in
     let least : least_block v.tree.rule (digest_len v.tree) ≡ 512 =
-    ap (λ r. least_block r (digest_len v.tree)) rule ∙ least_512 v.hash_type (digest_len v.tree) in
-    let sized : is_verity_block_size v.tree.data_block ≡ true = rw least at limits.data_size in
-    let hash_sized : is_verity_block_size v.tree.hash_block ≡ true = rw least at limits.hash_size in
+    least-verity v.tree.rule v.hash_type (digest_len v.tree) rule in
+    let sized : is_verity_block_size v.tree.data_block ≡ true = rw least at limits.data_block_size in
+    let hash_sized : is_verity_block_size v.tree.hash_block ≡ true = rw least at limits.hash_block_size in
     let long : nat_le 512 (length s) ≡ true = le-leb 512 (length s) a.long in
     let short : nat_le (length v.tree.salt) 256 ≡ true =
     le-leb (length v.tree.salt) 256 (omega (arith, salt_most v.tree.rule, limits.salt_most)) in

@@ -10,10 +10,10 @@ use Rattle.std.proofs.lemmas.List.Sums.{fails_before_first, passes_at_first, pos
 use Rattle.std.specs.Prelude.{◌==◌, not, unwrap_or}
 use Rattle.std.specs.List.{position_or_len}
 use Rattle.byteorder.specs.Endian.{little_from}
+use Rattle.verity_plan.proofs.LimitLemmas.{salt_most}
 use Rattle.verity_format.specs.Pads.{AgreeOutsidePads, SameBetween}
 use Rattle.verity_format.specs.Superblocks.{field, number_at, until_zero, SuperblockFields, IsSuperblock}
 use Rattle.verity_format.specs.CheckedSuperblocks.{superblock_fault}
-use Rattle.verity_format.proofs.TextLemmas.{salt_most}
 
 -- the same bytes are the same number
 little_from-same : (i n : ℕ) (xs ys : List ℕ)

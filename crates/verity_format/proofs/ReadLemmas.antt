@@ -73,12 +73,24 @@ pub IsValid-verity : (algorithm : Algorithm) (hash_type : HashType) (salt : List
       hash_block = hash_block;
     })
 IsValid-verity algorithm Original salt data_block hash_block sized hash_sized short =
-    record { data_size = sized; hash_size = hash_sized; salt_most = short; one_size = λ other. cc; known = λ other. cc }
+    record {
+      data_block_size = sized;
+      hash_block_size = hash_sized;
+      salt_most = short;
+      one_size = λ other. cc;
+      known = λ other. cc;
+    }
 IsValid-verity algorithm Current salt data_block hash_block sized hash_sized short =
-    record { data_size = sized; hash_size = hash_sized; salt_most = short; one_size = λ other. cc; known = λ other. cc }
+    record {
+      data_block_size = sized;
+      hash_block_size = hash_sized;
+      salt_most = short;
+      one_size = λ other. cc;
+      known = λ other. cc;
+    }
 
 -- the type of a type's rule
-hash_type_of-rule_of : (hash_type : HashType) → hash_type_of (rule_of hash_type) ≡ Some hash_type
+pub hash_type_of-rule_of : (hash_type : HashType) → hash_type_of (rule_of hash_type) ≡ Some hash_type
 hash_type_of-rule_of Original = refl
 hash_type_of-rule_of Current = refl
 

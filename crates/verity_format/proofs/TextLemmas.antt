@@ -9,12 +9,11 @@ use Rattle.byteorder.specs.Numbers.{little_number-reads_back}
 use Rattle.verity_hash.specs.Hashing.{name_of, with_zeros}
 use Rattle.verity_hash.specs.declared.algorithm.Algorithm.{Algorithm}
 use Rattle.verity_hash.specs.declared.algorithm.Algorithm.TheVariants.{Sha256, Sha512, Sha1, Sha224, Sha384}
-use Rattle.verity_hash.specs.declared.salting.SaltRule.{SaltRule}
-use Rattle.verity_hash.specs.declared.salting.SaltRule.TheVariants.{Before, After, PaddedBefore}
-use Rattle.verity_plan.specs.Settings.{most_salt, type_number}
+use Rattle.verity_plan.specs.Settings.{type_number}
 use Rattle.verity_plan.specs.declared.hash_type.HashType.{HashType}
 use Rattle.verity_plan.specs.declared.hash_type.HashType.TheVariants.{Original, Current}
 use Rattle.verity_plan.proofs.FanLemmas.{data_most, hash_most, some_data}
+use Rattle.verity_plan.proofs.LimitLemmas.{salt_most}
 use Rattle.verity_format.specs.Superblocks.{number_at, until_zero, SuperblockFields, IsValidSuperblock, IsSuperblock}
 use Rattle.verity_format.specs.Superblocks.{signature, superblock_bytes}
 
@@ -75,12 +74,6 @@ name_long Sha384 = refl
 type_small : (hash_type : HashType) → type_number hash_type < 256
 type_small Original = omega arith
 type_small Current = omega arith
-
--- a salt has at most 256 bytes
-pub salt_most : (rule : SaltRule) → most_salt rule ≤ 256
-salt_most Before = omega arith
-salt_most After = omega arith
-salt_most PaddedBefore = omega arith
 
 fields_say : (v : SuperblockFields) (z : List ℕ) → IsValidSuperblock v → 512 ≤ length (fields v z)
     → IsSuperblock (fields v z) v

@@ -1,5 +1,5 @@
 -- The steps of reading a superblock: its type, then the settings, then the number of data blocks.
--- For the private steps; not needed to read a public contract.
+-- For the private functions; not needed to read a public contract.
 use Rattle.std.specs.Prelude.{ℕ, ◌≡◌, Bool, List, length, take, drop, Some}
 use Rattle.verity_hash.specs.Hashing.{algorithm_named}
 use Rattle.verity_plan.specs.Settings.{TreeSettingsFields}

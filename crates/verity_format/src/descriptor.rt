@@ -86,16 +86,16 @@ pub fn write_descriptor(descriptor: &Descriptor) -> [u8; 256]
     let tree = &descriptor.tree;
     let salt = tree.salt();
     let mut fields = FieldWriter::new();
-    fields.put(&[
+    fields.append(&[
         1,
         algorithm_number(tree.algorithm()),
         log2(tree.data_block()),
         salt.len() as u8,
     ]);
-    fields.put_zeros(4);
-    fields.put_u64(descriptor.size);
-    fields.put_with_zeros(64, descriptor.root.as_bytes());
-    fields.put(salt);
+    fields.append_zeros(4);
+    fields.append_u64(descriptor.size);
+    fields.append_with_zeros(64, descriptor.root.as_bytes());
+    fields.append(salt);
     fields.finish()
 }
 

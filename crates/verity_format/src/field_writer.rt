@@ -6,7 +6,7 @@ ghost use Rattle.verity_hash.specs.Hashing.{with_zeros};
 use byteorder::{ByteOrder, LittleEndian};
 use std::marker::Model;
 
-/// The first fields of a block of `N` bytes, which contracts see as the bytes put so far. The rest of the block is
+/// The first fields of a block of `N` bytes, which contracts see as the bytes appended so far. The rest of the block is
 /// zeros.
 #[derive(Drop)]
 pub(crate) struct FieldWriter<const N: usize> {
@@ -35,8 +35,8 @@ impl<const N: usize> FieldWriter<N> {
         }
     }
 
-    /// Puts bytes after the fields.
-    pub(crate) fn put(&mut self, bytes: &[u8])
+    /// Appends bytes to the fields.
+    pub(crate) fn append(&mut self, bytes: &[u8])
         requires { length self.old + length bytes.now ≤ N }
         ensures bytes { self.new ≡ self.old ++ bytes.now }
         ensures longer { length self.new ≡ length self.old + length bytes.now }
@@ -47,8 +47,8 @@ impl<const N: usize> FieldWriter<N> {
         self.at = end;
     }
 
-    /// Puts `count` zeros.
-    pub(crate) fn put_zeros(&mut self, count: usize)
+    /// Appends `count` zeros.
+    pub(crate) fn append_zeros(&mut self, count: usize)
         requires { length self.old + count ≤ N }
         ensures bytes { self.new ≡ self.old ++ replicate count 0 }
         ensures longer { length self.new ≡ length self.old + count }
@@ -56,45 +56,45 @@ impl<const N: usize> FieldWriter<N> {
         self.at += count;
     }
 
-    /// Puts bytes, and zeros up to a field's width.
-    pub(crate) fn put_with_zeros(&mut self, width: usize, bytes: &[u8])
+    /// Appends bytes, and zeros up to a field's width.
+    pub(crate) fn append_with_zeros(&mut self, width: usize, bytes: &[u8])
         requires fits { length bytes.now ≤ width }
         requires room { length self.old + width ≤ N }
         ensures bytes { self.new ≡ self.old ++ with_zeros width bytes.now }
         ensures longer { length self.new ≡ length self.old + width }
     {
-        self.put(bytes);
-        self.put_zeros(width - bytes.len());
+        self.append(bytes);
+        self.append_zeros(width - bytes.len());
     }
 
-    pub(crate) fn put_u16(&mut self, number: u16)
+    pub(crate) fn append_u16(&mut self, number: u16)
         requires { length self.old + 2 ≤ N }
         ensures bytes { self.new ≡ self.old ++ little_bytes 2 number }
         ensures longer { length self.new ≡ length self.old + 2 }
     {
         let mut bytes = [0; 2];
         LittleEndian::write_u16(&mut bytes, number);
-        self.put(&bytes);
+        self.append(&bytes);
     }
 
-    pub(crate) fn put_u32(&mut self, number: u32)
+    pub(crate) fn append_u32(&mut self, number: u32)
         requires { length self.old + 4 ≤ N }
         ensures bytes { self.new ≡ self.old ++ little_bytes 4 number }
         ensures longer { length self.new ≡ length self.old + 4 }
     {
         let mut bytes = [0; 4];
         LittleEndian::write_u32(&mut bytes, number);
-        self.put(&bytes);
+        self.append(&bytes);
     }
 
-    pub(crate) fn put_u64(&mut self, number: u64)
+    pub(crate) fn append_u64(&mut self, number: u64)
         requires { length self.old + 8 ≤ N }
         ensures bytes { self.new ≡ self.old ++ little_bytes 8 number }
         ensures longer { length self.new ≡ length self.old + 8 }
     {
         let mut bytes = [0; 8];
         LittleEndian::write_u64(&mut bytes, number);
-        self.put(&bytes);
+        self.append(&bytes);
     }
 
     /// The fields alone.

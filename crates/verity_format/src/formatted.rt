@@ -46,10 +46,10 @@ pub fn formatted_digest(algorithm: Algorithm, digest: &Digest) -> Option<Formatt
         return None;
     }
     let mut fields = FieldWriter::<76>::new();
-    fields.put(b"FSVerity");
-    fields.put_u16(u16::from(number));
-    fields.put_u16(digest.len() as u16);
-    fields.put(digest);
+    fields.append(b"FSVerity");
+    fields.append_u16(u16::from(number));
+    fields.append_u16(digest.len() as u16);
+    fields.append(digest);
     Some(Formatted {
         bytes: ShortBytes::from_bytes(fields.as_bytes()).unwrap(),
     })

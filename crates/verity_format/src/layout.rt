@@ -8,11 +8,11 @@ pub(crate) const UUID_AT: usize = 16;
 
 pub(crate) const ALGORITHM_AT: usize = 32;
 
-pub(crate) const DATA_BLOCK_AT: usize = 64;
+pub(crate) const DATA_BLOCK_SIZE_AT: usize = 64;
 
-pub(crate) const HASH_BLOCK_AT: usize = 68;
+pub(crate) const HASH_BLOCK_SIZE_AT: usize = 68;
 
-pub(crate) const BLOCKS_AT: usize = 72;
+pub(crate) const DATA_BLOCKS_AT: usize = 72;
 
 pub(crate) const SALT_SIZE_AT: usize = 80;
 

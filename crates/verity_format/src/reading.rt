@@ -9,8 +9,8 @@ ghost use Rattle.verity_format.specs.SuperblockSteps.{AreSettings, settings_test
 ghost use Rattle.verity_format.specs.CheckedSuperblocks.{superblock_fault, first_failed};
 
 use crate::layout::{
-    ALGORITHM_AT, BLOCKS_AT, DATA_BLOCK_AT, HASH_BLOCK_AT, HASH_TYPE_AT, SALT_AT, SALT_SIZE_AT,
-    UUID_AT, VERSION_AT,
+    ALGORITHM_AT, DATA_BLOCK_SIZE_AT, DATA_BLOCKS_AT, HASH_BLOCK_SIZE_AT, HASH_TYPE_AT, SALT_AT,
+    SALT_SIZE_AT, UUID_AT, VERSION_AT,
 };
 use crate::writing::VERSION;
 use crate::{SuperFault, Superblock};
@@ -40,7 +40,7 @@ pub fn read_superblock(bytes: &[u8]) -> Result<Superblock, SuperFault>
         return Err(SuperFault::HashType(number));
     };
     let tree = read_settings(bytes, hash_type)?;
-    let blocks = u64_at(bytes, BLOCKS_AT);
+    let blocks = u64_at(bytes, DATA_BLOCKS_AT);
     if blocks == 0 {
         return Err(SuperFault::NoData);
     }
@@ -61,15 +61,15 @@ fn read_settings(bytes: &[u8], hash_type: HashType) -> Result<TreeSettings, Supe
     ensures passed { IfOk result (λ _. first_failed (settings_tests bytes.now) ≡ None) }
     ensures fault { IfErr result (λ fault. first_failed (settings_tests bytes.now) ≡ Some fault) }
 {
-    let data_block = u32_at(bytes, DATA_BLOCK_AT);
+    let data_block = u32_at(bytes, DATA_BLOCK_SIZE_AT);
     if !is_verity_block_size(u64::from(data_block)) {
         return Err(SuperFault::DataBlockSize(data_block));
     }
-    let hash_block = u32_at(bytes, HASH_BLOCK_AT);
+    let hash_block = u32_at(bytes, HASH_BLOCK_SIZE_AT);
     if !is_verity_block_size(u64::from(hash_block)) {
         return Err(SuperFault::HashBlockSize(hash_block));
     }
-    let Some(algorithm) = Algorithm::from_name(until_zero(&bytes[ALGORITHM_AT..DATA_BLOCK_AT]))
+    let Some(algorithm) = Algorithm::from_name(until_zero(&bytes[ALGORITHM_AT..DATA_BLOCK_SIZE_AT]))
     else {
         return Err(SuperFault::Algorithm);
     };
@@ -89,8 +89,8 @@ fn settings_within_limits(
     data_block: u32,
     hash_block: u32,
 ) -> TreeSettings
-    requires data_size { is_verity_block_size data_block ≡ true }
-    requires hash_size { is_verity_block_size hash_block ≡ true }
+    requires data_block_size { is_verity_block_size data_block ≡ true }
+    requires hash_block_size { is_verity_block_size hash_block ≡ true }
     requires salt_size { length salt.now ≤ most_salt Before }
     ensures value { result ≡ record {
       algorithm = algorithm;

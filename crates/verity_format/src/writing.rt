@@ -4,7 +4,7 @@ ghost use Rattle.verity_format.specs.Superblocks.{superblock_bytes};
 
 use crate::Superblock;
 use crate::field_writer::FieldWriter;
-use crate::layout::{ALGORITHM_AT, DATA_BLOCK_AT};
+use crate::layout::{ALGORITHM_AT, DATA_BLOCK_SIZE_AT};
 use verity_plan::SUPERBLOCK_SIZE;
 
 /// The only version that is written and read.
@@ -18,19 +18,19 @@ pub fn write_superblock(superblock: &Superblock) -> [u8; SUPERBLOCK_SIZE]
     let tree = superblock.tree();
     let salt = tree.salt();
     let mut fields = FieldWriter::new();
-    fields.put(b"verity\0\0");
-    fields.put_u32(VERSION);
-    fields.put_u32(superblock.hash_type().number());
-    fields.put(&superblock.uuid());
-    fields.put_with_zeros(
-        DATA_BLOCK_AT - ALGORITHM_AT,
+    fields.append(b"verity\0\0");
+    fields.append_u32(VERSION);
+    fields.append_u32(superblock.hash_type().number());
+    fields.append(&superblock.uuid());
+    fields.append_with_zeros(
+        DATA_BLOCK_SIZE_AT - ALGORITHM_AT,
         tree.algorithm().name().as_bytes(),
     );
-    fields.put_u32(tree.data_block());
-    fields.put_u32(tree.hash_block());
-    fields.put_u64(superblock.blocks());
-    fields.put_u16(salt.len() as u16);
-    fields.put_zeros(6);
-    fields.put(salt);
+    fields.append_u32(tree.data_block());
+    fields.append_u32(tree.hash_block());
+    fields.append_u64(superblock.blocks());
+    fields.append_u16(salt.len() as u16);
+    fields.append_zeros(6);
+    fields.append(salt);
     fields.finish()
 }

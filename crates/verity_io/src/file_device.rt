@@ -167,14 +167,11 @@ fn write_from<F: Write + Seek>(file: &mut F, at: u64, bytes: &[u8]) -> Result<()
         ⊎ From F.stream_position file.old at (λ moved. Keeps (F.stream_bytes file.old) (F.stream_bytes moved))) }
 {
     move_to(file, at)?;
-    write_whole(file, bytes)
+    write_all(file, bytes)
 }
 
-fn write_whole<W: Write>(writer: &mut W, bytes: &[u8]) -> Result<(), Failed>
+fn write_all<W: Write>(writer: &mut W, bytes: &[u8]) -> Result<(), Failed>
     ensures { OnOk result (Appends (W.contents writer.old) (W.contents writer.new) bytes.now) }
 {
-    match writer.write_all(bytes) {
-        Ok(()) => Ok(()),
-        Err(_) => Err(Failed),
-    }
+    writer.write_all(bytes).map_err(|_| Failed)
 }

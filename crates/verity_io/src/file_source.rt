@@ -59,10 +59,7 @@ pub(crate) fn read_some<R: Read>(reader: &mut R, buf: &mut [u8]) -> Result<usize
     ensures bound { IfOk result (λ k. k ≤ length buf.new) }
     ensures bytes { ReadConsumes (R.remaining reader.old) (R.remaining reader.new) result buf.new }
 {
-    match read_retrying(reader, buf) {
-        Ok(count) => Ok(count),
-        Err(_) => Err(Failed),
-    }
+    read_retrying(reader, buf).map_err(|_| Failed)
 }
 
 // The error is never an interrupt: it is the reader's own, or says that every try was interrupted.

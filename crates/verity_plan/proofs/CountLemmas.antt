@@ -1,11 +1,11 @@
--- Quotients rounded up.
+-- Quotients rounded up, and the number of levels.
 use Rattle.std.proofs.Common.{◌≡◌, ℕ, zero, suc, ◌+◌, ◌-◌, ◌*◌, ◌^◌, ◌<◌, ◌≤◌, ◌/◌, ◌%◌, true, false, leb, arith, sym, ◌∙◌, inl}
-use Rattle.std.proofs.Common.{inr}
+use Rattle.std.proofs.Common.{inr, ap}
 use Rattle.std.proofs.lemmas.Grind.{div_ceil_times}
 use Rattle.std.proofs.lemmas.Bool.Decides.{nat_tests, leb_tells}
-use Rattle.std.proofs.Math.Nat.{mul-le-mul_left, mul-le-mul_right, mul-pos, pow-zero, pow-suc}
+use Rattle.std.proofs.Math.Nat.{le_of_mul-le-mul_right, mul-le-mul_left, mul-le-mul_right, mul-pos, pow-zero, pow-suc}
 use Rattle.std.proofs.lemmas.Bool.{cases_lt}
-use Rattle.std.proofs.lemmas.Nat.{div-add-mod', mod_below}
+use Rattle.std.proofs.lemmas.Nat.{div-add-mod', div-mul-add, mod-mul-add, mod_below}
 use Rattle.std.specs.Int.{div_ceil}
 use Rattle.std.specs.Prelude.{nat_le}
 use Rattle.verity_plan.specs.Plans.{level_count}
@@ -29,6 +29,14 @@ div_ceil-le n a k some h =
       | inr less ↦ less
     ]
 
+-- n whole runs of a make n
+pub div_ceil-mul : (n a : ℕ) → 0 < a → div_ceil (n * a) a ≡ n
+div_ceil-mul n a some =
+    let none : n * a ≡ n * a + 0 = omega arith in
+    let quotient : n * a / a ≡ n = ap (λ (x : ℕ). x / a) none ∙ div-mul-add n a 0 some in
+    let rest : n * a % a ≡ 0 = ap (λ (x : ℕ). x % a) none ∙ mod-mul-add n a 0 some in
+    omega (arith, quotient, rest)
+
 -- rounding up twice is rounding up once
 pub div_ceil-div_ceil : (n a b : ℕ) → 0 < a → 0 < b → div_ceil (div_ceil n a) b ≡ div_ceil n (a * b)
 div_ceil-div_ceil n a b pa pb =
@@ -41,28 +49,16 @@ div_ceil-div_ceil n a b pa pb =
     let high : div_ceil n (a * b) ≤ div_ceil (div_ceil n a) b = div_ceil-le n (a * b) _ both (omega (arith, outer)) in
     omega (arith, low, high)
 
--- a number is below its power
-pub lt-pow_self : (fan n : ℕ) → 2 ≤ fan → n < fan ^ n
-lt-pow_self fan zero two = omega (arith, pow-zero fan)
-lt-pow_self fan (suc n) two =
-    omega (
-      arith,
-      pow-suc fan n,
-      lt-pow_self fan n two,
-      let at_least : 2 ≤ fan =
-          two in mul-le-mul_right (fan ^ n) at_least,
-    )
+-- if k runs of a are within n, k is at most the quotient, rounded up
+pub div_ceil-most : (n a k : ℕ) → 0 < a → k * a ≤ n → k ≤ div_ceil n a
+div_ceil-most n a k some within =
+    le_of_mul-le-mul_right {k = a} (omega (arith, le-div_ceil n a (div_ceil n a) some (omega arith), within)) some
 
-pub IsLevelCount-level_count : (fan n : ℕ) → 2 ≤ fan → IsLevelCount fan n (level_count fan n)
-unfolding level_count
-IsLevelCount-level_count fan n two =
-    let fits : leb n (fan ^ n) ≡ true = grind (arith, nat_tests, lt-pow_self fan n two) in
-    let found = IsLeast-least_from (λ l. nat_le n (fan ^ l)) 0 n n (omega arith) (omega arith) fits in
-    record {
-      enough = let pass : leb n (fan ^ level_count fan n) ≡ true = found.passing in grind (arith, nat_tests, pass);
-      least = λ m below. let fail : leb n (fan ^ m) ≡ false = found.least m (omega arith) below in grind
-          (arith, nat_tests, fail);
-    }
+-- a quotient of fewer, rounded up, is no more
+pub div_ceil-fewer : (few many a : ℕ) → 0 < a → few ≤ many → div_ceil few a ≤ div_ceil many a
+div_ceil-fewer few many a some le =
+    div_ceil-le few a (div_ceil many a) some
+    (omega (arith, le, le-div_ceil many a (div_ceil many a) some (omega arith)))
 
 -- one run is enough exactly when the quotient, rounded up, is at most 1
 pub leb-div_ceil_one : (n a : ℕ) → 0 < a → leb (div_ceil n a) 1 ≡ leb n a
@@ -97,6 +93,13 @@ pub div_ceil-lt : (n a : ℕ) → 2 ≤ a → 1 < n → div_ceil n a < n
 div_ceil-lt n a two more =
     omega (arith, div_ceil-le n a (n - 1) (omega arith) (omega (arith, mul-le-mul_left (n - 1) two)))
 
+-- and at most two thirds as many
+pub div_ceil-half : (n a : ℕ) → 2 ≤ a → 1 < n → 3 * div_ceil n a ≤ 2 * n
+div_ceil-half n a two more =
+    let half : div_ceil n a ≤ (n + 1) / 2 =
+    div_ceil-le n a ((n + 1) / 2) (omega arith) (omega (arith, mul-le-mul_left ((n + 1) / 2) two)) in
+    omega (arith, half)
+
 -- a quotient that is rounded up, by the one below
 pub div_ceil-below : (n a : ℕ) → 0 < a → 0 < n → (n - 1) / a + 1 ≡ div_ceil n a
 div_ceil-below n a some more =
@@ -109,3 +112,30 @@ div_ceil-below n a some more =
       | inl less ↦ omega (arith, less, most)
       | inr few ↦ absurd (omega (arith, le-div_ceil n a q some few, split, more))
     ]
+
+-- a number is below its power
+pub lt-pow_self : (fan n : ℕ) → 2 ≤ fan → n < fan ^ n
+lt-pow_self fan zero two = omega (arith, pow-zero fan)
+lt-pow_self fan (suc n) two =
+    omega (
+      arith,
+      pow-suc fan n,
+      lt-pow_self fan n two,
+      let at_least : 2 ≤ fan =
+          two in mul-le-mul_right (fan ^ n) at_least,
+    )
+
+pub IsLevelCount-level_count : (fan n : ℕ) → 2 ≤ fan → IsLevelCount fan n (level_count fan n)
+unfolding level_count
+IsLevelCount-level_count fan n two =
+    let fits : leb n (fan ^ n) ≡ true = grind (arith, nat_tests, lt-pow_self fan n two) in
+    let found = IsLeast-least_from (λ l. nat_le n (fan ^ l)) 0 n n (omega arith) (omega arith) fits in
+    record {
+      enough = let pass : leb n (fan ^ level_count fan n) ≡ true = found.passing in grind (arith, nat_tests, pass);
+      least = λ m below. let fail : leb n (fan ^ m) ≡ false = found.least m (omega arith) below in grind
+          (arith, nat_tests, fail);
+    }
+
+-- two numbers of levels are one
+pub IsLevelCount-same : (fan n x y : ℕ) → IsLevelCount fan n x → IsLevelCount fan n y → x ≡ y
+IsLevelCount-same fan n x y h k = grind (arith, h.least y, k.least x)

@@ -1,4 +1,4 @@
--- Fan-outs and slot widths as powers of two.
+-- Fan-outs and slot widths as powers of two, and the sizes of digests and blocks.
 use Rattle.std.proofs.Common.{sym, ◌∙◌, ◌≡◌, ℕ, zero, suc, ◌+◌, ◌*◌, ◌/◌, ◌^◌, ◌<◌, ◌≤◌, max, true, false, ltb, leb, arith, ap}
 use Rattle.std.proofs.Common.{refl, inl, inr}
 use Rattle.std.proofs.lemmas.Bool.Decides.{nat_tests}
@@ -124,6 +124,14 @@ digest_len_of-pos Sha1 = omega arith
 digest_len_of-pos Sha224 = omega arith
 digest_len_of-pos Sha384 = omega arith
 
+-- and even at least 20
+pub digest_len_of-least : (algorithm : Algorithm) → 20 ≤ digest_len_of algorithm
+digest_len_of-least Sha256 = omega arith
+digest_len_of-least Sha512 = omega arith
+digest_len_of-least Sha1 = omega arith
+digest_len_of-least Sha224 = omega arith
+digest_len_of-least Sha384 = omega arith
+
 -- and at most 64
 pub digest_len_of-most : (algorithm : Algorithm) → digest_len_of algorithm ≤ 64
 digest_len_of-most Sha256 = omega arith
@@ -179,22 +187,22 @@ slot_count-below len size some =
 
 -- a hash block has room for two digests
 pub two_slots : (s : TreeSettingsFields) → IsValid s → 2 * digest_len s ≤ s.hash_block
-two_slots s valid = two_slots_by s.rule s.algorithm s.hash_block valid.hash_size
+two_slots s valid = two_slots_by s.rule s.algorithm s.hash_block valid.hash_block_size
 
 -- and so has a data block
 pub two_digests : (s : TreeSettingsFields) → IsValid s → 2 * digest_len s ≤ s.data_block
-two_digests s valid = two_slots_by s.rule s.algorithm s.data_block valid.data_size
+two_digests s valid = two_slots_by s.rule s.algorithm s.data_block valid.data_block_size
 
 -- a data block has a byte
 pub some_data : (s : TreeSettingsFields) → IsValid s → 0 < s.data_block
-some_data s valid = some_block s.rule s.algorithm s.data_block valid.data_size
+some_data s valid = some_block s.rule s.algorithm s.data_block valid.data_block_size
 
 -- blocks have at most 2 ^ 19 bytes
 pub data_most : (s : TreeSettingsFields) → IsValid s → s.data_block ≤ 524288
-data_most s valid = block_most (least_block s.rule (digest_len s)) s.data_block valid.data_size
+data_most s valid = block_most (least_block s.rule (digest_len s)) s.data_block valid.data_block_size
 
 pub hash_most : (s : TreeSettingsFields) → IsValid s → s.hash_block ≤ 524288
-hash_most s valid = block_most (least_block s.rule (digest_len s)) s.hash_block valid.hash_size
+hash_most s valid = block_most (least_block s.rule (digest_len s)) s.hash_block valid.hash_block_size
 
 pub fan-two : (s : TreeSettingsFields) → IsValid s → 2 ≤ fan s
 unfolding fan

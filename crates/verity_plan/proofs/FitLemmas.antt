@@ -1,4 +1,4 @@
--- A hash block has room for its slots.
+-- A hash block has room for its slots, and how many and how wide these are.
 use Rattle.std.proofs.Common.{◌≡◌, ℕ, zero, suc, ◌+◌, ◌-◌, ◌*◌, ◌^◌, ◌<◌, ◌≤◌, true, false, leb, arith, ap, refl}
 use Rattle.std.proofs.Common.{sym, subst, ◌∙◌, inl, inr}
 use Rattle.std.proofs.lemmas.Bool.{cases_lt}
@@ -13,7 +13,7 @@ use Rattle.verity_plan.specs.Settings.{TreeSettingsFields, IsValid, fan, digest_
 use Rattle.verity_plan.specs.Settings.{least_up_to, slot_count, least_power}
 use Rattle.verity_plan.proofs.LeastLemmas.{IsLeast, IsLeast-least_from}
 use Rattle.verity_plan.proofs.CountLemmas.{lt-pow_self, mul_le}
-use Rattle.verity_plan.proofs.FanLemmas.{block_power, digest_len_of-pos, exponent-is, fan-two, slot_count-between, slot_count-fits}
+use Rattle.verity_plan.proofs.FanLemmas.{block_power, digest_len_of-pos, exponent-is, slot_count-between, slot_count-fits}
 use Rattle.verity_plan.proofs.FanLemmas.{hash_most, two_slots}
 
 -- a number with one bit set is a power of two
@@ -120,10 +120,7 @@ pub fan-fits : (s : TreeSettingsFields) → IsValid s → fan s * slot_width s �
 unfolding fan slot_width
 fan-fits s valid =
     width_fits s.rule (digest_len s) s.hash_block (digest_len_of-pos s.algorithm) (omega (arith, two_slots s valid))
-    (block_power (least_block s.rule (digest_len s)) s.hash_block valid.hash_size)
-
-pub fan-pos : (s : TreeSettingsFields) → IsValid s → 0 < fan s
-fan-pos s valid = omega (arith, fan-two s valid)
+    (block_power (least_block s.rule (digest_len s)) s.hash_block valid.hash_block_size)
 
 -- as many digests as the fan-out fit, if one does
 pub fan-digests : (s : TreeSettingsFields) → digest_len s ≤ s.hash_block → fan s * digest_len s ≤ s.hash_block
@@ -168,7 +165,8 @@ fan-exponents s block slot valid block_low block_high slot_low slot_high =
     let some : 0 < len = digest_len_of-pos s.algorithm in
     let room = two_slots s valid in
     let size : s.hash_block ≡ 2 ^ block =
-    power_of_two-exponent s.hash_block block (omega (arith, some, room)) (block_power _ s.hash_block valid.hash_size)
+    power_of_two-exponent s.hash_block block (omega (arith, some, room))
+    (block_power _ s.hash_block valid.hash_block_size)
     block_low block_high in
     let least = least_power-is_power len in
     let above = least_power-above len in

@@ -28,5 +28,5 @@ pub HasBlock-above : (p : PlanFields) (i l : ℕ) → 0 < fan p.settings → i <
     → HasBlock p l (i / fan p.settings ^ (l + 1))
 HasBlock-above p i l some below low = record {
   level_below = low;
-  block_below = quotient-below i p.blocks (fan p.settings ^ (l + 1)) (one-le-pow (l + 1) (fan p.settings) some) below;
+  index_below = quotient-below i p.blocks (fan p.settings ^ (l + 1)) (one-le-pow (l + 1) (fan p.settings) some) below;
 }

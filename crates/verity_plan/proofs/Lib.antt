@@ -3,6 +3,7 @@ pub mod CountLemmas
 pub mod IndexLemmas
 pub mod FanLemmas
 pub mod FitLemmas
+pub mod LimitLemmas
 pub mod PlaceLemmas
 pub mod PlanLemmas
-pub mod Rows
+pub mod DefinitionExamples

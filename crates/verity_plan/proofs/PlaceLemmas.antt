@@ -1,10 +1,12 @@
 -- The places of the hash blocks.
-use Rattle.std.proofs.Common.{◌≡◌, ℕ, zero, suc, ◌+◌, ◌-◌, ◌<◌, ◌≤◌, arith, sym, ◌∙◌, ap, inl, inr}
+use Rattle.std.proofs.Common.{◌≡◌, ℕ, zero, suc, ◌+◌, ◌-◌, ◌*◌, ◌^◌, ◌<◌, ◌≤◌, arith, sym, ◌∙◌, ap, inl, inr}
+use Rattle.std.proofs.Math.Nat.{mul-le-mul_left, one-le-pow}
 use Rattle.std.proofs.lemmas.List.Sums.{sum_by-cons}
 use Rattle.std.proofs.lemmas.Bool.{cases_lt, cases_order}
 use Rattle.std.specs.List.{range_with_len}
 use Rattle.verity_plan.specs.Plans.{level_count, level_size, blocks_from, IsTreeBlock, place}
 use Rattle.verity_plan.specs.PlanLaws.{PlacesAreOnce}
+use Rattle.verity_plan.proofs.CountLemmas.{div_ceil-fewer, div_ceil-le}
 
 -- the blocks of one level more
 pub blocks_from-suc : (fan n l k : ℕ) → blocks_from fan n l (suc k) ≡ level_size fan n l + blocks_from fan n (l + 1) k
@@ -46,6 +48,40 @@ blocks_from-higher fan n l m levels h k =
     ap (λ (a : ℕ). blocks_from fan n a (levels - l - (m - l))) e ∙ ap (λ (a : ℕ). blocks_from fan n m a) f in
     omega (arith, most, same)
 
+-- above fewer data blocks so many levels have no more blocks
+pub blocks_from-fewer : (fan few many l k : ℕ) → 0 < fan → few ≤ many
+    → blocks_from fan few l k ≤ blocks_from fan many l k
+blocks_from-fewer fan few many l zero some le = omega arith
+blocks_from-fewer fan few many l (suc k) some le =
+    omega (
+      arith,
+      blocks_from-suc fan few l k,
+      blocks_from-suc fan many l k,
+      blocks_from-fewer fan few many (l + 1) k some le,
+      div_ceil-fewer few many (fan ^ (l + 1)) (one-le-pow (l + 1) fan some) le,
+    )
+
+-- and more levels have no fewer
+pub blocks_from-more : (fan n l k more : ℕ) → k ≤ more → blocks_from fan n l k ≤ blocks_from fan n l more
+blocks_from-more fan n l zero more le = omega arith
+blocks_from-more fan n l (suc k) zero le = absurd (omega (arith, le))
+blocks_from-more fan n l (suc k) (suc more) le =
+    omega (
+      arith,
+      blocks_from-suc fan n l k,
+      blocks_from-suc fan n l more,
+      blocks_from-more fan n (l + 1) k more (omega arith),
+    )
+
+-- no level has more blocks than there are data blocks
+pub blocks_from-most : (fan n l k : ℕ) → 0 < fan → blocks_from fan n l k ≤ k * n
+blocks_from-most fan n l zero some = omega arith
+blocks_from-most fan n l (suc k) some =
+    let wide : 1 ≤ fan ^ (l + 1) = one-le-pow (l + 1) fan some in
+    let level : level_size fan n l ≤ n =
+    div_ceil-le n (fan ^ (l + 1)) n (omega (arith, wide)) (omega (arith, mul-le-mul_left n wide)) in
+    omega (arith, blocks_from-suc fan n l k, level, blocks_from-most fan n (l + 1) k some)
+
 -- a block of a higher level stands before each of a lower one
 pub place-lt : (fan n base l j m k : ℕ) → IsTreeBlock fan n l j → IsTreeBlock fan n m k → l < m
     → place fan n base m k < place fan n base l j
@@ -54,7 +90,7 @@ place-lt fan n base l j m k low high less =
       arith,
       low.level_below,
       high.level_below,
-      high.block_below,
+      high.index_below,
       blocks_from-level fan n m (level_count fan n) high.level_below,
       blocks_from-higher fan n (l + 1) m (level_count fan n) (omega arith) (omega (arith, high.level_below)),
     )
@@ -95,7 +131,7 @@ PlacesAreOnce-all fan n base = record {
         ap (λ (k : ℕ). blocks_from fan n 0 k) (let e : level_count fan n - 0 ≡ level_count fan n = omega arith in e) in
         omega (
           arith,
-          b.block_below,
+          b.index_below,
           blocks_from-level fan n l (level_count fan n) b.level_below,
           blocks_from-higher fan n 0 l (level_count fan n) (omega arith) (omega (arith, b.level_below)),
           whole,
@@ -118,7 +154,7 @@ PlacesAreOnce-all fan n base = record {
       let e : 0 + level_count fan n - (r.0 + 1) ≡ level_count fan n - (r.0 + 1) = omega arith in (
         r.0,
         r.1,
-        record { level_below = omega (arith, r.3); block_below = r.4 },
+        record { level_below = omega (arith, r.3); index_below = r.4 },
         omega (arith, low, r.5, ap (λ (k : ℕ). blocks_from fan n (r.0 + 1) k) e),
       );
 }

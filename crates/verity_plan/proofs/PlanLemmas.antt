@@ -1,4 +1,4 @@
--- Sizes and places computed level by level.
+-- Plans: their levels and places, the limits that they keep, and which ones are made.
 use Rattle.std.proofs.Common.{◌≡◌, ℕ, cond, zero, suc, ◌+◌, ◌*◌, ◌/◌, ◌^◌, ◌<◌, ◌≤◌, arith, sym, ◌∙◌, ap, refl, inl}
 use Rattle.std.proofs.Common.{inr}
 use Rattle.std.proofs.lemmas.Bool.{cases_lt}
@@ -20,24 +20,17 @@ use Rattle.verity_plan.proofs.FanLemmas.{fan-two, some_data, two_slots, digest_l
 use Rattle.verity_plan.proofs.PlaceLemmas.{PlacesAreOnce-all}
 
 -- one level more
-pub size-more : (fan n k size : ℕ) → 0 < fan → size ≡ div_ceil n (fan ^ k) → div_ceil size fan ≡ level_size fan n k
-size-more fan n k size some is =
+pub count-more : (fan n k count : ℕ) → 0 < fan → count ≡ div_ceil n (fan ^ k) → div_ceil count fan ≡ level_size fan n k
+count-more fan n k count some is =
     let one : k + 1 ≡ suc k = omega arith in
     let power : fan ^ k * fan ≡ fan ^ (k + 1) = sym (ap (λ (m : ℕ). fan ^ m) one ∙ pow-suc fan k) in
     ap (λ (m : ℕ). div_ceil m fan) is
     ∙ div_ceil-div_ceil n (fan ^ k) fan (omega (arith, one-le-pow k fan some)) some
     ∙ ap (λ (m : ℕ). div_ceil n m) power
 
--- a level has at most two thirds of the blocks below it
-pub div_ceil-half : (n a : ℕ) → 2 ≤ a → 1 < n → 3 * div_ceil n a ≤ 2 * n
-div_ceil-half n a two more =
-    let half : div_ceil n a ≤ (n + 1) / 2 =
-    div_ceil-le n a ((n + 1) / 2) (omega arith) (omega (arith, mul-le-mul_left ((n + 1) / 2) two)) in
-    omega (arith, half)
-
 -- if more than one block is left, there is one more level
-pub levels-more : (fan n k size : ℕ) → 2 ≤ fan → size ≡ div_ceil n (fan ^ k) → 1 < size → k < level_count fan n
-levels-more fan n k size two is more =
+pub levels-more : (fan n k left : ℕ) → 2 ≤ fan → left ≡ div_ceil n (fan ^ k) → 1 < left → k < level_count fan n
+levels-more fan n k left two is more =
     let count = IsLevelCount-level_count fan n two in
     let some : 0 < fan = omega arith in
     elim (cases_lt k (level_count fan n)) [
@@ -55,8 +48,8 @@ levels-more fan n k size two is more =
     ]
 
 -- if one block is left, there are no more levels
-pub levels-all : (fan n k size : ℕ) → 2 ≤ fan → size ≡ div_ceil n (fan ^ k) → size ≤ 1 → level_count fan n ≤ k
-levels-all fan n k size two is one =
+pub levels-all : (fan n k left : ℕ) → 2 ≤ fan → left ≡ div_ceil n (fan ^ k) → left ≤ 1 → level_count fan n ≤ k
+levels-all fan n k left two is one =
     let count = IsLevelCount-level_count fan n two in
     let some : 0 < fan = omega arith in
     let enough : n ≤ 1 * fan ^ k =
@@ -95,6 +88,13 @@ level_count-le f n m two le =
       | inr most ↦ most
     ]
 
+-- levels that have room for the data blocks are enough
+pub level_count-least : (f n l : ℕ) → 2 ≤ f → n ≤ f ^ l → level_count f n ≤ l
+level_count-least f n l two room = elim (cases_lt l (level_count f n)) [
+  | inl more ↦ absurd (omega (arith, (IsLevelCount-level_count f n two).least l more, room))
+  | inr most ↦ most
+]
+
 -- a number past a quotient is past it as a product, and one within it is within it
 pub past-quotient : (m d n : ℕ) → 0 < d → m / d < n → m < n * d
 past-quotient m d n some past =
@@ -113,6 +113,20 @@ pub checked_plan-large : (p : PlanFields) → 0 < p.blocks → has_room p ≡ fa
 checked_plan-large p some none =
     let tested : nat_eq p.blocks 0 ≡ false = grind (arith, nat_tests, some) in
     rw (tested, none) refl
+
+-- a plan that isn't made for want of data has no data blocks
+pub no_blocks : (asked : PlanFields) → Err NoData ≡ checked_plan asked → asked.blocks ≡ 0
+no_blocks asked is =
+    elim (cases_lt 0 asked.blocks) [
+      | inl some ↦
+          let tested : nat_eq asked.blocks 0 ≡ false = grind (arith, nat_tests, some) in
+          absurd (none_by (has_room asked) (rw tested at is))
+      | inr none ↦ omega (arith, none)
+    ]
+  where
+    none_by : (room : Bool) → Err NoData ≡ cond room (Ok asked) (Err TooLarge) → ⊥
+    none_by true is = cc
+    none_by false is = cc
 
 pub has_room-data : (p : PlanFields) → most_bytes < p.blocks * p.settings.data_block → has_room p ≡ false
 has_room-data p past = grind (arith, nat_tests, past)
@@ -146,9 +160,9 @@ some_wanted zero size blocks is some = absurd (omega (arith, is, zero-div size))
 some_wanted (suc wanted) size blocks is some = omega arith
 
 -- a hash block is within the limit
-pub byte-room : (p : PlanFields) → IsPlan p → (l j : ℕ) → HasBlock p l j
+pub start-room : (p : PlanFields) → IsPlan p → (l j : ℕ) → HasBlock p l j
     → start_byte_of p l j + p.settings.hash_block ≤ most_bytes
-byte-room p h l j here =
+start-room p h l j here =
     let within = (PlacesAreOnce-all (fan p.settings) p.blocks p.base).within l j here in
     let step : place_of p l j + 1 ≤ end_place_of p = omega (arith, within.1) in
     omega (arith, mul-le-mul_right p.settings.hash_block step, h.hash_most)

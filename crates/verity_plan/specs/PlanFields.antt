@@ -1,5 +1,5 @@
 -- A plan's fields come back from its value: the number of levels and the end are computed once.
--- For the private steps; not needed to read a public contract.
+-- For the private functions; not needed to read a public contract.
 use Rattle.std.proofs.Common.{◌≡◌, ℕ, sym, ap, ◌∙◌}
 use Rattle.verity_plan.specs.Plans.{PlanFields, IsPlan, end_place_of}
 use Rattle.verity_plan.specs.PlanCounts.{level_count_of}

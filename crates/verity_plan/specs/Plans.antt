@@ -1,5 +1,7 @@
 -- A plan: how many hash blocks each level has, where they stand, and what is read; and which sizes make one: at least
 -- one data block, and a data area and a hash area of at most as many bytes as a device can have, `most_bytes`.
+-- Of the functions of a plan (`.._of`) this file has those by which its limits and the bytes of a device are defined;
+-- the others are in PlanCounts.antt.
 --
 -- Levels: Linux kernel, dm-verity page, "Hash Tree". Places, counted in hash blocks: the top level first and level 0
 -- last, without gaps (the same page, "On-disk format": a depth at a time, from the root; cryptsetup's on-disk format
@@ -26,13 +28,13 @@ abbrev pub blocks_from : ℕ → ℕ → ℕ → ℕ → ℕ
 blocks_from fan n level levels = sum_by (level_size fan n) (range_with_len level levels)
 
 -- the tree above n data blocks has this block of this level
-pub record IsTreeBlock (fan n level block : ℕ) : Type 0 where
+pub record IsTreeBlock (fan n level index : ℕ) : Type 0 where
   pub level_below : level < level_count fan n
-  pub block_below : block < level_size fan n level
+  pub index_below : index < level_size fan n level
 
 -- the place of a block of a level: the levels above it stand before it
 abbrev pub place : ℕ → ℕ → ℕ → ℕ → ℕ → ℕ
-place fan n base level block = base + blocks_from fan n (level + 1) (level_count fan n - (level + 1)) + block
+place fan n base level index = base + blocks_from fan n (level + 1) (level_count fan n - (level + 1)) + index
 
 -- the place after all blocks
 abbrev pub end_place : ℕ → ℕ → ℕ → ℕ
@@ -40,7 +42,7 @@ end_place fan n base = base + blocks_from fan n 0 (level_count fan n)
 
 -- the byte at which a block of a level stands
 abbrev pub start_byte : TreeSettingsFields → ℕ → ℕ → ℕ → ℕ → ℕ
-start_byte s n base level block = place (fan s) n base level block * s.hash_block
+start_byte s n base level index = place (fan s) n base level index * s.hash_block
 
 -- the settings, the number of data blocks, how many bytes are read for them, and where the tree begins, in hash blocks
 pub record PlanFields : Type 0 where
@@ -55,11 +57,11 @@ end_place_of p = end_place (fan p.settings) p.blocks p.base
 
 -- the byte at which a block of a plan's level stands
 abbrev pub start_byte_of : PlanFields → ℕ → ℕ → ℕ
-start_byte_of p level block = start_byte p.settings p.blocks p.base level block
+start_byte_of p level index = start_byte p.settings p.blocks p.base level index
 
 -- the tree has this block of this level
 abbrev pub HasBlock : PlanFields → ℕ → ℕ → Type 0
-HasBlock p level block = IsTreeBlock (fan p.settings) p.blocks level block
+HasBlock p level index = IsTreeBlock (fan p.settings) p.blocks level index
 
 -- the number of data blocks of a size in bytes
 abbrev pub block_count : TreeSettingsFields → ℕ → ℕ

@@ -100,8 +100,8 @@ is_of_fsverity _ = false
 
 -- settings that a tree can be made by
 pub record IsValid (s : TreeSettingsFields) : Type 0 where
-  pub data_size : is_block_size (least_block s.rule (digest_len s)) s.data_block ≡ true
-  pub hash_size : is_block_size (least_block s.rule (digest_len s)) s.hash_block ≡ true
+  pub data_block_size : is_block_size (least_block s.rule (digest_len s)) s.data_block ≡ true
+  pub hash_block_size : is_block_size (least_block s.rule (digest_len s)) s.hash_block ≡ true
   pub salt_most : length s.salt ≤ most_salt s.rule
   pub one_size : s.rule ≡ PaddedBefore → s.data_block ≡ s.hash_block
   pub known : s.rule ≡ PaddedBefore → is_of_fsverity s.algorithm ≡ true

@@ -15,4 +15,4 @@ pub use hash_type::HashType;
 pub use plan::Plan;
 pub use plan_fault::PlanFault;
 pub use setting_fault::SettingFault;
-pub use settings::{MOST_SALT, TreeSettings, is_of_fsverity, is_verity_block_size};
+pub use settings::{MOST_SALT, TreeSettings, is_verity_block_size};

@@ -3,7 +3,7 @@ ghost use Rattle.std.specs.Prelude.{◌≡◌, ℕ, ◌+◌, ◌-◌, ◌*◌, �
 ghost use Rattle.verity_io.specs.Writing.{most_bytes};
 ghost use Rattle.verity_plan.specs.Plans.{PlanFields, IsPlan, start_byte_of, end_place_of, HasBlock, checked_plan};
 ghost use Rattle.verity_plan.specs.Plans.{plan_for_blocks, plan_for_bytes, level_count, blocks_from};
-ghost use Rattle.verity_plan.specs.PlanCounts.{level_count_of, level_size_of, place_of, store_length_of, size_under};
+ghost use Rattle.verity_plan.specs.PlanCounts.{level_count_of, level_size_of, place_of, store_length_of, count_under};
 ghost use Rattle.verity_plan.specs.PlanCounts.{most_level_count};
 ghost use Rattle.verity_plan.specs.Settings.{digest_len, fan, slot_width};
 
@@ -160,12 +160,12 @@ impl Plan {
     }
 
     /// The byte at which a block of a level stands.
-    pub fn byte(&self, level: usize, block: u64) -> u64
-        requires { HasBlock self.now level block }
-        ensures value { result ≡ start_byte_of self.now level block }
+    pub fn start(&self, level: usize, index: u64) -> u64
+        requires { HasBlock self.now level index }
+        ensures value { result ≡ start_byte_of self.now level index }
         ensures room { result + self.now.settings.hash_block ≤ most_bytes }
     {
-        self.place(level, block) * u64::from(self.settings.hash_block())
+        self.place(level, index) * u64::from(self.settings.hash_block())
     }
 
     /// The number of the block that stands so many levels above data block `i`, counted from 0 in its level: the hash
@@ -182,7 +182,7 @@ impl Plan {
     }
 
     /// The byte at which the hash block of a level stands that is above data block `i`.
-    pub fn byte_above(&self, i: u64, level: usize) -> u64
+    pub fn start_above(&self, i: u64, level: usize) -> u64
         requires index { i < self.now.blocks }
         requires level { level < level_count_of self.now }
         ensures value { result ≡ start_byte_of self.now level (i / fan self.now.settings ^ (level + 1)) }
@@ -190,7 +190,7 @@ impl Plan {
     {
         // Called for the proof: its contract says that the plan can be carried out, so it has few levels.
         let _blocks = self.blocks();
-        self.byte(level, self.index_above(i, level + 1))
+        self.start(level, self.index_above(i, level + 1))
     }
 
     /// The length of a digest, in bytes.
@@ -235,42 +235,42 @@ impl Plan {
         requires { level < level_count_of self.now }
         ensures { result ≡ level_size_of self.now level }
     {
-        self.size_under(level).div_ceil(self.fan() as u64)
+        self.count_under(level).div_ceil(self.fan() as u64)
     }
 
     /// The number of blocks one level below a level: the data blocks below level 0.
-    pub fn size_under(&self, level: usize) -> u64
+    pub fn count_under(&self, level: usize) -> u64
         requires { level ≤ level_count_of self.now }
-        ensures { result ≡ size_under self.now level }
+        ensures { result ≡ count_under self.now level }
     {
         let fan = self.settings.fan() as u64;
-        let mut size = self.blocks;
+        let mut count = self.blocks;
         for below in 0..level {
-            size = size.div_ceil(fan);
+            count = count.div_ceil(fan);
         }
-        size
+        count
     }
 
     /// The place of a block of a level, counted in hash blocks: the top level stands first (Linux kernel, dm-verity
-    /// page, "On-disk format"). The level is below the number of levels, and the block below the level's size.
-    pub fn place(&self, level: usize, block: u64) -> u64
-        requires { HasBlock self.now level block }
-        ensures { result ≡ place_of self.now level block }
+    /// page, "On-disk format"). The level is below the number of levels, and the index below its number of blocks.
+    pub fn place(&self, level: usize, index: u64) -> u64
+        requires { HasBlock self.now level index }
+        ensures { result ≡ place_of self.now level index }
     {
         let fan = self.settings.fan() as u64;
-        let mut size = self.blocks;
-        let mut start = self.end;
+        let mut count = self.blocks;
+        let mut first = self.end;
         for below in 0..level + 1 {
-            size = size.div_ceil(fan);
-            start -= size;
+            count = count.div_ceil(fan);
+            first -= count;
         }
-        start + block
+        first + index
     }
 }
 
-/// The size of the tree above some data blocks.
+/// The numbers of the tree above some data blocks.
 #[derive(Clone, Copy)]
-struct TreeSize {
+struct TreeCounts {
     /// The number of levels.
     levels: usize,
     /// The number of hash blocks of all levels.
@@ -278,7 +278,7 @@ struct TreeSize {
 }
 
 /// How many levels there are above some data blocks, and how many hash blocks in all.
-fn levels_above(fan: u64, blocks: u64) -> TreeSize
+fn levels_above(fan: u64, blocks: u64) -> TreeCounts
     requires two { 2 ≤ fan }
     requires power { (k : ℕ) × (fan ≡ 2 ^ k) }
     requires some { 0 < blocks }
@@ -289,15 +289,15 @@ fn levels_above(fan: u64, blocks: u64) -> TreeSize
 {
     // The fan-out is a power of two: a shift does it, in a tenth of the time that a division takes.
     let power = fan.ilog2();
-    let mut size = blocks;
-    let mut tree = TreeSize {
+    let mut count = blocks;
+    let mut tree = TreeCounts {
         levels: 0,
         blocks: 0,
     };
-    'levels: while size > 1 {
-        size = ((size - 1) >> power) + 1;
+    'levels: while count > 1 {
+        count = ((count - 1) >> power) + 1;
         tree.levels += 1;
-        tree.blocks += size;
+        tree.blocks += count;
     }
     tree
 }

@@ -215,7 +215,7 @@ impl TreeSettings {
 }
 
 /// Whether fs-verity knows the algorithm: SHA-256 and SHA-512 (Linux kernel, fs-verity page, "fs-verity descriptor").
-pub fn is_of_fsverity(algorithm: Algorithm) -> bool
+fn is_of_fsverity(algorithm: Algorithm) -> bool
     ensures { result ≡ is_of_fsverity algorithm }
 {
     matches!(algorithm, Algorithm::Sha256 | Algorithm::Sha512)

@@ -14,9 +14,10 @@ use Rattle.verity_tree.specs.Steps.Feeding.{ClosesNext, EndsWindow, FeedsOn, Han
 use Rattle.verity_tree.specs.Steps.Feeding.{Stands, TakesMore, first_blocks, windows_before}
 use Rattle.verity_tree.specs.Steps.OpenBlocks.{HasOpenBlocks}
 use Rattle.verity_tree.specs.Windows.{window_blocks, window_length}
-use Rattle.verity_tree.proofs.ClimbLemmas.{KeepsOpen, last-below}
+use Rattle.verity_tree.proofs.ClimbLemmas.{KeepsOpen}
+use Rattle.verity_tree.proofs.LastByteLemmas.{last-below}
 use Rattle.verity_tree.proofs.FirstBlockLemmas.{plan-first_blocks}
-use Rattle.verity_tree.proofs.PieceOfBytesLemmas.{HasWindow-full, closed_after-placed}
+use Rattle.verity_tree.proofs.WindowSteps.{HasWindow-full, closed_after-placed}
 use Rattle.verity_tree.proofs.WindowLemmas.{last-run, window-ended, window-wide}
 
 -- a number that isn't a multiple has its last in the run that isn't whole
@@ -57,7 +58,8 @@ closed-before p (suc n) planned most =
     sym (closed_after-placed p (suc n) planned (omega arith) (last-below p (suc n) planned (omega arith) most))
 
 -- nothing was carried up, since the window that the last byte is in isn't full
-pub Stands-settled : (p : PlanFields) (levels closed : ℕ) (fed opened window : List ℕ) → IsPlan p → length fed ≤ p.wanted
+pub Stands-settled : (p : PlanFields) (levels closed : ℕ) (fed opened window : List ℕ) → IsPlan p
+    → length fed ≤ p.wanted
     → (length fed ≡ 0) ⊎ ((closed ≡ 0) × (0 < length fed % window_length p.settings))
     → Stands p levels fed closed opened window → TakesMore p levels fed closed opened window
 Stands-settled p levels zero fed opened window planned most part h =

@@ -14,7 +14,8 @@ use Rattle.verity_tree.specs.Levels.{data_blocks, root}
 use Rattle.verity_tree.specs.Steps.Feeding.{HasCome, HasFed, HasWindow, IsHandingOut, after_windows, last_window, windows_before}
 use Rattle.verity_tree.specs.Steps.OpenBlocks.{IsAsking, carry_state, digests_under, level_digest, open_block}
 use Rattle.verity_tree.specs.Windows.{window_blocks, window_length}
-use Rattle.verity_tree.proofs.ClimbLemmas.{blocks-most, last-block}
+use Rattle.verity_tree.proofs.ClimbLemmas.{blocks-most}
+use Rattle.verity_tree.proofs.LastByteLemmas.{last-block}
 use Rattle.verity_tree.proofs.FirstBlockLemmas.{plan-first_blocks}
 use Rattle.verity_tree.proofs.LevelLemmas.{length-cut}
 use Rattle.verity_tree.proofs.TreeLemmas.{height-level_count}
@@ -22,7 +23,8 @@ use Rattle.verity_tree.proofs.OpenBlockSteps.{quotient-same}
 use Rattle.verity_tree.proofs.WindowLemmas.{placed-in-window, window-beside}
 
 -- the last data block's digest comes to level 0
-pub IsAsking-first : (p : PlanFields) (levels first last : ℕ) (fed opened digest : List ℕ) → IsPlan p → length fed ≡ p.wanted
+pub IsAsking-first : (p : PlanFields) (levels first last : ℕ) (fed opened digest : List ℕ) → IsPlan p
+    → length fed ≡ p.wanted
     → last + 1 ≡ p.blocks → HasCome p levels fed opened digest
     → IsAsking p.settings (data_blocks p fed) first (carry_state last 0 levels) opened digest
 IsAsking-first p levels first last fed opened digest planned all last_is h =
@@ -40,7 +42,8 @@ top-place p i l planned below high =
     div-eq_of_lt (omega (arith, below, blocks-most p planned, pow-le-pow_right (fan-some p.settings) high))
 
 -- what comes out of the top level is the root
-pub root-above : (p : PlanFields) (last top : ℕ) (fed : List ℕ) → IsPlan p → last + 1 ≡ p.blocks → top ≡ level_count_of p
+pub root-above : (p : PlanFields) (last top : ℕ) (fed : List ℕ) → IsPlan p → last + 1 ≡ p.blocks
+    → top ≡ level_count_of p
     → level_digest p.settings (data_blocks p fed) last top ≡ root p.settings (data_blocks p fed)
 unfolding root
 root-above p last top fed planned last_is top_is =

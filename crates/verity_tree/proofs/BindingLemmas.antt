@@ -25,7 +25,7 @@ use Rattle.verity_tree.specs.Links.{block_size_up}
 use Rattle.verity_tree.specs.Paths.{true_chain}
 use Rattle.verity_tree.proofs.ChainLemmas.{length-data, length-true_block, true_chain-root, true_chain-top, true_chain-up}
 use Rattle.verity_tree.proofs.LevelLemmas.{length-cut}
-use Rattle.verity_tree.proofs.LinkLemmas.{length-up}
+use Rattle.verity_tree.proofs.LinkLemmas.{length-at_level}
 use Rattle.verity_tree.proofs.PathSteps.{chains-meet, same_or_two}
 
 -- what is hashed for a block says the block
@@ -37,7 +37,8 @@ salted_input-block algorithm PaddedBefore salt x y e =
     append_cancel_left (with_zeros (next_multiple_of (length salt) (input_block_of algorithm)) salt) x y e
 
 -- one data block
-block-bound : (s : TreeSettingsFields) (xs ys : List (List ℕ)) (i : ℕ) → 2 ≤ fan s → length xs ≡ length ys → i < length xs
+block-bound : (s : TreeSettingsFields) (xs ys : List (List ℕ)) (i : ℕ) → 2 ≤ fan s → length xs ≡ length ys
+    → i < length xs
     → root s xs ≡ root s ys → (get_or xs i [] ≡ get_or ys i []) ⊎ TreesCollide s xs ys
 unfolding hash
 block-bound s xs ys i two same below one =
@@ -82,7 +83,8 @@ blocks-bound s xs ys two same one =
     ]
 
 -- a byte is found in its data block
-byte-cut : (s : TreeSettingsFields) (n wanted : ℕ) (bytes : List ℕ) (k : ℕ) → 0 < s.data_block → wanted ≤ n * s.data_block
+byte-cut : (s : TreeSettingsFields) (n wanted : ℕ) (bytes : List ℕ) (k : ℕ) → 0 < s.data_block
+    → wanted ≤ n * s.data_block
     → wanted ≤ length bytes → k < wanted
     → get_or (get_or (cut s n wanted bytes) (k / s.data_block) []) (k % s.data_block) 0 ≡ get_or (take wanted bytes) k 0
 unfolding cut
@@ -141,7 +143,7 @@ salted_input-salt algorithm PaddedBefore salt other x y dm long e = absurd (dm r
 length-last : (p : PlanFields) (bytes : List ℕ) → IsPlan p
     → length (true_chain p.settings (data_blocks p bytes) 0 (level_count_of p)) ≡ block_size_up p.settings (level_count_of p)
 length-last p bytes planned =
-    length-up p (true_chain p.settings (data_blocks p bytes) 0) (level_count_of p) (omega arith)
+    length-at_level p (true_chain p.settings (data_blocks p bytes) 0) (level_count_of p) (omega arith)
     (length-data p.settings p.blocks p.wanted bytes 0 (blocks-some p planned))
     (λ m _. length-true_block p bytes 0 m planned (blocks-some p planned))
 

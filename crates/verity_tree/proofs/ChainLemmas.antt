@@ -103,7 +103,8 @@ true_chain-root s blocks i two below =
     ) refl
 
 -- a block of the tree on the way up has a hash block's length
-pub length-true_chain : (s : TreeSettingsFields) (blocks : List (List ℕ)) (i l : ℕ) → digest_len s ≤ slot_width s → 0 < fan s
+pub length-true_chain : (s : TreeSettingsFields) (blocks : List (List ℕ)) (i l : ℕ) → digest_len s ≤ slot_width s
+    → 0 < fan s
     → fan s * slot_width s ≤ s.hash_block
     → i < length blocks → length (true_chain s blocks i (suc l)) ≡ s.hash_block
 length-true_chain s blocks i l fits some room below =

@@ -1,14 +1,13 @@
 -- How digests come from the last byte's data block up through the levels whose hash blocks close.
 use Rattle.std.proofs.Common.{◌≡◌, ℕ, zero, suc, ◌+◌, ◌-◌, ◌*◌, ◌/◌, ◌%◌, ◌^◌, ◌<◌, ◌≤◌, List, [], length, ◌++◌, ◌∷◌}
-use Rattle.std.proofs.Common.{arith, refl, sym, ◌∙◌, ap, inl, inr, append_assoc}
+use Rattle.std.proofs.Common.{arith, refl, inl, inr, append_assoc}
 use Rattle.std.proofs.lemmas.Bool.{cases_lt}
 use Rattle.std.proofs.Math.Nat.{pow-le-pow_right}
 use Rattle.verity_plan.specs.Plans.{IsPlan, PlanFields}
 use Rattle.verity_plan.specs.PlanCounts.{level_count_of}
-use Rattle.verity_plan.specs.Settings.{IsValid, TreeSettingsFields, fan}
-use Rattle.verity_plan.proofs.CountLemmas.{IsLevelCount-level_count, div_ceil-below, le-div_ceil, mul_le}
-use Rattle.verity_plan.proofs.FanLemmas.{fan-some, fan-two, some_data}
-use Rattle.verity_plan.proofs.IndexLemmas.{quotient-below}
+use Rattle.verity_plan.specs.Settings.{fan}
+use Rattle.verity_plan.proofs.CountLemmas.{IsLevelCount-level_count, mul_le}
+use Rattle.verity_plan.proofs.FanLemmas.{fan-some, fan-two}
 use Rattle.verity_tree.specs.ClosingOrder.{blocks_before, closed_after, handed_out}
 use Rattle.verity_tree.specs.Levels.{data_blocks}
 use Rattle.verity_tree.specs.Steps.Feeding.{EndsWindow, HasFed, IsHandingOut, Stands, handed_at}
@@ -16,22 +15,10 @@ use Rattle.verity_tree.specs.Steps.Feeding.{windows_before}
 use Rattle.verity_tree.specs.Steps.OpenBlocks.{HasClosed, HasOpenBlocks, IsCarrying, carry_state}
 use Rattle.verity_tree.specs.Windows.{window_length}
 use Rattle.verity_tree.proofs.ClosingLemmas.{reached-down}
+use Rattle.verity_tree.proofs.LastByteLemmas.{all-count, last-below, whole-count}
 use Rattle.verity_tree.proofs.LevelLemmas.{length-cut}
 use Rattle.verity_tree.proofs.OrderSplit.{closed_after-more, closes-none, closes-reached, closing-prefix}
 use Rattle.verity_tree.proofs.OrderSplit.{first_closing-more}
-use Rattle.verity_tree.proofs.WindowLemmas.{window-ended}
-
--- the last byte's data block is one of the plan's
-pub last-below : (p : PlanFields) (count : ℕ) → IsPlan p → 0 < count → count ≤ p.wanted
-    → blocks_before p.settings count < p.blocks
-last-below p count planned some most =
-    rw planned.blocks_are (quotient-below (count - 1) p.wanted p.settings.data_block (some_data p.settings planned.valid)
-    (omega (arith, some, most)))
-
--- the last byte of all is in the last data block
-pub last-block : (p : PlanFields) → IsPlan p → blocks_before p.settings p.wanted + 1 ≡ p.blocks
-last-block p planned =
-    div_ceil-below p.wanted p.settings.data_block (some_data p.settings planned.valid) planned.some ∙ sym planned.blocks_are
 
 -- the data blocks of a plan are no more than its levels have room for
 pub blocks-most : (p : PlanFields) → IsPlan p → p.blocks ≤ fan p.settings ^ level_count_of p
@@ -47,34 +34,6 @@ handing-out p levels (suc m) fed opened window some h = let e : suc m - 1 ≡ m 
 pub nothing-out : (p : PlanFields) (levels level : ℕ) (fed opened window : List ℕ) → level ≡ 0
     → Stands p levels fed level opened window → HasFed p.settings levels fed opened window
 nothing-out p levels level fed opened window none h = rw none at h
-
--- more data blocks come after the last byte's only if its window is full
-pub whole-count : (p : PlanFields) (count : ℕ) → IsPlan p → EndsWindow p count
-    → blocks_before p.settings count + 1 < p.blocks
-    → count ≡ (windows_before p.settings count + 1) * window_length p.settings
-whole-count p count planned ends more = elim ends.ends [
-  | inl whole ↦ whole
-  | inr all ↦ absurd (omega (arith, more, last-block p planned, ap (blocks_before p.settings) all))
-]
-
--- the last byte of a window that is full is the last of its data block
-pub whole-block : (s : TreeSettingsFields) (count : ℕ) → IsValid s → 0 < count
-    → count ≡ (windows_before s count + 1) * window_length s → count ≡ (blocks_before s count + 1) * s.data_block
-whole-block s count valid some whole =
-    let last = window-ended s count (windows_before s count + 1) valid some whole in
-    omega (arith, whole, ap (λ (n : ℕ). n * s.data_block) last)
-
--- the last byte is the last of all if its data block is
-pub all-count : (p : PlanFields) (count : ℕ) → IsPlan p → EndsWindow p count
-    → blocks_before p.settings count + 1 ≡ p.blocks → count ≡ p.wanted
-all-count p count planned ends last = elim ends.ends [
-  | inl full ↦
-      let size = p.settings.data_block in
-      let whole = whole-block p.settings count planned.valid ends.some full in
-      let most = le-div_ceil p.wanted size p.blocks (some_data p.settings planned.valid) (omega (arith, planned.blocks_are)) in
-      omega (arith, whole ∙ ap (λ (n : ℕ). n * size) last, most, ends.most)
-  | inr all ↦ all
-]
 
 -- the hash block of a level has closed, and is handed out next
 pub climbs-closed : (p : PlanFields) (levels level : ℕ) (fed opened : List ℕ) → EndsWindow p (length fed)

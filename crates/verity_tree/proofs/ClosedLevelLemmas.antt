@@ -19,7 +19,7 @@ use Rattle.verity_tree.proofs.OpenBlockLemmas.{open-cleared}
 use Rattle.verity_tree.proofs.OpenBlockSteps.{HasOpenBlocks-written, IsWritten, IsWritten-part, level_digest-below, part_at}
 use Rattle.verity_tree.proofs.OpenBlockSteps.{hash_block_of-none, level_digest-next, open_block_with-put, quotient-same, slots-order}
 use Rattle.verity_tree.proofs.OpenBlockSteps.{length-part, part-is_run, with_digest, with_part}
-use Rattle.verity_tree.proofs.QuotientLemmas.{IsReached-full, quotient-reached, quotient-stays, slots-more}
+use Rattle.verity_tree.proofs.ReachedLemmas.{IsReached-full, next-slot, quotient-reached, quotient-stays}
 use Rattle.verity_tree.specs.Steps.OpenBlocks.{Adds, HasClosed}
 use Rattle.verity_tree.proofs.OpenBlockSteps.{open_block_with}
 
@@ -70,7 +70,7 @@ Adds-written s blocks i m levels false store after digest below inside h written
     let free = room refl in
     let reached = h.reached free.1 in
     let next = quotient-reached f i m (fan-some s) reached in
-    let slots = slots-more f (i / f ^ m) free.0 in
+    let slots = next-slot f (i / f ^ m) free.0 in
     let stands : open_block_with s (digests_under s blocks m) (i / f ^ m)
     ≡ open_block s (digests_under s blocks m) ((i + 1) / f ^ m) = cc in (
       free.1,

@@ -4,7 +4,7 @@ use Rattle.std.proofs.Common.{true, ℕ, ◌*◌, ◌+◌, ◌-◌, ◌/◌, ◌
 use Rattle.std.proofs.lemmas.Bool.{cases_lt}
 use Rattle.std.proofs.lemmas.Nat.{div-mul-add, mod-mul-add, pow-add}
 use Rattle.std.proofs.Math.Nat.{one-le-pow}
-use Rattle.verity_tree.proofs.QuotientLemmas.{div_ceil-last}
+use Rattle.verity_tree.proofs.ReachedLemmas.{div_ceil-last}
 use Rattle.verity_plan.specs.Settings.{TreeSettingsFields, fan}
 use Rattle.verity_plan.specs.Plans.{level_size}
 use Rattle.verity_tree.specs.ClosingOrder.{closes}

@@ -78,7 +78,8 @@ data-next p planned i data_len bytes rest after block below w read_before more i
     )
 
 -- the bytes that come next were read too
-pub HasRead-more : (n m : ℕ) (bytes more after : List ℕ) → length more ≡ m → n ≤ length bytes → drop n bytes ≡ more ++ after
+pub HasRead-more : (n m : ℕ) (bytes more after : List ℕ) → length more ≡ m → n ≤ length bytes
+    → drop n bytes ≡ more ++ after
     → HasRead (n + m) bytes after
 HasRead-more n m bytes more after long enough next = record {
   enough = omega (arith, enough, sym (length-drop n bytes) ∙ ap length next ∙ length-append more after, long);

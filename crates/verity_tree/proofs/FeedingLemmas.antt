@@ -1,19 +1,11 @@
 -- The memory of a builder between two calls: its open blocks, and what comes after them.
 use Rattle.std.proofs.Common.{List, [], ap, arith, rules, drop, length, refl, replicate, sym, take, ℕ, suc, Some, None}
-use Rattle.std.proofs.Common.{true, false, Bool, inl, inr, ◌*◌, ◌++◌, ◌+◌, ◌-◌, ◌<◌, ◌∙◌}
-use Rattle.std.proofs.Common.{◌≡◌, ◌≤◌, cond}
+use Rattle.std.proofs.Common.{true, false, Bool, ◌*◌, ◌++◌, ◌+◌, ◌-◌, ◌∙◌, ◌≡◌, ◌≤◌}
 use Rattle.std.proofs.lemmas.List.{append-nil, drop_at, length-replicate, places, same_lists, take_at}
-use Rattle.verity_plan.specs.Plans.{IsPlan, PlanFields, block_count, checked_plan, has_room, plan_for_bytes}
+use Rattle.verity_plan.specs.Plans.{IsPlan}
 use Rattle.verity_plan.specs.PlanCounts.{level_count_of, most_level_count}
-use Rattle.verity_plan.specs.declared.plan_fault.PlanFault.TheVariants.{NoData, TooLarge as NoRoom}
-use Rattle.verity_io.specs.Writing.{most_bytes}
-use Rattle.std.proofs.lemmas.Bool.{cases_lt}
-use Rattle.std.proofs.lemmas.Bool.Decides.{nat_tests}
-use Rattle.std.specs.Prelude.{Err, Ok, nat_eq}
-use Rattle.verity_plan.specs.Settings.{IsValid, TreeSettingsFields}
-use Rattle.verity_plan.proofs.CountLemmas.{div_ceil-pos, le-div_ceil, mul_le}
-use Rattle.verity_plan.proofs.FanLemmas.{some_data}
-use Rattle.verity_plan.proofs.PlanLemmas.{checked_plan-large, has_room-data, levels_most, planned_is}
+use Rattle.verity_plan.specs.Settings.{TreeSettingsFields}
+use Rattle.verity_plan.proofs.CountLemmas.{mul_le}
 use Rattle.verity_tree.specs.Feeding.{Feeds, IsFed, IsFedFile, IsHandedOut, IsPlaced, after_open_blocks}
 use Rattle.verity_tree.specs.Feeding.{open_blocks}
 use Rattle.verity_tree.proofs.HandedOutLemmas.{handed-out-stays}
@@ -50,9 +42,9 @@ pub IsFedFile-parted : (b : FileBuilder) (n : ℕ) (memory opened window fed : L
 IsFedFile-parted b n memory opened window fed same front back h = rw (front, back, same) h.stands
 
 -- an open block of the memory
-pub block-within : (size level levels : ℕ) (memory : List ℕ) → level + 1 ≤ levels
+pub open_block-within : (size level levels : ℕ) (memory : List ℕ) → level + 1 ≤ levels
     → take size (drop (level * size) (take (levels * size) memory)) ≡ take size (drop (level * size) memory)
-block-within size level levels memory step =
+open_block-within size level levels memory step =
     let room : level * size + size ≤ levels * size = omega (arith, mul_le (level + 1) levels size step) in
     same_lists _ _ (search (rules, places)) (λ k d h. grind (arith, places))
 
@@ -68,10 +60,10 @@ IsHandedOut-last b memory fed block planned placed h =
     record {
       level_below = placed.level_below;
       at_is = placed.at_is;
-      byte_is = placed.byte_is;
+      start_is = placed.start_is;
       bytes = λ more fits.
           ap (λ (n : ℕ). take s.hash_block (drop n memory)) placed.at_is
-          ∙ sym (block-within s.hash_block block.level levels memory (omega (arith, placed.level_below)))
+          ∙ sym (open_block-within s.hash_block block.level levels memory (omega (arith, placed.level_below)))
           ∙ out.closed.stands
           ∙ handed-out-stays p levels block.level fed more _ planned out fits
           ∙ rw (placed.index_is, h.count) refl;
@@ -120,50 +112,3 @@ Feeds-some before count closed fed more opened window block planned h placed =
           let same : block ≡ other = cc in
           rw (← same) (IsHandedOut-last _ (opened ++ window) (fed ++ more) block planned placed is_fed);
     }
-
--- the plan that a file of so many bytes asks for
-abbrev pub file_plan : TreeSettingsFields → ℕ → PlanFields
-file_plan s size = record { settings = s; blocks = block_count s size; wanted = size; base = 0 }
-
--- a file's plan has the builder's settings, and its open blocks are among the builder's
-pub FilePlan-is : (plan : PlanFields) (s : TreeSettingsFields) (size : ℕ) → Ok plan ≡ plan_for_bytes s size 0
-    → plan ≡ file_plan s size
-FilePlan-is plan s size is = planned_is (file_plan s size) plan is
-
-pub file_levels : (plan : PlanFields) (s : TreeSettingsFields) (size : ℕ) → IsPlan plan → Ok plan ≡ plan_for_bytes s size 0
-    → level_count_of plan ≤ most_level_count s
-file_levels plan s size planned is =
-    omega (arith, levels_most plan planned, ap (λ (p : PlanFields). most_level_count p.settings) (FilePlan-is plan s size is))
-
-pub file_room : (plan : PlanFields) (s : TreeSettingsFields) (size levels n : ℕ) → Ok plan ≡ plan_for_bytes s size 0
-    → n ≡ levels * s.hash_block → levels * plan.settings.hash_block ≤ n
-file_room plan s size levels n is room = rw (FilePlan-is plan s size is) (omega (arith, room))
-
--- a file of more bytes than areas have is too large
-pub FilePlan-large : (s : TreeSettingsFields) (size : ℕ) → IsValid s → most_bytes < size → plan_for_bytes s size 0 ≡ Err NoRoom
-FilePlan-large s size valid past =
-    let some = some_data s valid in
-    let wide = le-div_ceil size s.data_block (block_count s size) some (omega arith) in
-    checked_plan-large (file_plan s size) (div_ceil-pos size s.data_block some (omega (arith, past)))
-    (has_room-data (file_plan s size) (omega (arith, wide, past)))
-
--- a plan that isn't made for want of data has no data blocks
-pub no_blocks : (asked : PlanFields) → Err NoData ≡ checked_plan asked → asked.blocks ≡ 0
-no_blocks asked is =
-    elim (cases_lt 0 asked.blocks) [
-      | inl some ↦
-          let tested : nat_eq asked.blocks 0 ≡ false = grind (arith, nat_tests, some) in
-          absurd (none_by (has_room asked) (rw tested at is))
-      | inr none ↦ omega (arith, none)
-    ]
-  where
-    none_by : (room : Bool) → Err NoData ≡ cond room (Ok asked) (Err NoRoom) → ⊥
-    none_by true is = cc
-    none_by false is = cc
-
--- a file without data blocks has no bytes
-pub FilePlan-none : (s : TreeSettingsFields) (size : ℕ) → IsValid s → Err NoData ≡ plan_for_bytes s size 0 → size ≡ 0
-FilePlan-none s size valid is =
-    let none : block_count s size ≡ 0 = no_blocks (file_plan s size) is in
-    let some : 0 < size → 0 < block_count s size = div_ceil-pos size s.data_block (some_data s valid) in
-    grind (arith, none, some)

@@ -123,7 +123,8 @@ tree-calls-joined s (asks held ∷ rest) b after memory room fed file device set
     }
 
 -- the last hash blocks of some levels, put at their places, are the tree's
-last-put : (p : PlanFields) (file device : List ℕ) (blocks : ℕ → List ℕ) (from count : ℕ) → from + count ≤ level_count_of p
+last-put : (p : PlanFields) (file device : List ℕ) (blocks : ℕ → List ℕ) (from count : ℕ)
+    → from + count ≤ level_count_of p
     → AreLastBlocks p file blocks
     → put_last p blocks (range_with_len from count) device
     ≡ device_with p.settings (data_blocks p file) p.base

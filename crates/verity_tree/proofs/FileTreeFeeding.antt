@@ -2,18 +2,16 @@
 use Rattle.std.proofs.Common.{◌≡◌, ℕ, zero, suc, ◌+◌, ◌-◌, ◌*◌, ◌<◌, ◌≤◌, Bool, true, false, List, [], ◌++◌, length, take, drop}
 use Rattle.std.proofs.Common.{Some, None, arith, refl, sym, ◌∙◌, ap, length-append}
 use Rattle.std.proofs.lemmas.List.{append-nil}
-use Rattle.verity_plan.specs.Plans.{block_count, level_count, plan_for_bytes, plan_of_file}
-use Rattle.verity_plan.specs.declared.plan_fault.PlanFault.TheVariants.{NoData}
-use Rattle.std.specs.Prelude.{Err}
+use Rattle.verity_plan.specs.Plans.{plan_of_file}
 use Rattle.verity_plan.specs.PlanCounts.{most_level_count}
-use Rattle.verity_plan.specs.Settings.{IsValid, TreeSettingsFields, least_from}
+use Rattle.verity_plan.specs.Settings.{IsValid, TreeSettingsFields}
 use Rattle.verity_tree.specs.ClosingOrder.{BlockIndex, handed_out}
 use Rattle.verity_tree.specs.Feeding.{IsFedFile, open_blocks}
-use Rattle.verity_tree.specs.FileTrees.{FeedsFile, IsFedFileTree, IsFinal, IsPlacedInFile, levels_of_file}
+use Rattle.verity_tree.specs.FileTrees.{FeedsFile, IsFedFileTree, IsFinal, IsPlacedInFile}
 use Rattle.verity_tree.specs.Steps.Feeding.{FeedsOn, IsHandingOut, Stands}
 use Rattle.verity_tree.specs.declared.file_tree_builder.FileHashBlock.{FileHashBlock}
 use Rattle.verity_tree.specs.declared.file_tree_builder.FileTreeBuilder.{FileTreeBuilder}
-use Rattle.verity_tree.proofs.FeedingLemmas.{block-within, file_plan, joined, no_blocks}
+use Rattle.verity_tree.proofs.FeedingLemmas.{open_block-within, joined}
 use Rattle.verity_tree.proofs.FileTreeLemmas.{Stands-moves, handed_out-same, handing-moves}
 use Rattle.verity_tree.proofs.HandedOutLemmas.{handed-out-stays}
 
@@ -26,18 +24,12 @@ pub tree-of_file : (b : FileTreeBuilder) (memory fed : List ℕ) → b.closed �
     → IsFedFile (record { settings = b.settings; fed = b.fed }) memory fed → IsFedFileTree b memory fed
 tree-of_file b memory fed none h = record { count = h.count; stands = rw none h.stands }
 
--- a file of no bytes has no levels
-pub no-levels : (s : TreeSettingsFields) (size : ℕ) → Err NoData ≡ plan_for_bytes s size 0 → levels_of_file s size ≡ 0
-unfolding level_count least_from
-no-levels s size is =
-    let none : block_count s size ≡ 0 = no_blocks (file_plan s size) is in rw none refl
-
 -- what was fed stands in the two parts of the memory
-pub tree-parted : (b : FileTreeBuilder) (n : ℕ) (memory opened window fed : List ℕ)
+pub IsFedFileTree-parted : (b : FileTreeBuilder) (n : ℕ) (memory opened window fed : List ℕ)
     → n ≡ most_level_count b.settings * b.settings.hash_block → opened ≡ take n memory → window ≡ drop n memory
     → IsFedFileTree b memory fed
     → Stands (plan_of_file b.settings (length fed + 1)) (most_level_count b.settings) fed b.closed opened window
-tree-parted b n memory opened window fed same front back h = rw (front, back, same) h.stands
+IsFedFileTree-parted b n memory opened window fed same front back h = rw (front, back, same) h.stands
 
 -- the hash block that was handed out last is final
 pub IsFinal-last : (b : FileTreeBuilder) (memory fed : List ℕ) (block : FileHashBlock) → IsValid b.settings
@@ -58,7 +50,7 @@ IsFinal-last b memory fed block valid placed h =
           let size = length (fed ++ more) in
           let goes_on = moved size (omega (arith, some, length-append fed more)) in
           ap (λ (n : ℕ). take s.hash_block (drop n memory)) placed.at_is
-          ∙ sym (block-within s.hash_block block.level levels memory (omega (arith, placed.level_below)))
+          ∙ sym (open_block-within s.hash_block block.level levels memory (omega (arith, placed.level_below)))
           ∙ goes_on.closed.stands
           ∙ handed-out-stays (plan_of_file s size) levels block.level fed more _ planned goes_on (omega arith)
           ∙ rw (placed.index_is, h.count) refl;
@@ -83,10 +75,11 @@ Stands-open s levels zero m n fed opened window none h = h
 Stands-open s levels (suc level) m n fed opened window none h = absurd (omega (arith, none))
 
 -- the memory is put together
-tree-joined : (b : FileTreeBuilder) (size count closed : ℕ) (fed more : List ℕ) (closes : Bool) (opened window : List ℕ)
+IsFedFileTree-joined : (b : FileTreeBuilder) (size count closed : ℕ) (fed more : List ℕ) (closes : Bool)
+    (opened window : List ℕ)
     → HasFedOnFile b size count closed fed more closes opened window
     → IsFedFileTree (record { settings = b.settings; fed = count; closed = closed }) (opened ++ window) (fed ++ more)
-tree-joined b size count closed fed more closes opened window h =
+IsFedFileTree-joined b size count closed fed more closes opened window h =
     let s = b.settings in
     let levels = most_level_count s in
     let all = length (fed ++ more) in
@@ -126,7 +119,7 @@ FeedsFile-none b size count closed fed more opened window h =
     let order : handed_out (plan_of_file b.settings size) count closed
     ≡ handed_out (plan_of_file b.settings size) b.fed b.closed ++ [] = rw (append-nil, ← h.has, ← h.had) h.on.order in
     record {
-      is_fed = tree-joined b size count closed fed more false opened window h;
+      is_fed = IsFedFileTree-joined b size count closed fed more false opened window h;
       order = λ other enough. order-of b.settings size other b.fed b.closed count closed [] h.valid rises h.most enough order;
       placed = λ block is. absurd cc;
       stands = λ block is. absurd cc;
@@ -137,7 +130,7 @@ pub FeedsFile-some : (b : FileTreeBuilder) (size count closed : ℕ) (fed more o
     → HasFedOnFile b size count closed fed more true opened window → IsPlacedInFile b.settings count closed block
     → FeedsFile b (record { settings = b.settings; fed = count; closed = closed }) fed more (opened ++ window) (Some block)
 FeedsFile-some b size count closed fed more opened window block h placed =
-    let is_fed = tree-joined b size count closed fed more true opened window h in
+    let is_fed = IsFedFileTree-joined b size count closed fed more true opened window h in
     let rises : b.fed ≤ count = omega (arith, h.had, h.has, length-append fed more) in
     let last : closed - 1 ≡ block.level = omega (arith, placed.level_is) in
     let on = rw (last, h.has, h.had) at h.on.order in

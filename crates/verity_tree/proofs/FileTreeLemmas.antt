@@ -18,7 +18,7 @@ use Rattle.verity_tree.specs.Steps.Feeding.{IsHandingOut, Stands, first_blocks, 
 use Rattle.verity_tree.specs.Windows.{window_length}
 use Rattle.verity_tree.specs.Steps.OpenBlocks.{IsReached, digests_under, open_block}
 use Rattle.verity_tree.specs.TreeOnDevice.{tree_block}
-use Rattle.verity_tree.proofs.ClimbLemmas.{whole-block}
+use Rattle.verity_tree.proofs.LastByteLemmas.{whole-block}
 use Rattle.verity_tree.proofs.FirstBlockLemmas.{blocks_up-front, open-same, plan-front}
 use Rattle.verity_tree.proofs.LevelLemmas.{length-cut}
 

@@ -1,18 +1,18 @@
--- What the open blocks hold after some whole data blocks depends on these alone.
+-- The first data blocks of what was fed are the first of all data, and so are the blocks that stand above them.
 use Rattle.std.proofs.Common.{◌≡◌, ℕ, zero, suc, ◌+◌, ◌-◌, ◌*◌, ◌/◌, ◌%◌, ◌^◌, ◌<◌, ◌≤◌, List, [], ◌++◌, get_or, drop, take, length}
 use Rattle.std.proofs.Common.{replicate, map, arith, sym, ◌∙◌, ap, subst, length-drop}
 use Rattle.std.proofs.lemmas.List.{length-map, length-take-le, get_or-take, take-map}
 use Rattle.std.proofs.lemmas.List.{append-nil, drop-take, ext_get_or, take-append-le, take-take}
 use Rattle.std.proofs.lemmas.List.FromFn.{fill_by_all, get_or-map-range_with_len, take-map-range_with_len}
 use Rattle.std.proofs.lemmas.Nat.{div-add-mod'}
-use Rattle.std.proofs.Math.Nat.{pow-zero, pow-suc, one-le-pow, div-mul-le_self, le_of_mul-le-mul_right}
+use Rattle.std.proofs.Math.Nat.{pow-zero, pow-suc, one-le-pow, div-mul-le_self}
 use Rattle.std.specs.List.{range_with_len}
 use Rattle.std.specs.Fork.{slice_chunk}
 use Rattle.std.specs.Int.{div_ceil}
 use Rattle.verity_hash.specs.Hashing.{with_zeros}
 use Rattle.verity_plan.specs.Plans.{IsPlan, PlanFields, block_count}
 use Rattle.verity_plan.specs.Settings.{IsValid, TreeSettingsFields, hash, fan}
-use Rattle.verity_plan.proofs.CountLemmas.{div_ceil-le, le-div_ceil, mul_le}
+use Rattle.verity_plan.proofs.CountLemmas.{div_ceil-le, div_ceil-most, mul_le}
 use Rattle.verity_plan.proofs.FanLemmas.{fan-some, some_data}
 use Rattle.verity_tree.specs.Levels.{block_at, blocks_up, cut, data_blocks, hash_block_of, pack}
 use Rattle.verity_tree.specs.Steps.Feeding.{first_blocks}
@@ -20,11 +20,6 @@ use Rattle.verity_tree.specs.Steps.OpenBlocks.{HasOpenBlocks, digests_under, ope
 use Rattle.verity_tree.proofs.LevelLemmas.{length-cut, run-of_front}
 use Rattle.verity_tree.proofs.PrefixLemmas.{get_or-pack}
 use Rattle.verity_tree.proofs.TreeLemmas.{length-blocks_up, length-pack}
-
--- if k times w is within a number, k is within its quotient, rounded up
-div_ceil-most : (n w k : ℕ) → 0 < w → k * w ≤ n → k ≤ div_ceil n w
-div_ceil-most n w k some within =
-    le_of_mul-le-mul_right {k = w} (omega (arith, le-div_ceil n w (div_ceil n w) some (omega arith), within)) some
 
 -- the hash blocks above whole groups of digests are those of these groups alone
 pack-front : (s : TreeSettingsFields) (digests : List (List ℕ)) (k : ℕ) → 0 < fan s → k * fan s ≤ length digests
@@ -91,7 +86,8 @@ with_zeros-whole size bytes whole =
     ap (λ (n : ℕ). bytes ++ replicate n 0) none ∙ append-nil bytes
 
 -- a data block that is whole
-pub cut-block : (s : TreeSettingsFields) (n wanted k : ℕ) (bytes : List ℕ) → k < n → k * s.data_block + s.data_block ≤ wanted
+pub cut-block : (s : TreeSettingsFields) (n wanted k : ℕ) (bytes : List ℕ) → k < n
+    → k * s.data_block + s.data_block ≤ wanted
     → k * s.data_block + s.data_block ≤ length bytes
     → get_or (cut s n wanted bytes) k [] ≡ slice_chunk bytes s.data_block k
 unfolding cut
@@ -110,7 +106,8 @@ pub chunk-front : (xs ys : List ℕ) (size k : ℕ) → k * size + size ≤ leng
 chunk-front xs ys size k within = run-of_front (xs ++ ys) xs size k (take-append-le (k * size + size) xs ys within)
 
 -- the first n data blocks are the first of those of a plan
-pub plan-front : (p : PlanFields) (n : ℕ) (fed : List ℕ) → IsValid p.settings → p.blocks ≡ block_count p.settings p.wanted
+pub plan-front : (p : PlanFields) (n : ℕ) (fed : List ℕ) → IsValid p.settings
+    → p.blocks ≡ block_count p.settings p.wanted
     → n * p.settings.data_block ≤ length fed → length fed ≤ p.wanted
     → (n ≤ length (data_blocks p fed)) × (first_blocks p.settings n fed ≡ take n (data_blocks p fed))
 plan-front p n fed valid blocks_are enough most =
@@ -131,7 +128,8 @@ plan-front p n fed valid blocks_are enough most =
     )
 
 -- the open blocks above the first n data blocks are those above the data blocks of a plan
-pub open-same : (p : PlanFields) (n : ℕ) (fed : List ℕ) → IsValid p.settings → p.blocks ≡ block_count p.settings p.wanted
+pub open-same : (p : PlanFields) (n : ℕ) (fed : List ℕ) → IsValid p.settings
+    → p.blocks ≡ block_count p.settings p.wanted
     → n * p.settings.data_block ≤ length fed → length fed ≤ p.wanted → (l : ℕ)
     → open_block p.settings (digests_under p.settings (first_blocks p.settings n fed) l) (n / fan p.settings ^ l)
     ≡ open_block p.settings (digests_under p.settings (data_blocks p fed) l) (n / fan p.settings ^ l)
@@ -142,7 +140,8 @@ open-same p n fed valid blocks_are enough most l =
     ∙ open-front s (data_blocks p fed) n l (fan-some s) front.0
 
 -- bytes that come after n data blocks leave these
-pub first_blocks-more : (s : TreeSettingsFields) (n levels : ℕ) (fed more store : List ℕ) → 0 < fan s → n * s.data_block ≤ length fed
+pub first_blocks-more : (s : TreeSettingsFields) (n levels : ℕ) (fed more store : List ℕ) → 0 < fan s
+    → n * s.data_block ≤ length fed
     → HasOpenBlocks s (first_blocks s n fed) 0 levels n store
     → HasOpenBlocks s (first_blocks s n (fed ++ more)) 0 levels n store
 unfolding cut

@@ -14,7 +14,7 @@ use Rattle.std.specs.List.{filter, range_with_len}
 use Rattle.std.specs.Option.{option_or}
 use Rattle.std.specs.Prelude.{◌&&◌, Option, Some, None, find, nat_le, nat_lt}
 use Rattle.verity_plan.specs.Plans.{PlanFields, level_count}
-use Rattle.verity_plan.specs.PlanCounts.{size_under}
+use Rattle.verity_plan.specs.PlanCounts.{count_under}
 use Rattle.verity_plan.specs.Settings.{fan}
 use Rattle.verity_plan.proofs.CountLemmas.{le-div_ceil, mul_le}
 use Rattle.verity_plan.proofs.FanLemmas.{fan-some}
@@ -340,8 +340,8 @@ pub first-of_each : (p : PlanFields) (level : ℕ) (test : BlockIndex → Bool)
 first-of_each p level test =
     let f = fan p.settings in
     let some = fan-some p.settings in
-    first-so_far f p.blocks level test (size_under p level) p.blocks some (omega arith)
-    (le-div_ceil p.blocks (f ^ level) (size_under p level) (one-le-pow level f some) (omega arith))
+    first-so_far f p.blocks level test (count_under p level) p.blocks some (omega arith)
+    (le-div_ceil p.blocks (f ^ level) (count_under p level) (one-le-pow level f some) (omega arith))
 
 -- and so the verdict on a device, where there is all the data
 pub verdict-of_each : (p : PlanFields) (level : ℕ) (device bytes digest : List ℕ) → p.wanted ≤ length bytes

@@ -25,7 +25,7 @@ use Rattle.verity_tree.specs.TreeWriting.{device_with}
 use Rattle.verity_tree.specs.declared.file_builder.FileBuilder.{FileBuilder}
 use Rattle.verity_tree.specs.declared.tree_builder.HashBlock.{HashBlock}
 use Rattle.verity_tree.specs.declared.tree_builder.TreeBuilder.{TreeBuilder}
-use Rattle.verity_tree.proofs.ClimbLemmas.{last-below, last-block, whole-block}
+use Rattle.verity_tree.proofs.LastByteLemmas.{last-below, last-block, whole-block}
 use Rattle.verity_tree.proofs.FirstBlockLemmas.{chunk-front, cut-block}
 use Rattle.verity_tree.proofs.LevelLemmas.{length-cut}
 use Rattle.verity_tree.proofs.OrderSplit.{closed_after-more, closes-last, closing-prefix, device_with-append}
@@ -122,7 +122,7 @@ written-given p None memory fed more all device handed is most = refl
 written-given p (Some block) memory fed more all device handed is most =
     let h = handed block refl in
     let bytes = h.bytes more (omega (arith, most, ap length is)) in
-    rw (h.byte_is, bytes, is, length-cut p.settings p.blocks p.wanted (fed ++ more)) refl
+    rw (h.start_is, bytes, is, length-cut p.settings p.blocks p.wanted (fed ++ more)) refl
 
 -- calls are made one after another
 pub record AreCalled (p : PlanFields) (calls : List FeedCall) (b after : TreeBuilder) (room fed all device : List ℕ) : Type 0 where
@@ -182,7 +182,8 @@ unfolding closed_after
 none-handed-out p = rw zero-div refl
 
 -- before the first byte nothing was handed out
-pub first-closed : (p : PlanFields) (levels closed : ℕ) (opened window : List ℕ) → Stands p levels [] closed opened window
+pub first-closed : (p : PlanFields) (levels closed : ℕ) (opened window : List ℕ)
+    → Stands p levels [] closed opened window
     → closed ≡ 0
 first-closed p levels zero opened window h = refl
 first-closed p levels (suc m) opened window h = absurd (omega (arith, h.ends.some))

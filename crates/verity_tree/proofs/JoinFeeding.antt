@@ -5,7 +5,7 @@ use Rattle.std.proofs.Common.{length-drop}
 use Rattle.std.proofs.lemmas.List.{append-nil, map-append, take_all}
 use Rattle.std.proofs.Math.Nat.{div-eq_of_lt}
 use Rattle.verity_plan.specs.Plans.{IsPlan, PlanFields, level_count}
-use Rattle.verity_plan.specs.PlanCounts.{level_count_of, size_under}
+use Rattle.verity_plan.specs.PlanCounts.{level_count_of, count_under}
 use Rattle.verity_plan.specs.Settings.{TreeSettingsFields, fan, hash}
 use Rattle.verity_plan.proofs.FanLemmas.{fan-some, fan-two}
 use Rattle.verity_tree.specs.ClosingOrder.{BlockIndex, block_index}
@@ -19,7 +19,7 @@ use Rattle.verity_tree.specs.TreeOnDevice.{tree_block}
 use Rattle.verity_tree.specs.declared.join_builder.JoinBuilder.{JoinBuilder}
 use Rattle.verity_tree.specs.declared.tree_builder.HashBlock.{HashBlock}
 use Rattle.verity_tree.proofs.ClimbLemmas.{blocks-most}
-use Rattle.verity_tree.proofs.FeedingLemmas.{block-within, joined}
+use Rattle.verity_tree.proofs.FeedingLemmas.{open_block-within, joined}
 use Rattle.verity_tree.proofs.JoinLemmas.{JoinStands-closed}
 use Rattle.verity_tree.proofs.JoinOrder.{handed-out-raised, raised}
 use Rattle.verity_tree.proofs.LevelLemmas.{length-cut}
@@ -48,10 +48,11 @@ IsHandedOutOfJoin-last b memory bytes block some placed h =
     record {
       level_below = placed.level_below;
       at_is = placed.at_is;
-      byte_is = placed.byte_is;
+      start_is = placed.start_is;
       stands =
           ap (λ (n : ℕ). take s.hash_block (drop n memory)) (placed.at_is ∙ ap (λ (n : ℕ). n * s.hash_block) own)
-          ∙ sym (block-within s.hash_block l levels memory (omega (arith, up, placed.level_below, placed.level_is)))
+          ∙ sym (open_block-within s.hash_block l levels memory
+          (omega (arith, up, placed.level_below, placed.level_is)))
           ∙ out.stands
           ∙ tree_block-up s (data_blocks p bytes) b.level l block.level ((b.taken - 1) / fan s ^ (l + 1))
           (omega (arith, up, placed.level_is))
@@ -82,7 +83,7 @@ pub record HasJoinedOn (b : JoinBuilder) (taken closed : ℕ) (bytes : List ℕ)
     (opened last : List ℕ) : Type 0 where
   pub planned : IsPlan b.plan
   pub level_most : b.level ≤ level_count_of b.plan
-  pub taken_most : b.taken ≤ size_under b.plan b.level
+  pub taken_most : b.taken ≤ count_under b.plan b.level
   pub size : length opened ≡ (level_count_of b.plan - b.level) * b.plan.settings.hash_block
   pub on : JoinsOn b.plan.settings (blocks_under b.plan b.level bytes) (level_count_of b.plan - b.level) b.taken
       b.closed closes taken closed opened last
@@ -100,9 +101,9 @@ IsJoined-joined b taken closed bytes closes opened last h =
 handed-out-both : (b : JoinBuilder) (taken closed : ℕ) (bytes : List ℕ) (closes : Bool) (opened last : List ℕ)
     → HasJoinedOn b taken closed bytes closes opened last
     → (handed_out_of_join b.plan b.level taken closed
-    ≡ map (raised b.level) (handed_out_above (fan b.plan.settings) (size_under b.plan b.level) taken closed))
+    ≡ map (raised b.level) (handed_out_above (fan b.plan.settings) (count_under b.plan b.level) taken closed))
     × (handed_out_of_join b.plan b.level b.taken b.closed
-    ≡ map (raised b.level) (handed_out_above (fan b.plan.settings) (size_under b.plan b.level) b.taken b.closed))
+    ≡ map (raised b.level) (handed_out_above (fan b.plan.settings) (count_under b.plan b.level) b.taken b.closed))
 handed-out-both b taken closed bytes closes opened last h =
     let p = b.plan in
     let two = fan-two p.settings h.planned.valid in
@@ -144,7 +145,8 @@ Joins-some before taken closed bytes opened last block h some placed =
     record {
       is_joined = is_joined;
       order = both.0 ∙ ap (map (raised before.level)) (rw many at h.on.order)
-          ∙ map-append (raised before.level) (handed_out_above (fan p.settings) (size_under p before.level) before.taken
+          ∙ map-append (raised before.level)
+          (handed_out_above (fan p.settings) (count_under p before.level) before.taken
           before.closed) _
           ∙ ap (λ (bs : List BlockIndex). bs ++ block_index (before.level + (closed - 1))
           ((taken - 1) / fan p.settings ^ closed) ∷ []) (sym both.1)
@@ -157,7 +159,7 @@ Joins-some before taken closed bytes opened last block h some placed =
           rw (← same) (record {
             level_below = last_one.level_below;
             at_is = last_one.at_is;
-            byte_is = last_one.byte_is;
+            start_is = last_one.start_is;
             stands = last_one.stands;
           });
     }
@@ -165,7 +167,7 @@ Joins-some before taken closed bytes opened last block h some placed =
 -- above the last part of all stands the root
 pub join-root : (p : PlanFields) (level levels : ℕ) (bytes : List ℕ) → IsPlan p → level ≤ level_count_of p
     → levels ≡ level_count_of p - level
-    → level_digest p.settings (blocks_under p level bytes) (size_under p level - 1) levels
+    → level_digest p.settings (blocks_under p level bytes) (count_under p level - 1) levels
     ≡ root p.settings (data_blocks p bytes)
 unfolding root
 join-root p level levels bytes planned within count =
@@ -176,7 +178,7 @@ join-root p level levels bytes planned within count =
     let own = blocks-most (plan_of_join p level) (IsPlan-join p level planned within) in
     let wide : f ^ level_count_of (plan_of_join p level) ≡ f ^ levels =
     ap (λ (k : ℕ). f ^ k) (levels-of_join p level planned within ∙ sym count) in
-    let place : (size_under p level - 1) / f ^ levels ≡ 0 =
+    let place : (count_under p level - 1) / f ^ levels ≡ 0 =
     div-eq_of_lt (omega (arith, own, wide, parts-some p level planned)) in
     let top : height s xs ≡ level_count_of p =
     height-level_count s xs (fan-some s) ∙ ap (level_count f) (length-cut s p.blocks p.wanted bytes) in
@@ -185,7 +187,7 @@ join-root p level levels bytes planned within count =
 -- the digest of the one part that is the whole tree is the root hash
 pub root-of_part : (b : JoinBuilder) (n : ℕ) (memory bytes : List ℕ) → IsPlan b.plan → b.level ≤ level_count_of b.plan
     → level_count_of b.plan - b.level ≡ 0 → n ≡ (level_count_of b.plan - b.level) * b.plan.settings.hash_block
-    → b.taken ≡ size_under b.plan b.level → IsJoined b memory bytes
+    → b.taken ≡ count_under b.plan b.level → IsJoined b memory bytes
     → take (length memory - n) (drop n memory) ≡ root b.plan.settings (data_blocks b.plan bytes)
 root-of_part b n memory bytes planned within none from all h =
     let p = b.plan in
@@ -200,7 +202,7 @@ root-of_part b n memory bytes planned within none from all h =
 pub root-of_top : (b : JoinBuilder) (levels size : ℕ) (memory bytes : List ℕ) → IsPlan b.plan
     → b.level ≤ level_count_of b.plan
     → 0 < levels → levels ≡ level_count_of b.plan - b.level → size ≡ b.plan.settings.hash_block → levels ≤ b.closed
-    → b.taken ≡ size_under b.plan b.level → IsJoined b memory bytes
+    → b.taken ≡ count_under b.plan b.level → IsJoined b memory bytes
     → hash b.plan.settings (take ((levels - 1) * size + size - (levels - 1) * size) (drop ((levels - 1) * size) memory))
     ≡ root b.plan.settings (data_blocks b.plan bytes)
 root-of_top b levels size memory bytes planned within some count wide closed all h =
@@ -214,7 +216,7 @@ root-of_top b levels size memory bytes planned within some count wide closed all
     let out : HasClosed s blocks (b.taken - 1) l own (open_blocks s own memory) =
     rw top at (JoinStands-closed s blocks own b.taken b.closed (open_blocks s own memory) _
     (omega (arith, some, closed)) h) in
-    ap (hash s) (part-is_run s.hash_block l size memory wide ∙ sym (block-within s.hash_block l own memory
+    ap (hash s) (part-is_run s.hash_block l size memory wide ∙ sym (open_block-within s.hash_block l own memory
     (omega (arith, up, count))) ∙ out.stands)
     ∙ ap (λ (k : ℕ). level_digest s blocks (b.taken - 1) k) up
     ∙ ap (λ (k : ℕ). level_digest s blocks (k - 1) levels) all

@@ -18,7 +18,7 @@ use Rattle.verity_tree.proofs.ClosingLemmas.{reached-down}
 use Rattle.verity_tree.proofs.LevelLemmas.{run-of_front}
 use Rattle.verity_tree.proofs.OrderSplit.{closed_after-more, closes-none, closes-reached, closing-prefix}
 use Rattle.verity_tree.proofs.OrderSplit.{first_closing-more}
-use Rattle.verity_tree.proofs.QuotientLemmas.{IsReached-zero}
+use Rattle.verity_tree.proofs.ReachedLemmas.{IsReached-zero}
 
 -- no digest came yet
 pub JoinStands-begun : (s : TreeSettingsFields) (blocks : List (List ℕ)) (levels : ℕ) (opened last : List ℕ)

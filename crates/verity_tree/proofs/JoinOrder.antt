@@ -12,13 +12,13 @@ use Rattle.std.specs.Int.{div_ceil}
 use Rattle.std.specs.List.{filter, range_with_len}
 use Rattle.std.specs.Prelude.{nat_le}
 use Rattle.verity_plan.specs.Plans.{PlanFields, level_count}
-use Rattle.verity_plan.specs.PlanCounts.{level_count_of, size_under}
+use Rattle.verity_plan.specs.PlanCounts.{level_count_of, count_under}
 use Rattle.verity_plan.specs.Settings.{fan}
 use Rattle.verity_plan.proofs.CountLemmas.{mul_le, mul-lt_div_ceil}
 use Rattle.verity_tree.specs.ClosingOrder.{BlockIndex, block_index, closed_after, closes, closing_with, first_closing}
 use Rattle.verity_tree.specs.Parts.{closed_in_join, handed_out_of_join}
 use Rattle.verity_tree.specs.Steps.Parts.{handed_out_above}
-use Rattle.verity_tree.proofs.OrderSplit.{closed_after-more}
+use Rattle.verity_tree.proofs.OrderSplit.{closed_after-more, passing}
 use Rattle.verity_tree.proofs.PlanOfJoin.{level_count-above}
 
 -- a hash block of the join's own tree, as one of the whole
@@ -28,10 +28,6 @@ raised m block = block_index (m + block.level) block.index
 -- a hash block is one of the join's
 abbrev is_above : ℕ → BlockIndex → Bool
 is_above m block = nat_le m block.level
-
--- the hash blocks of some levels, those that pass a test
-abbrev passing : (ℕ → ℕ) → (ℕ → Bool) → List ℕ → List BlockIndex
-passing g c levels = map (λ level. block_index level (g level)) (filter c levels)
 
 -- two runs of levels
 range-split : (a m k : ℕ) → range_with_len a (m + k) ≡ range_with_len a m ++ range_with_len (a + m) k
@@ -231,13 +227,13 @@ closed-parts f n (suc t) m two within below =
 
 -- what the join handed out is what its own tree did
 pub handed-out-raised : (p : PlanFields) (m taken closed : ℕ) → 2 ≤ fan p.settings → m ≤ level_count_of p
-    → 0 < size_under p m → taken ≤ size_under p m
+    → 0 < count_under p m → taken ≤ count_under p m
     → handed_out_of_join p m taken closed
-    ≡ map (raised m) (handed_out_above (fan p.settings) (size_under p m) taken closed)
+    ≡ map (raised m) (handed_out_above (fan p.settings) (count_under p m) taken closed)
 handed-out-raised p m taken closed two within some most =
     let f = fan p.settings in
     let t = taken - 1 in
-    let own = closed_after f (size_under p m) t in
+    let own = closed_after f (count_under p m) t in
     ap (λ (bs : List BlockIndex). bs ++ map (λ l. block_index (m + l) (t / f ^ (l + 1))) (range_with_len 0 closed))
     (closed-parts f p.blocks t m two within (omega (arith, some, most)))
     ∙ ap (λ (bs : List BlockIndex). map (raised m) own ++ bs)

@@ -93,7 +93,8 @@ judges-short p device bytes after digest i ends none =
     grind (arith, nat_tests, verdict-none p device bytes digest i (sym ends.whole_is) none, ends.below, ends.whole_is)
 
 -- the first block that differs is named
-pub judges-differs : (p : PlanFields) → IsPlan p → (device bytes digest after : List ℕ) (stop : Stop CompareStop) (part : Part)
+pub judges-differs : (p : PlanFields) → IsPlan p
+    → (device bytes digest after : List ℕ) (stop : Stop CompareStop) (part : Part)
     → StopsFor (effects is_unread KeepsSame HoldsAll StopsComparing) p bytes stop device after → stop.why ≡ P.Differs part
     → verdict p device bytes digest ≡ Err (F.Differs stop.level stop.block part)
 judges-differs p planned device bytes digest after stop part stops why =

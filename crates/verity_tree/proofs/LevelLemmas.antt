@@ -1,4 +1,4 @@
--- The digests of the hash blocks above a list of digests.
+-- Runs of lists, and the digests of data blocks and hash blocks.
 use Rattle.std.proofs.Common.{◌≡◌, ℕ, ◌+◌, ◌-◌, ◌*◌, List, [], ◌∷◌, ◌++◌, take, drop, map, min, length, arith, sym, ◌∙◌}
 use Rattle.std.proofs.Common.{ap, length-drop}
 use Rattle.std.proofs.lemmas.List.{drop-take, take_min}

@@ -14,7 +14,7 @@ use Rattle.verity_tree.specs.Paths.{IsAccepted, chain, digest_above, true_chain}
 use Rattle.verity_tree.specs.Verdicts.{digest_in}
 use Rattle.verity_tree.proofs.ChainLemmas.{true_chain-next, true_chain-top}
 use Rattle.verity_tree.proofs.PathSteps.{digest_above-below, digest_above-top, same_or_two}
-use Rattle.verity_tree.proofs.PieceLemmas.{length-pieces, piece}
+use Rattle.verity_tree.proofs.JoinedLists.{length-pieces, piece}
 
 -- what an accepted block under a level is
 pub record IsLinked (p : PlanFields) (i l : ℕ) (block above : List ℕ) : Type 0 where
@@ -87,11 +87,11 @@ above-joined p i blocks digest l low each =
     (chain-joined p blocks (suc l) (omega (arith, low)) each)
 
 -- the length of each block, by its level
-pub length-up : (p : PlanFields) (blocks : ℕ → List ℕ) (l : ℕ) → l ≤ level_count_of p
+pub length-at_level : (p : PlanFields) (blocks : ℕ → List ℕ) (l : ℕ) → l ≤ level_count_of p
     → length (blocks 0) ≡ p.settings.data_block → AreHashBlocks p blocks
     → length (blocks l) ≡ block_size_up p.settings l
-length-up p blocks zero within first each = first
-length-up p blocks (suc l) within first each = each l (omega (arith, within)) ∙ sym (size-up p.settings l)
+length-at_level p blocks zero within first each = first
+length-at_level p blocks (suc l) within first each = each l (omega (arith, within)) ∙ sym (size-up p.settings l)
 
 -- a path of joined blocks is accepted where each block's hash is the digest in the next one, and the last one's the root
 pub joined-accepted : (p : PlanFields) (i : ℕ) (blocks : ℕ → List ℕ) (digest : List ℕ) → AreHashBlocks p blocks
@@ -143,13 +143,13 @@ accepted-linked p i blocks digest each h =
       links = λ l low. ok-IsLinked p i l (blocks l) (blocks (suc l)) (record {
         index = h.index;
         level = low;
-        of_block = length-up p blocks l (omega (arith, low)) h.lengths.of_block each;
+        of_block = length-at_level p blocks l (omega (arith, low)) h.lengths.of_block each;
         of_above = each l low;
         holds = holds l (omega (arith, low)) ∙ above-joined p i blocks digest l low each;
       });
       top = ok-IsTop p i (blocks levels) digest (record {
         index = h.index;
-        of_block = length-up p blocks levels all h.lengths.of_block each;
+        of_block = length-at_level p blocks levels all h.lengths.of_block each;
         holds = holds levels all ∙ digest_above-top p i (joined blocks levels) digest levels all;
       });
     }

@@ -17,11 +17,12 @@ use Rattle.verity_tree.specs.Steps.Feeding.{EndsWindow, HasFed, IsHandingOut, Ta
 use Rattle.verity_tree.specs.Steps.OpenBlocks.{digests_under, HasClosed, HasOpenBlocks}
 use Rattle.verity_tree.specs.TreeOnDevice.{tree_block}
 use Rattle.verity_tree.specs.Windows.{window_blocks, window_length}
-use Rattle.verity_tree.proofs.ClimbLemmas.{blocks-most, last-below, whole-block}
+use Rattle.verity_tree.proofs.ClimbLemmas.{blocks-most}
+use Rattle.verity_tree.proofs.LastByteLemmas.{last-below, whole-block}
 use Rattle.verity_tree.proofs.ClosingLemmas.{closes-closed}
 use Rattle.verity_tree.proofs.HandedOutLemmas.{handed-out-stays}
 use Rattle.verity_tree.proofs.LevelLemmas.{length-cut}
-use Rattle.verity_tree.proofs.PieceOfBytesLemmas.{HasFed-filled, closed_after-placed, windows_before-filled}
+use Rattle.verity_tree.proofs.WindowSteps.{HasFed-filled, closed_after-placed, windows_before-filled}
 use Rattle.verity_tree.proofs.WindowLemmas.{placed-in-window}
 use Rattle.std.proofs.lemmas.List.Elements.{Contains-append_left, Contains-append_right}
 use Rattle.std.specs.Prelude.{Bool, true, false, Some, None, if◌then◌else◌}
@@ -45,7 +46,8 @@ use Rattle.verity_tree.specs.Steps.OnePass.{StopsFor}
 use Rattle.verity_tree.specs.declared.pass.pass_fault.Stop.{Stop}
 
 -- a store of zeros has no slots
-pub HasOpenBlocks-zeros : (s : TreeSettingsFields) (blocks : List (List ℕ)) (levels len : ℕ) (store : List ℕ) → 0 < fan s
+pub HasOpenBlocks-zeros : (s : TreeSettingsFields) (blocks : List (List ℕ)) (levels len : ℕ) (store : List ℕ)
+    → 0 < fan s
     → store ≡ replicate len 0
     → levels * s.hash_block ≤ len → HasOpenBlocks s blocks 0 levels 0 store
 HasOpenBlocks-zeros s blocks levels len store some zeros room = λ l from to.
@@ -118,7 +120,7 @@ hands-on p levels level block n bytes opened planned enough h is =
       below = below;
       with_it = record {
         level_below = h.level_below;
-        block_is = is;
+        index_is = is;
         all = λ k low. rw many at (closes-closed s (data_blocks p fed) i level levels opened (omega (arith, below, many)) closed k low);
       };
       stands = closed.stands ∙ rw (long, all, data_blocks-front p bytes) at stays ∙ ap (tree_block s (data_blocks p bytes) level) (sym is);
@@ -142,7 +144,8 @@ stopped-below p i bytes Short after h = h.below
 stopped-below p i bytes Failed after h = h.below
 
 -- no hash block closes in a window before the data block within which the source stops
-pub stops-in-window : (p : PlanFields) (levels n closed block : ℕ) (fed opened window : List ℕ) → IsPlan p → length fed ≡ n
+pub stops-in-window : (p : PlanFields) (levels n closed block : ℕ) (fed opened window : List ℕ) → IsPlan p
+    → length fed ≡ n
     → n / window_length p.settings * window_length p.settings ≡ n → TakesMore p levels fed closed opened window
     → block < p.blocks → n ≤ block * p.settings.data_block
     → block * p.settings.data_block < n + window_length p.settings
@@ -197,7 +200,7 @@ reads-up-to p i l j before after below with_it read =
     record {
       i = i;
       below = below;
-      here = rw (with_it.block_is, front.1)
+      here = rw (with_it.index_is, front.1)
           (Contains-append_left (first_closing f i l ++ here ∷ []) front.0 here
           (Contains-append_right (first_closing f i l) (here ∷ []) here (0, omega arith, refl)));
       read = read;
@@ -220,7 +223,7 @@ stops-for w p bytes i stop before after below with_it enough is =
       done = closed_after f p.blocks i ++ first_closing f i l;
       next = record {
         rest = front.0;
-        in_order = rw (closed_after-more f p.blocks i, front.1, with_it.block_is) (simp append_assoc);
+        in_order = rw (closed_after-more f p.blocks i, front.1, with_it.index_is) (simp append_assoc);
       };
       stopped = is;
     }

@@ -138,7 +138,8 @@ open-close s xs q ends =
     ]
 
 -- the block of a run stands one level up
-pub block-up : (s : TreeSettingsFields) (blocks : List (List ℕ)) (m j : ℕ) → j < div_ceil (length (blocks_up s blocks m)) (fan s)
+pub block-up : (s : TreeSettingsFields) (blocks : List (List ℕ)) (m j : ℕ)
+    → j < div_ceil (length (blocks_up s blocks m)) (fan s)
     → get_or (blocks_up s blocks (m + 1)) j [] ≡ hash_block_of s (slice_chunk (digests_under s blocks m) (fan s) j)
 unfolding blocks_up
 block-up s blocks m j below =

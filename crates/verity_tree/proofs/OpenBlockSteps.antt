@@ -22,7 +22,7 @@ use Rattle.verity_plan.proofs.FitLemmas.{digest-slot}
 use Rattle.verity_plan.proofs.IndexLemmas.{quotient-next, quotient-below}
 use Rattle.verity_tree.proofs.LevelLemmas.{run-of_front}
 use Rattle.verity_tree.proofs.TreeLemmas.{length-blocks_up, height-level_count}
-use Rattle.verity_tree.proofs.QuotientLemmas.{div_ceil-last, IsReached-zero}
+use Rattle.verity_tree.proofs.ReachedLemmas.{div_ceil-last, IsReached-zero}
 use Rattle.verity_tree.proofs.OpenBlockLemmas.{open-push, open-close, block-up}
 
 -- an open block once digest q has come too
@@ -80,7 +80,8 @@ pub record IsWritten (size m : ℕ) (store block after : List ℕ) : Type 0 wher
   pub own : slice_chunk after size m ≡ block
   pub others : (l : ℕ) → (l < m) ⊎ (m < l) → slice_chunk after size l ≡ slice_chunk store size l
 
-pub IsWritten-part : (size m n : ℕ) (store block : List ℕ) → n ≡ size → m * size + size ≤ length store → length block ≡ size
+pub IsWritten-part : (size m n : ℕ) (store block : List ℕ) → n ≡ size → m * size + size ≤ length store
+    → length block ≡ size
     → IsWritten size m store block (with_part store m n block)
 IsWritten-part size m n store block is room len =
     let from : m * n ≡ m * size = ap (λ (k : ℕ). m * k) is in
@@ -143,7 +144,8 @@ hash_block_of-none s n digests =
     ap (λ (k : ℕ). replicate k 0) (let e : s.hash_block - 0 ≡ s.hash_block = omega arith in e)
 
 -- past all levels only the last data block comes, and its digest is the root
-pub level_digest-root : (s : TreeSettingsFields) (blocks : List (List ℕ)) (i levels : ℕ) (store digest : List ℕ) → 2 ≤ fan s
+pub level_digest-root : (s : TreeSettingsFields) (blocks : List (List ℕ)) (i levels : ℕ) (store digest : List ℕ)
+    → 2 ≤ fan s
     → i < length blocks
     → levels ≡ level_count (fan s) (length blocks) → IsCarrying s blocks (carry_state i levels levels) store digest
     → (i + 1 ≡ length blocks) × (digest ≡ root s blocks)

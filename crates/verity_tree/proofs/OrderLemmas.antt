@@ -13,7 +13,7 @@ use Rattle.verity_tree.specs.ClosingOrder.{BlockIndex, block_index, closes, clos
 use Rattle.verity_tree.specs.FirstDifferences.{closing_moment}
 use Rattle.verity_plan.proofs.CountLemmas.{mul-lt_div_ceil, mul_le}
 use Rattle.verity_plan.proofs.IndexLemmas.{quotient-below}
-use Rattle.verity_tree.proofs.QuotientLemmas.{slots-more}
+use Rattle.verity_tree.proofs.ReachedLemmas.{next-slot}
 
 -- the levels that pass a test, each with a block
 abbrev pub indices : (ℕ → ℕ) → (ℕ → Bool) → List ℕ → List BlockIndex
@@ -45,7 +45,7 @@ closes-time fan n l j i pos below inside =
     let wide : 0 < w = one-le-pow (l + 1) fan pos in
     let split = div-add-mod' i w in
     let low = mod_below i w wide in
-    let room : i % w + 1 < w → (i + 1) % w ≡ i % w + 1 = λ less. (slots-more w i less).0 in
+    let room : i % w + 1 < w → (i + 1) % w ≡ i % w + 1 = λ less. (next-slot w i less).0 in
     let full : i % w + 1 ≡ w → (i + 1) % w ≡ 0 = λ last.
     let next : i + 1 ≡ (i / w + 1) * w + 0 = omega (arith, split, last) in
     ap (λ (x : ℕ). x % w) next ∙ mod-mul-add (i / w + 1) w 0 wide in
@@ -85,7 +85,7 @@ pub closed_time : (fan n l j i : ℕ) → 0 < fan → i ≤ n → 0 < times l j 
     → IsTreeBlock fan n l j × (closing_moment fan n (block_index l j) ≤ i)
 closed_time fan n l j i pos most some =
     let closed = times-closed_after fan n l j i pos most in (
-      record { level_below = grind (arith, nat_tests); block_below = grind (arith, nat_tests) },
+      record { level_below = grind (arith, nat_tests); index_below = grind (arith, nat_tests) },
       grind (arith, nat_tests),
     )
 
@@ -93,6 +93,6 @@ closed_time fan n l j i pos most some =
 pub ClosesOnce-all : (fan n : ℕ) → 0 < fan → ClosesOnce fan n
 ClosesOnce-all fan n pos = record {
   once = λ l j block.
-      grind (arith, nat_tests, times-closed_after fan n l j n pos (omega arith), block.level_below, block.block_below);
+      grind (arith, nat_tests, times-closed_after fan n l j n pos (omega arith), block.level_below, block.index_below);
   only = λ l j some. (closed_time fan n l j n pos (omega arith) some).0;
 }

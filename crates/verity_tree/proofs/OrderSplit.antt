@@ -1,4 +1,4 @@
--- The closing order, cut between data blocks and between levels.
+-- The closing order, cut between data blocks and between levels, and hash blocks that are put at their places in turn.
 use Rattle.std.proofs.Common.{◌≡◌, ℕ, zero, suc, ◌+◌, ◌/◌, ◌%◌, ◌^◌, ◌<◌, ◌≤◌, Bool, true, false}
 use Rattle.std.proofs.Common.{List, [], ◌∷◌, ◌++◌, map, length, arith, sym, ◌∙◌, ap, refl, append_assoc}
 use Rattle.std.proofs.lemmas.Bool.Decides.{nat_tests}
@@ -16,7 +16,11 @@ use Rattle.verity_plan.specs.Settings.{TreeSettingsFields}
 use Rattle.verity_tree.specs.Steps.OpenBlocks.{IsReached}
 use Rattle.verity_tree.specs.Levels.{blocks_up}
 use Rattle.verity_io.specs.Writing.{put}
-use Rattle.verity_tree.proofs.QuotientLemmas.{quotient-stays}
+use Rattle.verity_tree.proofs.ReachedLemmas.{quotient-stays}
+
+-- the hash blocks of some levels, one of each that passes a test
+abbrev pub passing : (ℕ → ℕ) → (ℕ → Bool) → List ℕ → List BlockIndex
+passing index passes levels = map (λ level. block_index level (index level)) (filter passes levels)
 
 -- a test that the first numbers pass leaves them, and nothing after them if the others don't pass
 pub filter-front : (c : ℕ → Bool) (a m n : ℕ) → ((l : ℕ) → a ≤ l → l < a + m → c l ≡ true) → m ≤ n

@@ -16,7 +16,7 @@ use Rattle.std.specs.Fork.{slice_chunk}
 use Rattle.std.specs.List.{All, Contains, flat_map, range_with_len}
 use Rattle.std.specs.Prelude.{◌==◌, ◌&&◌, cond, slice_index_or}
 use Rattle.verity_plan.specs.Plans.{IsPlan, PlanFields}
-use Rattle.verity_plan.specs.PlanCounts.{level_count_of, size_under}
+use Rattle.verity_plan.specs.PlanCounts.{level_count_of, count_under}
 use Rattle.verity_plan.specs.Settings.{digest_len, fan}
 use Rattle.verity_plan.proofs.CountLemmas.{mul_le}
 use Rattle.verity_plan.proofs.FanLemmas.{digest_len_of-pos}
@@ -40,7 +40,7 @@ use Rattle.verity_tree.proofs.OpenBlockLemmas.{length-hash}
 use Rattle.verity_tree.proofs.OrderSplit.{device_with-append}
 use Rattle.verity_tree.proofs.PartEnds.{join-all, join-none, part-all, part-none}
 use Rattle.verity_tree.proofs.PartOrder.{parts-once, range-more}
-use Rattle.verity_tree.proofs.PieceLemmas.{length-pieces, piece}
+use Rattle.verity_tree.proofs.JoinedLists.{length-pieces, piece}
 
 -- ---- calls in any order
 
@@ -123,7 +123,7 @@ unfolding device_with
 part-written b p level part None memory fed more bytes device plan_is level_is part_is handed is = refl
 part-written b p level part (Some block) memory fed more bytes device plan_is level_is part_is handed is =
     let h = handed block refl in
-    let here = rw plan_is at h.byte_is in
+    let here = rw plan_is at h.start_is in
     let stands = (rw (plan_is, level_is, part_is) at (h.bytes bytes more)) is in
     rw (here, stands, length-cut p.settings p.blocks p.wanted bytes) refl
 
@@ -220,19 +220,19 @@ unfolding device_with
 join-written b p None memory bytes device plan_is handed = refl
 join-written b p (Some block) memory bytes device plan_is handed =
     let h = handed block refl in
-    let here = rw plan_is at h.byte_is in
+    let here = rw plan_is at h.start_is in
     let stands = rw plan_is at h.stands in
     rw (here, stands, length-cut p.settings p.blocks p.wanted bytes) refl
 
 -- a run of all digests, one after another, is digests
 pub run-digests : (p : PlanFields) (level from : ℕ) (bytes done taken rest : List ℕ)
     → length done ≡ from * digest_len p.settings
-    → flat_map (λ part. digest_of_part p level part bytes) (range_with_len 0 (size_under p level))
+    → flat_map (λ part. digest_of_part p level part bytes) (range_with_len 0 (count_under p level))
     ≡ done ++ (taken ++ rest)
     → AreDigests p level from taken bytes
 run-digests p level from bytes done taken rest start all = λ k low.
     let size = digest_len p.settings in
-    let parts = size_under p level in
+    let parts = count_under p level in
     let some : 0 < size = digest_len_of-pos p.settings.algorithm in
     let digest = λ (part : ℕ). digest_of_part p level part bytes in
     let each : (part : ℕ) → 0 ≤ part → part < 0 + parts → length (digest part) ≡ size = λ part _ _.
@@ -269,7 +269,7 @@ pub record CallsJoin (p : PlanFields) (level : ℕ) (calls : List FeedCall) (b a
 join-joined : (p : PlanFields) (level : ℕ) (calls : List FeedCall) (b after : JoinBuilder)
     (memory room done bytes : List ℕ)
     → b.plan ≡ p → b.level ≡ level → length done ≡ b.taken * digest_len p.settings → IsJoined b memory bytes
-    → flat_map (λ part. digest_of_part p level part bytes) (range_with_len 0 (size_under p level))
+    → flat_map (λ part. digest_of_part p level part bytes) (range_with_len 0 (count_under p level))
     ≡ done ++ flat_map (λ call. call.taken) calls
     → JoinsCalls b memory calls after room → CallsJoin p level calls b after room bytes
 unfolding JoinsCalls
@@ -316,13 +316,13 @@ pub record HasBuiltJoin (p : PlanFields) (level : ℕ) (bytes : List ℕ) (run :
   pub root_is : run.root_hash ≡ root p.settings (data_blocks p bytes)
 
 join-built : (p : PlanFields) (level : ℕ) (bytes : List ℕ) (parts : ℕ → PartInCalls) (run : JoinInCalls) → IsPlan p
-    → ((part : ℕ) → part < size_under p level → (parts part).digest ≡ digest_of_part p level part bytes)
+    → ((part : ℕ) → part < count_under p level → (parts part).digest ≡ digest_of_part p level part bytes)
     → BuildsJoinInCalls p level bytes parts run → HasBuiltJoin p level bytes run
 join-built p level bytes parts run planned digests built =
     let b = run.begun in
     let start : 0 ≡ b.taken * digest_len p.settings = rw built.none_taken (omega arith) in
     let all =
-    same-pieces (λ part. (parts part).digest) (λ part. digest_of_part p level part bytes) 0 (size_under p level)
+    same-pieces (λ part. (parts part).digest) (λ part. digest_of_part p level part bytes) 0 (count_under p level)
     (λ part low. digests part (omega (arith, low))) in
     let done =
     join-joined p level run.calls b run.after run.memory run.memory_after [] bytes built.plan_is built.level_is
@@ -366,12 +366,12 @@ first-parts p level bytes parts (suc k) built =
 -- parts and join leave the tree, in whatever order and however often what they hand out is written
 pub parts-build : (p : PlanFields) (level : ℕ) (bytes device : List ℕ) (parts : ℕ → PartInCalls) (join : JoinInCalls)
     (writes : List FeedCall) → IsPlan p → level ≤ level_count_of p
-    → ((part : ℕ) → part < size_under p level → BuildsPartInCalls p level part bytes (parts part))
+    → ((part : ℕ) → part < count_under p level → BuildsPartInCalls p level part bytes (parts part))
     → BuildsJoinInCalls p level bytes parts join
     → ((call : FeedCall) → Contains writes call ↔ Contains (calls_from_parts p level parts join) call)
     → BuildsFromParts p level bytes parts join writes device
 parts-build p level bytes device parts join writes planned most built joined same =
-    let n = size_under p level in
+    let n = count_under p level in
     let calls = calls_from_parts p level parts join in
     let of_parts = flat_map (λ part. (parts part).calls) (range_with_len 0 n) in
     let each : (part : ℕ) → part < n → HasBuiltPart p level part bytes (parts part) = λ part low.

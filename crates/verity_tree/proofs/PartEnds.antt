@@ -12,14 +12,14 @@ use Rattle.std.specs.Int.{div_ceil}
 use Rattle.std.specs.List.{filter, range_with_len}
 use Rattle.std.specs.Prelude.{◌&&◌, nat_le}
 use Rattle.verity_plan.specs.Plans.{IsPlan, PlanFields, level_count}
-use Rattle.verity_plan.specs.PlanCounts.{level_count_of, size_under}
+use Rattle.verity_plan.specs.PlanCounts.{level_count_of, count_under}
 use Rattle.verity_plan.specs.Settings.{fan}
 use Rattle.verity_plan.proofs.CountLemmas.{div_ceil-below, div_ceil-pos, le-div_ceil, mul-lt_div_ceil, mul_le}
 use Rattle.verity_plan.proofs.FanLemmas.{fan-some, some_data}
 use Rattle.verity_tree.specs.ClosingOrder.{BlockIndex, block_index, blocks_before, closed_after, closes, closing_with}
 use Rattle.verity_tree.specs.ClosingOrder.{first_closing}
 use Rattle.verity_tree.specs.Parts.{HasPart, closed_in_join, closed_in_part, first_block, handed_out_of_join}
-use Rattle.verity_tree.specs.Parts.{handed_out_of_part, join_order, part_order, part_size, plan_of_part}
+use Rattle.verity_tree.specs.Parts.{handed_out_of_part, join_order, part_order, blocks_in_part, plan_of_part}
 use Rattle.verity_tree.proofs.OrderSplit.{closed_after-more, closes-last, filter-front}
 use Rattle.verity_tree.proofs.PartLevels.{div_ceil-chunk}
 use Rattle.verity_tree.proofs.PartOrder.{is_below}
@@ -96,7 +96,7 @@ part-last f n level part i some most last =
 part-some : (p : PlanFields) (level part : ℕ) → IsPlan p → HasPart p level part
     → (first_block p level part < p.blocks) × (0 < (plan_of_part p level part).wanted)
 part-some p level part planned has =
-    let size = part_size p level in
+    let size = blocks_in_part p level in
     let d = p.settings.data_block in
     let wide : 0 < size = one-le-pow level (fan p.settings) (fan-some p.settings) in
     let wide_block : 0 < d = some_data p.settings planned.valid in
@@ -109,7 +109,7 @@ part-some p level part planned has =
 part-last_block : (p : PlanFields) (level part : ℕ) → IsPlan p → HasPart p level part
     → blocks_before p.settings (plan_of_part p level part).wanted + 1 ≡ (plan_of_part p level part).blocks
 part-last_block p level part planned has =
-    let size = part_size p level in
+    let size = blocks_in_part p level in
     let d = p.settings.data_block in
     let own = plan_of_part p level part in
     let wide_block : 0 < d = some_data p.settings planned.valid in
@@ -127,7 +127,7 @@ unfolding closed_in_part
 part-all p level part planned has =
     let f = fan p.settings in
     let n = p.blocks in
-    let size = part_size p level in
+    let size = blocks_in_part p level in
     let first = first_block p level part in
     let own = plan_of_part p level part in
     let i = blocks_before p.settings own.wanted in
@@ -225,17 +225,17 @@ join-last f n level i m most last part =
 
 -- when all digests were taken and all levels have closed, all hash blocks of the join were handed out
 pub join-all : (p : PlanFields) (level closed : ℕ) → IsPlan p → level + closed ≡ level_count_of p
-    → handed_out_of_join p level (size_under p level) closed ≡ join_order p level
+    → handed_out_of_join p level (count_under p level) closed ≡ join_order p level
 join-all p level closed planned all =
     let f = fan p.settings in
     let n = p.blocks in
-    let size = part_size p level in
+    let size = blocks_in_part p level in
     let some = fan-some p.settings in
     let wide : 0 < size = one-le-pow level f some in
     let blocks : 0 < n =
     rw planned.blocks_are (div_ceil-pos p.wanted p.settings.data_block
     (some_data p.settings planned.valid) planned.some) in
-    let parts = size_under p level in
+    let parts = count_under p level in
     let m = parts - 1 in
     let last_part : (n - 1) / size + 1 ≡ parts = div_ceil-below n size wide blocks in
     let part : (n - 1) / size ≡ m = omega (arith, last_part) in
@@ -260,5 +260,5 @@ join-all p level closed planned all =
 pub join-none : (p : PlanFields) (level : ℕ) → handed_out_of_join p level 0 0 ≡ []
 unfolding closed_after
 join-none p level =
-    let none : 0 * part_size p level ≡ 0 = omega arith in
+    let none : 0 * blocks_in_part p level ≡ 0 = omega arith in
     ap (λ (i : ℕ). closed_in_join (fan p.settings) p.blocks level i ++ []) none

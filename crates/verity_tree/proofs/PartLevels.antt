@@ -14,7 +14,7 @@ use Rattle.verity_plan.specs.Settings.{TreeSettingsFields, fan, hash}
 use Rattle.verity_plan.proofs.CountLemmas.{div_ceil-le, le-div_ceil, mul_le}
 use Rattle.verity_plan.proofs.FanLemmas.{fan-some}
 use Rattle.verity_tree.specs.Levels.{block_at, blocks_up, cut, data_blocks, hash_block_of, pack}
-use Rattle.verity_tree.specs.Parts.{HasPart, bytes_of_part, digest_of_part, part_size, plan_of_part}
+use Rattle.verity_tree.specs.Parts.{HasPart, bytes_of_part, digest_of_part, blocks_in_part, plan_of_part}
 use Rattle.verity_tree.proofs.LevelLemmas.{length-cut, run-of_front}
 use Rattle.verity_tree.proofs.PrefixLemmas.{get_or-pack}
 use Rattle.verity_tree.proofs.TreeLemmas.{length-pack}
@@ -101,12 +101,12 @@ pack-chunk s digests count part some =
 -- a part's data blocks are a run of all data blocks
 part-blocks : (p : PlanFields) (level part : ℕ) (bytes : List ℕ) → HasPart p level part
     → data_blocks (plan_of_part p level part) (bytes_of_part p level part bytes)
-    ≡ slice_chunk (data_blocks p bytes) (part_size p level) part
+    ≡ slice_chunk (data_blocks p bytes) (blocks_in_part p level) part
 unfolding cut
 part-blocks p level part bytes has =
     let s = p.settings in
     let d = s.data_block in
-    let size = part_size p level in
+    let size = blocks_in_part p level in
     let q = plan_of_part p level part in
     let covered = take p.wanted bytes in
     let own = bytes_of_part p level part bytes in

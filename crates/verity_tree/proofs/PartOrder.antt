@@ -13,12 +13,12 @@ use Rattle.std.proofs.Math.Nat.{one-le-pow}
 use Rattle.std.specs.List.{filter, flat_map, range_with_len}
 use Rattle.std.specs.Prelude.{◌==◌, ◌&&◌, cond, nat_le, nat_lt}
 use Rattle.verity_plan.specs.Plans.{PlanFields}
-use Rattle.verity_plan.specs.PlanCounts.{size_under}
+use Rattle.verity_plan.specs.PlanCounts.{count_under}
 use Rattle.verity_plan.specs.Settings.{fan}
 use Rattle.verity_plan.proofs.CountLemmas.{le-div_ceil}
 use Rattle.verity_plan.proofs.FanLemmas.{fan-some}
 use Rattle.verity_tree.specs.ClosingOrder.{BlockIndex, closed_after, closing_with, times}
-use Rattle.verity_tree.specs.Parts.{closed_in_part, join_order, part_order, part_size}
+use Rattle.verity_tree.specs.Parts.{closed_in_part, join_order, part_order, blocks_in_part}
 
 -- a block is of a level below this one
 abbrev pub is_below : ℕ → BlockIndex → Bool
@@ -62,15 +62,15 @@ range-more g n =
 
 -- the first parts in their order
 parts-order : (p : PlanFields) (level k : ℕ) → flat_map (part_order p level) (range_with_len 0 k)
-    ≡ closed_in_part (fan p.settings) p.blocks level 0 (min (k * part_size p level) p.blocks)
+    ≡ closed_in_part (fan p.settings) p.blocks level 0 (min (k * blocks_in_part p level) p.blocks)
 unfolding closed_in_part
 parts-order p level zero =
-    let none : min (0 * part_size p level) p.blocks ≡ 0 = omega arith in
+    let none : min (0 * blocks_in_part p level) p.blocks ≡ 0 = omega arith in
     sym (ap (closed_in_part (fan p.settings) p.blocks level 0) none)
 parts-order p level (suc k) =
     let f = fan p.settings in
     let n = p.blocks in
-    let size = part_size p level in
+    let size = blocks_in_part p level in
     let more : suc k ≡ k + 1 = omega arith in
     let before = min (k * size) n in
     let own = min size (n - k * size) in
@@ -88,15 +88,15 @@ parts-order p level (suc k) =
     ∙ ap (closed_in_part f n level 0) count
 
 -- all parts have the blocks of the levels below, in closing order
-pub parts-all : (p : PlanFields) (level : ℕ) → flat_map (part_order p level) (range_with_len 0 (size_under p level))
+pub parts-all : (p : PlanFields) (level : ℕ) → flat_map (part_order p level) (range_with_len 0 (count_under p level))
     ≡ filter (is_below level) (closed_after (fan p.settings) p.blocks p.blocks)
 parts-all p level =
     let f = fan p.settings in
-    let size = part_size p level in
+    let size = blocks_in_part p level in
     let covers =
-    le-div_ceil p.blocks size (size_under p level) (one-le-pow level f (fan-some p.settings)) (omega arith) in
-    let all : min (size_under p level * size) p.blocks ≡ p.blocks = omega (arith, covers) in
-    parts-order p level (size_under p level)
+    le-div_ceil p.blocks size (count_under p level) (one-le-pow level f (fan-some p.settings)) (omega arith) in
+    let all : min (count_under p level * size) p.blocks ≡ p.blocks = omega (arith, covers) in
+    parts-order p level (count_under p level)
     ∙ ap (closed_in_part f p.blocks level 0) all
     ∙ closed_in_part-all f p.blocks level p.blocks
 
@@ -107,11 +107,11 @@ not-below level block = grind (arith, nat_tests)
 -- together they are the tree's, each as often
 pub parts-once : (p : PlanFields) (level l j : ℕ)
     → times l j
-    (flat_map (λ part. part_order p level part) (range_with_len 0 (size_under p level)) ++ join_order p level)
+    (flat_map (λ part. part_order p level part) (range_with_len 0 (count_under p level)) ++ join_order p level)
     ≡ times l j (closed_after (fan p.settings) p.blocks p.blocks)
 parts-once p level l j =
     let all = closed_after (fan p.settings) p.blocks p.blocks in
     let one : BlockIndex → ℕ = λ at. cond ((at.level == l) && (at.index == j)) 1 0 in
-    sum_by-append one (flat_map (part_order p level) (range_with_len 0 (size_under p level))) (join_order p level)
+    sum_by-append one (flat_map (part_order p level) (range_with_len 0 (count_under p level))) (join_order p level)
     ∙ ap (λ (xs : List BlockIndex). times l j xs + times l j (join_order p level)) (parts-all p level)
     ∙ sum_by-filter_both (is_below level) (λ block. nat_le level block.level) (not-below level) one all

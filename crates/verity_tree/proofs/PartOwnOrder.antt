@@ -18,7 +18,8 @@ use Rattle.verity_plan.proofs.FanLemmas.{fan-some, fan-two}
 use Rattle.verity_tree.specs.ClosingOrder.{BlockIndex, block_index, blocks_before, closed_after, closes, closing_with}
 use Rattle.verity_tree.specs.ClosingOrder.{first_closing, handed_out}
 use Rattle.verity_tree.specs.Parts.{HasPart, closed_in_part, first_block, handed_out_of_part, plan_of_part}
-use Rattle.verity_tree.proofs.ClimbLemmas.{last-below}
+use Rattle.verity_tree.proofs.LastByteLemmas.{last-below}
+use Rattle.verity_tree.proofs.OrderSplit.{passing}
 use Rattle.verity_tree.proofs.PlanOfPart.{has-part}
 
 -- a hash block of a part's own tree, in the whole tree
@@ -69,22 +70,18 @@ closes-above f few i l two own high =
     let second : nat_eq (i + 1) 0 ≡ false = grind (arith, nat_tests) in
     rw (rest, first, second) refl
 
--- the levels that pass a test, each with a hash block
-abbrev blocks_of : (ℕ → ℕ) → (ℕ → Bool) → List ℕ → List BlockIndex
-blocks_of index passes levels = map (λ level. block_index level (index level)) (filter passes levels)
-
 -- a run of levels that pass two tests alike, each with one hash block
-blocks_of-same : (f g : ℕ → ℕ) (c d : ℕ → Bool) (a n : ℕ)
+passing-same : (f g : ℕ → ℕ) (c d : ℕ → Bool) (a n : ℕ)
     → ((l : ℕ) → a ≤ l → l < a + n → (c l ≡ d l) × (f l ≡ g l))
-    → blocks_of f c (range_with_len a n) ≡ blocks_of g d (range_with_len a n)
-blocks_of-same f g c d a zero same = refl
-blocks_of-same f g c d a (suc n) same =
+    → passing f c (range_with_len a n) ≡ passing g d (range_with_len a n)
+passing-same f g c d a zero same = refl
+passing-same f g c d a (suc n) same =
     let here = same a (omega arith) (omega arith) in
-    let rest = blocks_of-same f g c d (a + 1) n (λ l from to. same l (omega (arith, from)) (omega (arith, to))) in
+    let rest = passing-same f g c d (a + 1) n (λ l from to. same l (omega (arith, from)) (omega (arith, to))) in
     by_test (c a) (d a) here.0 here.1 rest
   where
     by_test : (x y : Bool) → x ≡ y → f a ≡ g a
-        → blocks_of f c (range_with_len (a + 1) n) ≡ blocks_of g d (range_with_len (a + 1) n)
+        → passing f c (range_with_len (a + 1) n) ≡ passing g d (range_with_len (a + 1) n)
         → map (λ level. block_index level (f level))
         (cond x (a ∷ filter c (range_with_len (a + 1) n)) (filter c (range_with_len (a + 1) n)))
         ≡ map (λ level. block_index level (g level))
@@ -95,23 +92,23 @@ blocks_of-same f g c d a (suc n) same =
     by_test false true is index rest = absurd cc
 
 -- a run of levels that don't pass
-blocks_of-none : (f : ℕ → ℕ) (c : ℕ → Bool) (a n : ℕ) → ((l : ℕ) → a ≤ l → l < a + n → c l ≡ false)
-    → blocks_of f c (range_with_len a n) ≡ []
-blocks_of-none f c a zero fail = refl
-blocks_of-none f c a (suc n) fail =
+passing-none : (f : ℕ → ℕ) (c : ℕ → Bool) (a n : ℕ) → ((l : ℕ) → a ≤ l → l < a + n → c l ≡ false)
+    → passing f c (range_with_len a n) ≡ []
+passing-none f c a zero fail = refl
+passing-none f c a (suc n) fail =
     rw (fail a (omega arith) (omega arith))
-    (blocks_of-none f c (a + 1) n (λ l from to. fail l (omega (arith, from)) (omega (arith, to))))
+    (passing-none f c (a + 1) n (λ l from to. fail l (omega (arith, from)) (omega (arith, to))))
 
 -- levels after a run that don't pass
-blocks_of-front : (f : ℕ → ℕ) (c : ℕ → Bool) (a n m : ℕ) → n ≤ m → ((l : ℕ) → a + n ≤ l → l < a + m → c l ≡ false)
-    → blocks_of f c (range_with_len a m) ≡ blocks_of f c (range_with_len a n)
-blocks_of-front f c a zero m le fail = blocks_of-none f c a m (λ l from to. fail l (omega (arith, from)) to)
-blocks_of-front f c a (suc n) zero le fail = absurd (omega (arith, le))
-blocks_of-front f c a (suc n) (suc m) le fail =
-    by_test (c a) (blocks_of-front f c (a + 1) n m (omega (arith, le))
+passing-front : (f : ℕ → ℕ) (c : ℕ → Bool) (a n m : ℕ) → n ≤ m → ((l : ℕ) → a + n ≤ l → l < a + m → c l ≡ false)
+    → passing f c (range_with_len a m) ≡ passing f c (range_with_len a n)
+passing-front f c a zero m le fail = passing-none f c a m (λ l from to. fail l (omega (arith, from)) to)
+passing-front f c a (suc n) zero le fail = absurd (omega (arith, le))
+passing-front f c a (suc n) (suc m) le fail =
+    by_test (c a) (passing-front f c (a + 1) n m (omega (arith, le))
     (λ l from to. fail l (omega (arith, from)) (omega (arith, to))))
   where
-    by_test : (x : Bool) → blocks_of f c (range_with_len (a + 1) m) ≡ blocks_of f c (range_with_len (a + 1) n)
+    by_test : (x : Bool) → passing f c (range_with_len (a + 1) m) ≡ passing f c (range_with_len (a + 1) n)
         → map (λ level. block_index level (f level))
         (cond x (a ∷ filter c (range_with_len (a + 1) m)) (filter c (range_with_len (a + 1) m)))
         ≡ map (λ level. block_index level (f level))
@@ -125,14 +122,14 @@ below_and level passes l = cond (nat_lt l level) (passes l) false
 
 -- the hash blocks of the levels below one
 below-blocks : (f : ℕ → ℕ) (c : ℕ → Bool) (level a n : ℕ)
-    → filter (λ block. nat_lt block.level level) (blocks_of f c (range_with_len a n))
-    ≡ blocks_of f (below_and level c) (range_with_len a n)
+    → filter (λ block. nat_lt block.level level) (passing f c (range_with_len a n))
+    ≡ passing f (below_and level c) (range_with_len a n)
 below-blocks f c level a zero = refl
 below-blocks f c level a (suc n) = by_test (c a) (nat_lt a level) refl (below-blocks f c level (a + 1) n)
   where
     by_test : (x y : Bool) → nat_lt a level ≡ y
-        → filter (λ block. nat_lt block.level level) (blocks_of f c (range_with_len (a + 1) n))
-        ≡ blocks_of f (below_and level c) (range_with_len (a + 1) n)
+        → filter (λ block. nat_lt block.level level) (passing f c (range_with_len (a + 1) n))
+        ≡ passing f (below_and level c) (range_with_len (a + 1) n)
         → filter (λ block. nat_lt block.level level) (map (λ level. block_index level (f level))
         (cond x (a ∷ filter c (range_with_len (a + 1) n)) (filter c (range_with_len (a + 1) n))))
         ≡ map (λ level. block_index level (f level)) (cond (cond y x false)
@@ -171,10 +168,10 @@ closing-in_whole f few many level part i two low high own whole =
     let tested : nat_lt l level ≡ false = grind (arith, nat_tests, past) in rw tested refl in
     map-map (in_whole f level part) (λ l. block_index l (i / f ^ (l + 1)))
     (filter c (range_with_len 0 (level_count f few)))
-    ∙ blocks_of-same own_index index c d 0 (level_count f few) (λ l from to.
+    ∙ passing-same own_index index c d 0 (level_count f few) (λ l from to.
     let below : l < level = omega (arith, to, low) in
     (sym (passes l below), index-in_whole f level part i l some below))
-    ∙ sym (blocks_of-front index d 0 (level_count f few) (level_count f many) (omega (arith, low, high)) (λ l from to.
+    ∙ sym (passing-front index d 0 (level_count f few) (level_count f many) (omega (arith, low, high)) (λ l from to.
     elim (cases_lt l level) [
       | inl below ↦ passes l below ∙ closes-above f few i l two own (omega (arith, from))
       | inr past ↦ fails l past

@@ -1,21 +1,21 @@
 -- The tree above the parts of a level is the levels from that one on of the whole tree.
-use Rattle.std.proofs.Common.{◌≡◌, ℕ, zero, suc, ◌+◌, ◌-◌, ◌*◌, ◌/◌, ◌%◌, ◌^◌, ◌<◌, ◌≤◌, List, length, arith, sym, ◌∙◌}
+use Rattle.std.proofs.Common.{◌≡◌, ℕ, zero, suc, ◌+◌, ◌-◌, ◌*◌, ◌^◌, ◌<◌, ◌≤◌, List, length, arith, sym, ◌∙◌}
 use Rattle.std.proofs.Common.{ap, inl, inr}
 use Rattle.std.proofs.Common.{refl, true, false}
 use Rattle.std.proofs.lemmas.Bool.{cases_lt}
 use Rattle.std.proofs.lemmas.Bool.Decides.{nat_tests}
-use Rattle.std.proofs.lemmas.Nat.{div-mul-add, mod-mul-add, pow-add}
+use Rattle.std.proofs.lemmas.Nat.{pow-add}
 use Rattle.std.proofs.Math.Nat.{mul-le-mul_left, one-le-pow}
 use Rattle.std.specs.Int.{div_ceil}
 use Rattle.std.specs.Prelude.{Ok, Result, nat_eq, nat_le}
 use Rattle.verity_io.specs.Writing.{most_bytes}
 use Rattle.verity_plan.specs.Plans.{IsPlan, PlanFields, blocks_from, end_place_of, level_count, level_size}
 use Rattle.verity_plan.specs.Plans.{plan_for_blocks}
-use Rattle.verity_plan.specs.PlanCounts.{level_count_of, size_under}
+use Rattle.verity_plan.specs.PlanCounts.{level_count_of, count_under}
 use Rattle.verity_plan.specs.Settings.{TreeSettingsFields, fan}
 use Rattle.verity_plan.specs.declared.plan_fault.PlanFault.{PlanFault}
-use Rattle.verity_plan.proofs.CountLemmas.{IsLevelCount-level_count, div_ceil-div_ceil, div_ceil-le, div_ceil-pos}
-use Rattle.verity_plan.proofs.CountLemmas.{le-div_ceil, mul_le}
+use Rattle.verity_plan.proofs.CountLemmas.{IsLevelCount-level_count, IsLevelCount-same, div_ceil-div_ceil, div_ceil-le}
+use Rattle.verity_plan.proofs.CountLemmas.{div_ceil-mul, div_ceil-pos, le-div_ceil, mul_le}
 use Rattle.verity_plan.proofs.FanLemmas.{fan-some, fan-two, some_data}
 use Rattle.verity_plan.proofs.PlaceLemmas.{blocks_from-le, blocks_from-suc}
 use Rattle.verity_tree.specs.Levels.{blocks_up, data_blocks, up}
@@ -23,7 +23,6 @@ use Rattle.verity_tree.specs.Parts.{blocks_under}
 use Rattle.verity_tree.specs.Steps.Parts.{plan_of_join}
 use Rattle.verity_tree.proofs.DataBlockLemmas.{blocks-some}
 use Rattle.verity_tree.proofs.LevelLemmas.{length-cut}
-use Rattle.verity_tree.proofs.RootLemmas.{IsLevelCount-same}
 use Rattle.verity_tree.proofs.TreeLemmas.{length-blocks_up}
 
 -- levels above a level are levels above the blocks below it
@@ -72,22 +71,15 @@ blocks_from-above f n m l (suc k) some =
     omega (arith, blocks_from-suc f (div_ceil n (f ^ m)) l k, blocks_from-suc f n (m + l) k, here, above)
 
 -- a level has some parts, and no more than there are data blocks
-pub parts-some : (p : PlanFields) (level : ℕ) → IsPlan p → 0 < size_under p level
+pub parts-some : (p : PlanFields) (level : ℕ) → IsPlan p → 0 < count_under p level
 parts-some p level planned =
     div_ceil-pos p.blocks (fan p.settings ^ level) (one-le-pow level (fan p.settings) (fan-some p.settings))
     (blocks-some p planned)
 
-pub parts-most : (p : PlanFields) (level : ℕ) → size_under p level ≤ p.blocks
+pub parts-most : (p : PlanFields) (level : ℕ) → count_under p level ≤ p.blocks
 parts-most p level =
     let wide = one-le-pow level (fan p.settings) (fan-some p.settings) in
     div_ceil-le p.blocks (fan p.settings ^ level) p.blocks wide (omega (arith, mul-le-mul_left p.blocks wide))
-
-whole-blocks : (n a : ℕ) → 0 < a → n ≡ div_ceil (n * a) a
-whole-blocks n a some =
-    let none : n * a ≡ n * a + 0 = omega arith in
-    let quotient : n * a / a ≡ n = ap (λ (x : ℕ). x / a) none ∙ div-mul-add n a 0 some in
-    let rest : n * a % a ≡ 0 = ap (λ (x : ℕ). x % a) none ∙ mod-mul-add n a 0 some in
-    omega (arith, quotient, rest)
 
 -- the join's own levels
 pub levels-of_join : (p : PlanFields) (level : ℕ) → IsPlan p → level ≤ level_count_of p
@@ -100,13 +92,13 @@ pub IsPlan-join : (p : PlanFields) (level : ℕ) → IsPlan p → level ≤ leve
 IsPlan-join p level planned within =
     let s = p.settings in
     let size = s.data_block in
-    let parts = size_under p level in
+    let parts = count_under p level in
     let some = some_data s planned.valid in
     let levels = level_count_of p in
     record {
       valid = planned.valid;
       some = omega (arith, mul_le 1 parts size (parts-some p level planned), some);
-      blocks_are = whole-blocks parts size some;
+      blocks_are = sym (div_ceil-mul parts size some);
       data_most = omega (arith, mul_le parts p.blocks size (parts-most p level), planned.data_most);
       hash_most =
           let e : level + 0 ≡ 0 + level = omega arith in
@@ -126,7 +118,7 @@ IsPlan-join p level planned within =
 
 -- and it is what the code asks for
 pub plan-of_join : (p : PlanFields) (level : ℕ) → IsPlan p → level ≤ level_count_of p
-    → plan_for_blocks p.settings (size_under p level) 0 ≡ Ok (plan_of_join p level)
+    → plan_for_blocks p.settings (count_under p level) 0 ≡ Ok (plan_of_join p level)
 plan-of_join p level planned within =
     let own = plan_of_join p level in
     let h = IsPlan-join p level planned within in
@@ -140,14 +132,14 @@ plan-of_join p level planned within =
 -- the plan that the code is given
 pub plan-found : (p : PlanFields) (s : TreeSettingsFields) (level size : ℕ) (found : Result PlanFields PlanFault)
     → IsPlan p
-    → level ≤ level_count_of p → s ≡ p.settings → size ≡ size_under p level → found ≡ plan_for_blocks s size 0
+    → level ≤ level_count_of p → s ≡ p.settings → size ≡ count_under p level → found ≡ plan_for_blocks s size 0
     → found ≡ Ok (plan_of_join p level)
 plan-found p s level size found planned within settings many is =
     is ∙ rw (settings, many) (plan-of_join p level planned within)
 
 -- as many blocks are below the level as it has parts
 pub length-under : (p : PlanFields) (level : ℕ) (bytes : List ℕ)
-    → length (blocks_under p level bytes) ≡ size_under p level
+    → length (blocks_under p level bytes) ≡ count_under p level
 length-under p level bytes =
     length-blocks_up p.settings (data_blocks p bytes) level (fan-some p.settings)
     ∙ ap (λ (n : ℕ). div_ceil n (fan p.settings ^ level)) (length-cut p.settings p.blocks p.wanted bytes)

@@ -1,7 +1,6 @@
 -- The plan of the tree above a part's data alone, and that it is smaller than the whole tree's.
-use Rattle.std.proofs.Common.{◌≡◌, ℕ, zero, suc, ◌+◌, ◌-◌, ◌*◌, ◌^◌, ◌<◌, ◌≤◌, min, arith, sym, ◌∙◌, ap, inl, inr}
-use Rattle.std.proofs.Common.{true, false}
-use Rattle.std.proofs.Common.{refl}
+use Rattle.std.proofs.Common.{◌≡◌, ℕ, ◌+◌, ◌-◌, ◌*◌, ◌<◌, ◌≤◌, min, arith, sym, ◌∙◌, ap, inl, inr}
+use Rattle.std.proofs.Common.{refl, true, false}
 use Rattle.std.proofs.lemmas.Bool.{cases_lt}
 use Rattle.std.proofs.lemmas.Bool.Decides.{nat_tests}
 use Rattle.std.proofs.Math.Nat.{mul-le-mul_right, mul-pos, one-le-pow}
@@ -12,43 +11,12 @@ use Rattle.verity_plan.specs.Plans.{IsPlan, PlanFields, blocks_from, checked_pla
 use Rattle.verity_plan.specs.Plans.{plan_for_bytes}
 use Rattle.verity_plan.specs.PlanCounts.{level_count_of}
 use Rattle.verity_plan.specs.Settings.{fan}
-use Rattle.verity_plan.proofs.CountLemmas.{IsLevelCount-level_count, div_ceil-le, le-div_ceil}
-use Rattle.verity_plan.proofs.CountLemmas.{mul-lt_div_ceil, mul_le}
+use Rattle.verity_plan.proofs.CountLemmas.{div_ceil-le, div_ceil-mul, le-div_ceil, mul-lt_div_ceil, mul_le}
 use Rattle.verity_plan.proofs.FanLemmas.{fan-some, fan-two, some_data}
-use Rattle.verity_plan.proofs.PlaceLemmas.{blocks_from-suc}
-use Rattle.verity_plan.proofs.PlanLemmas.{level_count-le}
+use Rattle.verity_plan.proofs.PlaceLemmas.{blocks_from-fewer, blocks_from-more}
+use Rattle.verity_plan.proofs.PlanLemmas.{level_count-le, level_count-least}
 use Rattle.verity_tree.proofs.DataBlockLemmas.{blocks-some}
-use Rattle.verity_tree.specs.Parts.{HasPart, first_block, part_size, plan_of_part}
-
--- a quotient of fewer, rounded up, is no more
-div_ceil-fewer : (few many w : ℕ) → 0 < w → few ≤ many → div_ceil few w ≤ div_ceil many w
-div_ceil-fewer few many w some le =
-    div_ceil-le few w (div_ceil many w) some
-    (omega (arith, le, le-div_ceil many w (div_ceil many w) some (omega arith)))
-
--- above fewer data blocks so many levels have no more blocks
-blocks_from-fewer : (f few many l k : ℕ) → 0 < f → few ≤ many → blocks_from f few l k ≤ blocks_from f many l k
-blocks_from-fewer f few many l zero some le = omega arith
-blocks_from-fewer f few many l (suc k) some le =
-    omega (
-      arith,
-      blocks_from-suc f few l k,
-      blocks_from-suc f many l k,
-      blocks_from-fewer f few many (l + 1) k some le,
-      div_ceil-fewer few many (f ^ (l + 1)) (one-le-pow (l + 1) f some) le,
-    )
-
--- and more levels have no fewer
-blocks_from-more : (f n l k more : ℕ) → k ≤ more → blocks_from f n l k ≤ blocks_from f n l more
-blocks_from-more f n l zero more le = omega arith
-blocks_from-more f n l (suc k) zero le = absurd (omega (arith, le))
-blocks_from-more f n l (suc k) (suc more) le =
-    omega (
-      arith,
-      blocks_from-suc f n l k,
-      blocks_from-suc f n l more,
-      blocks_from-more f n (l + 1) k more (omega arith),
-    )
+use Rattle.verity_tree.specs.Parts.{HasPart, first_block, blocks_in_part, plan_of_part}
 
 -- a tree above fewer data blocks has no more hash blocks
 pub blocks_from-le_all : (f few many : ℕ) → 2 ≤ f → few ≤ many
@@ -59,13 +27,6 @@ blocks_from-le_all f few many two le =
       blocks_from-fewer f few many 0 (level_count f few) (omega arith) le,
       blocks_from-more f many 0 (level_count f few) (level_count f many) (level_count-le f few many two le),
     )
-
--- levels that have room for the data blocks are enough
-pub level_count-least : (f n l : ℕ) → 2 ≤ f → n ≤ f ^ l → level_count f n ≤ l
-level_count-least f n l two room = elim (cases_lt l (level_count f n)) [
-  | inl more ↦ absurd (omega (arith, (IsLevelCount-level_count f n two).least l more, room))
-  | inr most ↦ most
-]
 
 -- a plan that can be carried out is made
 pub checked_plan-planned : (p : PlanFields) → IsPlan p → checked_plan p ≡ Ok p
@@ -105,22 +66,6 @@ IsPlan-smaller p blocks wanted planned fewer some are =
             (omega arith),
       );
     }
-
--- runs that are whole
-div_ceil-times : (count size : ℕ) → 0 < size → div_ceil (count * size) size ≡ count
-div_ceil-times count size some =
-    let most = div_ceil-le (count * size) size count some (omega arith) in
-    let least = le-div_ceil (count * size) size (div_ceil (count * size) size) some (omega arith) in
-    elim (cases_lt (div_ceil (count * size) size) count) [
-      | inl less ↦
-          absurd (omega (
-            arith,
-            least,
-            mul_le (div_ceil (count * size) size + 1) count size (omega (arith, less)),
-            some,
-          ))
-      | inr enough ↦ omega (arith, most, enough)
-    ]
 
 -- what comes after the first runs is in the runs that are left
 rest-within : (wanted size first all : ℕ) → wanted ≤ all * size → first * size < wanted
@@ -164,12 +109,12 @@ run-count wanted size count first all some is begins =
                 ))
             | inr most ↦ most
           ] in
-          rw bytes (omega (arith, within, div_ceil-times count size some))
+          rw bytes (omega (arith, within, div_ceil-mul count size some))
     ]
 
 -- what is known of a part: where it begins, and how much data it has
 pub record IsPartOf (p : PlanFields) (level part : ℕ) : Type 0 where
-  pub wide : 0 < part_size p level
+  pub wide : 0 < blocks_in_part p level
   pub begins : first_block p level part < p.blocks
   pub begins_byte : first_block p level part * p.settings.data_block < p.wanted
   pub planned : IsPlan (plan_of_part p level part)
@@ -178,14 +123,14 @@ pub record IsPartOf (p : PlanFields) (level part : ℕ) : Type 0 where
 pub has-part : (p : PlanFields) (level part : ℕ) → IsPlan p → HasPart p level part → IsPartOf p level part
 has-part p level part planned has =
     let s = p.settings in
-    let size = part_size p level in
+    let count = blocks_in_part p level in
     let own = plan_of_part p level part in
-    let wide : 0 < size = one-le-pow level (fan s) (fan-some s) in
-    let begins = mul-lt_div_ceil p.blocks size part wide has.part_below in
-    let begins_byte = mul-lt_div_ceil p.wanted s.data_block (part * size) (some_data s planned.valid)
+    let wide : 0 < count = one-le-pow level (fan s) (fan-some s) in
+    let begins = mul-lt_div_ceil p.blocks count part wide has.part_below in
+    let begins_byte = mul-lt_div_ceil p.wanted s.data_block (part * count) (some_data s planned.valid)
     (omega (arith, begins, planned.blocks_are)) in
-    let bytes_in : 0 < size * s.data_block = mul-pos wide (some_data s planned.valid) in
-    let are = run-count p.wanted s.data_block size (part * size) p.blocks
+    let bytes_in : 0 < count * s.data_block = mul-pos wide (some_data s planned.valid) in
+    let are = run-count p.wanted s.data_block count (part * count) p.blocks
     (some_data s planned.valid) planned.blocks_are begins_byte in
     record {
       wide = wide;
@@ -201,32 +146,32 @@ pub plan_of_part-made : (p : PlanFields) (level part : ℕ) → IsPlan p → Has
 plan_of_part-made p level part planned has =
     plan_for_bytes-planned (plan_of_part p level part) (has-part p level part planned has).planned refl
 
--- the code's numbers of a part, whose size is at most that of all data blocks
-pub first_block-by_size : (p : PlanFields) (level part size : ℕ) → IsPlan p → HasPart p level part
-    → size ≡ min (part_size p level) p.blocks → part * size ≡ first_block p level part
-first_block-by_size p level part size planned has is = elim (cases_lt p.blocks (part_size p level)) [
+-- the code's numbers of a part, which counts no more data blocks than there are
+pub first_block-by_count : (p : PlanFields) (level part count : ℕ) → IsPlan p → HasPart p level part
+    → count ≡ min (blocks_in_part p level) p.blocks → part * count ≡ first_block p level part
+first_block-by_count p level part count planned has is = elim (cases_lt p.blocks (blocks_in_part p level)) [
   | inl less ↦
       let one =
-      div_ceil-le p.blocks (part_size p level) 1 (has-part p level part planned has).wide (omega (arith, less)) in
+      div_ceil-le p.blocks (blocks_in_part p level) 1 (has-part p level part planned has).wide (omega (arith, less)) in
       let none : part ≡ 0 = omega (arith, one, has.part_below) in
       rw none (omega arith)
   | inr most ↦
-      let same : size ≡ part_size p level = omega (arith, is, most) in
+      let same : count ≡ blocks_in_part p level = omega (arith, is, most) in
       ap (λ (n : ℕ). part * n) same
 ]
 
-pub wanted-by_size : (p : PlanFields) (level part size : ℕ) → IsPlan p → size ≡ min (part_size p level) p.blocks
-    → min (p.wanted - first_block p level part * p.settings.data_block) (size * p.settings.data_block)
+pub wanted-by_count : (p : PlanFields) (level part count : ℕ) → IsPlan p → count ≡ min (blocks_in_part p level) p.blocks
+    → min (p.wanted - first_block p level part * p.settings.data_block) (count * p.settings.data_block)
     ≡ (plan_of_part p level part).wanted
-wanted-by_size p level part size planned is = elim (cases_lt p.blocks (part_size p level)) [
+wanted-by_count p level part count planned is = elim (cases_lt p.blocks (blocks_in_part p level)) [
   | inl less ↦
       let s = p.settings in
       let enough =
       le-div_ceil p.wanted s.data_block p.blocks (some_data s planned.valid) (omega (arith, planned.blocks_are)) in
-      let same : size ≡ p.blocks = omega (arith, is, less) in
-      let area = mul_le p.blocks (part_size p level) s.data_block (omega (arith, less)) in
+      let same : count ≡ p.blocks = omega (arith, is, less) in
+      let area = mul_le p.blocks (blocks_in_part p level) s.data_block (omega (arith, less)) in
       rw same (omega (arith, enough, area))
   | inr most ↦
-      let same : size ≡ part_size p level = omega (arith, is, most) in
+      let same : count ≡ blocks_in_part p level = omega (arith, is, most) in
       rw same (omega arith)
 ]

@@ -75,4 +75,4 @@ pub closed-prefix : (s : TreeSettingsFields) (xs ys : List (List ℕ)) (i l j : 
     → tree_block s xs l j ≡ tree_block s ys l j
 closed-prefix s xs ys i l j pos same most each some =
     let block = closed_time (fan s) (length xs) l j i pos most some in
-    blocks_up-prefix s xs ys i (l + 1) j pos same each block.0.block_below block.1
+    blocks_up-prefix s xs ys i (l + 1) j pos same each block.0.index_below block.1

@@ -6,16 +6,12 @@ use Rattle.std.proofs.lemmas.List.{length-map, get_or-map}
 use Rattle.std.proofs.Math.Nat.{pow-zero, pow-suc, one-le-pow}
 use Rattle.std.specs.Int.{div_ceil}
 use Rattle.verity_plan.specs.Plans.{level_count}
-use Rattle.verity_plan.specs.PlanLaws.{IsLevelCount}
 use Rattle.verity_plan.specs.Settings.{TreeSettingsFields, hash, fan}
 use Rattle.verity_tree.specs.Levels.{pack, blocks_up, root}
 use Rattle.verity_tree.specs.Steps.PlainRoots.{digests_up, root_of_digests}
-use Rattle.verity_plan.proofs.CountLemmas.{IsLevelCount-level_count, le-div_ceil, mul-lt_div_ceil, div_ceil-pos}
+use Rattle.verity_plan.proofs.CountLemmas.{IsLevelCount-level_count, IsLevelCount-same, div_ceil-pos, le-div_ceil}
+use Rattle.verity_plan.proofs.CountLemmas.{mul-lt_div_ceil}
 use Rattle.verity_tree.proofs.TreeLemmas.{length-pack, length-blocks_up, height-level_count}
-
--- two numbers of levels are one
-pub IsLevelCount-same : (fan n x y : ℕ) → IsLevelCount fan n x → IsLevelCount fan n y → x ≡ y
-IsLevelCount-same fan n x y h k = grind (arith, h.least y, k.least x)
 
 -- one level more than above one level up
 pub level_count-suc : (fan n : ℕ) → 2 ≤ fan → 1 < n → level_count fan n ≡ suc (level_count fan (div_ceil n fan))

@@ -1,41 +1,21 @@
 -- A file that isn't too large for any tree.
-use Rattle.std.proofs.Common.{◌≡◌, ◌∙◌, ℕ, zero, suc, ◌+◌, ◌-◌, ◌*◌, ◌^◌, ◌<◌, ◌≤◌, true, false, arith, ap, refl}
-use Rattle.std.proofs.Math.Nat.{mul-le-mul, mul-le-mul_left, mul-le-mul_right, one-le-pow}
+use Rattle.std.proofs.Common.{◌≡◌, ◌∙◌, ℕ, ◌+◌, ◌-◌, ◌*◌, ◌<◌, ◌≤◌, true, false, arith, ap, refl}
+use Rattle.std.proofs.Math.Nat.{mul-le-mul, mul-le-mul_left, mul-le-mul_right}
 use Rattle.std.proofs.lemmas.Bool.Decides.{nat_tests}
 use Rattle.std.specs.Prelude.{Ok, nat_eq, nat_le}
-use Rattle.verity_hash.specs.Hashing.{digest_len_of}
-use Rattle.verity_hash.specs.declared.algorithm.Algorithm.{Algorithm}
-use Rattle.verity_hash.specs.declared.algorithm.Algorithm.TheVariants.{Sha256, Sha512, Sha1, Sha224, Sha384}
 use Rattle.verity_io.specs.Writing.{most_bytes}
-use Rattle.verity_plan.specs.Plans.{block_count, blocks_from, end_place, level_count, level_size}
-use Rattle.verity_plan.specs.Plans.{plan_for_bytes}
+use Rattle.verity_plan.specs.Plans.{block_count, blocks_from, end_place, level_count}
+use Rattle.verity_plan.specs.Plans.{plan_for_bytes, plan_of_file}
 use Rattle.verity_plan.specs.Settings.{IsValid, TreeSettingsFields, fan}
-use Rattle.verity_plan.proofs.CountLemmas.{div_ceil-le, div_ceil-pos, mul-lt_div_ceil}
-use Rattle.verity_plan.proofs.FanLemmas.{data_most, fan-some, fan-two, hash_most, some_data, two_digests}
-use Rattle.verity_plan.proofs.PlaceLemmas.{blocks_from-suc}
+use Rattle.verity_plan.proofs.CountLemmas.{div_ceil-pos, mul-lt_div_ceil}
+use Rattle.verity_plan.proofs.FanLemmas.{data_most, digest_len_of-least, fan-some, fan-two, hash_most, some_data}
+use Rattle.verity_plan.proofs.FanLemmas.{two_digests}
+use Rattle.verity_plan.proofs.PlaceLemmas.{blocks_from-most}
 use Rattle.verity_plan.proofs.PlanLemmas.{level_count-few}
-use Rattle.verity_tree.proofs.FeedingLemmas.{file_plan}
-
--- no level has more blocks than there are data blocks
-blocks_from-most : (f n l k : ℕ) → 0 < f → blocks_from f n l k ≤ k * n
-blocks_from-most f n l zero some = omega arith
-blocks_from-most f n l (suc k) some =
-    let wide : 1 ≤ f ^ (l + 1) = one-le-pow (l + 1) f some in
-    let level : level_size f n l ≤ n =
-    div_ceil-le n (f ^ (l + 1)) n (omega (arith, wide)) (omega (arith, mul-le-mul_left n wide)) in
-    omega (arith, blocks_from-suc f n l k, level, blocks_from-most f n (l + 1) k some)
-
--- a digest has at least 20 bytes
-digest_len_of-least : (algorithm : Algorithm) → 20 ≤ digest_len_of algorithm
-digest_len_of-least Sha256 = omega arith
-digest_len_of-least Sha512 = omega arith
-digest_len_of-least Sha1 = omega arith
-digest_len_of-least Sha224 = omega arith
-digest_len_of-least Sha384 = omega arith
 
 -- a file of up to 2 ^ 41 bytes has a plan
 pub small-plan : (s : TreeSettingsFields) (size : ℕ) → IsValid s → 0 < size → size ≤ 2199023255552
-    → plan_for_bytes s size 0 ≡ Ok (file_plan s size)
+    → plan_for_bytes s size 0 ≡ Ok (plan_of_file s size)
 small-plan s size valid some most =
     let d = s.data_block in
     let n = block_count s size in

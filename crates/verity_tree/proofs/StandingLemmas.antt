@@ -62,14 +62,15 @@ apart s n base l j m k here there =
     ]
 
 -- a block of the tree has a hash block's length
-pub length-tree_block : (s : TreeSettingsFields) (blocks : List (List ℕ)) (l j : ℕ) → fan s * slot_width s ≤ s.hash_block
+pub length-tree_block : (s : TreeSettingsFields) (blocks : List (List ℕ)) (l j : ℕ)
+    → fan s * slot_width s ≤ s.hash_block
     → IsTreeBlock (fan s) (length blocks) l j → length (tree_block s blocks l j) ≡ s.hash_block
 length-tree_block s blocks l j room here =
     let width = fan s ^ (l + 1) in
     let wide : 0 < width = one-le-pow (l + 1) (fan s) (fan-some s) in
     ap (λ (k : ℕ). length (tree_block s blocks l k)) (sym (mul-div_cancel j wide))
     ∙ length-true_chain s blocks (j * width) l (digest-slot s) (fan-some s) room
-    (mul-lt_div_ceil (length blocks) width j wide here.block_below)
+    (mul-lt_div_ceil (length blocks) width j wide here.index_below)
 
 -- a block that is put, or stands there already, stands there when all are put
 stands : (s : TreeSettingsFields) (blocks : List (List ℕ)) (base l j : ℕ) → 0 < s.hash_block

@@ -1,4 +1,4 @@
--- Lengths of levels.
+-- Lengths of levels, and how many levels there are.
 use Rattle.std.proofs.Common.{◌≡◌, ℕ, zero, suc, ◌^◌, ◌<◌, List, length, map, arith, sym, ◌∙◌, ap}
 use Rattle.std.proofs.lemmas.List.{length-map}
 use Rattle.std.proofs.lemmas.List.FromFn.{length-map-range_with_len}
@@ -11,11 +11,13 @@ use Rattle.verity_plan.specs.Plans.{level_count}
 use Rattle.verity_plan.proofs.LeastLemmas.{least_from-same}
 use Rattle.verity_plan.proofs.CountLemmas.{div_ceil-div_ceil, leb-div_ceil_one}
 
-pub length-pack : (s : TreeSettingsFields) (digests : List (List ℕ)) → length (pack s digests) ≡ div_ceil (length digests) (fan s)
+pub length-pack : (s : TreeSettingsFields) (digests : List (List ℕ))
+    → length (pack s digests) ≡ div_ceil (length digests) (fan s)
 unfolding pack
 length-pack s digests = length-map-range_with_len _ 0 (div_ceil (length digests) (fan s))
 
-pub length-up : (s : TreeSettingsFields) (blocks : List (List ℕ)) → length (up s blocks) ≡ div_ceil (length blocks) (fan s)
+pub length-up : (s : TreeSettingsFields) (blocks : List (List ℕ))
+    → length (up s blocks) ≡ div_ceil (length blocks) (fan s)
 length-up s blocks =
     length-pack s (map (hash s) blocks) ∙ ap (λ (n : ℕ). div_ceil n (fan s)) (length-map blocks (hash s))
 

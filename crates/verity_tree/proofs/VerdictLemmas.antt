@@ -1,4 +1,4 @@
--- Stored blocks beside the tree's.
+-- Stored blocks compared with the tree's, one by one.
 use Rattle.std.proofs.Common.{◌≡◌, ℕ, zero, suc, ◌+◌, ◌*◌, ◌<◌, ◌≤◌, Bool, true, false, List, [], ◌∷◌, ◌++◌}
 use Rattle.std.proofs.Common.{arith, refl, inl, inr}
 use Rattle.std.proofs.lemmas.Bool.{cases_eq}
@@ -9,11 +9,11 @@ use Rattle.std.proofs.Math.Nat.{mul-le-mul_right}
 use Rattle.std.specs.Prelude.{find, Some, None}
 use Rattle.std.specs.List.{range_with_len}
 use Rattle.verity_plan.specs.Plans.{PlanFields, HasBlock}
-use Rattle.verity_plan.specs.PlanCounts.{size_under}
+use Rattle.verity_plan.specs.PlanCounts.{count_under}
 use Rattle.verity_plan.specs.Settings.{TreeSettingsFields, digest_len, fan, slot_width}
 use Rattle.verity_plan.proofs.CountLemmas.{mul-lt_div_ceil}
 use Rattle.verity_plan.proofs.FitLemmas.{digest-slot}
-use Rattle.verity_plan.proofs.PlanLemmas.{size-more}
+use Rattle.verity_plan.proofs.PlanLemmas.{count-more}
 use Rattle.verity_tree.specs.ClosingOrder.{BlockIndex}
 use Rattle.verity_tree.specs.TreeOnDevice.{stored_block, tree_block}
 use Rattle.verity_tree.specs.Verdicts.{HoldsBlockAt, NoneDiffers}
@@ -40,10 +40,11 @@ find-range_none p from (suc n) none =
     rw no (find-range_none p (from + 1) n (λ j a b. none j (omega (arith, a)) (omega (arith, b))))
 
 -- the first child of a block is one of the blocks below it
-pub first-child : (p : PlanFields) → 0 < fan p.settings → (l j : ℕ) → HasBlock p l j → j * fan p.settings < size_under p l
+pub first-child : (p : PlanFields) → 0 < fan p.settings → (l j : ℕ) → HasBlock p l j
+    → j * fan p.settings < count_under p l
 first-child p some l j here =
-    mul-lt_div_ceil (size_under p l) (fan p.settings) j some
-    (omega (arith, here.block_below, size-more (fan p.settings) p.blocks l (size_under p l) some refl))
+    mul-lt_div_ceil (count_under p l) (fan p.settings) j some
+    (omega (arith, here.index_below, count-more (fan p.settings) p.blocks l (count_under p l) some refl))
 
 -- a digest is within its block
 pub digest-room : (s : TreeSettingsFields) (slot : ℕ) → slot < fan s → fan s * slot_width s ≤ s.hash_block

@@ -43,7 +43,7 @@ window-fan : (s : TreeSettingsFields) → IsValid s → (m : ℕ) × (fan s ≡ 
 unfolding window_blocks
 window-fan s valid =
     let some = some_data s valid in
-    let d = power_of_two-is s.data_block some (block_power _ s.data_block valid.data_size) in
+    let d = power_of_two-is s.data_block some (block_power _ s.data_block valid.data_block_size) in
     let f = fan-power s in
     let room = power-quotient s.data_block d.0 some d.1 (data_most s valid) in
     let rows = power-min 8 (524288 / s.data_block) 3 room.0 (omega arith) room.1 in
@@ -77,7 +77,8 @@ window-room s w valid =
     omega (arith, area, times.1, ap (λ (n : ℕ). n % fan s) split ∙ mod-mul-add (w / g) (fan s) (w % g * b) low)
 
 -- the windows before the last of so many bytes are those of the data blocks before it
-pub windows-are : (s : TreeSettingsFields) (count : ℕ) → windows_before s count ≡ blocks_before s count / window_blocks s
+pub windows-are : (s : TreeSettingsFields) (count : ℕ)
+    → windows_before s count ≡ blocks_before s count / window_blocks s
 windows-are s count =
     let e : window_length s ≡ s.data_block * window_blocks s = omega arith in
     ap (λ (n : ℕ). (count - 1) / n) e ∙ sym (div-div-eq-div-mul (count - 1) s.data_block (window_blocks s))
@@ -150,7 +151,8 @@ none_closes-batch f n i count k some within room from to (inl full) =
     omega (arith, mod_below i f some, div-add-mod' k f, ap (λ (x : ℕ). x * f) same)
 
 -- of the data blocks up to the last byte's, from the first of its window on, none but the last closes a hash block
-pub window-batch : (p : PlanFields) (count first rows : ℕ) → IsPlan p → 0 < count → blocks_before p.settings count < p.blocks
+pub window-batch : (p : PlanFields) (count first rows : ℕ) → IsPlan p → 0 < count
+    → blocks_before p.settings count < p.blocks
     → first ≡ windows_before p.settings count * window_blocks p.settings → first + rows ≡ blocks_before p.settings count
     → IsBatch p first (rows + 1)
 window-batch p count first rows planned some below start sum =

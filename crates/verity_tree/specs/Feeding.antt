@@ -71,7 +71,7 @@ pub record IsPlaced (p : PlanFields) (count closed : ℕ) (block : HashBlock) : 
   pub level_is : closed ≡ block.level + 1
   pub level_below : block.level < level_count_of p
   pub index_is : block.index ≡ blocks_before p.settings count / fan p.settings ^ (block.level + 1)
-  pub byte_is : block.byte ≡ start_byte_of p block.level block.index
+  pub start_is : block.start ≡ start_byte_of p block.level block.index
   pub at_is : block.at ≡ block.level * p.settings.hash_block
 
 -- the numbers name a hash block: bytes were fed and levels handed out, no more of either than the plan has
@@ -103,7 +103,7 @@ given (Some block) = block_index block.level block.index ∷ []
 pub record IsHandedOut (p : PlanFields) (fed memory : List ℕ) (block : HashBlock) : Type 0 where
   pub level_below : block.level < level_count_of p
   pub at_is : block.at ≡ block.level * p.settings.hash_block
-  pub byte_is : block.byte ≡ start_byte_of p block.level block.index
+  pub start_is : block.start ≡ start_byte_of p block.level block.index
   pub bytes : (more : List ℕ) → length (fed ++ more) ≤ p.wanted → take p.settings.hash_block (drop block.at memory)
       ≡ tree_block p.settings (data_blocks p (fed ++ more)) block.level block.index
 
@@ -169,7 +169,7 @@ FeedsCalls b memory (call ∷ rest) after memory_after = (next : TreeBuilder) ×
 -- a device after the hash block that was handed out, if one was, is written at its place
 abbrev pub written : PlanFields → Option HashBlock → List ℕ → List ℕ → List ℕ
 written p None memory device = device
-written p (Some block) memory device = put device block.byte (take p.settings.hash_block (drop block.at memory))
+written p (Some block) memory device = put device block.start (take p.settings.hash_block (drop block.at memory))
 
 -- a device after all hash blocks that were handed out in some calls are written at their places
 unfoldable pub written_all : PlanFields → List FeedCall → List ℕ → List ℕ

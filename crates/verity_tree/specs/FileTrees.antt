@@ -8,7 +8,8 @@ use Rattle.verity_io.specs.Writing.{put}
 use Rattle.verity_plan.specs.Plans.{IsPlan, PlanFields, plan_for_bytes, plan_of_file, start_byte_of}
 use Rattle.verity_plan.specs.PlanCounts.{level_count_of, most_level_count}
 use Rattle.verity_plan.specs.Settings.{TreeSettingsFields, fan}
-use Rattle.verity_tree.specs.ClosingOrder.{BlockIndex, block_index, blocks_before, closed_after, first_closing, handed_out}
+use Rattle.verity_tree.specs.ClosingOrder.{BlockIndex, block_index, blocks_before, closed_after, first_closing}
+use Rattle.verity_tree.specs.ClosingOrder.{handed_out}
 use Rattle.verity_tree.specs.Feeding.{after_open_blocks, is_too_large, open_blocks}
 use Rattle.verity_tree.specs.Levels.{data_blocks}
 use Rattle.verity_tree.specs.Steps.Feeding.{Stands}
@@ -136,7 +137,8 @@ IsAfterTreeCall b memory (asks room) after =
 -- the same of some calls, one after another
 unfoldable pub IsAfterTreeCalls : FileTreeBuilder → List ℕ → List FileTreeCall → FileTreeBuilder → List ℕ → Type 0
 IsAfterTreeCalls b memory [] after memory_after = (after ≡ b) × (memory_after ≡ memory)
-IsAfterTreeCalls b memory (call ∷ rest) after memory_after = (next : FileTreeBuilder) × IsAfterTreeCall b memory call next
+IsAfterTreeCalls b memory (call ∷ rest) after memory_after = (next : FileTreeBuilder)
+    × IsAfterTreeCall b memory call next
     × IsAfterTreeCalls next (memory_after_call call) rest after memory_after
 
 -- a device after the hash block that was handed out with a call, if one was, is put at the place that a plan has for it

@@ -4,7 +4,7 @@ use Rattle.std.specs.Prelude.{ℕ, ◌+◌, ◌*◌, ◌^◌, ◌==◌, ◌&&◌
 use Rattle.std.specs.Prelude.{Option, Some, None, if◌then◌else◌}
 use Rattle.std.specs.List.{range_with_len}
 use Rattle.verity_plan.specs.Plans.{PlanFields}
-use Rattle.verity_plan.specs.PlanCounts.{size_under}
+use Rattle.verity_plan.specs.PlanCounts.{count_under}
 use Rattle.verity_tree.specs.ClosingOrder.{BlockIndex}
 use Rattle.verity_tree.specs.Parts.{join_order, part_order}
 
@@ -31,4 +31,4 @@ earliest fan n (first ∷ others) = earlier fan n first (earliest fan n others)
 -- the first hash block that passes a test: that of the join, and that of each part of a level
 abbrev pub first_of_each : PlanFields → ℕ → (BlockIndex → Bool) → List (Option BlockIndex)
 first_of_each p level test = find test (join_order p level)
-    ∷ map (λ part. find test (part_order p level part)) (range_with_len 0 (size_under p level))
+    ∷ map (λ part. find test (part_order p level part)) (range_with_len 0 (count_under p level))

@@ -9,7 +9,7 @@ use Rattle.std.specs.Prelude.{Option, Some, None, if◌then◌else◌}
 use Rattle.std.specs.Fork.{slice_chunk}
 use Rattle.std.specs.List.{flat_map, range_with_len}
 use Rattle.verity_plan.specs.Plans.{PlanFields, start_byte_of}
-use Rattle.verity_plan.specs.PlanCounts.{level_count_of, size_under}
+use Rattle.verity_plan.specs.PlanCounts.{level_count_of, count_under}
 use Rattle.verity_plan.specs.Settings.{digest_len, fan, hash}
 use Rattle.verity_tree.specs.ClosingOrder.{BlockIndex, block_index, blocks_before, closed_after, closing_with}
 use Rattle.verity_tree.specs.ClosingOrder.{first_closing, times}
@@ -30,34 +30,35 @@ use Rattle.verity_tree.specs.declared.tree_builder.HashBlock.{HashBlock}
 -- the tree has this part of a level
 pub record HasPart (p : PlanFields) (level part : ℕ) : Type 0 where
   pub level_most : level ≤ level_count_of p
-  pub part_below : part < size_under p level
+  pub part_below : part < count_under p level
 
 -- why it has no such part
 abbrev pub part_fault : PlanFields → ℕ → ℕ → Option PartFault
 part_fault p level part = if nat_lt (level_count_of p) level then Some NoLevel
-    else (if nat_le (size_under p level) part then Some NoPart else None)
+    else (if nat_le (count_under p level) part then Some NoPart else None)
 
 -- how many data blocks the parts of a level have, but for the last one, which may have fewer
-abbrev pub part_size : PlanFields → ℕ → ℕ
-part_size p level = fan p.settings ^ level
+abbrev pub blocks_in_part : PlanFields → ℕ → ℕ
+blocks_in_part p level = fan p.settings ^ level
 
 -- the number of a part's first data block
 abbrev pub first_block : PlanFields → ℕ → ℕ → ℕ
-first_block p level part = part * part_size p level
+first_block p level part = part * blocks_in_part p level
 
 -- the plan of the tree above a part's data alone
 abbrev pub plan_of_part : PlanFields → ℕ → ℕ → PlanFields
 plan_of_part p level part = record {
   settings = p.settings;
-  blocks = min (part_size p level) (p.blocks - first_block p level part);
-  wanted = min (part_size p level * p.settings.data_block)
+  blocks = min (blocks_in_part p level) (p.blocks - first_block p level part);
+  wanted = min (blocks_in_part p level * p.settings.data_block)
       (p.wanted - first_block p level part * p.settings.data_block);
   base = 0;
 }
 
 -- a part's data
 abbrev pub bytes_of_part : PlanFields → ℕ → ℕ → List ℕ → List ℕ
-bytes_of_part p level part bytes = slice_chunk (take p.wanted bytes) (part_size p level * p.settings.data_block) part
+bytes_of_part p level part bytes =
+    slice_chunk (take p.wanted bytes) (blocks_in_part p level * p.settings.data_block) part
 
 -- the blocks whose digests the hash blocks of a level are made of: the data blocks for level 0
 abbrev pub blocks_under : PlanFields → ℕ → List ℕ → List (List ℕ)
@@ -102,13 +103,13 @@ most_closed own level count = if nat_lt count own.wanted then level_count_of own
 -- why a piece of a length isn't taken
 abbrev pub piece_fault : PartBuilder → ℕ → Option FeedFault
 piece_fault b count =
-    if nat_lt (level_count_of b.plan) b.level || nat_le (size_under b.plan b.level) b.part then Some Level
+    if nat_lt (level_count_of b.plan) b.level || nat_le (count_under b.plan b.level) b.part then Some Level
     else (if nat_lt (most_closed (plan_of_part b.plan b.level b.part) b.level b.fed) b.closed then Some Level
     else (if nat_lt (plan_of_part b.plan b.level b.part).wanted (b.fed + count) then Some TooLong else None))
 
 -- why there is no digest yet
 abbrev pub digest_fault : PartBuilder → Option FeedFault
-digest_fault b = if nat_lt (level_count_of b.plan) b.level || nat_le (size_under b.plan b.level) b.part then Some Level
+digest_fault b = if nat_lt (level_count_of b.plan) b.level || nat_le (count_under b.plan b.level) b.part then Some Level
     else (if nat_lt (most_closed (plan_of_part b.plan b.level b.part) b.level b.fed) b.closed then Some Level
     else (if nat_lt (plan_of_part b.plan b.level b.part).wanted b.fed then Some TooLong
     else (if nat_lt b.fed (plan_of_part b.plan b.level b.part).wanted
@@ -123,7 +124,7 @@ pub record IsPlacedOfPart (b : PartBuilder) (block : HashBlock) : Type 0 where
   pub index_is : block.index
       ≡ (first_block b.plan b.level b.part + blocks_before b.plan.settings b.fed)
       / fan b.plan.settings ^ (block.level + 1)
-  pub byte_is : block.byte ≡ start_byte_of b.plan block.level block.index
+  pub start_is : block.start ≡ start_byte_of b.plan block.level block.index
   pub at_is : block.at ≡ block.level * b.plan.settings.hash_block
 
 -- the numbers name a hash block: of a part of the tree, and no more bytes or levels than it has
@@ -164,7 +165,7 @@ handed_out_of_part p level part count closed =
 pub record IsHandedOutOfPart (b : PartBuilder) (fed memory : List ℕ) (block : HashBlock) : Type 0 where
   pub level_below : block.level < b.level
   pub at_is : block.at ≡ block.level * b.plan.settings.hash_block
-  pub byte_is : block.byte ≡ start_byte_of b.plan block.level block.index
+  pub start_is : block.start ≡ start_byte_of b.plan block.level block.index
   pub bytes : (all more : List ℕ) → bytes_of_part b.plan b.level b.part all ≡ fed ++ more
       → take b.plan.settings.hash_block (drop block.at memory)
       ≡ tree_block b.plan.settings (data_blocks b.plan all) block.level block.index
@@ -202,20 +203,20 @@ AreDigests p level from digests bytes = (k : ℕ) → k < length digests / diges
 -- the digests of all parts are counted as taken, and no hash block as handed out, although there are some: no call
 -- leaves these numbers
 abbrev pub counts_none_closed : JoinBuilder → Bool
-counts_none_closed b = (b.taken == size_under b.plan b.level)
+counts_none_closed b = (b.taken == count_under b.plan b.level)
     && ((b.closed == 0) && nat_lt b.level (level_count_of b.plan))
 
 -- why so many bytes of digests aren't taken
 abbrev pub digests_fault : JoinBuilder → ℕ → Option FeedFault
 digests_fault b count = if nat_lt (level_count_of b.plan) (b.level + b.closed) || counts_none_closed b then Some Level
-    else (if nat_lt (size_under b.plan b.level) (b.taken + count / digest_len b.plan.settings) then Some TooLong
+    else (if nat_lt (count_under b.plan b.level) (b.taken + count / digest_len b.plan.settings) then Some TooLong
     else None)
 
 -- why there is no root hash yet
 abbrev pub join_fault : JoinBuilder → Option FeedFault
 join_fault b = if nat_lt (level_count_of b.plan) (b.level + b.closed) || counts_none_closed b then Some Level
-    else (if nat_lt (size_under b.plan b.level) b.taken then Some TooLong
-    else (if nat_lt b.taken (size_under b.plan b.level) then Some (TooShort b.taken)
+    else (if nat_lt (count_under b.plan b.level) b.taken then Some TooLong
+    else (if nat_lt b.taken (count_under b.plan b.level) then Some (TooShort b.taken)
     else (if nat_lt (b.level + b.closed) (level_count_of b.plan) then Some Waiting else None)))
 
 -- the hash block of the level that was handed out last: its number in its level, its place on the device, and where it
@@ -225,13 +226,13 @@ pub record IsPlacedOfJoin (b : JoinBuilder) (block : HashBlock) : Type 0 where
   pub level_least : b.level ≤ block.level
   pub level_below : block.level < level_count_of b.plan
   pub index_is : block.index ≡ (b.taken - 1) / fan b.plan.settings ^ b.closed
-  pub byte_is : block.byte ≡ start_byte_of b.plan block.level block.index
+  pub start_is : block.start ≡ start_byte_of b.plan block.level block.index
   pub at_is : block.at ≡ (block.level - b.level) * b.plan.settings.hash_block
 
 -- the numbers name a hash block: digests were taken and levels handed out, no more of either than there are
 pub record HasLastOfJoin (b : JoinBuilder) : Type 0 where
   pub some : 0 < b.taken
-  pub most : b.taken ≤ size_under b.plan b.level
+  pub most : b.taken ≤ count_under b.plan b.level
   pub closed : 0 < b.closed
   pub levels : b.level + b.closed ≤ level_count_of b.plan
 
@@ -244,7 +245,7 @@ pub record TakesOfJoin (before after : JoinBuilder) (count : ℕ) (answer : Fed)
   pub whole : answer.taken ≡ answer.taken / digest_len before.plan.settings * digest_len before.plan.settings
   pub most : answer.taken ≤ count
   pub all : answer.hash_block ≡ None → answer.taken ≡ count
-  pub done : answer.hash_block ≡ None → after.taken ≡ size_under before.plan before.level
+  pub done : answer.hash_block ≡ None → after.taken ≡ count_under before.plan before.level
       → before.level + after.closed ≡ level_count_of before.plan
   pub placed : (block : HashBlock) → answer.hash_block ≡ Some block → IsPlacedOfJoin after block
   pub rises : (block : HashBlock) → answer.hash_block ≡ Some block → answer.taken ≡ 0
@@ -261,7 +262,7 @@ handed_out_of_join p level taken closed =
 pub record IsHandedOutOfJoin (b : JoinBuilder) (bytes memory : List ℕ) (block : HashBlock) : Type 0 where
   pub level_below : block.level < level_count_of b.plan
   pub at_is : block.at ≡ (block.level - b.level) * b.plan.settings.hash_block
-  pub byte_is : block.byte ≡ start_byte_of b.plan block.level block.index
+  pub start_is : block.start ≡ start_byte_of b.plan block.level block.index
   pub stands : take b.plan.settings.hash_block (drop block.at memory)
       ≡ tree_block b.plan.settings (data_blocks b.plan bytes) block.level block.index
 
@@ -333,24 +334,24 @@ pub record BuildsJoinInCalls (p : PlanFields) (level : ℕ) (bytes : List ℕ) (
   pub none_closed : run.begun.closed ≡ 0
   pub begins : IsJoined run.begun run.memory bytes
   pub joins : JoinsCalls run.begun run.memory run.calls run.after run.memory_after
-  pub taken_all : run.after.taken ≡ size_under p level
+  pub taken_all : run.after.taken ≡ count_under p level
   pub closed_all : level + run.after.closed ≡ level_count_of p
   pub digests_are : flat_map (λ call. call.taken) run.calls
-      ≡ flat_map (λ part. (parts part).digest) (range_with_len 0 (size_under p level))
+      ≡ flat_map (λ part. (parts part).digest) (range_with_len 0 (count_under p level))
   pub ends : IsJoined run.after run.memory_after bytes
       → run.root_hash ≡ root run.after.plan.settings (data_blocks run.after.plan bytes)
 
 -- the calls of all parts and of the join
 abbrev pub calls_from_parts : PlanFields → ℕ → (ℕ → PartInCalls) → JoinInCalls → List FeedCall
 calls_from_parts p level parts join =
-    flat_map (λ part. (parts part).calls) (range_with_len 0 (size_under p level)) ++ join.calls
+    flat_map (λ part. (parts part).calls) (range_with_len 0 (count_under p level)) ++ join.calls
 
 -- these calls have done what building the tree above these bytes does: each part's bytes were fed to it, the digests
 -- were joined, and the root hash is the tree's; each hash block was handed out once; and these hash blocks, written at
 -- their places in the order of `writes`, leave the device as building does
 pub record BuildsFromParts (p : PlanFields) (level : ℕ) (bytes : List ℕ) (parts : ℕ → PartInCalls) (join : JoinInCalls)
     (writes : List FeedCall) (device : List ℕ) : Type 0 where
-  pub fed : (part : ℕ) → part < size_under p level
+  pub fed : (part : ℕ) → part < count_under p level
       → IsFedPart (parts part).after (parts part).memory_after (bytes_of_part p level part bytes)
   pub joined : IsJoined join.after join.memory_after bytes
   pub root_is : join.root_hash ≡ root p.settings (data_blocks p bytes)

@@ -27,8 +27,8 @@ pub record FailsWithin (p : PlanFields) (i : ℕ) (before after : List ℕ) : Ty
   pub read : HasRead count before after
 
 -- a source that was read up to the data block with which a hash block closes, and no further
-pub record ReadsUpTo (p : PlanFields) (level block : ℕ) (before after : List ℕ) : Type 0 where
+pub record ReadsUpTo (p : PlanFields) (level index : ℕ) (before after : List ℕ) : Type 0 where
   pub i : ℕ
   pub below : i < p.blocks
-  pub here : Contains (closing_with (fan p.settings) p.blocks i) (block_index level block)
+  pub here : Contains (closing_with (fan p.settings) p.blocks i) (block_index level index)
   pub read : HasRead (bytes_of p (i + 1)) before after

@@ -1,4 +1,5 @@
--- Definitions that contracts of private steps speak of. No public contract names one, and none is needed to read one.
+-- Definitions that contracts of private functions speak of. No public contract names one, and none is needed to read
+-- one.
 pub mod OpenBlocks
 pub mod DataBlocks
 pub mod Closing

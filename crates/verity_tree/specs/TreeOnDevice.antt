@@ -11,7 +11,7 @@ tree_block s blocks l j = slice_index_or (level s blocks l) j []
 
 -- the bytes that are stored for a block of a level: fewer than a hash block if the device ends before its end
 abbrev pub stored_block : PlanFields → List ℕ → ℕ → ℕ → List ℕ
-stored_block p device level block = take p.settings.hash_block (drop (start_byte_of p level block) device)
+stored_block p device level index = take p.settings.hash_block (drop (start_byte_of p level index) device)
 
 -- there is as much data as the plan wants, the device holds the whole tree above it, each hash block at its place, and
 -- the root hash is the tree's

@@ -8,7 +8,7 @@ use Rattle.verity_tree.specs.ClosingOrder.{BlockIndex, closed_after}
 use Rattle.verity_tree.specs.TreeOnDevice.{tree_block, stored_block}
 use Rattle.verity_tree.specs.Levels.{root, data_blocks, whole_blocks}
 use Rattle.verity_plan.specs.Plans.{PlanFields}
-use Rattle.verity_plan.specs.PlanCounts.{size_under}
+use Rattle.verity_plan.specs.PlanCounts.{count_under}
 use Rattle.verity_plan.specs.Settings.{TreeSettingsFields, digest_len, fan, slot_width}
 use Rattle.verity_tree.specs.declared.comparing.CompareFault.{CompareFault}
 use Rattle.verity_tree.specs.declared.comparing.CompareFault.TheVariants.{SourceShort, Differs, RootDiffers}
@@ -21,9 +21,9 @@ digest_in s bytes slot = take (digest_len s) (drop (slot * slot_width s) bytes)
 
 -- the first used slot whose digests differ in two hash blocks of this place
 abbrev pub first_slot : PlanFields → ℕ → ℕ → List ℕ → List ℕ → Option ℕ
-first_slot p level block on_device computed =
+first_slot p level index on_device computed =
     find (λ slot. not (bytes_eq (digest_in p.settings on_device slot) (digest_in p.settings computed slot)))
-    (range_with_len 0 (min (fan p.settings) (size_under p level - block * fan p.settings)))
+    (range_with_len 0 (min (fan p.settings) (count_under p level - index * fan p.settings)))
 
 -- where a whole block differs: in the digest of a child, counted through the level, or in other bytes
 abbrev pub part_at : ℕ → Option ℕ → Part
@@ -32,8 +32,8 @@ part_at first None = Spare
 
 -- where the bytes that are stored for a block of a level differ from the tree's
 abbrev pub part_of : PlanFields → ℕ → ℕ → List ℕ → List ℕ → Part
-part_of p level block on_device computed = if nat_lt (length on_device) p.settings.hash_block then Missing
-    else (part_at (block * fan p.settings) (first_slot p level block on_device computed))
+part_of p level index on_device computed = if nat_lt (length on_device) p.settings.hash_block then Missing
+    else (part_at (index * fan p.settings) (first_slot p level index on_device computed))
 
 -- the block that a device holds is not the tree's
 abbrev pub differs : PlanFields → List (List ℕ) → List ℕ → BlockIndex → Bool

@@ -18,12 +18,12 @@ use crate::window::{add_window, window_length, window_place};
 use verity_hash::Digest;
 use verity_plan::Plan;
 
-/// How far a tree has come.
+/// How far a tree has come: by the bytes that were fed, or in a join by the digests that were taken.
 #[derive(Clone, Copy)]
 pub(crate) struct Progress {
-    /// How many bytes were fed.
+    /// How many bytes were fed, or digests taken.
     pub fed: u64,
-    /// Of how many levels the hash blocks above the last byte were handed out since it was fed.
+    /// Of how many levels the hash blocks above the last of them were handed out since it came.
     pub closed: usize,
 }
 
@@ -78,7 +78,7 @@ pub(crate) fn handed_out(plan: &Plan, progress: &Progress) -> HashBlock
     requires level { progress.now.closed ≤ level_count_of plan.now }
     ensures level { progress.now.closed ≡ result.level + 1 }
     ensures index { result.index ≡ blocks_before plan.now.settings progress.now.fed / fan plan.now.settings ^ (result.level + 1) }
-    ensures byte { result.byte ≡ start_byte_of plan.now result.level result.index }
+    ensures start { result.start ≡ start_byte_of plan.now result.level result.index }
     ensures at { result.at ≡ result.level * plan.now.settings.hash_block }
 {
     planned(plan);
@@ -87,7 +87,7 @@ pub(crate) fn handed_out(plan: &Plan, progress: &Progress) -> HashBlock
     HashBlock {
         level,
         index: plan.index_above(i, level + 1),
-        byte: plan.byte_above(i, level),
+        start: plan.start_above(i, level),
         at: level * plan.hash_block(),
     }
 }

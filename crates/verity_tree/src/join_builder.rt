@@ -1,7 +1,7 @@
 //! A tree that is joined from parts, which were built apart: what stands above their digests.
 ghost use Rattle.std.specs.Prelude.{◌≡◌, ◌⊎◌, ◌<◌, ◌≤◌, ℕ, ◌+◌, ◌-◌, ◌*◌, ◌/◌, ◌%◌, ◌^◌, List, length, take, IfErr};
 ghost use Rattle.std.specs.Prelude.{IfOk, MatchOption, Option, Some, None, true, false};
-ghost use Rattle.verity_plan.specs.PlanCounts.{level_count_of, size_under};
+ghost use Rattle.verity_plan.specs.PlanCounts.{level_count_of, count_under};
 ghost use Rattle.verity_plan.specs.Plans.{IsPlan, start_byte_of};
 ghost use Rattle.verity_plan.specs.Settings.{digest_len, fan};
 ghost use Rattle.verity_tree.specs.Feeding.{fault_in};
@@ -98,7 +98,7 @@ impl JoinBuilder {
             return Err(FeedFault::Level);
         };
         let count = digests.len() / plan.digest_len();
-        let parts = plan.size_under(self.level);
+        let parts = plan.count_under(self.level);
         match self.taken.checked_add(count as u64) {
             Some(all) if all <= parts => {}
             _ => return Err(FeedFault::TooLong),
@@ -135,7 +135,7 @@ impl JoinBuilder {
         if levels_left(self).is_none() || self.closed == 0 {
             return None;
         }
-        if self.taken == 0 || self.taken > plan.size_under(self.level) {
+        if self.taken == 0 || self.taken > plan.count_under(self.level) {
             return None;
         }
         let last = Progress {
@@ -163,7 +163,7 @@ impl JoinBuilder {
         let Some(levels) = levels_left(self) else {
             return Err(FeedFault::Level);
         };
-        let parts = plan.size_under(self.level);
+        let parts = plan.count_under(self.level);
         if self.taken > parts {
             return Err(FeedFault::TooLong);
         }
@@ -200,7 +200,7 @@ fn levels_left(builder: &JoinBuilder) -> Option<usize>
     if level > levels || builder.closed > levels - level {
         return None;
     }
-    if builder.closed == 0 && level < levels && builder.taken == plan.size_under(level) {
+    if builder.closed == 0 && level < levels && builder.taken == plan.count_under(level) {
         return None;
     }
     Some(levels - level)
@@ -214,7 +214,7 @@ fn joining_plan(plan: &Plan, level: usize) -> Plan
     ensures planned { IsPlan result }
 {
     planned(plan);
-    match Plan::for_blocks(plan.settings(), plan.size_under(level), 0) {
+    match Plan::for_blocks(plan.settings(), plan.count_under(level), 0) {
         Ok(own) => own,
         Err(_) => *plan,
     }
@@ -223,12 +223,12 @@ fn joining_plan(plan: &Plan, level: usize) -> Plan
 /// The hash block that was handed out last, with its level and its place in the whole tree.
 fn joined(plan: &Plan, level: usize, progress: &Progress) -> HashBlock
     requires some { 0 < progress.now.fed }
-    requires most { progress.now.fed ≤ size_under plan.now level }
+    requires most { progress.now.fed ≤ count_under plan.now level }
     requires closed { 0 < progress.now.closed }
     requires levels { level + progress.now.closed ≤ level_count_of plan.now }
     ensures level { level + progress.now.closed ≡ result.level + 1 }
     ensures index { result.index ≡ (progress.now.fed - 1) / fan plan.now.settings ^ progress.now.closed }
-    ensures byte { result.byte ≡ start_byte_of plan.now result.level result.index }
+    ensures start { result.start ≡ start_byte_of plan.now result.level result.index }
     ensures at { result.at ≡ (result.level - level) * plan.now.settings.hash_block }
 {
     planned(plan);
@@ -237,7 +237,7 @@ fn joined(plan: &Plan, level: usize, progress: &Progress) -> HashBlock
     HashBlock {
         level: level + above,
         index,
-        byte: plan.byte(level + above, index),
+        start: plan.start(level + above, index),
         at: above * plan.hash_block(),
     }
 }

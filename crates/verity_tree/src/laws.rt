@@ -5,7 +5,7 @@ ghost use Rattle.std.specs.Prelude.{Bool, Result, Ok, find, slice_index, take, �
 ghost use Rattle.std.specs.Int.{div_ceil};
 ghost use Rattle.verity_hash.specs.declared.salting.SaltRule.TheVariants.{PaddedBefore};
 ghost use Rattle.verity_plan.specs.Plans.{end_place_of, level_count, level_size, plan_of_file, PlanFields, IsPlan};
-ghost use Rattle.verity_plan.specs.PlanCounts.{level_count_of, size_under};
+ghost use Rattle.verity_plan.specs.PlanCounts.{level_count_of, count_under};
 ghost use Rattle.verity_plan.specs.Settings.{TreeSettingsFields, fan};
 ghost use Rattle.verity_tree.specs.ClosingOrder.{BlockIndex, ClosesOnce, closed_after, times};
 ghost use Rattle.verity_tree.specs.Collisions.{Collide, TreesCollide, hashed_last, with_salt};
@@ -211,7 +211,7 @@ pub fn parts_are_of_the_tree()
 /// least once and nothing else, the device is the one that building leaves.
 pub fn parts_joined_are_the_tree()
     ensures once { (p : PlanFields) (level l j : ℕ) → times l j
-        (flat_map (λ part. part_order p level part) (range_with_len 0 (size_under p level)) ++ join_order p level)
+        (flat_map (λ part. part_order p level part) (range_with_len 0 (count_under p level)) ++ join_order p level)
         ≡ times l j (closed_after (fan p.settings) p.blocks p.blocks) }
     ensures any_order { (p : PlanFields) (order : List BlockIndex) (bytes device : List ℕ) → IsPlan p
         → ((l j : ℕ) → 0 < times l j order ↔ 0 < times l j (closed_after (fan p.settings) p.blocks p.blocks))
@@ -226,7 +226,7 @@ pub fn parts_joined_are_the_tree()
 pub fn any_calls_build_the_tree_from_parts()
     ensures { (p : PlanFields) (level : ℕ) (bytes device : List ℕ) (parts : ℕ → PartInCalls) (join : JoinInCalls)
         (writes : List FeedCall) → IsPlan p → level ≤ level_count_of p
-        → ((part : ℕ) → part < size_under p level → BuildsPartInCalls p level part bytes (parts part))
+        → ((part : ℕ) → part < count_under p level → BuildsPartInCalls p level part bytes (parts part))
         → BuildsJoinInCalls p level bytes parts join
         → ((call : FeedCall) → Contains writes call ↔ Contains (calls_from_parts p level parts join) call)
         → BuildsFromParts p level bytes parts join writes device }

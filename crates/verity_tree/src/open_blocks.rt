@@ -14,8 +14,8 @@ use crate::side_by_side::digest_rows;
 use verity_hash::Digest;
 use verity_plan::Plan;
 
-/// Puts a digest into a block.
-fn put_slot(block: &mut [u8], from: usize, digest: &Digest)
+/// Puts a digest into a block, from this byte on; the block's other bytes stay.
+fn put_digest(block: &mut [u8], from: usize, digest: &Digest)
     requires { from + length digest.now ≤ length block.old }
     ensures { block.new ≡ take from block.old ++ digest.now ++ drop (from + length digest.now) block.old }
 {
@@ -48,7 +48,7 @@ pub(crate) fn add_digest(
     let fan = plan.fan();
     let slot = (plan.index_above(i, level) % fan as u64) as usize;
     let from = level * size;
-    put_slot(
+    put_digest(
         &mut opened[from..from + size],
         slot * plan.settings().slot_width(),
         digest,
@@ -99,7 +99,7 @@ pub(crate) fn digest_with(
     let slot = (plan.index_above(last, level) % fan) as usize;
     let clear = (plan.index_above(first, level) % fan) as usize;
     let block = &mut opened[level * size..level * size + size];
-    put_slot(block, slot * width, digest);
+    put_digest(block, slot * width, digest);
     let above = plan.settings().hash(block);
     block[clear * width..].fill(0);
     above
@@ -138,7 +138,7 @@ pub(crate) fn block_with(
     let slot = (plan.index_above(last, level) % fan) as usize;
     let clear = (plan.index_above(first, level) % fan) as usize;
     let own = &mut opened[level * size..level * size + size];
-    put_slot(own, slot * width, digest);
+    put_digest(own, slot * width, digest);
     block.copy_from_slice(own);
     own[clear * width..].fill(0);
 }

@@ -35,7 +35,7 @@ pub(crate) fn part_between(
     let fan = plan.fan();
     let len = plan.digest_len();
     let width = plan.settings().slot_width();
-    let below = plan.size_under(level);
+    let below = plan.count_under(level);
     let first = index * fan as u64;
     let used = (below - first).min(fan as u64) as usize;
     for slot in 0..used {

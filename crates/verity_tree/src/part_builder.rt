@@ -8,7 +8,7 @@ ghost use Rattle.verity_tree.specs.ClosingOrder.{blocks_before};
 ghost use Rattle.verity_tree.specs.Feeding.{fault_in, feeding_length};
 ghost use Rattle.verity_tree.specs.Parts.{FeedsPart, HasLastOfPart, HasPart, IsDigestOfPart, IsFedPart};
 ghost use Rattle.verity_tree.specs.Parts.{IsHandedOutOfPart, IsPlacedOfPart, TakesOfPart, digest_fault, first_block};
-ghost use Rattle.verity_tree.specs.Parts.{most_closed, part_fault, part_size, piece_fault, plan_of_part};
+ghost use Rattle.verity_tree.specs.Parts.{most_closed, part_fault, blocks_in_part, piece_fault, plan_of_part};
 ghost use Rattle.verity_tree.specs.Steps.Parts.{FeedsPartOn, PartStands};
 ghost use Rattle.verity_tree.specs.Windows.{window_length};
 
@@ -69,19 +69,19 @@ pub(crate) struct OwnTree {
 }
 
 /// How many data blocks the parts of a level have, or all data blocks if they are fewer.
-fn part_size_of(plan: &Plan, level: usize) -> u64
-    ensures { result ≡ min (part_size plan.now level) plan.now.blocks }
+fn blocks_in_part_of(plan: &Plan, level: usize) -> u64
+    ensures { result ≡ min (blocks_in_part plan.now level) plan.now.blocks }
 {
     let fan = plan.fan() as u64;
     let blocks = plan.blocks();
-    let mut size = 1;
+    let mut count = 1;
     for below in 0..level {
-        if size >= blocks.div_ceil(fan) {
+        if count >= blocks.div_ceil(fan) {
             return blocks;
         }
-        size *= fan;
+        count *= fan;
     }
-    size
+    count
 }
 
 /// The tree above a part's data alone, or why there is no such part.
@@ -95,14 +95,14 @@ pub(crate) fn own_tree(plan: &Plan, level: usize, part: u64) -> Result<OwnTree, 
     if level > plan.levels() {
         return Err(PartFault::Level);
     }
-    if part >= plan.size_under(level) {
+    if part >= plan.count_under(level) {
         return Err(PartFault::Part);
     }
     planned(plan);
-    let size = part_size_of(plan, level);
-    let first = part * size;
+    let count = blocks_in_part_of(plan, level);
+    let first = part * count;
     let block = plan.data_block() as u64;
-    let wanted = (plan.wanted() - first * block).min(size * block);
+    let wanted = (plan.wanted() - first * block).min(count * block);
     match Plan::for_bytes(plan.settings(), wanted, 0) {
         Ok(own) => Ok(OwnTree { plan: own, first }),
         Err(_) => Err(PartFault::Part),
@@ -123,11 +123,11 @@ fn most_closed_of(own: &Plan, level: usize, fed: u64) -> usize
 
 impl PartBuilder {
     /// How many data blocks the parts of a level have, but for the last one, which has what is left: the level's power
-    /// of the fan-out, or all data blocks if they are fewer. There are as many parts as the plan's `size_under`.
-    pub fn size(plan: &Plan, level: usize) -> u64
-        ensures { result ≡ min (part_size plan.now level) plan.now.blocks }
+    /// of the fan-out, or all data blocks if they are fewer. There are as many parts as the plan's `count_under`.
+    pub fn blocks(plan: &Plan, level: usize) -> u64
+        ensures { result ≡ min (blocks_in_part plan.now level) plan.now.blocks }
     {
-        part_size_of(plan, level)
+        blocks_in_part_of(plan, level)
     }
 
     /// The length of the memory for a part of a level, in bytes: an open block for each level below, and a window of up
@@ -307,7 +307,7 @@ fn placed(plan: &Plan, first: u64, progress: &Progress) -> HashBlock
     ensures level { progress.now.closed ≡ result.level + 1 }
     ensures index { result.index
         ≡ (first + blocks_before plan.now.settings progress.now.fed) / fan plan.now.settings ^ (result.level + 1) }
-    ensures byte { result.byte ≡ start_byte_of plan.now result.level result.index }
+    ensures start { result.start ≡ start_byte_of plan.now result.level result.index }
     ensures at { result.at ≡ result.level * plan.now.settings.hash_block }
 {
     planned(plan);
@@ -316,7 +316,7 @@ fn placed(plan: &Plan, first: u64, progress: &Progress) -> HashBlock
     HashBlock {
         level,
         index: plan.index_above(i, level + 1),
-        byte: plan.byte_above(i, level),
+        start: plan.start_above(i, level),
         at: level * plan.hash_block(),
     }
 }

@@ -42,8 +42,8 @@ fn level_up(
     let mut above = Vec::new(alloc);
     for j in 0..digests.len().div_ceil(fan) {
         let from = j * fan;
-        let size = fan.min(digests.len() - from);
-        let block = hash_block_of(alloc, settings, &digests[from..from + size])?;
+        let count = fan.min(digests.len() - from);
+        let block = hash_block_of(alloc, settings, &digests[from..from + count])?;
         above.push(settings.hash(&block))?;
     }
     Ok(above)

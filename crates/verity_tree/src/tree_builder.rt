@@ -47,7 +47,7 @@ pub struct HashBlock {
     /// Its number in the level, counted from 0.
     pub index: u64,
     /// The byte of the device at which it goes (Linux kernel, dm-verity page, "On-disk format").
-    pub byte: u64,
+    pub start: u64,
     /// The byte of the builder's memory at which it stands until the next call of `feed`, as long as a hash block.
     pub at: usize,
 }

@@ -1,8 +1,7 @@
 -- What a formatted device says is read back, and verify accepts it.
-use Rattle.std.proofs.Common.{◌≡◌, ◌≢◌, ℕ, ◌*◌, Bool, true, false, List, length}
-use Rattle.std.proofs.Common.{take, drop, map, Some, None, Result, Ok, Err, nat_le, cond, arith, sym, subst}
+use Rattle.std.proofs.Common.{◌≡◌, ◌≢◌, ℕ, ◌*◌, Bool, true, List, length}
+use Rattle.std.proofs.Common.{take, drop, map, Some, None, Result, Ok, Err, cond, arith, sym, subst}
 use Rattle.std.proofs.Common.{◌∙◌, ap, refl, inl, inr}
-use Rattle.std.proofs.lemmas.Bool.{le-leb}
 use Rattle.std.proofs.lemmas.Bool.Decides.{nat_tests}
 use Rattle.std.proofs.lemmas.List.{length-take, length-take-le}
 use Rattle.std.specs.List.{range_with_len}
@@ -13,9 +12,7 @@ use Rattle.hex.proofs.HexLemmas.{decode_of-encode_lower, length-encode_with}
 use Rattle.verity_hash.specs.Hashing.{digest_len_of}
 use Rattle.verity_hash.proofs.DigestBytes.{bytes-salted_hash}
 use Rattle.verity_hash.proofs.HashLemmas.{length-salted_hash}
-use Rattle.verity_io.specs.Writing.{most_bytes}
-use Rattle.verity_plan.specs.Plans.{IsPlan, PlanFields, checked_plan, end_place_of, plan_at}
-use Rattle.verity_plan.specs.Plans.{plan_from}
+use Rattle.verity_plan.specs.Plans.{PlanFields, plan_at}
 use Rattle.verity_plan.specs.Settings.{TreeSettingsFields, hash}
 use Rattle.verity_format.specs.Superblocks.{IsSuperblock}
 use Rattle.verity_format.proofs.TextLemmas.{text_says}
@@ -38,44 +35,16 @@ use Rattle.veritysetup.specs.Faults.{status_verification_failed}
 use Rattle.veritysetup.specs.Runs.Verify.{Compares, Verifies}
 use Rattle.veritysetup.specs.declared.fault.Fault.{Fault}
 use Rattle.veritysetup.specs.declared.fault.Fault.TheVariants as fault
-use Rattle.verity_tree.proofs.DataBlockLemmas.{blocks-some}
-use Rattle.veritysetup.proofs.FormattedLemmas.{AreWhole, superblock-valid}
+use Rattle.veritysetup.proofs.SettingsLemmas.{AreValid, plan-made, superblock-valid}
 use Rattle.veritysetup.proofs.InputLemmas.{trusted-one, trusted-unrefused}
 
 -- ---- the plan
 
--- a plan that can be carried out is made
-planned-checked : (p : PlanFields) → IsPlan p → checked_plan p ≡ Ok p
-planned-checked p planned =
-    let some = blocks-some p planned in
-    let filled : (p.blocks == 0) ≡ false = grind (arith, nat_tests, some) in
-    let of_data : nat_le (p.blocks * p.settings.data_block) most_bytes ≡ true =
-    le-leb (p.blocks * p.settings.data_block) most_bytes planned.data_most in
-    let of_hash : nat_le (end_place_of p * p.settings.hash_block) most_bytes ≡ true =
-    le-leb (end_place_of p * p.settings.hash_block) most_bytes planned.hash_most in
-    rw (filled, of_data, of_hash) refl
-
--- a plan for whole blocks, by its parts
-plan_from-parts : (p : PlanFields) → p.wanted ≡ p.blocks * p.settings.data_block
-    → plan_from p.settings p.blocks (Some p.base) ≡ checked_plan p
-plan_from-parts p whole =
-    ap (λ (n : ℕ). checked_plan (record { settings = p.settings; blocks = p.blocks; wanted = n; base = p.base }))
-    (sym whole)
-
--- the plan of settings is made of their parts
-pub plan-made : (s : SettingsFields) → AreWhole s
-    → plan_at s.plan.settings s.plan.blocks s.offset s.superblock ≡ Ok s.plan
-plan-made s whole =
-    let p = s.plan in
-    ap (plan_from p.settings p.blocks) whole.agree.based
-    ∙ plan_from-parts p whole.agree.whole
-    ∙ planned-checked p whole.planned
-
 -- what the superblock describes is the plan
-plan-back : (s : SettingsFields) → AreWhole s → s.superblock ≡ true
+plan-back : (s : SettingsFields) → AreValid s → s.superblock ≡ true
     → plan_at s.plan.settings s.plan.blocks s.offset true ≡ Ok s.plan
-plan-back s whole has =
-    ap (plan_at s.plan.settings s.plan.blocks s.offset) (sym has) ∙ plan-made s whole
+plan-back s valid has =
+    ap (plan_at s.plan.settings s.plan.blocks s.offset) (sym has) ∙ plan-made s valid
 
 -- ---- the root hash
 
@@ -96,12 +65,12 @@ root-back s blocks =
 -- ---- the superblock
 
 -- it is read back
-pub superblock-back : (s : SettingsFields) (source before after : List ℕ) → AreWhole s
+pub superblock-back : (s : SettingsFields) (source before after : List ℕ) → AreValid s
     → IsFormattedDevice s source before after → s.superblock ≡ true
     → IsSuperblock (superblock_at s.offset after) (superblock_for s)
-superblock-back s source before after whole formatted has =
+superblock-back s source before after valid formatted has =
     subst (λ (bytes : List ℕ). IsSuperblock bytes (superblock_for s)) (sym (formatted.superblock has))
-    (text_says (superblock_for s) (superblock-valid s whole))
+    (text_says (superblock_for s) (superblock-valid s valid))
 
 -- ---- the tree
 
@@ -131,32 +100,32 @@ holds-same s source bytes before after formatted same =
     }
 
 -- what verify is given is the plan and the root hash of format
-given-back : (s : SettingsFields) (source before after : List ℕ) (input : VerifyInput) → AreWhole s
+given-back : (s : SettingsFields) (source before after : List ℕ) (input : VerifyInput) → AreValid s
     → IsFormattedDevice s source before after → IsGivenBack input s (root_above s source)
     → Trusts input after s.plan (root_above s source)
-given-back s source before after (Stored offset text) whole formatted given =
+given-back s source before after (Stored offset text) valid formatted given =
     let digest = root_above s source in
     subst (λ (n : ℕ). Describes n text.now after s.plan digest) (sym given.1)
     (subst (λ (digits : List ℕ). Describes s.offset digits after s.plan digest) (sym given.2)
     (record {
       fields = superblock_for s;
-      superblock = superblock-back s source before after whole formatted given.0;
-      plan_is = plan-back s whole given.0;
+      superblock = superblock-back s source before after valid formatted given.0;
+      plan_is = plan-back s valid given.0;
       root_is = root-back s.plan.settings (data_blocks s.plan source);
     }))
-given-back s source before after (Given settings) whole formatted given = (sym given.0, given.1)
+given-back s source before after (Given settings) valid formatted given = (sym given.0, given.1)
 
 -- verify accepts a formatted device
-pub verified-back : (s : SettingsFields) (input : VerifyInput) (source bytes before after : List ℕ) → AreWhole s
+pub verified-back : (s : SettingsFields) (input : VerifyInput) (source bytes before after : List ℕ) → AreValid s
     → IsFormattedDevice s source before after → IsGivenBack input s (root_above s source)
     → take s.plan.wanted bytes ≡ take s.plan.wanted source
     → IsVerified input after bytes (drop s.plan.wanted bytes)
-verified-back s input source bytes before after whole formatted given same =
+verified-back s input source bytes before after valid formatted given same =
     let held = holds-same s source bytes before after formatted same in
     record {
       plan = s.plan;
       root = root_above s source;
-      trusted = given-back s source before after input whole formatted given;
+      trusted = given-back s source before after input valid formatted given;
       holds = held;
       read = record { enough = held.enough; rest = refl };
     }
@@ -165,15 +134,15 @@ verified-back s input source bytes before after whole formatted given same =
 
 -- nothing differs
 not-different : (s : SettingsFields) (source bytes before after left : List ℕ) (input : VerifyInput)
-    (result : Result Unit CompareFault) → AreWhole s → IsFormattedDevice s source before after
+    (result : Result Unit CompareFault) → AreValid s → IsFormattedDevice s source before after
     → IsGivenBack input s (root_above s source) → take s.plan.wanted bytes ≡ take s.plan.wanted source
     → Compares input after bytes left result → Judges s.plan after bytes (root_above s source) result
     × (verdict s.plan after bytes (root_above s source) ≡ Ok tt)
-not-different s source bytes before after left input result whole formatted given same compared =
+not-different s source bytes before after left input result valid formatted given same compared =
     let digest = root_above s source in
     let own =
     trusted-one input after compared.plan s.plan compared.root digest compared.trusted
-    (given-back s source before after input whole formatted given) in
+    (given-back s source before after input valid formatted given) in
     let held = holds-same s source bytes before after formatted same in (
       subst (λ (p : PlanFields). Judges p after bytes digest result) own.0
           (subst (λ (root_hash : List ℕ). Judges compared.plan after bytes root_hash result) own.1 compared.verdict),
@@ -200,20 +169,20 @@ compared-accepted p after bytes digest (compare.DeviceFailed level block) judged
     (λ e. absurd (omega (arith, e)), λ e. absurd (omega (arith, e)))
 
 pub accepted-back : {X : Type 0} (s : SettingsFields) (source bytes before after left : List ℕ) (input : VerifyInput)
-    (outcome : Result X Fault) → AreWhole s → IsFormattedDevice s source before after
+    (outcome : Result X Fault) → AreValid s → IsFormattedDevice s source before after
     → IsGivenBack input s (root_above s source) → take s.plan.wanted bytes ≡ take s.plan.wanted source
     → Verifies input after bytes left outcome
     → (result_status outcome ≢ status_refused) × (result_status outcome ≢ status_verification_failed)
-accepted-back s source bytes before after left input (Ok done) whole formatted given same verifies =
+accepted-back s source bytes before after left input (Ok done) valid formatted given same verifies =
     (λ e. absurd (omega (arith, e)), λ e. absurd (omega (arith, e)))
-accepted-back s source bytes before after left input (Err fault.Store) whole formatted given same verifies =
+accepted-back s source bytes before after left input (Err fault.Store) valid formatted given same verifies =
     (λ e. absurd (omega (arith, e)), λ e. absurd (omega (arith, e)))
-accepted-back s source bytes before after left input (Err (fault.Compare cause)) whole formatted given same verifies =
-    let all = not-different s source bytes before after left input (Err cause) whole formatted given same verifies in
+accepted-back s source bytes before after left input (Err (fault.Compare cause)) valid formatted given same verifies =
+    let all = not-different s source bytes before after left input (Err cause) valid formatted given same verifies in
     compared-accepted s.plan after bytes (root_above s source) cause all.0 all.1
-accepted-back s source bytes before after left input (Err other) whole formatted given same verifies =
+accepted-back s source bytes before after left input (Err other) valid formatted given same verifies =
     unread-accepted other (trusted-unrefused input after s.plan (root_above s source) other
-    (given-back s source before after input whole formatted given) verifies.0)
+    (given-back s source before after input valid formatted given) verifies.0)
 
 -- a comparison stops only at a failed call
 compared-done : (p : PlanFields) (after bytes digest : List ℕ) (cause : CompareFault)
@@ -226,15 +195,15 @@ compared-done p after bytes digest (compare.SourceFailed block) judged right = r
 compared-done p after bytes digest (compare.DeviceFailed level block) judged right = refl
 
 pub done-back : {X : Type 0} (s : SettingsFields) (source bytes before after left : List ℕ) (input : VerifyInput)
-    (outcome : Result X Fault) → AreWhole s → IsFormattedDevice s source before after
+    (outcome : Result X Fault) → AreValid s → IsFormattedDevice s source before after
     → IsGivenBack input s (root_above s source) → take s.plan.wanted bytes ≡ take s.plan.wanted source
     → Verifies input after bytes left outcome → IfErr outcome (λ cause. (cause ≡ fault.Store) ⊎ IsSome (side_of cause))
-done-back s source bytes before after left input (Ok done) whole formatted given same verifies = tt
-done-back s source bytes before after left input (Err fault.Store) whole formatted given same verifies = inl refl
-done-back s source bytes before after left input (Err (fault.Compare cause)) whole formatted given same verifies =
-    let all = not-different s source bytes before after left input (Err cause) whole formatted given same verifies in
+done-back s source bytes before after left input (Ok done) valid formatted given same verifies = tt
+done-back s source bytes before after left input (Err fault.Store) valid formatted given same verifies = inl refl
+done-back s source bytes before after left input (Err (fault.Compare cause)) valid formatted given same verifies =
+    let all = not-different s source bytes before after left input (Err cause) valid formatted given same verifies in
     inr (compared-done s.plan after bytes (root_above s source) cause all.0 all.1)
-done-back s source bytes before after left input (Err other) whole formatted given same verifies =
+done-back s source bytes before after left input (Err other) valid formatted given same verifies =
     inr (ap (λ (cause : Fault). is_some (side_of cause))
     (trusted-unrefused input after s.plan (root_above s source) other
-    (given-back s source before after input whole formatted given) verifies.0))
+    (given-back s source before after input valid formatted given) verifies.0))

@@ -1,44 +1,26 @@
 -- A formatted device is the one that writing each hash block and then the superblock leaves.
-use Rattle.std.proofs.Common.{◌≡◌, ◌⊎◌, ℕ, ◌+◌, ◌-◌, ◌*◌, ◌<◌, ◌≤◌, Bool, true, false, ◌&&◌, ◌||◌, List, length, take}
-use Rattle.std.proofs.Common.{drop, get_or, Some, None, nat_le, cond, arith, sym, subst, ◌∙◌, ap, refl, inl}
-use Rattle.std.proofs.Common.{inr}
-use Rattle.std.proofs.lemmas.Bool.{cases_lt}
+use Rattle.std.proofs.Common.{◌≡◌, ◌⊎◌, ℕ, ◌+◌, ◌-◌, ◌*◌, ◌<◌, ◌≤◌, Bool, true, false, ◌&&◌, List, length, take}
+use Rattle.std.proofs.Common.{drop, get_or, arith, sym, subst, ◌∙◌, ap, refl, inl, inr}
+use Rattle.std.proofs.lemmas.Bool.{and_parts, cases_lt, or_cases, or_parts}
 use Rattle.std.proofs.lemmas.Bool.Decides.{nat_tests}
 use Rattle.std.proofs.lemmas.List.{ext_get_or, get_or-drop, get_or-take}
-use Rattle.std.specs.Int.{div_ceil}
-use Rattle.verity_io.specs.Writing.{most_bytes, put}
-use Rattle.verity_plan.specs.Plans.{HasBlock, IsPlan, base_of, end_place_of, start_byte_of}
-use Rattle.verity_plan.proofs.CountLemmas.{le-div_ceil}
+use Rattle.verity_io.specs.Writing.{put}
+use Rattle.verity_plan.specs.Plans.{HasBlock, end_place_of, start_byte_of}
 use Rattle.verity_plan.proofs.PlanLemmas.{some_hash}
-use Rattle.verity_format.specs.Superblocks.{IsValidSuperblock, superblock_bytes}
+use Rattle.verity_format.specs.Superblocks.{superblock_bytes}
 use Rattle.verity_format.proofs.TextLemmas.{length-superblock_bytes}
 use Rattle.verity_tree.specs.Levels.{data_blocks}
 use Rattle.verity_tree.specs.TreeOnDevice.{HoldsTree}
 use Rattle.verity_tree.specs.TreeWriting.{tree_on_device}
-use Rattle.verity_tree.proofs.DataBlockLemmas.{blocks-some}
 use Rattle.verity_tree.proofs.BesideLemmas.{block-within, tree-byte, tree-bytes, tree-no_longer, tree-no_shorter}
 use Rattle.verity_tree.proofs.StandingLemmas.{length-put, put-before, put-byte, put-here, put-holds, range-within}
-use Rattle.veritysetup.specs.Options.Settings.{PartsAgree, SettingsFields}
+use Rattle.veritysetup.specs.Options.Settings.{SettingsFields}
 use Rattle.veritysetup.specs.Runs.Formatted.{IsFormattedDevice, is_within, is_written, root_above}
 use Rattle.veritysetup.specs.Runs.HashDevice.{superblock_at, superblock_for}
 use Rattle.veritysetup.specs.Runs.Format.{formatted_device}
-
--- what settings keep to: a plan that can be carried out, parts that agree, a UUID of 16 bytes
-pub record AreWhole (s : SettingsFields) : Type 0 where
-  pub planned : IsPlan s.plan
-  pub agree : PartsAgree s
-  pub uuid : length s.uuid ≡ 16
+use Rattle.veritysetup.proofs.SettingsLemmas.{AreValid, superblock-before, superblock-valid}
 
 -- ---- the superblock
-
-pub superblock-valid : (s : SettingsFields) → AreWhole s → IsValidSuperblock (superblock_for s)
-superblock-valid s whole = record {
-  tree = whole.planned.valid;
-  of_type = whole.agree.of_type;
-  uuid = whole.uuid;
-  some = blocks-some s.plan whole.planned;
-  within = whole.planned.data_most;
-}
 
 -- a device with the superblock
 with-superblock : (s : SettingsFields) (blocks : List (List ℕ)) (before : List ℕ) → s.superblock ≡ true
@@ -52,57 +34,27 @@ without-superblock s blocks before none = rw none refl
 
 -- ---- the tree
 
--- the superblock ends before the hash area
-pub superblock-before : (s : SettingsFields) → AreWhole s → s.superblock ≡ true
-    → s.offset + 512 ≤ s.plan.base * s.plan.settings.hash_block
-superblock-before s whole has =
-    let size = s.plan.settings.hash_block in
-    let based : base_of s.offset true size ≡ Some s.plan.base =
-    ap (λ (b : Bool). base_of s.offset b size) (sym has) ∙ whole.agree.based in
-    by_test (nat_le (s.offset + 512) most_bytes) based
-  where
-    by_test : (b : Bool)
-        → cond b (Some (div_ceil (s.offset + 512) s.plan.settings.hash_block)) None ≡ Some s.plan.base
-        → s.offset + 512 ≤ s.plan.base * s.plan.settings.hash_block
-    by_test true e =
-        let most : div_ceil (s.offset + 512) s.plan.settings.hash_block ≡ s.plan.base = cc in
-        le-div_ceil (s.offset + 512) s.plan.settings.hash_block s.plan.base
-        (some_hash s.plan whole.planned) (omega (arith, most))
-    by_test false e = cc
-
 -- the device holds the tree
-holds-formatted : (s : SettingsFields) (bytes before : List ℕ) → AreWhole s → s.plan.wanted ≤ length bytes
+holds-formatted : (s : SettingsFields) (bytes before : List ℕ) → AreValid s → s.plan.wanted ≤ length bytes
     → HoldsTree s.plan (formatted_device s (data_blocks s.plan bytes) before) bytes (root_above s bytes)
-holds-formatted s bytes before whole enough = by_test s.superblock refl
+holds-formatted s bytes before valid enough = by_test s.superblock refl
   where
     by_test : (b : Bool) → s.superblock ≡ b
         → HoldsTree s.plan (formatted_device s (data_blocks s.plan bytes) before) bytes (root_above s bytes)
     by_test false none =
         subst (λ (device : List ℕ). HoldsTree s.plan device bytes (root_above s bytes))
         (sym (without-superblock s (data_blocks s.plan bytes) before none))
-        (put-holds s.plan bytes before whole.planned enough)
+        (put-holds s.plan bytes before valid.planned enough)
     by_test true has =
         let v = superblock_for s in
         subst (λ (device : List ℕ). HoldsTree s.plan device bytes (root_above s bytes))
         (sym (with-superblock s (data_blocks s.plan bytes) before has))
         (put-before s.plan (tree_on_device s.plan (data_blocks s.plan bytes) before) bytes (root_above s bytes)
-        s.offset (superblock_bytes v) whole.planned
-        (omega (arith, superblock-before s whole has, length-superblock_bytes v (superblock-valid s whole)))
-        (put-holds s.plan bytes before whole.planned enough))
+        s.offset (superblock_bytes v) valid.planned
+        (omega (arith, superblock-before s valid has, length-superblock_bytes v (superblock-valid s valid)))
+        (put-holds s.plan bytes before valid.planned enough))
 
 -- ---- what is written
-
-both_false : (x y : Bool) → (x || y) ≡ false → (x ≡ false) × (y ≡ false)
-both_false true y e = cc
-both_false false y e = (refl, e)
-
-one_true : (x y : Bool) → (x || y) ≡ true → (x ≡ true) ⊎ (y ≡ true)
-one_true true y e = inl refl
-one_true false y e = inr e
-
-two_true : (x y : Bool) → (x && y) ≡ true → (x ≡ true) × (y ≡ true)
-two_true true y e = (refl, e)
-two_true false y e = cc
 
 within_true : (first end i : ℕ) → is_within first end i ≡ true → (first ≤ i) × (i < end)
 within_true first end i e = (grind (arith, nat_tests, e), grind (arith, nat_tests, e))
@@ -121,41 +73,41 @@ pub beside-tree : (s : SettingsFields) (i : ℕ) → is_written s i ≡ false
     → (i < s.plan.base * s.plan.settings.hash_block) ⊎ (end_place_of s.plan * s.plan.settings.hash_block ≤ i)
 beside-tree s i miss =
     within_false (s.plan.base * s.plan.settings.hash_block) (end_place_of s.plan * s.plan.settings.hash_block) i
-    (both_false _ _ miss).1
+    (or_parts _ _ miss).1
 
 -- and outside the superblock
 pub beside-superblock : (s : SettingsFields) (i : ℕ) → s.superblock ≡ true → is_written s i ≡ false
     → (i < s.offset) ⊎ (s.offset + 512 ≤ i)
 beside-superblock s i has miss =
-    let outside : (s.superblock && is_within s.offset (s.offset + 512) i) ≡ false = (both_false _ _ miss).0 in
+    let outside : (s.superblock && is_within s.offset (s.offset + 512) i) ≡ false = (or_parts _ _ miss).0 in
     within_false s.offset (s.offset + 512) i
     (ap (λ (b : Bool). b && is_within s.offset (s.offset + 512) i) (sym has) ∙ outside)
 
 -- ---- what is written leaves a formatted device
 
-formatted-superblock : (s : SettingsFields) (blocks : List (List ℕ)) (before : List ℕ) → AreWhole s
+formatted-superblock : (s : SettingsFields) (blocks : List (List ℕ)) (before : List ℕ) → AreValid s
     → s.superblock ≡ true
     → superblock_at s.offset (formatted_device s blocks before) ≡ superblock_bytes (superblock_for s)
-formatted-superblock s blocks before whole has =
+formatted-superblock s blocks before valid has =
     let v = superblock_for s in
     let tree = tree_on_device s.plan blocks before in
     ap (λ (device : List ℕ). take 512 (drop s.offset device)) (with-superblock s blocks before has)
     ∙ ap (λ (n : ℕ). take n (drop s.offset (put tree s.offset (superblock_bytes v))))
-    (sym (length-superblock_bytes v (superblock-valid s whole)))
+    (sym (length-superblock_bytes v (superblock-valid s valid)))
     ∙ put-here tree s.offset (superblock_bytes v)
 
-pub formatted-others : (s : SettingsFields) (source before : List ℕ) → AreWhole s → (i : ℕ) → is_written s i ≡ false
+pub formatted-others : (s : SettingsFields) (source before : List ℕ) → AreValid s → (i : ℕ) → is_written s i ≡ false
     → get_or (formatted_device s (data_blocks s.plan source) before) i 0 ≡ get_or before i 0
-formatted-others s source before whole i miss = by_test s.superblock refl
+formatted-others s source before valid i miss = by_test s.superblock refl
   where
     by_test : (b : Bool) → s.superblock ≡ b
         → get_or (formatted_device s (data_blocks s.plan source) before) i 0 ≡ get_or before i 0
     by_test false none =
         ap (λ (device : List ℕ). get_or device i 0) (without-superblock s (data_blocks s.plan source) before none)
-        ∙ tree-byte s.plan source before i whole.planned (beside-tree s i miss)
+        ∙ tree-byte s.plan source before i valid.planned (beside-tree s i miss)
     by_test true has =
         let bytes = superblock_bytes (superblock_for s) in
-        let long : length bytes ≡ 512 = length-superblock_bytes (superblock_for s) (superblock-valid s whole) in
+        let long : length bytes ≡ 512 = length-superblock_bytes (superblock_for s) (superblock-valid s valid) in
         let tree = tree_on_device s.plan (data_blocks s.plan source) before in
         let outside : (i < s.offset) ⊎ (s.offset + length bytes ≤ i) =
         elim (beside-superblock s i has miss) [
@@ -164,7 +116,7 @@ formatted-others s source before whole i miss = by_test s.superblock refl
         ] in
         ap (λ (device : List ℕ). get_or device i 0) (with-superblock s (data_blocks s.plan source) before has)
         ∙ put-byte tree s.offset bytes i outside
-        ∙ tree-byte s.plan source before i whole.planned (beside-tree s i miss)
+        ∙ tree-byte s.plan source before i valid.planned (beside-tree s i miss)
 
 pub formatted-no_shorter : (s : SettingsFields) (blocks : List (List ℕ)) (before : List ℕ)
     → length before ≤ length (formatted_device s blocks before)
@@ -186,76 +138,76 @@ formatted-no_shorter s blocks before = by_test s.superblock refl
         )
 
 -- a block that is written ends before a byte from which on nothing is written
-block-before : (s : SettingsFields) (i : ℕ) → AreWhole s → ((j : ℕ) → i ≤ j → is_written s j ≡ false)
+block-before : (s : SettingsFields) (i : ℕ) → AreValid s → ((j : ℕ) → i ≤ j → is_written s j ≡ false)
     → (l j : ℕ) → HasBlock s.plan l j → start_byte_of s.plan l j + s.plan.settings.hash_block ≤ i
-block-before s i whole none l j here =
+block-before s i valid unwritten l j here =
     let size = s.plan.settings.hash_block in
-    let some : 0 < size = some_hash s.plan whole.planned in
+    let some : 0 < size = some_hash s.plan valid.planned in
     let last = start_byte_of s.plan l j + size - 1 in
     let within = block-within s.plan l j here in
     elim (cases_lt i (start_byte_of s.plan l j + size)) [
       | inr past ↦ past
       | inl below ↦
           let from : i ≤ last = omega (arith, below) in
-          elim (beside-tree s last (none last from)) [
+          elim (beside-tree s last (unwritten last from)) [
             | inl low ↦ absurd (omega (arith, low, within.0, some))
             | inr high ↦ absurd (omega (arith, high, within.1, some))
           ]
     ]
 
-pub formatted-no_longer : (s : SettingsFields) (source before : List ℕ) → AreWhole s → (i : ℕ) → length before ≤ i
+pub formatted-no_longer : (s : SettingsFields) (source before : List ℕ) → AreValid s → (i : ℕ) → length before ≤ i
     → ((j : ℕ) → i ≤ j → is_written s j ≡ false)
     → length (formatted_device s (data_blocks s.plan source) before) ≤ i
-formatted-no_longer s source before whole i past none = by_test s.superblock refl
+formatted-no_longer s source before valid i past unwritten = by_test s.superblock refl
   where
     tree-most : length (tree_on_device s.plan (data_blocks s.plan source) before) ≤ i
-    tree-most = tree-no_longer s.plan source before i whole.planned past (block-before s i whole none)
+    tree-most = tree-no_longer s.plan source before i valid.planned past (block-before s i valid unwritten)
 
     by_test : (b : Bool) → s.superblock ≡ b → length (formatted_device s (data_blocks s.plan source) before) ≤ i
-    by_test false sets =
-        omega (arith, ap length (without-superblock s (data_blocks s.plan source) before sets), tree-most)
-    by_test true sets =
+    by_test false none =
+        omega (arith, ap length (without-superblock s (data_blocks s.plan source) before none), tree-most)
+    by_test true has =
         let last = s.offset + 511 in
         let ends : s.offset + 512 ≤ i = elim (cases_lt i (s.offset + 512)) [
           | inr fits ↦ fits
           | inl below ↦
               let from : i ≤ last = omega (arith, below) in
-              elim (beside-superblock s last sets (none last from)) [
+              elim (beside-superblock s last has (unwritten last from)) [
                 | inl low ↦ absurd (omega (arith, low))
                 | inr high ↦ absurd (omega (arith, high))
               ]
         ] in
         omega (
           arith,
-          ap length (with-superblock s (data_blocks s.plan source) before sets),
+          ap length (with-superblock s (data_blocks s.plan source) before has),
           length-put (tree_on_device s.plan (data_blocks s.plan source) before) s.offset
               (superblock_bytes (superblock_for s)),
-          length-superblock_bytes (superblock_for s) (superblock-valid s whole),
+          length-superblock_bytes (superblock_for s) (superblock-valid s valid),
           ends,
           tree-most,
         )
 
 -- a device on which all is written is formatted
-pub written-formatted : (s : SettingsFields) (source before : List ℕ) → AreWhole s → s.plan.wanted ≤ length source
+pub written-formatted : (s : SettingsFields) (source before : List ℕ) → AreValid s → s.plan.wanted ≤ length source
     → IsFormattedDevice s source before (formatted_device s (data_blocks s.plan source) before)
-written-formatted s source before whole enough = record {
-  tree = holds-formatted s source before whole enough;
-  superblock = formatted-superblock s (data_blocks s.plan source) before whole;
-  others = formatted-others s source before whole;
+written-formatted s source before valid enough = record {
+  tree = holds-formatted s source before valid enough;
+  superblock = formatted-superblock s (data_blocks s.plan source) before valid;
+  others = formatted-others s source before valid;
   no_shorter = formatted-no_shorter s (data_blocks s.plan source) before;
-  no_longer = formatted-no_longer s source before whole;
+  no_longer = formatted-no_longer s source before valid;
 }
 
 -- ---- and there is no other
 
 -- a byte of the superblock is the same on two formatted devices
-superblock-byte : (s : SettingsFields) (a b : List ℕ) (i : ℕ) → AreWhole s → s.offset ≤ i → i < s.offset + 512
+superblock-byte : (s : SettingsFields) (a b : List ℕ) (i : ℕ) → AreValid s → s.offset ≤ i → i < s.offset + 512
     → superblock_at s.offset a ≡ superblock_bytes (superblock_for s)
     → superblock_at s.offset b ≡ superblock_bytes (superblock_for s)
     → (i < length a) × (get_or a i 0 ≡ get_or b i 0)
-superblock-byte s a b i whole from to of_a of_b =
+superblock-byte s a b i valid from to of_a of_b =
     let bytes = superblock_bytes (superblock_for s) in
-    let long : length bytes ≡ 512 = length-superblock_bytes (superblock_for s) (superblock-valid s whole) in
+    let long : length bytes ≡ 512 = length-superblock_bytes (superblock_for s) (superblock-valid s valid) in
     let fits : s.offset + 512 ≤ length a = range-within a bytes s.offset 512 (omega arith) long of_a in
     let n = i - s.offset in
     let below : n < 512 = omega (arith, from, to) in
@@ -266,45 +218,45 @@ superblock-byte s a b i whole from to of_a of_b =
     (omega (arith, fits, to), sym (byte a) ∙ ap (λ (xs : List ℕ). get_or xs n 0) (of_a ∙ sym of_b) ∙ byte b)
 
 -- and so is each byte that is written
-written-same : (s : SettingsFields) (source before a b : List ℕ) → AreWhole s
+written-same : (s : SettingsFields) (source before a b : List ℕ) → AreValid s
     → IsFormattedDevice s source before a → IsFormattedDevice s source before b → (i : ℕ) → is_written s i ≡ true
     → (i < length a) × (get_or a i 0 ≡ get_or b i 0)
-written-same s source before a b whole of_a of_b i hit =
-    elim (one_true _ _ hit) [
+written-same s source before a b valid of_a of_b i hit =
+    elim (or_cases _ _ hit) [
       | inl top ↦
-          let both = two_true s.superblock (is_within s.offset (s.offset + 512) i) top in
+          let both = and_parts s.superblock (is_within s.offset (s.offset + 512) i) top in
           let within = within_true s.offset (s.offset + 512) i both.1 in
-          superblock-byte s a b i whole within.0 within.1 (of_a.superblock both.0) (of_b.superblock both.0)
+          superblock-byte s a b i valid within.0 within.1 (of_a.superblock both.0) (of_b.superblock both.0)
       | inr tree ↦
           let within =
           within_true (s.plan.base * s.plan.settings.hash_block) (end_place_of s.plan * s.plan.settings.hash_block) i
           tree in
-          tree-bytes s.plan source a b (root_above s source) i whole.planned of_a.tree of_b.tree within.0 within.1
+          tree-bytes s.plan source a b (root_above s source) i valid.planned of_a.tree of_b.tree within.0 within.1
     ]
 
-formatted-most : (s : SettingsFields) (source before a b : List ℕ) → AreWhole s → IsFormattedDevice s source before a
+formatted-most : (s : SettingsFields) (source before a b : List ℕ) → AreValid s → IsFormattedDevice s source before a
     → IsFormattedDevice s source before b → length a ≤ length b
-formatted-most s source before a b whole of_a of_b =
+formatted-most s source before a b valid of_a of_b =
     of_a.no_longer (length b) of_b.no_shorter (λ j past. by_test j past (is_written s j) refl)
   where
     by_test : (j : ℕ) → length b ≤ j → (hit : Bool) → is_written s j ≡ hit → is_written s j ≡ false
     by_test j past false miss = miss
     by_test j past true hit =
-        let same = written-same s source before b a whole of_b of_a j hit in
+        let same = written-same s source before b a valid of_b of_a j hit in
         absurd (omega (arith, past, same.0))
 
 -- two devices that are formatted alike are the same
-pub formatted-same : (s : SettingsFields) (source before a b : List ℕ) → AreWhole s
+pub formatted-same : (s : SettingsFields) (source before a b : List ℕ) → AreValid s
     → IsFormattedDevice s source before a → IsFormattedDevice s source before b → a ≡ b
-formatted-same s source before a b whole of_a of_b =
+formatted-same s source before a b valid of_a of_b =
     let long : length a ≡ length b =
     omega (
       arith,
-      formatted-most s source before a b whole of_a of_b,
-      formatted-most s source before b a whole of_b of_a,
+      formatted-most s source before a b valid of_a of_b,
+      formatted-most s source before b a valid of_b of_a,
     ) in
     ext_get_or 0 a b long (λ i below. by_test i (is_written s i) refl)
   where
     by_test : (i : ℕ) (hit : Bool) → is_written s i ≡ hit → get_or a i 0 ≡ get_or b i 0
-    by_test i true hit = (written-same s source before a b whole of_a of_b i hit).1
+    by_test i true hit = (written-same s source before a b valid of_a of_b i hit).1
     by_test i false miss = of_a.others i miss ∙ sym (of_b.others i miss)

@@ -1,7 +1,7 @@
 -- What verify goes by is one plan and one root hash, or one reason to refuse, and its plan can be carried out.
-use Rattle.std.proofs.Common.{◌≡◌, ℕ, ◌+◌, ◌*◌, ◌<◌, ◌≤◌, ◌&&◌, Bool, true, false, cond, List, Option, Some, None, Ok}
+use Rattle.std.proofs.Common.{◌≡◌, ℕ, ◌+◌, ◌*◌, ◌<◌, ◌≤◌, Bool, true, false, cond, List, Option, Some, None, Ok}
 use Rattle.std.proofs.Common.{Err, arith, sym, subst, ◌∙◌, ap, refl, inl, inr}
-use Rattle.std.proofs.lemmas.Bool.{cases_lt, leb-true}
+use Rattle.std.proofs.lemmas.Bool.{and_parts, cases_lt, leb-true}
 use Rattle.std.proofs.lemmas.Bool.Decides.{nat_tests}
 use Rattle.std.specs.Int.{div_ceil}
 use Rattle.std.specs.Prelude.{◌==◌}
@@ -65,7 +65,7 @@ pub trusted-unrefused : (input : VerifyInput) (device : List ℕ) (plan : PlanFi
 trusted-unrefused (Stored offset text) device plan root fault.SuperblockUnread this refused = refl
 trusted-unrefused (Stored offset text) device plan root (fault.Superblock cause) this refused =
     absurd (never-both offset device this.fields cause this.superblock refused)
-trusted-unrefused (Stored offset text) device plan root (fault.Option option.TooLarge) this refused =
+trusted-unrefused (Stored offset text) device plan root fault.HashAreaTooLarge this refused =
     let one = one-stored offset device this.fields refused.fields this.superblock refused.superblock in
     let made = sym this.plan_is
     ∙ ap (λ (v : SuperblockFields). plan_at v.tree v.blocks offset true) one
@@ -90,32 +90,32 @@ refused-one (Stored offset text) device cause fault.SuperblockUnread _ called th
 refused-one (Stored offset text) device (fault.Superblock a) (fault.Superblock b) _ _ this that =
     let same = sym this ∙ that in
     cc
-refused-one (Stored offset text) device (fault.Superblock a) (fault.Option option.TooLarge) _ _ this that =
+refused-one (Stored offset text) device (fault.Superblock a) fault.HashAreaTooLarge _ _ this that =
     absurd (never-both offset device that.fields a that.superblock this)
 refused-one (Stored offset text) device (fault.Superblock a) (fault.Option option.BadRoot) _ _ this that =
     absurd (never-both offset device that.fields a that.superblock this)
-refused-one (Stored offset text) device (fault.Option option.TooLarge) (fault.Superblock b) _ _ this that =
+refused-one (Stored offset text) device fault.HashAreaTooLarge (fault.Superblock b) _ _ this that =
     absurd (never-both offset device this.fields b this.superblock that)
 refused-one (Stored offset text) device (fault.Option option.BadRoot) (fault.Superblock b) _ _ this that =
     absurd (never-both offset device this.fields b this.superblock that)
-refused-one (Stored offset text) device (fault.Option option.TooLarge) (fault.Option option.TooLarge) _ _ this that =
+refused-one (Stored offset text) device fault.HashAreaTooLarge fault.HashAreaTooLarge _ _ this that =
     refl
 refused-one (Stored offset text) device (fault.Option option.BadRoot) (fault.Option option.BadRoot) _ _ this that =
     refl
-refused-one (Stored offset text) device (fault.Option option.TooLarge) (fault.Option option.BadRoot) _ _ this that =
+refused-one (Stored offset text) device fault.HashAreaTooLarge (fault.Option option.BadRoot) _ _ this that =
     let one = one-stored offset device this.fields that.fields this.superblock that.superblock in
     let made = sym this.no_plan
     ∙ ap (λ (v : SuperblockFields). plan_at v.tree v.blocks offset true) one
     ∙ that.plan_is in
     cc
-refused-one (Stored offset text) device (fault.Option option.BadRoot) (fault.Option option.TooLarge) _ _ this that =
+refused-one (Stored offset text) device (fault.Option option.BadRoot) fault.HashAreaTooLarge _ _ this that =
     let one = one-stored offset device that.fields this.fields that.superblock this.superblock in
     let made = sym that.no_plan
     ∙ ap (λ (v : SuperblockFields). plan_at v.tree v.blocks offset true) one
     ∙ this.plan_is in
     cc
 refused-one (Stored offset text) device (fault.Superblock a) other _ _ this that = absurd that
-refused-one (Stored offset text) device (fault.Option option.TooLarge) other _ _ this that = absurd that
+refused-one (Stored offset text) device fault.HashAreaTooLarge other _ _ this that = absurd that
 refused-one (Stored offset text) device (fault.Option option.BadRoot) other _ _ this that = absurd that
 refused-one (Stored offset text) device cause other _ _ this that = absurd this
 refused-one (Given settings) device cause other _ _ this that = this.0 ∙ sym that.0
@@ -137,7 +137,7 @@ pub refused-there : (input : VerifyInput) (device other : List ℕ) (cause : Fau
 refused-there (Stored offset text) device other fault.SuperblockUnread same this = this
 refused-there (Stored offset text) device other (fault.Superblock cause) same this =
     subst (λ (bytes : List ℕ). superblock_fault bytes ≡ Some cause) same this
-refused-there (Stored offset text) device other (fault.Option option.TooLarge) same this = record {
+refused-there (Stored offset text) device other fault.HashAreaTooLarge same this = record {
   fields = this.fields;
   superblock = subst (λ (bytes : List ℕ). IsSuperblock bytes this.fields) same this.superblock;
   cause = this.cause;
@@ -155,13 +155,9 @@ refused-there (Given settings) device other cause same this = this
 
 -- ---- the plan of a run
 
-both_true : (x y : Bool) → (x && y) ≡ true → (x ≡ true) × (y ≡ true)
-both_true true y e = (refl, e)
-both_true false y e = cc
-
 -- n whole blocks fill n blocks
-whole-blocks : (n size : ℕ) → 0 < size → div_ceil (n * size) size ≡ n
-whole-blocks n size some =
+div_ceil-times : (n size : ℕ) → 0 < size → div_ceil (n * size) size ≡ n
+div_ceil-times n size some =
     let k = div_ceil (n * size) size in
     let low : k ≤ n = div_ceil-le (n * size) size n some (omega arith) in
     let room : n * size ≤ k * size = le-div_ceil (n * size) size k some (omega arith) in
@@ -185,7 +181,7 @@ blocks-planned s blocks base plan valid made = by_test (blocks == 0) refl made
     by_room true room some e =
         let same : wanted_plan ≡ plan = cc in
         let filled : 0 < blocks = grind (arith, nat_tests, some) in
-        let both = both_true _ _ room in
+        let both = and_parts _ _ room in
         let of_data : blocks * s.data_block ≤ most_bytes = leb-true (blocks * s.data_block) most_bytes both.0 in
         let of_hash : end_place_of wanted_plan * s.hash_block ≤ most_bytes =
         leb-true (end_place_of wanted_plan * s.hash_block) most_bytes both.1 in
@@ -193,7 +189,7 @@ blocks-planned s blocks base plan valid made = by_test (blocks == 0) refl made
         subst IsPlan same (record {
           valid = valid;
           some = omega (arith, mul_le 1 blocks s.data_block (omega (arith, filled)), one);
-          blocks_are = sym (whole-blocks blocks s.data_block one);
+          blocks_are = sym (div_ceil-times blocks s.data_block one);
           data_most = of_data;
           hash_most = of_hash;
         })
@@ -218,6 +214,8 @@ trusted-planned (Stored offset text) device plan digest planned trusted =
         by_test : (none : Bool) → cond none (Err NoData) (Err NoRoom) ≡ Ok plan → IsPlan plan
         by_test true e = cc
         by_test false e = cc
+
+-- ---- the fault of a run
 
 -- of a fault it says the same, whatever a run would have answered
 same-fault : (A B : Type 0) (input : VerifyInput) (device before after : List ℕ) (cause : Fault)

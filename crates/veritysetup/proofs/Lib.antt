@@ -1,9 +1,11 @@
 pub mod PrintingLemmas
+pub mod SettingsLemmas
 pub mod FormattedLemmas
 pub mod InputLemmas
 pub mod AcceptedLemmas
-pub mod VerdictLemmas
+pub mod SameVerdictLemmas
 pub mod ResumedLemmas
-pub mod OptionLemmas
+pub mod ChosenPlanLemmas
+pub mod ChoiceLemmas
 pub mod PrintedLemmas
 pub mod LineLemmas

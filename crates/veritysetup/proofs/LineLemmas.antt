@@ -20,7 +20,7 @@ pub texts-same : (raw : RawOptions) (line : Line) (same_file : Bool)
     → option_copied raw.root ≡ root_word line.command (map string_bytes line.files.items)
     → raw.no_superblock ≡ line.no_superblock → raw.same_file ≡ same_file
     → option_texts raw ≡ line_texts line same_file
-texts-same raw line same_file hash format data_size hash_size blocks salt uuid offset root none same = cc
+texts-same raw line same_file hash format data_block_size hash_block_size blocks salt uuid offset root none same = cc
 
 -- a text is given where the line gives one
 pub some_text : {A : Type 0} (text : Option (Bor (List ℕ))) (given : Option A) (bytes : A → List ℕ)

@@ -1,8 +1,8 @@
 -- What a report prints, given again as options, gives the same settings.
 use Rattle.std.proofs.Common.{◌≡◌, ℕ, ◌+◌, ◌*◌, ◌/◌, ◌%◌, ◌^◌, ◌<◌, ◌≤◌, ◌&&◌, Bool, true, false, not, cond, List, []}
-use Rattle.std.proofs.Common.{◌∷◌, length, take, drop, Option, Some, None, Result, Ok, Err, nat_le, nat_lt, rules, arith}
+use Rattle.std.proofs.Common.{◌∷◌, length, take, drop, Option, Some, None, Ok, Err, nat_le, nat_lt, rules, arith}
 use Rattle.std.proofs.Common.{◌⊎◌, sym, subst, ◌∙◌, ap, refl, inl, inr, lt-ltb}
-use Rattle.std.proofs.lemmas.Bool.{false_from_ne_true, le-leb, leb-true}
+use Rattle.std.proofs.lemmas.Bool.{and_parts, false_from_ne_true, le-leb, leb-true}
 use Rattle.std.proofs.lemmas.Bool.Decides.{nat_tests}
 use Rattle.std.proofs.lemmas.Fmt.{decimal_nonempty, digits_decimal, digits_value-decimal}
 use Rattle.std.proofs.lemmas.List.{get_or_default}
@@ -17,7 +17,7 @@ use Rattle.std.specs.Str.{all_ascii_digits, bytes_eq}
 use Rattle.hex.specs.Hex.{IsBytes, decode_of, encode_lower, lower_digits}
 use Rattle.hex.proofs.HexLemmas.{decode_of-encode_lower, length-encode_with}
 use Rattle.uuid.proofs.RoundTrips.{parses_hyphenated}
-use Rattle.command_line.specs.Options.{algorithm_or_default, default_block_size, number, number_of, ◌>>=◌}
+use Rattle.command_line.specs.Options.{algorithm_or_default, default_block_size, number, number_of}
 use Rattle.verity_format.proofs.NameLemmas.{named-back, numbered-back}
 use Rattle.verity_hash.specs.declared.algorithm.Algorithm.{Algorithm}
 use Rattle.verity_hash.specs.declared.salting.SaltRule.{SaltRule}
@@ -25,8 +25,9 @@ use Rattle.verity_io.specs.Writing.{most_bytes}
 use Rattle.verity_plan.specs.CheckedSettings.{type_of_number}
 use Rattle.verity_plan.proofs.CountLemmas.{mul_le}
 use Rattle.verity_plan.proofs.FanLemmas.{some_data}
+use Rattle.verity_plan.proofs.LimitLemmas.{least-verity, salt-verity}
 use Rattle.verity_plan.specs.Plans.{IsPlan, PlanFields, base_of, multiple_of, offset_unit, plan_at}
-use Rattle.verity_plan.specs.Settings.{TreeSettingsFields, digest_len, is_block_size, least_block, most_salt, rule_of}
+use Rattle.verity_plan.specs.Settings.{TreeSettingsFields, digest_len, is_block_size, least_block, rule_of}
 use Rattle.verity_plan.specs.Settings.{type_number}
 use Rattle.verity_plan.specs.declared.hash_type.HashType.{HashType}
 use Rattle.verity_plan.specs.declared.hash_type.HashType.TheVariants.{Original, Current}
@@ -42,11 +43,13 @@ use Rattle.veritysetup.specs.Texts.Reports.{salt_text, uuid_text}
 use Rattle.veritysetup.specs.declared.options.option_fault.OptionName.{OptionName}
 use Rattle.veritysetup.specs.declared.options.option_fault.OptionName.TheVariants.{Format, DataBlockSize, HashBlockSize}
 use Rattle.veritysetup.specs.declared.options.option_fault.OptionName.TheVariants.{DataBlocks, HashOffset}
-use Rattle.veritysetup.specs.declared.options.option_fault.OptionFault.{OptionFault}
 use Rattle.veritysetup.specs.declared.options.option_fault.OptionFault.TheVariants as option
-use Rattle.veritysetup.proofs.AcceptedLemmas.{plan-made}
-use Rattle.veritysetup.proofs.FormattedLemmas.{AreWhole}
-use Rattle.veritysetup.proofs.OptionLemmas.{apart-is, plan_is}
+use Rattle.veritysetup.proofs.ChoiceLemmas.{Chosen, chosen, step, unstep, one-chosen, given-chosen, tree_with}
+use Rattle.veritysetup.proofs.ChoiceLemmas.{tree_by_hash, tree_by_data, with_root, with_plan, with_offset, with_uuid}
+use Rattle.veritysetup.proofs.ChoiceLemmas.{with_tree, with_type, with_algorithm, with_bytes, with_blocks}
+use Rattle.veritysetup.proofs.ChoiceLemmas.{with_hash_block_size, with_data_block_size, with_format, all-steps}
+use Rattle.veritysetup.proofs.ChosenPlanLemmas.{accepted_plan-is, plan_is}
+use Rattle.veritysetup.proofs.SettingsLemmas.{AreValid, plan-made}
 
 -- ---- numbers
 
@@ -83,171 +86,10 @@ salt-back (b ∷ rest) random bytes most =
     ∙ ap (λ (b : Bool). cond b (result_ok (decode_of (encode_lower salt))) None) fits
     ∙ ap result_ok (decode_of-encode_lower salt bytes)
 
--- the limits of dm-verity
-least-verity : (rule : SaltRule) (hash_type : HashType) (len : ℕ) → rule ≡ rule_of hash_type → least_block rule len ≡ 512
-least-verity rule Original len of_type = ap (λ (r : SaltRule). least_block r len) of_type
-least-verity rule Current len of_type = ap (λ (r : SaltRule). least_block r len) of_type
-
-salt-verity : (rule : SaltRule) (hash_type : HashType) → rule ≡ rule_of hash_type → most_salt rule ≡ 256
-salt-verity rule Original of_type = ap most_salt of_type
-salt-verity rule Current of_type = ap most_salt of_type
-
 size-back : (size least : ℕ) → least ≡ 512 → is_block_size least size ≡ true → block_size_of size ≡ Some size
 size-back size least same right =
     let test = ap (λ (n : ℕ). is_block_size n size) (sym same) ∙ right in
     ap (λ (b : Bool). cond b (Some size) None) test
-
--- ---- what the options choose, step by step
-
-abbrev Chosen : Type 0 → Type 0
-Chosen X = Result X OptionFault
-
-abbrev chosen : {X : Type 0} → X → Chosen X
-chosen x = Ok x
-
-step : {X Y : Type 0} (r : Chosen X) (x : X) (next : X → Chosen Y) (y : Chosen Y) → r ≡ chosen x → next x ≡ y
-    → (r >>= next) ≡ y
-step {X = X} r x next y is rest = ap (λ (q : Chosen X). q >>= next) is ∙ rest
-
-unstep : {X Y : Type 0} (r : Chosen X) (next : X → Chosen Y) (y : Y) → (r >>= next) ≡ chosen y
-    → (x : X) × ((r ≡ chosen x) × (next x ≡ chosen y))
-unstep (Ok x) next y e = (x, (refl, e))
-unstep (Err f) next y e = cc
-
-pub one-chosen : {X : Type 0} (x y : X) → chosen x ≡ chosen y → x ≡ y
-one-chosen x y e = cc
-
-given-chosen : {X : Type 0} (o : Option X) (f : OptionFault) (x : X) → ok_or o f ≡ chosen x → o ≡ Some x
-given-chosen (Some y) f x e = cc
-given-chosen None f x e = cc
-
--- the rest of `tree_of`, once each part is known
-module _ (algorithm : Algorithm) (hash_type : HashType) where
-  abbrev tree_with : ℕ → ℕ → List ℕ → Chosen TreeSettingsFields
-  tree_with data_block hash_block salt = Ok (record {
-    algorithm = algorithm;
-    rule = rule_of hash_type;
-    salt = salt;
-    data_block = data_block;
-    hash_block = hash_block;
-  })
-
-  abbrev tree_by_hash : Option (List ℕ) → ℕ → ℕ → Chosen TreeSettingsFields
-  tree_by_hash given data_block hash_block = ok_or given option.BadSalt >>= tree_with data_block hash_block
-
-  abbrev tree_by_data : ℕ → Option (List ℕ) → ℕ → Chosen TreeSettingsFields
-  tree_by_data hash_size given data_block =
-      ok_or (block_size_of hash_size) (option.BadBlockSize HashBlockSize) >>= tree_by_hash given data_block
-
--- the rest of `settings_of`, once each choice is known
-module _ (texts : OptionTexts) (size : ℕ) (random : Option (List ℕ)) where
-  abbrev with_root : HashType → List ℕ → ℕ → PlanFields → Option (List ℕ) → Chosen SettingsFields
-  with_root hash_type uuid offset plan root = Ok (record {
-    hash_type = hash_type;
-    uuid = superblock_uuid (not texts.no_superblock) uuid;
-    offset = offset;
-    superblock = not texts.no_superblock;
-    plan = plan;
-    root = root;
-  })
-
-  abbrev with_plan : Algorithm → HashType → List ℕ → ℕ → PlanFields → Chosen SettingsFields
-  with_plan algorithm hash_type uuid offset plan =
-      ok_or (root_if_given algorithm texts.root) option.BadRoot >>= with_root hash_type uuid offset plan
-
-  abbrev with_offset : Algorithm → HashType → TreeSettingsFields → Option ℕ → List ℕ → ℕ → Chosen SettingsFields
-  with_offset algorithm hash_type tree blocks uuid offset = accepted_plan texts.same_file offset
-      (plan_at tree (unwrap_or blocks (size / tree.data_block)) offset (not texts.no_superblock))
-      >>= with_plan algorithm hash_type uuid offset
-
-  abbrev with_uuid : Algorithm → HashType → TreeSettingsFields → Option ℕ → ℕ → List ℕ → Chosen SettingsFields
-  with_uuid algorithm hash_type tree blocks bytes uuid =
-      ok_or (multiple_of (offset_unit (not texts.no_superblock) tree.hash_block) bytes) option.BadHashOffset
-      >>= with_offset algorithm hash_type tree blocks uuid
-
-  abbrev with_tree : Algorithm → HashType → Option ℕ → ℕ → TreeSettingsFields → Chosen SettingsFields
-  with_tree algorithm hash_type blocks bytes tree =
-      ok_or (uuid_or_random texts.uuid random) option.BadUuid >>= with_uuid algorithm hash_type tree blocks bytes
-
-  abbrev with_type : ℕ → ℕ → Option ℕ → ℕ → Algorithm → HashType → Chosen SettingsFields
-  with_type data_size hash_size blocks bytes algorithm hash_type =
-      tree_of algorithm hash_type data_size hash_size (salt_or_random texts.salt random)
-      >>= with_tree algorithm hash_type blocks bytes
-
-  abbrev with_algorithm : ℕ → ℕ → ℕ → Option ℕ → ℕ → Algorithm → Chosen SettingsFields
-  with_algorithm format data_size hash_size blocks bytes algorithm =
-      ok_or (type_of_number format) option.BadHashType >>= with_type data_size hash_size blocks bytes algorithm
-
-  abbrev with_bytes : ℕ → ℕ → ℕ → Option ℕ → ℕ → Chosen SettingsFields
-  with_bytes format data_size hash_size blocks bytes =
-      ok_or (algorithm_or_default texts.hash) option.UnknownHash
-      >>= with_algorithm format data_size hash_size blocks bytes
-
-  abbrev with_blocks : ℕ → ℕ → ℕ → Option ℕ → Chosen SettingsFields
-  with_blocks format data_size hash_size blocks =
-      number_option HashOffset 0 texts.hash_offset >>= with_bytes format data_size hash_size blocks
-
-  abbrev with_hash_size : ℕ → ℕ → ℕ → Chosen SettingsFields
-  with_hash_size format data_size hash_size =
-      ok_or (number_if_given texts.data_blocks) (option.BadNumber DataBlocks)
-      >>= with_blocks format data_size hash_size
-
-  abbrev with_data_size : ℕ → ℕ → Chosen SettingsFields
-  with_data_size format data_size =
-      number_option HashBlockSize default_block_size texts.hash_block_size >>= with_hash_size format data_size
-
-  abbrev with_format : ℕ → Chosen SettingsFields
-  with_format format =
-      number_option DataBlockSize default_block_size texts.data_block_size >>= with_data_size format
-
-  -- it is all of it
-  by-steps : settings_of texts size random ≡ (number_option Format 1 texts.format >>= with_format)
-  by-steps = refl
-
-  -- each choice gives the settings
-  all-steps : (format data_size hash_size : ℕ) (blocks : Option ℕ) (bytes : ℕ) (algorithm : Algorithm)
-      (hash_type : HashType) (tree : TreeSettingsFields) (uuid : List ℕ) (offset : ℕ) (plan : PlanFields)
-      (root : Option (List ℕ)) → number_option Format 1 texts.format ≡ chosen format
-      → number_option DataBlockSize default_block_size texts.data_block_size ≡ chosen data_size
-      → number_option HashBlockSize default_block_size texts.hash_block_size ≡ chosen hash_size
-      → ok_or (number_if_given texts.data_blocks) (option.BadNumber DataBlocks) ≡ chosen blocks
-      → number_option HashOffset 0 texts.hash_offset ≡ chosen bytes
-      → ok_or (algorithm_or_default texts.hash) option.UnknownHash ≡ chosen algorithm
-      → ok_or (type_of_number format) option.BadHashType ≡ chosen hash_type
-      → tree_of algorithm hash_type data_size hash_size (salt_or_random texts.salt random) ≡ chosen tree
-      → ok_or (uuid_or_random texts.uuid random) option.BadUuid ≡ chosen uuid
-      → ok_or (multiple_of (offset_unit (not texts.no_superblock) tree.hash_block) bytes) option.BadHashOffset
-      ≡ chosen offset
-      → accepted_plan texts.same_file offset
-      (plan_at tree (unwrap_or blocks (size / tree.data_block)) offset (not texts.no_superblock)) ≡ chosen plan
-      → ok_or (root_if_given algorithm texts.root) option.BadRoot ≡ chosen root
-      → settings_of texts size random ≡ with_root hash_type uuid offset plan root
-  all-steps format data_size hash_size blocks bytes algorithm hash_type tree uuid offset plan root
-      e1 e2 e3 e4 e5 e6 e7 e8 e9 e10 e11 e12 =
-      let y = with_root hash_type uuid offset plan root in
-      by-steps
-      ∙ step (number_option Format 1 texts.format) format with_format y e1
-      (step (number_option DataBlockSize default_block_size texts.data_block_size) data_size (with_data_size format) y e2
-      (step (number_option HashBlockSize default_block_size texts.hash_block_size) hash_size
-      (with_hash_size format data_size) y e3
-      (step (ok_or (number_if_given texts.data_blocks) (option.BadNumber DataBlocks)) blocks
-      (with_blocks format data_size hash_size) y e4
-      (step (number_option HashOffset 0 texts.hash_offset) bytes (with_bytes format data_size hash_size blocks) y e5
-      (step (ok_or (algorithm_or_default texts.hash) option.UnknownHash) algorithm
-      (with_algorithm format data_size hash_size blocks bytes) y e6
-      (step (ok_or (type_of_number format) option.BadHashType) hash_type
-      (with_type data_size hash_size blocks bytes algorithm) y e7
-      (step (tree_of algorithm hash_type data_size hash_size (salt_or_random texts.salt random)) tree
-      (with_tree algorithm hash_type blocks bytes) y e8
-      (step (ok_or (uuid_or_random texts.uuid random) option.BadUuid) uuid
-      (with_uuid algorithm hash_type tree blocks bytes) y e9
-      (step (ok_or (multiple_of (offset_unit (not texts.no_superblock) tree.hash_block) bytes) option.BadHashOffset)
-      offset (with_offset algorithm hash_type tree blocks uuid) y e10
-      (step (accepted_plan texts.same_file offset
-      (plan_at tree (unwrap_or blocks (size / tree.data_block)) offset (not texts.no_superblock))) plan
-      (with_plan algorithm hash_type uuid offset) y e11
-      (step (ok_or (root_if_given algorithm texts.root) option.BadRoot) root (with_root hash_type uuid offset plan) y e12
-      refl)))))))))))
 
 -- ---- the parts of settings
 
@@ -256,15 +98,17 @@ numbered : (name : OptionName) (default n : ℕ) → n < 2 ^ 64
 numbered name default n small = ap (λ (o : Option ℕ). ok_or o (option.BadNumber name)) (number-back n small)
 
 -- a tree's settings from their parts
-tree-back : (s : SettingsFields) → AreWhole s
+tree-back : (s : SettingsFields) → AreValid s
     → tree_of s.plan.settings.algorithm s.hash_type s.plan.settings.data_block s.plan.settings.hash_block
     (Some s.plan.settings.salt) ≡ chosen s.plan.settings
-tree-back s whole =
+tree-back s valid =
     let t = s.plan.settings in
     let given = Some t.salt in
-    let least = least-verity t.rule s.hash_type (digest_len t) whole.agree.of_type in
-    let of_data = size-back t.data_block (least_block t.rule (digest_len t)) least whole.planned.valid.data_size in
-    let of_hash = size-back t.hash_block (least_block t.rule (digest_len t)) least whole.planned.valid.hash_size in
+    let least = least-verity t.rule s.hash_type (digest_len t) valid.agree.of_type in
+    let of_data = size-back t.data_block (least_block t.rule (digest_len t)) least
+    valid.planned.valid.data_block_size in
+    let of_hash = size-back t.hash_block (least_block t.rule (digest_len t)) least
+    valid.planned.valid.hash_block_size in
     let y : Chosen TreeSettingsFields = Ok t in
     step (ok_or (block_size_of t.data_block) (option.BadBlockSize DataBlockSize)) t.data_block
     (tree_by_data t.algorithm s.hash_type t.hash_block given) y
@@ -278,18 +122,18 @@ tree-back s whole =
       salt = t.salt;
       data_block = t.data_block;
       hash_block = t.hash_block;
-    })) (sym whole.agree.of_type)))
+    })) (sym valid.agree.of_type)))
 
 -- a hash offset is a multiple, and below the limit
-offset-back : (s : SettingsFields) → AreWhole s
+offset-back : (s : SettingsFields) → AreValid s
     → multiple_of (offset_unit s.superblock s.plan.settings.hash_block) s.offset ≡ Some s.offset
-offset-back s whole =
+offset-back s valid =
     let test : (s.offset % offset_unit s.superblock s.plan.settings.hash_block == 0) ≡ true =
-    ap (λ (n : ℕ). n == 0) whole.agree.aligned in
+    ap (λ (n : ℕ). n == 0) valid.agree.aligned in
     ap (λ (b : Bool). cond b (Some s.offset) None) test
 
-offset-most : (s : SettingsFields) → AreWhole s → s.offset ≤ most_bytes
-offset-most s whole = by_superblock s.superblock s.plan.settings.hash_block s.plan.base whole.agree.based
+offset-most : (s : SettingsFields) → AreValid s → s.offset ≤ most_bytes
+offset-most s valid = by_superblock s.superblock s.plan.settings.hash_block s.plan.base valid.agree.based
   where
     by_test : (b : Bool) (n : ℕ) (some : Option ℕ) (base : ℕ) → nat_le n most_bytes ≡ b → cond b some None ≡ Some base
         → n ≤ most_bytes
@@ -318,27 +162,23 @@ uuid-back false uuid (Some drawn) long bytes = (random_uuid (take 16 (drop 32 dr
 uuid-back false uuid None long bytes = (no_uuid, (refl, refl))
 
 -- data and hash area don't overlap, if they are in one file
-apart-back : (same_file : Bool) (p : PlanFields) (offset : ℕ) → (same_file ≡ true → p.wanted ≤ offset)
+accepted_plan-back : (same_file : Bool) (p : PlanFields) (offset : ℕ) → (same_file ≡ true → p.wanted ≤ offset)
     → accepted_plan same_file offset (Ok p) ≡ Ok p
-apart-back true p offset apart =
+accepted_plan-back true p offset apart =
     let after : nat_lt offset p.wanted ≡ false = grind (arith, nat_tests, apart refl) in
     ap (λ (b : Bool). cond b (Err option.Overlap) (Ok p)) after
-apart-back false p offset apart = refl
+accepted_plan-back false p offset apart = refl
 
 not-not : (b : Bool) → not (not b) ≡ b
 not-not true = refl
 not-not false = refl
 
-both_true : (x y : Bool) → (x && y) ≡ true → (x ≡ true) × (y ≡ true)
-both_true true y e = (refl, e)
-both_true false y e = cc
-
 size-small : (least size : ℕ) → is_block_size least size ≡ true → size < 2 ^ 64
 size-small least size right =
     let within : (nat_le least size && nat_le size 524288) ≡ true =
-    (both_true (is_power_of_two size) (nat_le least size && nat_le size 524288) right).1 in
+    (and_parts (is_power_of_two size) (nat_le least size && nat_le size 524288) right).1 in
     let most : size ≤ 524288 =
-    leb-true size 524288 (both_true (nat_le least size) (nat_le size 524288) within).1 in
+    leb-true size 524288 (and_parts (nat_le least size) (nat_le size 524288) within).1 in
     omega (arith, most)
 
 type-small : (hash_type : HashType) → type_number hash_type < 2 ^ 64
@@ -356,38 +196,38 @@ blocks-small p planned =
 
 -- ---- what a report prints
 
-pub printed-back : (s : SettingsFields) (same_file : Bool) (size : ℕ) (random : Option (List ℕ)) → AreWhole s
+pub printed-back : (s : SettingsFields) (same_file : Bool) (size : ℕ) (random : Option (List ℕ)) → AreValid s
     → IsBytes s.uuid → IsBytes s.plan.settings.salt → (same_file ≡ true → s.plan.wanted ≤ s.offset)
     → settings_of (printed_options (superblock_for s) s.offset s.superblock same_file) size random
     ≡ chosen (without_root s)
-printed-back s same_file size random whole uuid salt apart =
+printed-back s same_file size random valid uuid salt apart =
     let p = s.plan in
     let t = p.settings in
-    let valid = whole.planned.valid in
+    let tree_valid = valid.planned.valid in
     let texts = printed_options (superblock_for s) s.offset s.superblock same_file in
     let e : not (not s.superblock) ≡ s.superblock = not-not s.superblock in
-    let u = uuid-back s.superblock s.uuid random whole.uuid uuid in
+    let u = uuid-back s.superblock s.uuid random valid.uuid uuid in
     let least = least_block t.rule (digest_len t) in
     let short : length t.salt ≤ 256 =
-    omega (arith, valid.salt_most, salt-verity t.rule s.hash_type whole.agree.of_type) in
+    omega (arith, tree_valid.salt_most, salt-verity t.rule s.hash_type valid.agree.of_type) in
     all-steps texts size random (type_number s.hash_type) t.data_block t.hash_block (Some p.blocks) s.offset t.algorithm
     s.hash_type t u.0 s.offset p None
     (numbered Format 1 (type_number s.hash_type) (type-small s.hash_type))
-    (numbered DataBlockSize default_block_size t.data_block (size-small least t.data_block valid.data_size))
-    (numbered HashBlockSize default_block_size t.hash_block (size-small least t.hash_block valid.hash_size))
+    (numbered DataBlockSize default_block_size t.data_block (size-small least t.data_block tree_valid.data_block_size))
+    (numbered HashBlockSize default_block_size t.hash_block (size-small least t.hash_block tree_valid.hash_block_size))
     (ap (λ (o : Option ℕ). ok_or (option_map (λ (n : ℕ). Some n) o) (option.BadNumber DataBlocks))
-    (number-back p.blocks (blocks-small s.plan whole.planned)))
-    (numbered HashOffset 0 s.offset (omega (arith, offset-most s whole)))
+    (number-back p.blocks (blocks-small s.plan valid.planned)))
+    (numbered HashOffset 0 s.offset (omega (arith, offset-most s valid)))
     (ap (λ (o : Option Algorithm). ok_or o option.UnknownHash) (named-back t.algorithm))
     (ap (λ (o : Option HashType). ok_or o option.BadHashType) (numbered-back s.hash_type))
     (ap (tree_of t.algorithm s.hash_type t.data_block t.hash_block) (salt-back t.salt random salt short)
-    ∙ tree-back s whole)
+    ∙ tree-back s valid)
     (ap (λ (o : Option (List ℕ)). ok_or o option.BadUuid) u.1.0)
     (ap (λ (b : Bool). ok_or (multiple_of (offset_unit b t.hash_block) s.offset) option.BadHashOffset) e
-    ∙ ap (λ (o : Option ℕ). ok_or o option.BadHashOffset) (offset-back s whole))
+    ∙ ap (λ (o : Option ℕ). ok_or o option.BadHashOffset) (offset-back s valid))
     (ap (λ (b : Bool). accepted_plan same_file s.offset (plan_at t p.blocks s.offset b)) e
-    ∙ ap (accepted_plan same_file s.offset) (plan-made s whole)
-    ∙ apart-back same_file p s.offset apart)
+    ∙ ap (accepted_plan same_file s.offset) (plan-made s valid)
+    ∙ accepted_plan-back same_file p s.offset apart)
     refl
     ∙ ap (λ (b : Bool). made (superblock_uuid b u.0) b) e
     ∙ ap (λ (found : List ℕ). made found s.superblock) u.1.1
@@ -405,14 +245,15 @@ printed-back s same_file size random whole uuid salt apart =
 -- ---- the options of format, given to verify
 
 -- what makes a tree has its algorithm, and makes it with its own salt too
-tree-same : (algorithm : Algorithm) (hash_type : HashType) (data_size hash_size : ℕ) (given : Option (List ℕ))
-    (tree : TreeSettingsFields) → tree_of algorithm hash_type data_size hash_size given ≡ chosen tree
+tree-same : (algorithm : Algorithm) (hash_type : HashType) (data_block_size hash_block_size : ℕ)
+    (given : Option (List ℕ)) (tree : TreeSettingsFields)
+    → tree_of algorithm hash_type data_block_size hash_block_size given ≡ chosen tree
     → (algorithm ≡ tree.algorithm)
-    × (tree_of algorithm hash_type data_size hash_size (Some tree.salt) ≡ chosen tree)
-tree-same algorithm hash_type data_size hash_size given tree e =
-    let of_data = unstep (ok_or (block_size_of data_size) (option.BadBlockSize DataBlockSize))
-    (tree_by_data algorithm hash_type hash_size given) tree e in
-    let of_hash = unstep (ok_or (block_size_of hash_size) (option.BadBlockSize HashBlockSize))
+    × (tree_of algorithm hash_type data_block_size hash_block_size (Some tree.salt) ≡ chosen tree)
+tree-same algorithm hash_type data_block_size hash_block_size given tree e =
+    let of_data = unstep (ok_or (block_size_of data_block_size) (option.BadBlockSize DataBlockSize))
+    (tree_by_data algorithm hash_type hash_block_size given) tree e in
+    let of_hash = unstep (ok_or (block_size_of hash_block_size) (option.BadBlockSize HashBlockSize))
     (tree_by_hash algorithm hash_type given of_data.0) tree of_data.1.1 in
     let of_salt = unstep (ok_or given option.BadSalt) (tree_with algorithm hash_type of_data.0 of_hash.0) tree
     of_hash.1.1 in
@@ -422,7 +263,7 @@ tree-same algorithm hash_type data_size hash_size given tree e =
     let own : given ≡ Some tree.salt =
     given-chosen given option.BadSalt of_salt.0 of_salt.1.0 ∙ ap (λ (xs : List ℕ). Some xs) salt in (
       ap (λ (t : TreeSettingsFields). t.algorithm) one,
-      ap (tree_of algorithm hash_type data_size hash_size) (sym own) ∙ e,
+      ap (tree_of algorithm hash_type data_block_size hash_block_size) (sym own) ∙ e,
     )
   where
     tree_part : ℕ → ℕ → List ℕ → TreeSettingsFields
@@ -473,20 +314,22 @@ pub verified-options : (texts : OptionTexts) (size last : ℕ) (given : Option (
     × ((again.plan ≡ s.plan) × (again.root ≡ Some root)))
 verified-options texts size last given random s digits root planned agree bytes read made blocks_given =
     let format = unstep (number_option Format 1 texts.format) (with_format texts size random) s made in
-    let data_size = unstep (number_option DataBlockSize default_block_size texts.data_block_size)
-    (with_data_size texts size random format.0) s format.1.1 in
-    let hash_size = unstep (number_option HashBlockSize default_block_size texts.hash_block_size)
-    (with_hash_size texts size random format.0 data_size.0) s data_size.1.1 in
+    let data_block_size = unstep (number_option DataBlockSize default_block_size texts.data_block_size)
+    (with_data_block_size texts size random format.0) s format.1.1 in
+    let hash_block_size = unstep (number_option HashBlockSize default_block_size texts.hash_block_size)
+    (with_hash_block_size texts size random format.0 data_block_size.0) s data_block_size.1.1 in
     let blocks = unstep (ok_or (number_if_given texts.data_blocks) (option.BadNumber DataBlocks))
-    (with_blocks texts size random format.0 data_size.0 hash_size.0) s hash_size.1.1 in
+    (with_blocks texts size random format.0 data_block_size.0 hash_block_size.0) s hash_block_size.1.1 in
     let offset_bytes = unstep (number_option HashOffset 0 texts.hash_offset)
-    (with_bytes texts size random format.0 data_size.0 hash_size.0 blocks.0) s blocks.1.1 in
+    (with_bytes texts size random format.0 data_block_size.0 hash_block_size.0 blocks.0) s blocks.1.1 in
     let algorithm = unstep (ok_or (algorithm_or_default texts.hash) option.UnknownHash)
-    (with_algorithm texts size random format.0 data_size.0 hash_size.0 blocks.0 offset_bytes.0) s offset_bytes.1.1 in
+    (with_algorithm texts size random format.0 data_block_size.0 hash_block_size.0 blocks.0 offset_bytes.0) s
+    offset_bytes.1.1 in
     let hash_type = unstep (ok_or (type_of_number format.0) option.BadHashType)
-    (with_type texts size random data_size.0 hash_size.0 blocks.0 offset_bytes.0 algorithm.0) s algorithm.1.1 in
+    (with_type texts size random data_block_size.0 hash_block_size.0 blocks.0 offset_bytes.0 algorithm.0) s
+    algorithm.1.1 in
     let tree = unstep
-    (tree_of algorithm.0 hash_type.0 data_size.0 hash_size.0 (salt_or_random texts.salt random))
+    (tree_of algorithm.0 hash_type.0 data_block_size.0 hash_block_size.0 (salt_or_random texts.salt random))
     (with_tree texts size random algorithm.0 hash_type.0 blocks.0 offset_bytes.0) s hash_type.1.1 in
     let uuid = unstep (ok_or (uuid_or_random texts.uuid random) option.BadUuid)
     (with_uuid texts size random algorithm.0 hash_type.0 tree.0 blocks.0 offset_bytes.0) s tree.1.1 in
@@ -509,13 +352,13 @@ verified-options texts size last given random s digits root planned agree bytes 
     let same : plan.0 ≡ s.plan =
     ap (λ (v : SettingsFields). v.plan) (one-chosen (found own_root.0 uuid.0) s own_root.1.1) in
     let from : Ok plan.0 ≡ plan_at tree.0 count offset.0 b =
-    apart-is texts.same_file offset.0 (plan_at tree.0 count offset.0 b) plan.0 (sym plan.1.0) in
+    accepted_plan-is texts.same_file offset.0 (plan_at tree.0 count offset.0 b) plan.0 (sym plan.1.0) in
     let planned_from =
     plan_is tree.0 count (base_of offset.0 b tree.0.hash_block) plan.0 from in
     let tree_is : tree.0 ≡ s.plan.settings =
     sym (ap (λ (p : PlanFields). p.settings) planned_from.plan_is) ∙ ap (λ (p : PlanFields). p.settings) same in
-    let own = tree-same algorithm.0 hash_type.0 data_size.0 hash_size.0 (salt_or_random texts.salt random) tree.0
-    tree.1.0 in
+    let own = tree-same algorithm.0 hash_type.0 data_block_size.0 hash_block_size.0 (salt_or_random texts.salt random)
+    tree.0 tree.1.0 in
     let named : algorithm.0 ≡ s.plan.settings.algorithm =
     own.0 ∙ ap (λ (t : TreeSettingsFields). t.algorithm) tree_is in
     let short : length s.plan.settings.salt ≤ 256 =
@@ -532,10 +375,10 @@ verified-options texts size last given random s digits root planned agree bytes 
     let options = verify_options texts given s.plan.settings.salt digits in (
       found (Some root) id.0,
       (
-        all-steps options last None format.0 data_size.0 hash_size.0 again.0 offset_bytes.0 algorithm.0 hash_type.0 tree.0
-            id.0 offset.0 plan.0 (Some root) format.1.0 data_size.1.0 hash_size.1.0 again.1.0 offset_bytes.1.0
-            algorithm.1.0 hash_type.1.0
-            (ap (tree_of algorithm.0 hash_type.0 data_size.0 hash_size.0) salt ∙ own.1)
+        all-steps options last None format.0 data_block_size.0 hash_block_size.0 again.0 offset_bytes.0 algorithm.0
+            hash_type.0 tree.0 id.0 offset.0 plan.0 (Some root) format.1.0 data_block_size.1.0 hash_block_size.1.0
+            again.1.0 offset_bytes.1.0 algorithm.1.0 hash_type.1.0
+            (ap (tree_of algorithm.0 hash_type.0 data_block_size.0 hash_block_size.0) salt ∙ own.1)
             (ap (λ (o : Option (List ℕ)). ok_or o option.BadUuid) id.1)
             offset.1.0
             (ap (λ (n : ℕ). accepted_plan false offset.0 (plan_at tree.0 n offset.0 b)) (again.1.1 ∙ sym counted)

@@ -1,6 +1,7 @@
--- What a writer holds after nothing was written, or after format printed its report.
-use Rattle.std.proofs.Common.{◌∙◌, ℕ, List, Option, Some, None, Result, Ok, Err, [], append-nil, refl, sym, take}
+-- What a writer holds after format printed its report.
+use Rattle.std.proofs.Common.{ℕ, List, Option, Result, Ok, Err, [], take}
 use Rattle.std.specs.Io.KnownBytes.{Keeps}
+use Rattle.command_line.proofs.Prefixes.{appends_kept}
 use Rattle.command_line.specs.Writing.{WritesText}
 use Rattle.command_line.specs.declared.writing.print_fault.PrintFault.{PrintFault}
 use Rattle.command_line.specs.declared.writing.print_fault.PrintFault.TheVariants.{Memory, Output}
@@ -9,14 +10,8 @@ use Rattle.veritysetup.specs.Texts.TextChanges.{Grows}
 use Rattle.veritysetup.specs.declared.fault.Fault.{Fault}
 use Rattle.veritysetup.specs.declared.fault.Fault.TheVariants as fault
 
-pub Keeps-refl : (held : Option (List ℕ)) → Keeps held held
-Keeps-refl None = tt
-Keeps-refl (Some bytes) = refl
-
 Keeps-grows : (before after : Option (List ℕ)) → Keeps before after → Grows before after
-Keeps-grows None after kept = ([], tt)
-Keeps-grows (Some xs) None kept = absurd kept
-Keeps-grows (Some xs) (Some ys) kept = ([], kept ∙ sym (append-nil xs))
+Keeps-grows before after kept = ([], appends_kept before after kept)
 
 WritesText-grows : (result : Result (Unit {0}) PrintFault) (text : List ℕ) (before after : Option (List ℕ))
     → WritesText result text before after → Grows before after

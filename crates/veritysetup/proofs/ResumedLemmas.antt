@@ -35,8 +35,9 @@ use Rattle.veritysetup.specs.declared.options.option_fault.OptionFault.TheVarian
 use Rattle.veritysetup.specs.declared.runs.format.Formatted.{Formatted}
 use Rattle.veritysetup.specs.declared.runs.verify_input.VerifyInput.{VerifyInput}
 use Rattle.veritysetup.specs.declared.runs.verify_input.VerifyInput.TheVariants.{Stored, Given}
-use Rattle.veritysetup.proofs.FormattedLemmas.{AreWhole, beside-superblock, beside-tree, formatted-no_longer}
-use Rattle.veritysetup.proofs.FormattedLemmas.{formatted-no_shorter, formatted-others, superblock-before}
+use Rattle.veritysetup.proofs.FormattedLemmas.{beside-superblock, beside-tree, formatted-no_longer}
+use Rattle.veritysetup.proofs.FormattedLemmas.{formatted-no_shorter, formatted-others}
+use Rattle.veritysetup.proofs.SettingsLemmas.{AreValid, superblock-before}
 
 -- ---- a write into what format writes
 
@@ -48,7 +49,7 @@ pub keeps-refl : (s : SettingsFields) (device : List ℕ) → KeepsOthers s devi
 keeps-refl s device = record {
   others = λ i miss. refl;
   no_shorter = omega arith;
-  no_longer = λ i past none. past;
+  no_longer = λ i past unwritten. past;
 }
 
 -- a failed write into such a range keeps the others
@@ -57,16 +58,16 @@ spoiled-keeps : (s : SettingsFields) (before device after : List ℕ) (at c : �
 spoiled-keeps s before device after at c some own kept spoiled = record {
   others = λ i miss. spoiled.outside i (own i miss) ∙ kept.others i miss;
   no_shorter = omega (arith, spoiled.no_shorter, kept.no_shorter);
-  no_longer = λ i past none.
+  no_longer = λ i past unwritten.
       let last = at + c - 1 in
       let ends : at + c ≤ i = elim (cases_lt i (at + c)) [
         | inr fits ↦ fits
-        | inl below ↦ elim (own last (none last (omega (arith, below)))) [
+        | inl below ↦ elim (own last (unwritten last (omega (arith, below)))) [
           | inl low ↦ absurd (omega (arith, low, some))
           | inr high ↦ absurd (omega (arith, high, some))
         ]
       ] in
-      omega (arith, spoiled.no_longer, kept.no_longer i past none, ends);
+      omega (arith, spoiled.no_longer, kept.no_longer i past unwritten, ends);
 }
 
 -- a write does to the others what a failed one may
@@ -82,14 +83,14 @@ put-spoils device at bytes n long = record {
 -- ---- some blocks of the tree
 
 -- what each write of a hash block keeps, writing these keeps
-blocks-keep : (P : List ℕ → Type 0) (s : SettingsFields) (source : List ℕ) → AreWhole s
+blocks-keep : (P : List ℕ → Type 0) (s : SettingsFields) (source : List ℕ) → AreValid s
     → ((l j : ℕ) → HasBlock s.plan l j → (block device : List ℕ) → length block ≡ s.plan.settings.hash_block → P device
     → P (put device (start_byte_of s.plan l j) block))
     → (done : List BlockIndex) → ((l j : ℕ) → 0 < times l j done → HasBlock s.plan l j) → (device : List ℕ) → P device
     → P (device_with s.plan.settings (data_blocks s.plan source) s.plan.base done device)
 unfolding device_with
-blocks-keep P s source whole each [] own device so = so
-blocks-keep P s source whole each (next ∷ rest) own device so =
+blocks-keep P s source valid each [] own device so = so
+blocks-keep P s source valid each (next ∷ rest) own device so =
     let tree = s.plan.settings in
     let blocks = data_blocks s.plan source in
     let many : length blocks ≡ s.plan.blocks = length-cut tree s.plan.blocks s.plan.wanted source in
@@ -97,9 +98,9 @@ blocks-keep P s source whole each (next ∷ rest) own device so =
     let j = next.index in
     let block = tree_block tree blocks l j in
     let here = own l j (times-first next rest) in
-    let long = length-tree_block tree blocks l j (fan-fits tree whole.planned.valid)
+    let long = length-tree_block tree blocks l j (fan-fits tree valid.planned.valid)
     (subst (λ (n : ℕ). IsTreeBlock (fan tree) n l j) (sym many) here) in
-    blocks-keep P s source whole each rest (λ m k some. own m k (omega (arith, some, times-more m k next rest)))
+    blocks-keep P s source valid each rest (λ m k some. own m k (omega (arith, some, times-more m k next rest)))
     (put device (start_byte tree (length blocks) s.plan.base l j) block)
     (subst (λ (n : ℕ). P (put device (start_byte tree n s.plan.base l j) block)) (sym many)
     (each l j here block device long so))
@@ -114,14 +115,14 @@ block-own s l j here i miss =
       | inr past ↦ inr (omega (arith, past, within.1))
     ]
 
-some-keep : (s : SettingsFields) (source before : List ℕ) (done : List BlockIndex) → AreWhole s
+some-keep : (s : SettingsFields) (source before : List ℕ) (done : List BlockIndex) → AreValid s
     → ((l j : ℕ) → 0 < times l j done → HasBlock s.plan l j)
     → KeepsOthers s before (device_with s.plan.settings (data_blocks s.plan source) s.plan.base done before)
-some-keep s source before done whole own =
-    blocks-keep (KeepsOthers s before) s source whole
+some-keep s source before done valid own =
+    blocks-keep (KeepsOthers s before) s source valid
     (λ l j here block device long so.
     spoiled-keeps s before device (put device (start_byte_of s.plan l j) block) (start_byte_of s.plan l j)
-    s.plan.settings.hash_block (some_hash s.plan whole.planned) (block-own s l j here) so
+    s.plan.settings.hash_block (some_hash s.plan valid.planned) (block-own s l j here) so
     (put-spoils device (start_byte_of s.plan l j) block s.plan.settings.hash_block long))
     done own before (keeps-refl s before)
 
@@ -153,34 +154,34 @@ next-own s done block next =
 -- ---- each outcome
 
 pub outcome-keeps : {X : Type 0} (s : SettingsFields) (source left before between : List ℕ) (outcome : Result X Fault)
-    → AreWhole s → Reads s outcome source left → Writes s (data_blocks s.plan source) outcome before between
+    → AreValid s → Reads s outcome source left → Writes s (data_blocks s.plan source) outcome before between
     → KeepsOthers s before between
-outcome-keeps s source left before between (Err fault.Store) whole read stands =
+outcome-keeps s source left before between (Err fault.Store) valid read stands =
     subst (KeepsOthers s before) (sym stands) (keeps-refl s before)
-outcome-keeps s source left before between (Err (fault.Build (build.SourceShort i))) whole read stands =
+outcome-keeps s source left before between (Err (fault.Build (build.SourceShort i))) valid read stands =
     subst (KeepsOthers s before) (sym stands)
-    (some-keep s source before (closed_after (fan s.plan.settings) s.plan.blocks i) whole
+    (some-keep s source before (closed_after (fan s.plan.settings) s.plan.blocks i) valid
     (closed-own s i (omega (arith, read.below))))
-outcome-keeps s source left before between (Err (fault.Build (build.SourceFailed i))) whole read stands =
+outcome-keeps s source left before between (Err (fault.Build (build.SourceFailed i))) valid read stands =
     subst (KeepsOthers s before) (sym stands)
-    (some-keep s source before (closed_after (fan s.plan.settings) s.plan.blocks i) whole
+    (some-keep s source before (closed_after (fan s.plan.settings) s.plan.blocks i) valid
     (closed-own s i (omega (arith, read.below))))
-outcome-keeps s source left before between (Err (fault.Build (build.DeviceFailed level block))) whole read stands =
+outcome-keeps s source left before between (Err (fault.Build (build.DeviceFailed level block))) valid read stands =
     let own = next-own s stands.done (block_index level block) stands.next in
     spoiled-keeps s before
     (device_with s.plan.settings (data_blocks s.plan source) s.plan.base stands.done before) between
-    (start_byte_of s.plan level block) s.plan.settings.hash_block (some_hash s.plan whole.planned)
-    (block-own s level block own.1) (some-keep s source before stands.done whole own.0) stands.spoiled
-outcome-keeps s source left before between (Err fault.SuperblockUnwritten) whole read stands =
+    (start_byte_of s.plan level block) s.plan.settings.hash_block (some_hash s.plan valid.planned)
+    (block-own s level block own.1) (some-keep s source before stands.done valid own.0) stands.spoiled
+outcome-keeps s source left before between (Err fault.SuperblockUnwritten) valid read stands =
     spoiled-keeps s before (tree_on_device s.plan (data_blocks s.plan source) before) between s.offset 512
     (omega arith) (λ i miss. beside-superblock s i stands.0 miss)
-    (some-keep s source before (closed_after (fan s.plan.settings) s.plan.blocks s.plan.blocks) whole
+    (some-keep s source before (closed_after (fan s.plan.settings) s.plan.blocks s.plan.blocks) valid
     (closed-own s s.plan.blocks (omega arith))) stands.1
-outcome-keeps s source left before between outcome whole read stands =
+outcome-keeps s source left before between outcome valid read stands =
     subst (KeepsOthers s before) (sym stands) (record {
-      others = formatted-others s source before whole;
+      others = formatted-others s source before valid;
       no_shorter = formatted-no_shorter s (data_blocks s.plan source) before;
-      no_longer = formatted-no_longer s source before whole;
+      no_longer = formatted-no_longer s source before valid;
     })
 
 -- formatting a device that keeps the others formats the device before
@@ -189,43 +190,43 @@ pub begun-formatted : (s : SettingsFields) (source before between after : List �
 begun-formatted s source before between after kept formatted = record {
   tree = formatted.tree;
   superblock = formatted.superblock;
-  others = λ i out. formatted.others i out ∙ kept.others i out;
+  others = λ i miss. formatted.others i miss ∙ kept.others i miss;
   no_shorter = omega (arith, kept.no_shorter, formatted.no_shorter);
-  no_longer = λ i past rest. formatted.no_longer i (kept.no_longer i past rest) rest;
+  no_longer = λ i past unwritten. formatted.no_longer i (kept.no_longer i past unwritten) unwritten;
 }
 
 -- ---- no superblock
 
 -- without the superblock its first byte stays zero
-blocks-zero : (s : SettingsFields) (source : List ℕ) (done : List BlockIndex) → AreWhole s → s.superblock ≡ true
+blocks-zero : (s : SettingsFields) (source : List ℕ) (done : List BlockIndex) → AreValid s → s.superblock ≡ true
     → ((l j : ℕ) → 0 < times l j done → HasBlock s.plan l j)
     → get_or (device_with s.plan.settings (data_blocks s.plan source) s.plan.base done []) s.offset 0 ≡ 0
-blocks-zero s source done whole has own =
-    blocks-keep (λ device. get_or device s.offset 0 ≡ 0) s source whole
+blocks-zero s source done valid has own =
+    blocks-keep (λ device. get_or device s.offset 0 ≡ 0) s source valid
     (λ l j here block device long so.
     put-byte device (start_byte_of s.plan l j) block s.offset
-    (inl (omega (arith, (block-within s.plan l j here).0, superblock-before s whole has))) ∙ so)
+    (inl (omega (arith, (block-within s.plan l j here).0, superblock-before s valid has))) ∙ so)
     done own [] refl
 
-begun-zero : (s : SettingsFields) (source left between : List ℕ) (cause : Fault) → AreWhole s → s.superblock ≡ true
+begun-zero : (s : SettingsFields) (source left between : List ℕ) (cause : Fault) → AreValid s → s.superblock ≡ true
     → IsBeforeSuperblock cause → Reads {X = Formatted} s (Err cause) source left
     → Writes {X = Formatted} s (data_blocks s.plan source) (Err cause) [] between → get_or between s.offset 0 ≡ 0
-begun-zero s source left between fault.Store whole has early read stands =
+begun-zero s source left between fault.Store valid has early read stands =
     ap (λ (device : List ℕ). get_or device s.offset 0) stands
-begun-zero s source left between (fault.Build (build.SourceShort i)) whole has early read stands =
+begun-zero s source left between (fault.Build (build.SourceShort i)) valid has early read stands =
     ap (λ (device : List ℕ). get_or device s.offset 0) stands
-    ∙ blocks-zero s source (closed_after (fan s.plan.settings) s.plan.blocks i) whole has
+    ∙ blocks-zero s source (closed_after (fan s.plan.settings) s.plan.blocks i) valid has
     (closed-own s i (omega (arith, read.below)))
-begun-zero s source left between (fault.Build (build.SourceFailed i)) whole has early read stands =
+begun-zero s source left between (fault.Build (build.SourceFailed i)) valid has early read stands =
     ap (λ (device : List ℕ). get_or device s.offset 0) stands
-    ∙ blocks-zero s source (closed_after (fan s.plan.settings) s.plan.blocks i) whole has
+    ∙ blocks-zero s source (closed_after (fan s.plan.settings) s.plan.blocks i) valid has
     (closed-own s i (omega (arith, read.below)))
-begun-zero s source left between (fault.Build (build.DeviceFailed level block)) whole has early read stands =
+begun-zero s source left between (fault.Build (build.DeviceFailed level block)) valid has early read stands =
     let own = next-own s stands.done (block_index level block) stands.next in
     let within = block-within s.plan level block own.1 in
-    stands.spoiled.outside s.offset (inl (omega (arith, within.0, superblock-before s whole has)))
-    ∙ blocks-zero s source stands.done whole has own.0
-begun-zero s source left between other whole has early read stands = absurd early
+    stands.spoiled.outside s.offset (inl (omega (arith, within.0, superblock-before s valid has)))
+    ∙ blocks-zero s source stands.done valid has own.0
+begun-zero s source left between other valid has early read stands = absurd early
 
 -- where the first byte is zero, there is no superblock
 zero-none : (offset : ℕ) (device : List ℕ) (v : SuperblockFields) → get_or device offset 0 ≡ 0
@@ -241,12 +242,12 @@ zero-none offset device v zero said =
     let letter : get_or signature 0 0 ≡ 118 = refl in
     absurd (omega (arith, sym byte ∙ ap (λ (bytes : List ℕ). get_or bytes 0 0) said.signed, zero, letter))
 
-pub begun-unread : (s : SettingsFields) (source left between : List ℕ) (cause : Fault) → AreWhole s
+pub begun-unread : (s : SettingsFields) (source left between : List ℕ) (cause : Fault) → AreValid s
     → s.superblock ≡ true → IsBeforeSuperblock cause → Reads {X = Formatted} s (Err cause) source left
     → Writes {X = Formatted} s (data_blocks s.plan source) (Err cause) [] between → (v : SuperblockFields)
     → IsSuperblock (superblock_at s.offset between) v → ⊥
-begun-unread s source left between cause whole has early read stands v =
-    zero-none s.offset between v (begun-zero s source left between cause whole has early read stands)
+begun-unread s source left between cause valid has early read stands v =
+    zero-none s.offset between v (begun-zero s source left between cause valid has early read stands)
 
 -- verify refuses a device without a superblock
 pub unread-refused : {X : Type 0} (offset : ℕ) (input : VerifyInput) (device source rest : List ℕ)
@@ -270,7 +271,7 @@ unread-refused {X = X} offset (Stored there text) device source rest outcome non
         absurd (never verifies.trusted.fields verifies.trusted.superblock)
     by_outcome (Err fault.SuperblockUnread) verifies called = absurd (called refl)
     by_outcome (Err (fault.Superblock cause)) verifies called = refl
-    by_outcome (Err (fault.Option option.TooLarge)) verifies called =
+    by_outcome (Err fault.HashAreaTooLarge) verifies called =
         absurd (never verifies.0.fields verifies.0.superblock)
     by_outcome (Err (fault.Option option.BadRoot)) verifies called =
         absurd (never verifies.0.fields verifies.0.superblock)

@@ -14,9 +14,9 @@ use Rattle.verity_tree.specs.Comparing as comparing
 use Rattle.verity_tree.specs.declared.comparing.CompareFault.{CompareFault}
 use Rattle.verity_tree.specs.declared.comparing.CompareFault.TheVariants as compare
 use Rattle.veritysetup.specs.Texts.Messages.{build_message, compare_message, incomplete_message, memory_message}
-use Rattle.veritysetup.specs.Texts.Messages.{no_random_message, option_message, super_message, unopened_message}
-use Rattle.veritysetup.specs.Texts.Messages.{unread_superblock_message, unwritten_message, unwritten_output_message}
-use Rattle.veritysetup.specs.Texts.Messages.{unwritten_superblock_message}
+use Rattle.veritysetup.specs.Texts.Messages.{no_random_message, option_message, super_message, too_large_message}
+use Rattle.veritysetup.specs.Texts.Messages.{unopened_message, unread_superblock_message, unwritten_message}
+use Rattle.veritysetup.specs.Texts.Messages.{unwritten_output_message, unwritten_superblock_message}
 use Rattle.veritysetup.specs.declared.fault.Fault.{Fault}
 use Rattle.veritysetup.specs.declared.fault.Fault.TheVariants as fault
 
@@ -65,6 +65,7 @@ status_of fault.NoRandomBytes = status_failed
 status_of (fault.Option cause) = status_refused
 status_of fault.SuperblockUnread = status_failed
 status_of (fault.Superblock cause) = status_refused
+status_of fault.HashAreaTooLarge = status_refused
 status_of fault.Store = status_no_memory
 status_of (fault.Build cause) = status_failed
 status_of (fault.Compare cause) = compare_status cause
@@ -90,6 +91,7 @@ message_of fault.NoRandomBytes = Some no_random_message
 message_of (fault.Option cause) = Some (option_message cause)
 message_of fault.SuperblockUnread = Some unread_superblock_message
 message_of (fault.Superblock cause) = Some (super_message cause)
+message_of fault.HashAreaTooLarge = Some too_large_message
 message_of fault.Store = Some memory_message
 message_of (fault.Build cause) = Some (build_message cause)
 message_of (fault.Compare cause) = Some (compare_message cause)

@@ -9,8 +9,8 @@ use crate::options::option_fault::OptionFault;
 use crate::runs::completed::Completed;
 use crate::texts::messages::{
     CANNOT_OPEN, CANNOT_WRITE, INCOMPLETE_LINE, LINE_END, NO_RANDOM_BYTES, OUT_OF_MEMORY,
-    OUTPUT_UNWRITTEN, SUPERBLOCK_UNREAD, SUPERBLOCK_UNWRITTEN, build_message, compare_message,
-    option_message, super_message,
+    OUTPUT_UNWRITTEN, SUPERBLOCK_UNREAD, SUPERBLOCK_UNWRITTEN, TOO_LARGE, build_message,
+    compare_message, option_message, super_message,
 };
 use command_line::{
     LineFault, PrintFault, WordsFault, not_utf8_message, write_message, write_pieces, write_text,
@@ -52,12 +52,14 @@ pub enum Fault<'a> {
     Unwritten(&'a str),
     /// There are no random bytes.
     NoRandomBytes,
-    /// An option is refused, or the hash area that a superblock describes is too large.
+    /// An option is refused, or the text of a root hash.
     Option(OptionFault),
     /// The superblock could not be read from the device.
     SuperblockUnread,
     /// What the device holds is no superblock.
     Superblock(SuperFault),
+    /// The hash area that the superblock describes is too large.
+    HashAreaTooLarge,
     /// There is no memory for the store.
     Store,
     /// The tree is not built.
@@ -89,6 +91,7 @@ impl Fault<'_> {
             Fault::Option(_) => STATUS_REFUSED,
             Fault::SuperblockUnread => STATUS_FAILED,
             Fault::Superblock(_) => STATUS_REFUSED,
+            Fault::HashAreaTooLarge => STATUS_REFUSED,
             Fault::Store => STATUS_NO_MEMORY,
             Fault::Build(_) => STATUS_FAILED,
             Fault::Compare(fault) => compare_status(fault),
@@ -124,6 +127,7 @@ impl Fault<'_> {
             Fault::Option(fault) => write_message(option_message(alloc, fault), msgs),
             Fault::SuperblockUnread => write_text(SUPERBLOCK_UNREAD, msgs),
             Fault::Superblock(fault) => write_message(super_message(alloc, fault), msgs),
+            Fault::HashAreaTooLarge => write_text(TOO_LARGE, msgs),
             Fault::Store => write_text(OUT_OF_MEMORY, msgs),
             Fault::Build(fault) => write_message(build_message(alloc, fault), msgs),
             Fault::Compare(fault) => write_message(compare_message(alloc, fault), msgs),

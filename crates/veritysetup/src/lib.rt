@@ -10,7 +10,7 @@ mod runs;
 mod texts;
 mod words;
 
-pub use command_line::{ErasingWriter, LineFault, ProgressLine};
+pub use command_line::{ErasingWriter, LineFault, ShownProgress};
 pub use options::hash_offset::offset_of;
 pub use options::option_fault::{OptionFault, OptionName};
 pub use options::raw_options::RawOptions;
@@ -21,9 +21,7 @@ pub use runs::dump::run_dump;
 pub use runs::format::run_format;
 pub use runs::verify::run_verify;
 pub use runs::verify_input::VerifyInput;
-pub use texts::messages::{
-    OUT_OF_MEMORY, build_message, compare_message, option_message, super_message,
-};
+pub use texts::messages::{build_message, compare_message, option_message, super_message};
 pub use texts::reports::{report, report_bare};
 pub use words::command_name::CommandName;
 pub use words::line::Line;

@@ -2,10 +2,10 @@
 #![tactic(auto)]
 
 use std::process::ExitCode;
-use veritysetup::{ErasingWriter, ProgressLine, run_program};
+use veritysetup::{ErasingWriter, ShownProgress, run_program};
 
 fn main(rt: HostRuntime) -> ExitCode {
-    let progress = ProgressLine::new(&rt);
+    let progress = ShownProgress::new(&rt);
     let mut out = ErasingWriter::new(&progress, rt.stdout());
     let mut msgs = ErasingWriter::new(&progress, rt.stderr());
     ExitCode::from(run_program(&rt, &progress, &mut out, &mut msgs))

@@ -1,5 +1,5 @@
 //! Data that grows while it is read, and data that is long.
-use crate::program_runs::{disk_of, run, run_words};
+use crate::program_runs::{disk_of, run, run_with_last};
 use fixtures::{Image, image_17};
 use memory_runtime::Disk;
 use std::alloc::Global;
@@ -35,7 +35,7 @@ fn bytes_that_come_later_are_no_data(rt: HostRuntime) -> Result<(), Fail> {
     for &words in &WORDS {
         for &(length, status, message) in &LENGTHS {
             let disk = growing_disk(alloc, &image, length)?;
-            let output = run(alloc, &disk, words, Some(root.as_bytes()));
+            let output = run_with_last(alloc, &disk, words, Some(root.as_bytes()));
             let differs = output.differs(status, b"", message.as_bytes());
             let grown = disk.bytes_of("data")?;
             let found = (differs, grown.as_slice());
@@ -49,8 +49,8 @@ fn bytes_that_come_later_are_no_data(rt: HostRuntime) -> Result<(), Fail> {
     Ok(())
 }
 
-/// The lengths that data of 8704 bytes is said to have, and the block of 512 bytes before whose end it ends. More blocks
-/// are wanted in each case.
+/// The lengths that data of 8704 bytes is said to have, and the block of 512 bytes before whose end it ends. More
+/// blocks are wanted in each case.
 const ENDS: [(u64, &str); 3] = [
     (8704, "Data ends before the end of block 17.\n"),
     (
@@ -72,7 +72,7 @@ fn a_length_is_taken_as_it_is_said(rt: HostRuntime) -> Result<(), Fail> {
         disk.end_at("data", end)?;
         let words =
             "veritysetup format --salt=- --data-block-size 512 --data-blocks 17592186044417 data new";
-        let output = run_words(alloc, &disk, words);
+        let output = run(alloc, &disk, words);
         let differs = output.differs(4, b"", message.as_bytes());
         assert_eq!(rt; (differs, disk.has("new")?), (None, false), "at {end}");
     }

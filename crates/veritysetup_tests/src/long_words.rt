@@ -1,5 +1,5 @@
 //! Words of more than 1024 bytes, with ample memory: paths, the values of options, and words that are refused.
-use crate::program_runs::{disk_of, run, run_words};
+use crate::program_runs::{disk_of, run, run_with_last};
 use fixtures::{Image, REPORT_17, Report, image_17};
 use memory_runtime::Disk;
 use std::alloc::{AllocError, Global};
@@ -41,17 +41,17 @@ fn first_wrong(
     };
     let text = report.with_root(alloc, image.root.as_slice())?;
     let words = format!(in alloc; "veritysetup format {options} {data} {hash}")?;
-    let output = run_words(alloc, &disk, words.as_str());
+    let output = run(alloc, &disk, words.as_str());
     if let Some(what) = output.differs(0, text.as_bytes(), b"") {
         return Ok(Some(("format", what)));
     }
     let words = format!(in alloc; "veritysetup dump {hash}")?;
-    let output = run_words(alloc, &disk, words.as_str());
+    let output = run(alloc, &disk, words.as_str());
     if let Some(what) = output.differs(0, report.text(alloc)?.as_bytes(), b"") {
         return Ok(Some(("dump", what)));
     }
     let words = format!(in alloc; "veritysetup verify {data} {hash} {root}")?;
-    let output = run_words(alloc, &disk, words.as_str());
+    let output = run(alloc, &disk, words.as_str());
     if let Some(what) = output.differs(0, b"", b"") {
         return Ok(Some(("verify", what)));
     }
@@ -119,7 +119,7 @@ fn long_values_are_refused_with_their_messages(rt: HostRuntime) -> Result<(), Fa
     let long = "ab".repeat(alloc, MANY)?;
     for &(before, after, message) in &REFUSED {
         let words = format!(in alloc; "veritysetup {before}{long}{after}")?;
-        let output = run(alloc, &disk, words.as_str(), None);
+        let output = run(alloc, &disk, words.as_str());
         let differs = output.differs(1, b"", message.as_bytes());
         assert_eq!(rt; differs, None, "at {before}");
     }
@@ -133,7 +133,7 @@ fn a_long_name_stands_in_the_message(rt: HostRuntime) -> Result<(), Fail> {
     let name = "long/".repeat(alloc, MANY)?;
     let words = format!(in alloc; "veritysetup format {name} hash")?;
     let message = format!(in alloc; "Cannot open {name}.\n")?;
-    let output = run(alloc, &disk, words.as_str(), None);
+    let output = run(alloc, &disk, words.as_str());
     assert_eq!(rt; output.differs(4, b"", message.as_bytes()), None);
     Ok(())
 }
@@ -145,7 +145,7 @@ fn a_long_word_that_is_not_utf8_is_refused(rt: HostRuntime) -> Result<(), Fail> 
     let word = vec![in alloc; 0xff_u8; MANY]?;
     let escaped = "\\xff".repeat(alloc, MANY)?;
     let message = format!(in alloc; "error: argument 3 is not UTF-8: {escaped}\n")?;
-    let output = run(
+    let output = run_with_last(
         alloc,
         &disk,
         "veritysetup format data",

@@ -1,13 +1,11 @@
 //! Command lines with every set of a command's options: each is read, and the line holds the values that are given.
+use fixtures::{OptionWords, is_in};
 use std::alloc::{AllocError, Global};
 use std::test::Fail;
 use veritysetup::{CommandName, Line, read_words};
 
-/// An option with its value in two words and in one, and the value.
-type Given = (&'static str, &'static str, &'static str);
-
 /// The options with a value.
-const OPTIONS: [Given; 8] = [
+const OPTIONS: [OptionWords; 8] = [
     ("--hash", "--hash=a1", "a1"),
     ("--format", "--format=b2", "b2"),
     ("--data-block-size", "--data-block-size=c3", "c3"),
@@ -45,13 +43,8 @@ const COMMANDS: [Command; 3] = [
     ),
 ];
 
-/// Whether the option of this number is in a set.
-fn is_in(set: u32, number: usize) -> bool {
-    set & 1_u32.wrapping_shl((number % 32) as u32) != 0
-}
-
-/// How words are put together: whether options stand in the other order, whether they and their values are one word, and
-/// how many files stand before them.
+/// How words are put together: whether options stand in the other order, whether they and their values are one word,
+/// and how many files stand before them.
 type Layout = (bool, bool, usize);
 
 /// Adds the words of an option.
@@ -146,7 +139,7 @@ fn is_read(alloc: Global, command: Command, set: u32, layout: Layout) -> Result<
 
 /// All layouts with these many files before the options, or only the first if `is_large`. The result is the first in
 /// which the words of a set of options aren't read as that.
-fn wrong_layout(
+fn wrong_among(
     alloc: Global,
     command: Command,
     set: u32,
@@ -169,13 +162,14 @@ fn wrong_layout(
 
 /// The first layout in which the words of a set of options aren't read as that. Of a set of more than two options only
 /// one layout is tried.
-fn first_wrong(alloc: Global, command: Command, set: u32) -> Result<Option<Layout>, AllocError> {
-    let files = command.2.len();
+fn wrong_layout(alloc: Global, command: Command, set: u32) -> Result<Option<Layout>, AllocError> {
+    let file_count = command.2.len();
     if set.count_ones() > 2 {
-        return wrong_layout(alloc, command, set, (set as usize) % files.max(1), true);
+        let before = (set as usize) % file_count.max(1);
+        return wrong_among(alloc, command, set, before, true);
     }
-    for before in 0..=files {
-        if let Some(layout) = wrong_layout(alloc, command, set, before, false)? {
+    for before in 0..=file_count {
+        if let Some(layout) = wrong_among(alloc, command, set, before, false)? {
             return Ok(Some(layout));
         }
     }
@@ -198,7 +192,7 @@ fn every_set_of_options_is_read(rt: HostRuntime) -> Result<(), Fail> {
     for &command in &COMMANDS {
         for places in 0..1_u32.wrapping_shl((command.3.len() % 32) as u32) {
             let set = set_of(command, places);
-            let wrong = first_wrong(rt.alloc(), command, set)?;
+            let wrong = wrong_layout(rt.alloc(), command, set)?;
             assert_eq!(rt; wrong, None, "at {}, {set:b}", command.1);
         }
     }

@@ -1,13 +1,11 @@
 //! The progress line of long work: it is shown only on a terminal, and erased before anything else is written there.
 use crate::program_runs::disk_of;
-use command_line::ProgressReader;
 use fixtures::{is_plain, shown_before};
 use memory_runtime::{Disk, MemoryRuntime, StandardError};
 use std::alloc::Global;
 use std::io;
-use std::io::Read;
 use std::test::Fail;
-use veritysetup::{ErasingWriter, ProgressLine, run_program};
+use veritysetup::{ErasingWriter, ShownProgress, run_program};
 
 /// A quarter of a MiB.
 const QUARTER: usize = 1 << 18;
@@ -26,7 +24,7 @@ fn written(
     let before = disk.standard_error()?.len();
     let mut runtime = MemoryRuntime::new(alloc, disk, words);
     runtime.step = step;
-    let progress = ProgressLine::new(&runtime);
+    let progress = ShownProgress::new(&runtime);
     let mut out = ErasingWriter::new(&progress, StandardError::new(disk));
     let mut msgs = ErasingWriter::new(&progress, StandardError::new(disk));
     let status = run_program(&runtime, &progress, &mut out, &mut msgs);
@@ -137,39 +135,5 @@ fn a_terminal_is_told_how_far_it_is(rt: HostRuntime) -> Result<(), Fail> {
     }
     // Each of the runs asks once whether standard error is a terminal.
     assert_eq!(rt; disk.looks()?, 18);
-    Ok(())
-}
-
-/// A reader that never ends, and leaves the buffer as it is.
-#[derive(Drop)]
-struct Endless;
-
-impl Read for Endless {
-    fn read(&mut self, buf: &mut [u8]) -> io::Result<usize> {
-        Ok(buf.len())
-    }
-}
-
-/// What a terminal gets during the reading of 5000 MiB, if the line comes every 1200 MiB.
-const LINES: &str =
-    "\r24%, 1200 of 5000 MiB, 2400 MiB/s\x1b[K\r48%, 2400 of 5000 MiB, 2400 MiB/s\x1b[K\r72%, 3600 of 5000 MiB, 2400 MiB/s\x1b[K\r96%, 4800 of 5000 MiB, 2400 MiB/s\x1b[K";
-
-/// Reads 5000 MiB, which are stored nowhere, 8 MiB in each call.
-#[test]
-fn more_than_four_gib_are_shown_in_mib(rt: HostRuntime) -> Result<(), Fail> {
-    let alloc = rt.alloc();
-    let disk = Disk::new(alloc);
-    let mut runtime = MemoryRuntime::new(alloc, &disk, "");
-    runtime.step = Some(1200 << 20);
-    let progress = ProgressLine::new(&runtime);
-    let mut reader = ProgressReader::new(Endless, 5000 << 20, &progress);
-    let mut buffer = vec![in alloc; 0u8; 8 << 20]?;
-    let mut length = 0_usize;
-    for _ in 0..625 {
-        length = length.saturating_add(reader.read(buffer.as_mut_slice())?);
-    }
-    let shown = disk.standard_error()?;
-    let found = (length, shown.as_slice());
-    assert_eq!(rt; found, (5000 << 20, LINES.as_bytes()));
     Ok(())
 }

@@ -1,5 +1,5 @@
 //! The salt and the UUID that format draws if they aren't given: both come from a generator of the crate `rand` that is
-//! seeded with 32 bytes of the system.
+//! seeded with 32 bytes of the system. Without these there is no hash device.
 use crate::program_runs::{disk_of, output_of};
 use fixtures::{Image, REPORT_17, Report, RunOutput, UUID, UUID_AT, data, image_of, lay};
 use memory_runtime::{Disk, MemoryRuntime};
@@ -178,6 +178,23 @@ fn salt_and_uuid_are_drawn_by_a_seed_of_32_bytes(rt: HostRuntime) -> Result<(), 
             let wrong = first_wrong(rt.alloc(), seed, options)?;
             assert_eq!(rt; wrong, None, "at {seed:?}, {options:?}");
         }
+    }
+    Ok(())
+}
+
+#[test]
+fn no_random_bytes_make_no_file(rt: HostRuntime) -> Result<(), Fail> {
+    let alloc = rt.alloc();
+    let disk = disk_of(alloc, &[5; 8192])?;
+    for &words in &[
+        "veritysetup format data hash",
+        "veritysetup format --salt ab data hash",
+        "veritysetup format --uuid 00112233-4455-4677-8899-aabbccddeeff data hash",
+    ] {
+        let output = run_with_random(alloc, &disk, words, &[]);
+        let differs = output.differs(4, b"", b"Cannot get random bytes.\n");
+        let found = (differs, disk.has("hash")?);
+        assert_eq!(rt; found, (None, false), "at {words}");
     }
     Ok(())
 }

@@ -1,5 +1,5 @@
 //! Command lines that are refused, with which text.
-use crate::program_runs::{disk_of, run};
+use crate::program_runs::{disk_of, run_with_last};
 use std::alloc::Global;
 use std::test::Fail;
 use veritysetup::{LineFault, read_words};
@@ -91,7 +91,7 @@ fn refused_words_open_no_file(rt: HostRuntime) -> Result<(), Fail> {
     assert!(rt; is_refused_without_words(alloc));
     let disk = disk_of(alloc, &[5; 8192])?;
     for &(words, last_word, message) in &REFUSED {
-        let output = run(alloc, &disk, words, last_word);
+        let output = run_with_last(alloc, &disk, words, last_word);
         let differs = output.differs(1, b"", message.as_bytes());
         assert_eq!(rt; differs, None, "at {words}");
     }

@@ -96,7 +96,7 @@ fn each_refused_option_has_its_message(rt: HostRuntime) -> Result<(), Fail> {
     let disk = disk_of(alloc, &[5; 8192])?;
     for &(words, message) in &REFUSED {
         let line = format!(in alloc; "veritysetup {words}")?;
-        let output = run(alloc, &disk, line.as_str(), None);
+        let output = run(alloc, &disk, line.as_str());
         let found = (
             output.differs(1, b"", message.as_bytes()),
             disk.has("hash")?,

@@ -1,5 +1,5 @@
 //! The reports of format and dump by each hash function and hash type, with a superblock and without.
-use crate::program_runs::{disk_of, run, run_words};
+use crate::program_runs::{disk_of, run};
 use fixtures::{REPORT_17, Report, Shape, Tree, data, superblock, with_zeros};
 use memory_runtime::Disk;
 use std::alloc::{AllocError, Global};
@@ -29,12 +29,7 @@ const SALT: [u8; 2] = [0xab, 0xcd];
 fn tree_of(alloc: Global, row: Row) -> Result<Tree, AllocError> {
     let (algorithm, _, hash_type, slots) = row;
     let mut shape = Shape::new(alloc, algorithm, (512, 512), slots);
-    let salt = Vec::from_slice(alloc, &SALT)?;
-    if hash_type == 0 {
-        shape.after = salt;
-    } else {
-        shape.before = salt;
-    }
+    shape.set_salt(hash_type, Vec::from_slice(alloc, &SALT)?);
     shape.tree(alloc, data(alloc, 8704)?.as_slice(), 2)
 }
 
@@ -90,7 +85,7 @@ fn wrong_format(
 ) -> Result<Option<&'static str>, Fail> {
     let words = words_of_format(alloc, row, has_superblock)?;
     let text = report_of(row, has_superblock).with_root(alloc, tree.root.as_slice())?;
-    let output = run(alloc, disk, words.as_str(), None);
+    let output = run(alloc, disk, words.as_str());
     if let Some(what) = output.differs(0, text.as_bytes(), b"") {
         return Ok(Some(what));
     }
@@ -130,11 +125,11 @@ fn first_wrong(
         return Ok(Some(("format", what)));
     }
     let words = words_of_verify(alloc, row, tree.root.as_slice(), has_superblock)?;
-    let verify = run_words(alloc, &disk, words.as_str());
+    let verify = run(alloc, &disk, words.as_str());
     if let Some(what) = verify.differs(0, b"", b"") {
         return Ok(Some(("verify", what)));
     }
-    let dump = run_words(alloc, &disk, "veritysetup dump hash");
+    let dump = run(alloc, &disk, "veritysetup dump hash");
     let differs = if has_superblock {
         let text = report_of(row, true).text(alloc)?;
         dump.differs(0, text.as_bytes(), b"")

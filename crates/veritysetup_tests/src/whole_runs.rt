@@ -1,6 +1,6 @@
 //! Whole runs of each command over files in memory: of a small image, in a file and on a block device, and of one with
 //! the largest blocks, the longest salt and the longest path.
-use crate::program_runs::{disk_of, run, run_words};
+use crate::program_runs::{disk_of, run};
 use fixtures::{Image, REPORT_17, Report, image_17, image_of, with_zeros};
 use memory_runtime::Kind;
 use std::alloc::{AllocError, Global};
@@ -24,11 +24,11 @@ fn check_image<R: Abort + AllocGlobal>(
     let root = hex::encode(alloc, image.root.as_slice())?;
     let words = format!(in alloc; "veritysetup format {options} data {path}")?;
     let made = format!(in alloc; "{text}Root hash:       \t{root}\n")?;
-    let format = run(alloc, &disk, words.as_str(), None).differs(0, made.as_bytes(), b"");
+    let format = run(alloc, &disk, words.as_str()).differs(0, made.as_bytes(), b"");
     let words = format!(in alloc; "veritysetup dump {path}")?;
-    let dump = run(alloc, &disk, words.as_str(), None).differs(0, text.as_bytes(), b"");
+    let dump = run(alloc, &disk, words.as_str()).differs(0, text.as_bytes(), b"");
     let words = format!(in alloc; "veritysetup verify data {path} {root}")?;
-    let verify = run(alloc, &disk, words.as_str(), None).differs(0, b"", b"");
+    let verify = run(alloc, &disk, words.as_str()).differs(0, b"", b"");
     let device = disk.bytes_of(path)?;
     let found = (format, dump, verify, device.as_slice());
     assert_eq!(rt; found, (None, None, None, image.device.as_slice()));
@@ -73,15 +73,15 @@ fn data_and_hash_area_may_be_in_one_file(rt: HostRuntime) -> Result<(), Fail> {
     let words = format!(in alloc;
         "veritysetup format {SMALL} --data-blocks 17 --hash-offset 8704 data data"
     )?;
-    let format = run_words(alloc, &disk, words.as_str()).differs(0, made.as_bytes(), b"");
+    let format = run(alloc, &disk, words.as_str()).differs(0, made.as_bytes(), b"");
     let whole = with_zeros(alloc, &[image.data.as_slice(), image.device.as_slice()], 0)?;
     assert_eq!(rt; (format, disk.bytes_of("data")?), (None, whole));
     let text = report.text(alloc)?;
-    let dump = run_words(alloc, &disk, "veritysetup dump --hash-offset 8704 data");
+    let dump = run(alloc, &disk, "veritysetup dump --hash-offset 8704 data");
     assert_eq!(rt; dump.differs(0, text.as_bytes(), b""), None);
     let root = hex::encode(alloc, image.root.as_slice())?;
     let words = format!(in alloc; "veritysetup verify --hash-offset 8704 data data {root}")?;
-    let verify = run_words(alloc, &disk, words.as_str());
+    let verify = run(alloc, &disk, words.as_str());
     assert_eq!(rt; verify.differs(0, b"", b""), None);
     Ok(())
 }

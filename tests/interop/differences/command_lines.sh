@@ -147,19 +147,19 @@ done
 
 row 'a character device, such as `/dev/null` or `/dev/zero`, as DATA, or as HASH of `dump` or `verify`'
 both_format
-cp "$hash" "$scratch/image"
+cp "$hash" "$scratch/whole"
 words=(--no-superblock --salt=ab)
 for device in null zero full; do
     rm -f "$hash" "$their_hash"
     ours 1 '' 'No data blocks.' "$veritysetup" format /dev/$device "$hash"
     absent "$row: HASH" "$hash"
-    ours 4 '' 'Data ends before the end of block 0.' "$veritysetup" verify /dev/$device "$scratch/image" "$root"
+    ours 4 '' 'Data ends before the end of block 0.' "$veritysetup" verify /dev/$device "$scratch/whole" "$root"
     ours 1 '' "$(if [ $device = null ]; then echo Superblock is too short.; else echo No verity superblock.; fi)" \
         "$veritysetup" dump /dev/$device
     ours 2 '' any "$veritysetup" verify "${words[@]}" "$data" /dev/$device "$root"
     theirs 4 '' any veritysetup format /dev/$device "$their_hash"
     size 0 "$their_hash"
-    theirs 4 '' any veritysetup verify /dev/$device "$scratch/image" "$root"
+    theirs 4 '' any veritysetup verify /dev/$device "$scratch/whole" "$root"
     theirs 4 '' any veritysetup dump /dev/$device
     theirs 4 '' any veritysetup verify "${words[@]}" "$data" /dev/$device "$root"
 done
@@ -169,7 +169,7 @@ exec 9<>"$scratch/pipe"
 for file in "$scratch/pipe" /dev/full; do
     theirs 4 '' any veritysetup format "${words[@]}" "$one" "$file"
     ours 0 any '' "$veritysetup" format "${words[@]}" "$one" "$file"
-    root=$(sed -n 's/^Root hash:[[:space:]]*//p' "$scratch/.out")
+    root=$(root_in "$scratch/.out")
     theirs 4 '' any veritysetup verify "${words[@]}" "$one" "$file" "$root"
     ours 0 '' '' "$veritysetup" verify "${words[@]}" "$one" "$file" "$root"
 done

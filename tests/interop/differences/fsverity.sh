@@ -5,18 +5,17 @@ input=$scratch/input
 sample 9000 >"$input"
 printf a >"$scratch/first"
 : >"$scratch/empty"
-none=3d248ca542a24fc62d1c43b916eae5016878e2533c88238480b26128a1f1af95
 
 row '`digest` of a pipe'
 # Opened for reading and writing first, so that nobody waits.
-theirs 0 "sha256:$none $scratch/pipe" '' bash -c 'exec 9<>"$1"; fsverity digest "$1"' - "$scratch/pipe"
+theirs 0 "sha256:$DIGEST_OF_EMPTY $scratch/pipe" '' bash -c 'exec 9<>"$1"; fsverity digest "$1"' - "$scratch/pipe"
 ours 1 '' "fsverity: cannot open $scratch/pipe." bash -c 'exec 9<>"$1"; "$2" digest "$1"' - "$scratch/pipe" "$fsverity"
 
 row '`digest` of a block device'
 if has_loops; then
     sample 8704 >"$scratch/contents"
     loop_over "$scratch/contents"
-    theirs 0 "sha256:$none $loop" '' fsverity digest "$loop"
+    theirs 0 "sha256:$DIGEST_OF_EMPTY $loop" '' fsverity digest "$loop"
     expected=$(fsverity digest --compact "$scratch/contents")
     ours 0 "sha256:$expected $loop" '' "$fsverity" digest "$loop"
 else
@@ -25,7 +24,7 @@ fi
 
 row '`digest` of a file of `/proc`'
 for file in /proc/version /proc/self/status; do
-    theirs 0 "sha256:$none $file" '' fsverity digest "$file"
+    theirs 0 "sha256:$DIGEST_OF_EMPTY $file" '' fsverity digest "$file"
     ours 1 '' "fsverity: cannot open $file." "$fsverity" digest "$file"
 done
 
@@ -72,7 +71,7 @@ ours 1 '' 'fsverity: cannot write output.' unread "$fsverity" digest "$input"
 
 row 'an output file that is the input'
 cp "$input" "$scratch/lost"
-theirs 0 "sha256:$none $scratch/lost" '' fsverity digest --out-merkle-tree "$scratch/lost" "$scratch/lost"
+theirs 0 "sha256:$DIGEST_OF_EMPTY $scratch/lost" '' fsverity digest --out-merkle-tree "$scratch/lost" "$scratch/lost"
 size 0 "$scratch/lost"
 cp "$input" "$scratch/kept"
 ours 1 '' "fsverity: cannot open $scratch/kept." "$fsverity" digest --out-merkle-tree "$scratch/kept" "$scratch/kept"

@@ -37,17 +37,17 @@ rm -f "$their_hash"
 
 row 'a tail of DATA that is shorter than a block'
 both_format
-mv "$hash" "$scratch/image"
+mv "$hash" "$scratch/whole"
 { cat "$data" && echo tail; } >"$scratch/longer"
 both 0 any veritysetup format "${fixed[@]}" "$scratch/longer" HASH
-same_bytes "$row: Debian's" "$scratch/image" "$their_hash"
-same_bytes "$row: here" "$scratch/image" "$hash"
+same_bytes "$row: Debian's" "$scratch/whole" "$their_hash"
+same_bytes "$row: here" "$scratch/whole" "$hash"
 
 row 'bytes of HASH outside superblock and tree'
 sample 20000 >"$hash"
 sample 20000 >"$their_hash"
 sample 20000 >"$scratch/expected"
-dd if="$scratch/image" of="$scratch/expected" conv=notrunc status=none
+dd if="$scratch/whole" of="$scratch/expected" conv=notrunc status=none
 # Between superblock and tree they are the old ones too.
 dd if="$hash" of="$scratch/expected" bs=512 skip=1 seek=1 count=7 conv=notrunc status=none
 both 0 any veritysetup format "${fixed[@]}" "$data" HASH
@@ -102,8 +102,8 @@ both 1 '' fsverity digest "$scratch/folder"
 
 row '`fsverity digest` of a character device, such as `/dev/zero`'
 for file in /dev/zero /dev/full /dev/null; do
-    both 0 "sha256:$none $file" fsverity digest "$file"
+    both 0 "sha256:$DIGEST_OF_EMPTY $file" fsverity digest "$file"
 done
 
 row '`fsverity digest` of several files, of which one can'\''t be opened'
-both 1 "sha256:$none $scratch/empty" fsverity digest "$scratch/empty" "$scratch/missing" "$input"
+both 1 "sha256:$DIGEST_OF_EMPTY $scratch/empty" fsverity digest "$scratch/empty" "$scratch/missing" "$input"

@@ -9,18 +9,18 @@ sample 69632 >"$data"
 sample 4096 >"$one"
 fixed=(--salt=ab --uuid "$UUID")
 
-# both_format OPTION..: the two programs' images of the data, which are one; sets `root`.
+# both_format OPTION..: the two programs' hash devices of the data, which are the same; sets `root`.
 both_format() {
     veritysetup format "${fixed[@]}" "$@" "$data" "$their_hash" >"$scratch/their_report"
     "$veritysetup" format "${fixed[@]}" "$@" "$data" "$hash" >"$scratch/report"
-    same_bytes "$row: the image" "$their_hash" "$hash"
-    root=$(sed -n 's/^Root hash:[[:space:]]*//p' "$scratch/report")
+    same_bytes "$row: the hash device" "$their_hash" "$hash"
+    root=$(root_in "$scratch/report")
 }
 
-# with_changed_byte OFFSET HEX TEXT: both dumps refuse the image with this byte: theirs with a text, ours with the one
-# that follows.
+# with_changed_byte OFFSET HEX TEXT: both dumps refuse the hash device with this byte: theirs with a text, ours with
+# the one that follows.
 with_changed_byte() {
-    cp "$scratch/image" "$hash"
+    cp "$scratch/whole" "$hash"
     set_byte "$hash" "$1" "$2"
     theirs 1 '' any veritysetup dump "$hash"
     says "$3"
@@ -176,7 +176,7 @@ says 'Verification failed at position 1536.'
 ours 2 '' 'Verification failed: level 1 block 0, child 1.' "$veritysetup" verify "$data" "$hash" "$root"
 rm "$hash" "$their_hash"
 both_format
-cp "$hash" "$scratch/image"
+cp "$hash" "$scratch/whole"
 cp "$data" "$scratch/changed"
 flip "$scratch/changed" 5000 1
 theirs 2 '' any veritysetup verify "$scratch/changed" "$hash" "$root"
@@ -188,7 +188,7 @@ says 'Verification failed at position 12288.'
 ours 2 '' 'Verification failed: level 0 block 0, child 3.' "$veritysetup" verify "$data" "$hash" "$root"
 
 row '`verify`: a changed byte after the digests of a hash block'
-cp "$scratch/image" "$hash"
+cp "$scratch/whole" "$hash"
 flip "$hash" 8000 1
 theirs 2 '' any veritysetup verify "$data" "$hash" "$root"
 says 'Spare area is not zeroed at position 4640.'
@@ -196,24 +196,24 @@ ours 2 '' 'Verification failed: level 0 block 0, spare bytes.' "$veritysetup" ve
 
 row '`verify`: another root hash'
 zero=$(printf '%064d' 0)
-theirs 1 '' 'Verification of root hash failed.' veritysetup verify "$data" "$scratch/image" "$zero"
-ours 2 '' "Verification failed: root hash is $root." "$veritysetup" verify "$data" "$scratch/image" "$zero"
+theirs 1 '' 'Verification of root hash failed.' veritysetup verify "$data" "$scratch/whole" "$zero"
+ours 2 '' "Verification failed: root hash is $root." "$veritysetup" verify "$data" "$scratch/whole" "$zero"
 
 row '`verify`: HASH ends too early'
 for length in 512 4096 8191; do
-    head -c "$length" "$scratch/image" >"$hash"
+    head -c "$length" "$scratch/whole" >"$hash"
     theirs 1 '' 'Verification of data area failed.' veritysetup verify "$data" "$hash" "$root"
     ours 2 '' 'Verification failed: level 0 block 0 is missing.' "$veritysetup" verify "$data" "$hash" "$root"
 done
 
 row '`verify`: DATA ends too early'
 head -c 65541 "$data" >"$scratch/short"
-theirs 1 '' 'Verification of data area failed.' veritysetup verify "$scratch/short" "$scratch/image" "$root"
-ours 4 '' 'Data ends before the end of block 16.' "$veritysetup" verify "$scratch/short" "$scratch/image" "$root"
+theirs 1 '' 'Verification of data area failed.' veritysetup verify "$scratch/short" "$scratch/whole" "$root"
+ours 4 '' 'Data ends before the end of block 16.' "$veritysetup" verify "$scratch/short" "$scratch/whole" "$root"
 flip "$scratch/short" 9000 1
-theirs 2 '' any veritysetup verify "$scratch/short" "$scratch/image" "$root"
+theirs 2 '' any veritysetup verify "$scratch/short" "$scratch/whole" "$root"
 says 'Verification failed at position 8192.'
-ours 4 '' 'Data ends before the end of block 16.' "$veritysetup" verify "$scratch/short" "$scratch/image" "$root"
+ours 4 '' 'Data ends before the end of block 16.' "$veritysetup" verify "$scratch/short" "$scratch/whole" "$root"
 
 row '`verify` without a superblock and without `--salt`'
 both_format --no-superblock
@@ -226,7 +226,7 @@ ln -s grown "$scratch/grown_link"
 ln "$scratch/grown" "$scratch/grown_hard"
 words=(--no-superblock --salt=ab --hash-offset 69632)
 "$veritysetup" format "${words[@]}" "$scratch/grown" "$scratch/grown" >"$scratch/report"
-root=$(sed -n 's/^Root hash:[[:space:]]*//p' "$scratch/report")
+root=$(root_in "$scratch/report")
 for name in grown grown_link grown_hard; do
     for option in '' '--data-blocks 18'; do
         # shellcheck disable=SC2086
@@ -239,7 +239,7 @@ for name in grown grown_link grown_hard; do
     theirs 0 '' '' veritysetup verify "${words[@]}" --data-blocks 17 "$scratch/grown" "$scratch/$name" "$root"
     ours 0 '' '' "$veritysetup" verify "${words[@]}" --data-blocks 17 "$scratch/grown" "$scratch/$name" "$root"
 done
-root=$("$veritysetup" format --no-superblock --salt=ab "$one" "$hash" | sed -n 's/^Root hash:[[:space:]]*//p')
+root=$("$veritysetup" format --no-superblock --salt=ab "$one" "$hash" | root_in)
 theirs 1 '' any veritysetup verify --no-superblock --salt=ab "$one" "$one" "$root"
 ours 0 '' '' "$veritysetup" verify --no-superblock --salt=ab "$one" "$one" "$root"
 
@@ -265,7 +265,7 @@ with_changed_byte 32 41 'Hash algorithm Aha256 not supported.' 'Superblock hash 
 with_changed_byte 81 02 'VERITY header corrupted.' 'Superblock salt size 513 is not valid.'
 
 row 'a superblock of 0 data blocks'
-cp "$scratch/image" "$hash"
+cp "$scratch/whole" "$hash"
 set_byte "$hash" $DATA_BLOCKS_AT 00
 theirs 0 any '' veritysetup dump "$hash"
 theirs 0 '' '' veritysetup verify "$data" "$hash" "$root"
@@ -273,7 +273,7 @@ refused "$veritysetup" dump "$hash"
 refused "$veritysetup" verify "$data" "$hash" "$root"
 
 row 'a superblock of more data than there can be'
-cp "$scratch/image" "$hash"
+cp "$scratch/whole" "$hash"
 set_byte "$hash" $((DATA_BLOCKS_AT + 7)) 80
 theirs 0 any '' veritysetup dump "$hash"
 ours 1 '' 'Data or hash area is too large.' "$veritysetup" dump "$hash"

@@ -2,8 +2,8 @@
 ghost use Rattle.std.specs.Prelude.{◌≡◌};
 ghost use Rattle.command_line.specs.InnerStreams.{inner_reader};
 
-use crate::progress::progress_line::ProgressLine;
 use crate::progress::progress_runtime::ProgressRuntime;
+use crate::progress::shown_progress::ShownProgress;
 use std::io;
 use std::io::Read;
 use std::time::Instant;
@@ -11,11 +11,11 @@ use std::time::Instant;
 /// How much of a reader's bytes was read.
 #[derive(Drop)]
 struct ReadSoFar<'a, R> {
-    line: &'a ProgressLine<'a, R>,
+    progress: &'a ShownProgress<'a, R>,
     /// How many bytes were read, and how many there are.
     done: u64,
     total: u64,
-    /// After how many bytes the line is written again, and `None` if it is never written.
+    /// After how many bytes the progress line is written again, and `None` if it is never written.
     step: Option<u64>,
     /// After how many bytes in all it is written next.
     next: u64,
@@ -23,14 +23,15 @@ struct ReadSoFar<'a, R> {
 }
 
 impl<'a, R: ProgressRuntime> ReadSoFar<'a, R> {
-    /// Nothing is read yet. The line is written if there is a terminal and there are more bytes than four steps.
-    fn new(line: &'a ProgressLine<'a, R>, total: u64) -> Self {
-        let (step, start) = match line.step() {
-            Some(step) if step.saturating_mul(4) < total => (Some(step), line.now()),
+    /// Nothing is read yet. The progress line is written if there is a terminal and there are more bytes than four
+    /// steps.
+    fn new(progress: &'a ShownProgress<'a, R>, total: u64) -> Self {
+        let (step, start) = match progress.step() {
+            Some(step) if step.saturating_mul(4) < total => (Some(step), progress.now()),
             _ => (None, None),
         };
         ReadSoFar {
-            line,
+            progress,
             done: 0,
             total,
             step,
@@ -47,7 +48,7 @@ impl<'a, R: ProgressRuntime> ReadSoFar<'a, R> {
         self.done = self.done.saturating_add(count as u64);
         if self.done >= self.next {
             self.next = self.done.saturating_add(step);
-            self.line.show(self.done, self.total, self.start);
+            self.progress.show(self.done, self.total, self.start);
         }
     }
 }
@@ -61,13 +62,13 @@ pub struct ProgressReader<'a, R, F> {
 }
 
 impl<'a, R: ProgressRuntime, F: Read> ProgressReader<'a, R, F> {
-    /// A reader of `total` bytes, whose progress is shown on this line.
-    pub fn new(inner: F, total: u64, line: &'a ProgressLine<'a, R>) -> Self
+    /// A reader of `total` bytes, whose progress `progress` shows.
+    pub fn new(inner: F, total: u64, progress: &'a ShownProgress<'a, R>) -> Self
         ensures { inner_reader result ≡ inner }
     {
         ProgressReader {
             inner,
-            so_far: ReadSoFar::new(line, total),
+            so_far: ReadSoFar::new(progress, total),
         }
     }
 }

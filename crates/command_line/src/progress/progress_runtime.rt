@@ -3,13 +3,13 @@
 use std::io::{Eprint, IsTerminal};
 use std::time::Clock;
 
-/// After how many bytes of long work the progress line is written again: 64 MiB.
+/// After how many bytes of long work progress is shown again: 64 MiB.
 const STEP: u64 = 64 << 20;
 
 /// A runtime whose standard error may be a terminal.
 pub trait ProgressRuntime: Clock + Eprint {
-    /// After how many bytes of long work the progress line is written again. `None` if standard error is no terminal:
-    /// then no line is written.
+    /// After how many bytes of long work progress is shown again. `None` if standard error is no terminal: then none is
+    /// shown.
     fn step(&self) -> Option<u64>;
 }
 

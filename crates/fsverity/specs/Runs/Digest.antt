@@ -8,13 +8,14 @@ use Rattle.command_line.specs.Writing.{AppendsPrefix}
 use Rattle.verity_io.specs.Counting.{Counts, CountRose, TheSource, is_call_of}
 use Rattle.verity_plan.specs.Settings.{TreeSettingsFields}
 use Rattle.fsverity.specs.Faults.{run_side}
-use Rattle.fsverity.specs.Runs.Digested.{is_too_large, DigestInput, IsDigestAt, line_at, AreLines}
+use Rattle.fsverity.specs.Runs.Digested.{is_too_large, DigestInput, IsDigestAt, digest_line_at, AreDigestLines}
 use Rattle.fsverity.specs.Texts.Messages.{run_fault_message}
 use Rattle.fsverity.specs.Openers.Opening.{OpenerChange}
 use Rattle.fsverity.specs.declared.runs.digest_fault.DigestFault.TheVariants.{TooLarge, SourceShort, SourceFailed}
 use Rattle.fsverity.specs.declared.runs.digest_fault.DigestFault.TheVariants.{DeviceFailed, Memory}
 use Rattle.fsverity.specs.declared.runs.run_fault.RunFault.{RunFault}
-use Rattle.fsverity.specs.declared.runs.run_fault.RunFault.TheVariants.{NotOpened, Digest, NotWritten}
+use Rattle.fsverity.specs.declared.runs.run_fault.RunFault.TheVariants.{Unopened, Digest, DigestLineMemory}
+use Rattle.fsverity.specs.declared.runs.run_fault.RunFault.TheVariants.{DigestLineUnwritten}
 
 -- the file is there, and not too large
 abbrev pub has_digest : TreeSettingsFields → Option (List ℕ) → Bool
@@ -30,11 +31,11 @@ abbrev pub IsLargeAt : TreeSettingsFields → List (Option (List ℕ)) → ℕ �
 IsLargeAt s files f =
     (bytes : List ℕ) × (slice_get files f ≡ Some (Some bytes)) × (is_too_large s (length bytes) ≡ true)
 
--- why a run ends at file f. NotOpened: f is the first absent file, or a call failed. TooLarge: f is there and too large.
--- SourceShort: only if the bytes aren't told. SourceFailed, Memory, NotWritten: f is there and not too large, and at
--- SourceFailed a call failed. DeviceFailed: never, for there is no device
+-- why a run ends at file f. Unopened: f is the first absent file, or a call failed. TooLarge: f is there and too large.
+-- SourceShort: only if the bytes aren't told. SourceFailed, Memory, DigestLineMemory, DigestLineUnwritten: f is there
+-- and not too large, and at SourceFailed a call failed. DeviceFailed: never, for there is no device
 abbrev pub HasReason : TreeSettingsFields → OpenerChange → ℕ → RunFault → Type 0
-HasReason s opener f NotOpened =
+HasReason s opener f Unopened =
     (opener.told × (slice_get opener.files f ≡ Some None) × (first_without_digest s opener.files ≡ f))
     ⊎ CountRose opener.failures_before opener.failures_after
 HasReason s opener f (Digest TooLarge) =
@@ -44,19 +45,21 @@ HasReason s opener f (Digest (SourceFailed i)) =
     (opener.told → f < first_without_digest s opener.files) × CountRose opener.failures_before opener.failures_after
 HasReason s opener f (Digest (DeviceFailed level block)) = ⊥
 HasReason s opener f (Digest Memory) = opener.told → f < first_without_digest s opener.files
-HasReason s opener f NotWritten = opener.told → f < first_without_digest s opener.files
+HasReason s opener f DigestLineMemory = opener.told → f < first_without_digest s opener.files
+HasReason s opener f DigestLineUnwritten = opener.told → f < first_without_digest s opener.files
 
 -- what is written of the line of file f, at which a run ended: if a write failed its first bytes, fewer than all, and
 -- otherwise nothing
-abbrev pub IsPartOfLine : DigestInput → Type 0 → List (Option (List ℕ)) → ℕ → RunFault → List ℕ → Type 0
-IsPartOfLine run told files f NotWritten part = (digest : List ℕ) × IsDigestAt run.settings told files f digest
-    × (count : ℕ) × (count < length (line_at run f digest)) × (part ≡ take count (line_at run f digest))
-IsPartOfLine run told files f fault part = part ≡ []
+abbrev pub IsPartOfDigestLine : DigestInput → Type 0 → List (Option (List ℕ)) → ℕ → RunFault → List ℕ → Type 0
+IsPartOfDigestLine run told files f DigestLineUnwritten part = (digest : List ℕ)
+    × IsDigestAt run.settings told files f digest
+    × (count : ℕ) × (count < length (digest_line_at run f digest)) × (part ≡ take count (digest_line_at run f digest))
+IsPartOfDigestLine run told files f fault part = part ≡ []
 
 -- how the opener's count changes with a fault: a failed read raises it by one, and otherwise only a file that is not
 -- opened may raise it
 abbrev pub CountsFault : RunFault → ℕ → ℕ → Type 0
-CountsFault NotOpened before after = before ≤ after
+CountsFault Unopened before after = before ≤ after
 CountsFault fault before after = Counts (is_call_of TheSource (run_side fault)) before after
 
 -- file f ended a run: the next file is after it, and no file before it is absent or too large; the lines of the files
@@ -69,9 +72,9 @@ pub record FailsAt (run : DigestInput) (opener : OpenerChange) (out out' : Optio
   pub reason : HasReason run.settings opener f fault
   pub counted : CountsFault fault opener.failures_before opener.failures_after
   pub lines : List ℕ
-  pub lines_are : AreLines run opener.told opener.files f lines
+  pub lines_are : AreDigestLines run opener.told opener.files f lines
   pub part : List ℕ
-  pub part_is : IsPartOfLine run opener.told opener.files f fault part
+  pub part_is : IsPartOfDigestLine run opener.told opener.files f fault part
   pub written : Appends out out' (lines ++ part)
 
 -- a file ended the run, and its message is written, as far as the writer takes it

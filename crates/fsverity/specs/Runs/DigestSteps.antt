@@ -1,5 +1,5 @@
 -- The steps of a run: the digest of one file, and its line.
--- For the private steps; not needed to read a public contract.
+-- For the private functions; not needed to read a public contract.
 use Rattle.std.specs.Prelude.{◌≡◌, ◌⊎◌, ℕ, ◌<◌, true, List, [], length, take, Option, Some, None, slice_get, Result, Ok}
 use Rattle.std.specs.Prelude.{Err, MatchResult, slice_index_or}
 use Rattle.std.specs.Io.KnownBytes.{Appends, Keeps}
@@ -31,7 +31,7 @@ HasDigestAt s files f = (bytes : List ℕ) × (slice_get files f ≡ Some (Some 
 
 -- why a step ends the run at the file that was next
 abbrev pub StopsStep : TreeSettingsFields → OpenerChange → RunFault → Type 0
-StopsStep s opener fault.NotOpened =
+StopsStep s opener fault.Unopened =
     (opener.told × (slice_get opener.files opener.next_before ≡ Some None))
     ⊎ CountRose opener.failures_before opener.failures_after
 StopsStep s opener (fault.Digest TooLarge) = opener.told → IsLargeAt s opener.files opener.next_before
@@ -40,14 +40,16 @@ StopsStep s opener (fault.Digest (SourceFailed i)) =
     (opener.told → HasDigestAt s opener.files opener.next_before) × CountRose opener.failures_before opener.failures_after
 StopsStep s opener (fault.Digest (DeviceFailed level block)) = ⊥
 StopsStep s opener (fault.Digest Memory) = opener.told → HasDigestAt s opener.files opener.next_before
-StopsStep s opener fault.NotWritten = opener.told → HasDigestAt s opener.files opener.next_before
+StopsStep s opener fault.DigestLineMemory = opener.told → HasDigestAt s opener.files opener.next_before
+StopsStep s opener fault.DigestLineUnwritten = opener.told → HasDigestAt s opener.files opener.next_before
 
 -- what a step writes of the line of file i: all of it, or its first bytes if a write failed; otherwise nothing
 abbrev pub WritesStep : TreeSettingsFields → (List ℕ → List ℕ) → Type 0 → List (Option (List ℕ)) → ℕ → Result (Unit {0}) RunFault
     → Option (List ℕ) → Option (List ℕ) → Type 0
 WritesStep s line_of told files i (Ok done) old new = (digest : List ℕ) × IsDigestAt s told files i digest
     × Appends old new (line_of digest)
-WritesStep s line_of told files i (Err fault.NotWritten) old new = (digest : List ℕ) × IsDigestAt s told files i digest
+WritesStep s line_of told files i (Err fault.DigestLineUnwritten) old new = (digest : List ℕ)
+    × IsDigestAt s told files i digest
     × (count : ℕ) × (count < length (line_of digest)) × Appends old new (take count (line_of digest))
 WritesStep s line_of told files i (Err fault) old new = Keeps old new
 

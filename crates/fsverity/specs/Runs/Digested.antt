@@ -6,7 +6,7 @@ use Rattle.verity_format.specs.Descriptors.{digest_of_file, DescriptorFields}
 use Rattle.verity_tree.specs.Levels.{root_of_file}
 use Rattle.verity_plan.specs.Plans.{plan_for_bytes}
 use Rattle.verity_plan.specs.Settings.{TreeSettingsFields, digest_len}
-use Rattle.fsverity.specs.Texts.Lines.{line}
+use Rattle.fsverity.specs.Texts.Lines.{digest_line}
 use Rattle.fsverity.specs.declared.texts.digest_lines.Form.{Form}
 
 -- the descriptor of so many bytes with this root hash
@@ -36,11 +36,11 @@ pub record IsDigestAt (s : TreeSettingsFields) (told : Type 0) (files : List (Op
       × (root ≡ root_of_file s size bytes)
 
 -- the line of a digest, with the name of this index
-abbrev pub line_at : DigestInput → ℕ → List ℕ → List ℕ
-line_at run i digest = line run.form run.settings.algorithm digest (slice_index_or run.names i [])
+abbrev pub digest_line_at : DigestInput → ℕ → List ℕ → List ℕ
+digest_line_at run i digest = digest_line run.form run.settings.algorithm digest (slice_index_or run.names i [])
 
 -- the text is the lines of the files before this index, in order
-abbrev pub AreLines : DigestInput → Type 0 → List (Option (List ℕ)) → ℕ → List ℕ → Type 0
-AreLines run told files zero text = text ≡ []
-AreLines run told files (suc f) text = (before digest : List ℕ) × AreLines run told files f before
-    × IsDigestAt run.settings told files f digest × (text ≡ before ++ line_at run f digest)
+abbrev pub AreDigestLines : DigestInput → Type 0 → List (Option (List ℕ)) → ℕ → List ℕ → Type 0
+AreDigestLines run told files zero text = text ≡ []
+AreDigestLines run told files (suc f) text = (before digest : List ℕ) × AreDigestLines run told files f before
+    × IsDigestAt run.settings told files f digest × (text ≡ before ++ digest_line_at run f digest)

@@ -13,7 +13,7 @@ use Rattle.fsverity.specs.Faults.{IsTold, result_status, side_of}
 use Rattle.fsverity.specs.Runs.FileDigest.{FaultsIn, Stands, with_tree}
 use Rattle.fsverity.specs.Runs.Digested.{descriptor_of, is_too_large}
 use Rattle.verity_tree.specs.Levels.{root_of_file}
-use Rattle.fsverity.specs.Texts.Lines.{line}
+use Rattle.fsverity.specs.Texts.Lines.{digest_line}
 use Rattle.fsverity.specs.Texts.TextChanges.{OutputChange, WriterChange}
 use Rattle.fsverity.specs.declared.fault.Fault.{Fault}
 use Rattle.fsverity.specs.declared.fault.Fault.TheVariants as ending
@@ -21,7 +21,7 @@ use Rattle.fsverity.specs.declared.runs.digest_fault.DigestFault.{DigestFault}
 use Rattle.fsverity.specs.declared.runs.digest_fault.DigestFault.TheVariants.{TooLarge}
 use Rattle.fsverity.specs.declared.texts.digest_lines.Form.{Form}
 use Rattle.fsverity.specs.declared.runs.output_fault.OutputFault.{OutputFault}
-use Rattle.fsverity.specs.declared.runs.output_fault.OutputFault.TheVariants.{Digest, Descriptor, Line}
+use Rattle.fsverity.specs.declared.runs.output_fault.OutputFault.TheVariants.{Digest, Descriptor, DigestLine}
 
 -- what a run gets beside the file's bytes: the settings, the form of the line, the file's name and its size, and
 -- whether the tree and the descriptor are wanted
@@ -85,19 +85,21 @@ abbrev pub WritesDescriptor : {X : Type 0} → OutputTask → List ℕ → Resul
 WritesDescriptor task root (Ok done) before after = AddsDescriptor task root before after
 WritesDescriptor task root (Err (Digest fault)) before after = Keeps before after
 WritesDescriptor task root (Err (Descriptor count)) before after = AddsPrefix task root count before after
-WritesDescriptor task root (Err (Line fault)) before after = AddsDescriptor task root before after
+WritesDescriptor task root (Err (DigestLine fault)) before after = AddsDescriptor task root before after
 
 -- the line for this root hash
-abbrev pub line_of_root : OutputTask → List ℕ → List ℕ
-line_of_root task root =
-    line task.form task.settings.algorithm (digest_of_file (descriptor_of task.settings task.size root)) task.name
+abbrev pub digest_line_of_root : OutputTask → List ℕ → List ℕ
+digest_line_of_root task root =
+    digest_line task.form task.settings.algorithm (digest_of_file (descriptor_of task.settings task.size root))
+    task.name
 
 -- what is added to out: the line, or only its first bytes if a write fails
-abbrev pub WritesLine : {X : Type 0} → OutputTask → List ℕ → Result X OutputFault → Option (List ℕ) → Option (List ℕ)
-    → Type 0
-WritesLine task root (Ok done) before after = WritesText (Ok tt) (line_of_root task root) before after
-WritesLine task root (Err (Line fault)) before after = WritesText (Err fault) (line_of_root task root) before after
-WritesLine task root outcome before after = Keeps before after
+abbrev pub WritesDigestLine : {X : Type 0} → OutputTask → List ℕ → Result X OutputFault → Option (List ℕ)
+    → Option (List ℕ) → Type 0
+WritesDigestLine task root (Ok done) before after = WritesText (Ok tt) (digest_line_of_root task root) before after
+WritesDigestLine task root (Err (DigestLine fault)) before after =
+    WritesText (Err fault) (digest_line_of_root task root) before after
+WritesDigestLine task root outcome before after = Keeps before after
 
 -- the descriptor and the line have one root hash, of the settings' length; it is the file's if the source tells its
 -- bytes
@@ -107,7 +109,7 @@ pub record WritesOutputs {X : Type 0} (task : OutputTask) (outcome : Result X Ou
   pub root_length : length root ≡ digest_len task.settings
   pub root_is : told → root ≡ root_of_file task.settings task.size bytes
   pub descriptor : WritesDescriptor task root outcome outputs.descriptor_before outputs.descriptor_after
-  pub printed : WritesLine task root outcome outputs.out_before outputs.out_after
+  pub printed : WritesDigestLine task root outcome outputs.out_before outputs.out_after
 
 -- a run: one outcome says what became of the source, the tree's device and the writers
 pub record OutputRun (task : OutputTask) (status : ℕ) (source tree : Change) (writers : WriterChange) : Type 0 where
@@ -131,4 +133,4 @@ pub record IsWritten (task : OutputTask) (source tree : Change) (outputs : Outpu
   pub descriptor : AddsDescriptor task (root_of_file task.settings task.size source.before)
       outputs.descriptor_before outputs.descriptor_after
   pub printed : Appends outputs.out_before outputs.out_after
-      (line_of_root task (root_of_file task.settings task.size source.before))
+      (digest_line_of_root task (root_of_file task.settings task.size source.before))

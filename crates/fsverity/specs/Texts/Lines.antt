@@ -17,13 +17,14 @@ form_of false true = Builtin
 form_of true true = CompactBuiltin
 
 -- the line of a file digest
-abbrev pub line : Form → Algorithm → List ℕ → List ℕ → List ℕ
-line Full algorithm digest name =
+abbrev pub digest_line : Form → Algorithm → List ℕ → List ℕ → List ℕ
+digest_line Full algorithm digest name =
     concat (name_of algorithm ∷ codes ":" ∷ encode_lower digest ∷ codes " " ∷ name ∷ codes "\n" ∷ [])
-line Compact algorithm digest name = concat (encode_lower digest ∷ codes "\n" ∷ [])
-line Builtin algorithm digest name =
+digest_line Compact algorithm digest name = concat (encode_lower digest ∷ codes "\n" ∷ [])
+digest_line Builtin algorithm digest name =
     concat (encode_lower (formatted_digest algorithm digest) ∷ codes " " ∷ name ∷ codes "\n" ∷ [])
-line CompactBuiltin algorithm digest name = concat (encode_lower (formatted_digest algorithm digest) ∷ codes "\n" ∷ [])
+digest_line CompactBuiltin algorithm digest name =
+    concat (encode_lower (formatted_digest algorithm digest) ∷ codes "\n" ∷ [])
 
 -- a digest of this algorithm has a formatted digest
 abbrev pub IsFormattable : Algorithm → List ℕ → Type 0

@@ -39,16 +39,17 @@ digest_message Memory name = memory_message
 
 -- why a run over files ended at the file of this name
 abbrev pub run_fault_message : RunFault → List ℕ → List ℕ
-run_fault_message run.NotOpened name = unopened_message name
+run_fault_message run.Unopened name = unopened_message name
 run_fault_message (run.Digest fault) name = digest_message fault name
-run_fault_message run.NotWritten name = unwritten_output_message
+run_fault_message run.DigestLineMemory name = memory_message
+run_fault_message run.DigestLineUnwritten name = unwritten_output_message
 
 -- why a run with output files stopped at the file of this name
 abbrev pub output_fault_message : OutputFault → List ℕ → List ℕ
 output_fault_message (output.Digest fault) name = digest_message fault name
 output_fault_message (output.Descriptor count) name = unwritten_descriptor_message
-output_fault_message (output.Line print.Memory) name = memory_message
-output_fault_message (output.Line (print.Output count)) name = unwritten_output_message
+output_fault_message (output.DigestLine print.Memory) name = memory_message
+output_fault_message (output.DigestLine (print.Output count)) name = unwritten_output_message
 
 -- why the options are refused
 abbrev pub option_message : FsOptionFault → List ℕ

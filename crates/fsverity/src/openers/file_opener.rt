@@ -4,7 +4,7 @@ ghost use Rattle.fsverity.specs.Openers.Opening.{CountsOpening, FailsFor, IsFile
 
 use crate::openers::input_file::InputFile;
 use crate::openers::opener::Opener;
-use command_line::{ProgressLine, ProgressReader, ProgressRuntime, open_measured};
+use command_line::{ProgressReader, ProgressRuntime, ShownProgress, open_measured};
 use std::rt::Files;
 use verity_tree::{Failed, FileSource, Source};
 
@@ -12,7 +12,7 @@ use verity_tree::{Failed, FileSource, Source};
 #[derive(Drop)]
 pub struct FileOpener<'a, R> {
     rt: &'a R,
-    progress: &'a ProgressLine<'a, R>,
+    progress: &'a ShownProgress<'a, R>,
     names: &'a [&'a str],
     next: usize,
     failures: u64,
@@ -20,7 +20,7 @@ pub struct FileOpener<'a, R> {
 
 impl<'a, R: Files + ProgressRuntime> FileOpener<'a, R> {
     /// An opener of the files of these names. None of them is opened yet.
-    pub fn new(rt: &'a R, progress: &'a ProgressLine<'a, R>, names: &'a [&'a str]) -> Self
+    pub fn new(rt: &'a R, progress: &'a ShownProgress<'a, R>, names: &'a [&'a str]) -> Self
         ensures names { result.names.now ≡ names.now }
         ensures count { ⟦<FileOpener<'a, R> as Opener>⟧.count result ≡ length names.now }
         ensures next { ⟦<FileOpener<'a, R> as Opener>⟧.next result ≡ 0 }

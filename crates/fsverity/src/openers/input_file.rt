@@ -1,7 +1,7 @@
 //! An input file, as a source.
 ghost use Rattle.std.specs.Prelude.{◌≡◌, [], take, IsSome, unwrap_or};
 
-use command_line::{MeasuredFile, ProgressLine, ProgressReader, ProgressRuntime};
+use command_line::{MeasuredFile, ProgressReader, ProgressRuntime, ShownProgress};
 use std::io::Read;
 use verity_tree::{Failed, FileSource, Source};
 
@@ -15,8 +15,8 @@ pub struct InputFile<'n, S> {
 }
 
 impl<'a, 'n, R: ProgressRuntime, F: Read> InputFile<'n, FileSource<ProgressReader<'a, R, F>>> {
-    /// A source of a file that was opened, whose progress is shown on this line.
-    pub(crate) fn of(measured: MeasuredFile<'n, F>, progress: &'a ProgressLine<'a, R>) -> Self
+    /// A source of a file that was opened, whose progress `progress` shows.
+    pub(crate) fn of(measured: MeasuredFile<'n, F>, progress: &'a ShownProgress<'a, R>) -> Self
         ensures name { result.name ≡ measured.entry.opened.path }
         ensures length { result.length ≡ measured.entry.length }
         ensures told { IsSome (F.remaining measured.entry.opened.file)

@@ -3,16 +3,17 @@ ghost use Rattle.std.specs.Prelude.{◌≡◌, ◌≢◌, ◌||◌, None, [], �
 ghost use Rattle.std.specs.Prelude.{map, string_bytes};
 ghost use Rattle.verity_hash.specs.declared.salting.SaltRule.TheVariants.{PaddedBefore};
 ghost use Rattle.fsverity.specs.Faults.{status_failed, status_of};
-ghost use Rattle.fsverity.specs.Program.{CarriesOut, PrintsLines, SaysDone};
+ghost use Rattle.fsverity.specs.Program.{CarriesOut, PrintsDigestLines, SaysDone};
 
 use crate::fault::Fault;
 use crate::program::done::Done;
 use crate::program::output_files::OutputNames;
 use crate::program::outputs::{OutputRequest, digest_with_outputs};
 use crate::program::printed_files::{PrintedFiles, print_files};
-use crate::{FileOpener, Form, Line, RunFault};
+use crate::runs::run_fault::RunFault;
+use crate::{FileOpener, Form, Line};
 use command_line::{
-    Identities, NULL_DEVICE, NullFiles, ProgressLine, ProgressRuntime, WordsFault, texts_of,
+    Identities, NULL_DEVICE, NullFiles, ProgressRuntime, ShownProgress, WordsFault, texts_of,
 };
 use std::io::Write;
 use verity_tree::TreeSettings;
@@ -20,7 +21,7 @@ use verity_tree::TreeSettings;
 /// `fsverity digest` of the files of a command line.
 pub(crate) fn digest_files_of_line<'a, R: Identities + ProgressRuntime + AllocGlobal, O: Write>(
     rt: &R,
-    progress: &ProgressLine<'_, R>,
+    progress: &ShownProgress<'_, R>,
     settings: &TreeSettings,
     line: &'a Line,
     out: &mut O,
@@ -35,7 +36,7 @@ pub(crate) fn digest_files_of_line<'a, R: Identities + ProgressRuntime + AllocGl
     };
     let null_files = NullFiles::open(rt);
     if !null_files.are_open() {
-        return Err(Fault::File(RunFault::NotOpened, NULL_DEVICE));
+        return Err(Fault::File(RunFault::Unopened, NULL_DEVICE));
     }
     digest_names(rt, progress, settings, line, names.as_slice(), out)
 }
@@ -44,7 +45,7 @@ pub(crate) fn digest_files_of_line<'a, R: Identities + ProgressRuntime + AllocGl
 /// it names for one of them.
 fn digest_names<'a, R: Identities + ProgressRuntime + AllocGlobal, O: Write>(
     rt: &R,
-    progress: &ProgressLine<'_, R>,
+    progress: &ShownProgress<'_, R>,
     settings: &TreeSettings,
     line: &'a Line,
     names: &[&'a str],
@@ -103,7 +104,7 @@ fn only_name<'a>(names: &[&'a str]) -> Option<&'a str>
 /// `fsverity digest` of the files of these names, without output files.
 fn digest_files<'a, R: Identities + ProgressRuntime + AllocGlobal, O: Write>(
     rt: &R,
-    progress: &ProgressLine<'_, R>,
+    progress: &ShownProgress<'_, R>,
     settings: &TreeSettings,
     form: Form,
     names: &[&'a str],
@@ -111,7 +112,7 @@ fn digest_files<'a, R: Identities + ProgressRuntime + AllocGlobal, O: Write>(
 ) -> Result<PrintedFiles, Fault<'a>>
     requires { settings.now.rule ≡ PaddedBefore }
     ensures failed { IfErr result (λ fault. status_of fault ≡ status_failed) }
-    ensures printed { OnOk result (PrintsLines settings.now form (map (λ n. n.now) names.now)
+    ensures printed { OnOk result (PrintsDigestLines settings.now form (map (λ n. n.now) names.now)
         (O.contents out.old) (O.contents out.new)) }
     ensures value { IfOk result (λ done. (done.printed.settings ≡ settings.now) × (done.printed.form ≡ form)
         × (done.printed.lines ≡ length names.now)) }

@@ -8,7 +8,7 @@ use crate::fault::{Fault, end_run};
 use crate::program::digest::digest_files_of_line;
 use crate::program::done::Done;
 use crate::{Line, digest_settings, read_words};
-use command_line::{Identities, ProgressLine, ProgressRuntime, WordsFault, given_words, texts_of};
+use command_line::{Identities, ProgressRuntime, ShownProgress, WordsFault, given_words, texts_of};
 use std::env::Env;
 use std::io::Write;
 
@@ -18,7 +18,7 @@ use std::io::Write;
 /// line or an option is refused, and no file has been opened then.
 pub fn run_program<R: Identities + ProgressRuntime + Env + AllocGlobal, O: Write, M: Write>(
     rt: &R,
-    progress: &ProgressLine<'_, R>,
+    progress: &ShownProgress<'_, R>,
     out: &mut O,
     msgs: &mut M,
 ) -> u8
@@ -55,7 +55,7 @@ fn read_line<R: Env + AllocGlobal>(rt: &R) -> Result<Line, Fault<'static>> {
 /// Carries out the command of a line.
 fn run_line<'a, R: Identities + ProgressRuntime + AllocGlobal, O: Write>(
     rt: &R,
-    progress: &ProgressLine<'_, R>,
+    progress: &ShownProgress<'_, R>,
     line: &'a Line,
     out: &mut O,
 ) -> Result<Done<'a>, Fault<'a>>

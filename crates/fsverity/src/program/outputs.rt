@@ -3,14 +3,15 @@ ghost use Rattle.std.specs.Prelude.{◌≡◌, [], ◌∷◌, IfErr, IfOk, OnOk}
 ghost use Rattle.verity_hash.specs.declared.salting.SaltRule.TheVariants.{PaddedBefore};
 ghost use Rattle.fsverity.specs.Faults.{status_failed, status_of};
 ghost use Rattle.fsverity.specs.OutputFiles.{SaysWritten};
-ghost use Rattle.fsverity.specs.Program.{PrintsLines};
+ghost use Rattle.fsverity.specs.Program.{PrintsDigestLines};
 
+use crate::Form;
 use crate::fault::Fault;
 use crate::openers::input_file::InputFile;
 use crate::program::output_files::written_files::{WrittenFiles, write_to_files};
 use crate::program::output_files::{OutputFiles, OutputNames};
-use crate::{Form, RunFault};
-use command_line::{Identities, ProgressLine, ProgressRuntime, open_measured};
+use crate::runs::run_fault::RunFault;
+use command_line::{Identities, ProgressRuntime, ShownProgress, open_measured};
 use std::io::Write;
 use verity_tree::TreeSettings;
 
@@ -27,7 +28,7 @@ pub(crate) struct OutputRequest<'a> {
 /// output files are opened.
 pub(crate) fn digest_with_outputs<'a, R: Identities + ProgressRuntime + AllocGlobal, O: Write>(
     rt: &R,
-    progress: &ProgressLine<'_, R>,
+    progress: &ShownProgress<'_, R>,
     settings: &TreeSettings,
     request: OutputRequest<'a>,
     out: &mut O,
@@ -35,7 +36,7 @@ pub(crate) fn digest_with_outputs<'a, R: Identities + ProgressRuntime + AllocGlo
     requires { settings.now.rule ≡ PaddedBefore }
     ensures failed { IfErr result (λ fault. status_of fault ≡ status_failed) }
     ensures value { IfOk result (SaysWritten settings.now request.entry) }
-    ensures printed { OnOk result (PrintsLines settings.now request.entry.form (request.entry.name.now ∷ [])
+    ensures printed { OnOk result (PrintsDigestLines settings.now request.entry.form (request.entry.name.now ∷ [])
         (O.contents out.old) (O.contents out.new)) }
 {
     let OutputRequest {
@@ -45,11 +46,11 @@ pub(crate) fn digest_with_outputs<'a, R: Identities + ProgressRuntime + AllocGlo
     } = request;
     let measured = match open_measured(rt, name) {
         Ok(measured) => measured,
-        Err(_) => return Err(Fault::File(RunFault::NotOpened, name)),
+        Err(_) => return Err(Fault::File(RunFault::Unopened, name)),
     };
     let mut files = match OutputFiles::open(rt, measured.opened().file(), outputs) {
         Ok(files) => files,
-        Err(refused) => return Err(Fault::File(RunFault::NotOpened, refused)),
+        Err(refused) => return Err(Fault::File(RunFault::Unopened, refused)),
     };
     let mut input = InputFile::of(measured, progress);
     let outcome = write_to_files(rt.alloc(), settings, form, &mut input, &mut files, out);

@@ -2,10 +2,10 @@
 ghost use Rattle.std.specs.Prelude.{◌≡◌, length, map, IfErr, IfOk, OnOk};
 ghost use Rattle.verity_hash.specs.declared.salting.SaltRule.TheVariants.{PaddedBefore};
 ghost use Rattle.fsverity.specs.Faults.{status_failed, status_of};
-ghost use Rattle.fsverity.specs.Program.{PrintsLines};
+ghost use Rattle.fsverity.specs.Program.{PrintsDigestLines};
 
 use crate::fault::Fault;
-use crate::runs::digest::{Printed, write_lines};
+use crate::runs::digest::{Printed, write_digest_lines};
 use crate::{FileOpener, Form};
 use command_line::ProgressRuntime;
 use std::alloc::Global;
@@ -35,12 +35,12 @@ pub(crate) fn print_files<'a, R: Files + ProgressRuntime, O: Write>(
     requires first { opener.old.next ≡ 0 }
     ensures opened { OnOk result (opener.new.next ≡ length names.now) }
     ensures failed { IfErr result (λ fault. status_of fault ≡ status_failed) }
-    ensures printed { OnOk result (PrintsLines settings.now form (map (λ n. n.now) names.now)
+    ensures printed { OnOk result (PrintsDigestLines settings.now form (map (λ n. n.now) names.now)
         (O.contents out.old) (O.contents out.new)) }
     ensures value { IfOk result (λ done. (done.printed.settings ≡ settings.now) × (done.printed.form ≡ form)
         × (done.printed.lines ≡ length names.now)) }
 {
-    match write_lines(alloc, settings, form, names, opener, out) {
+    match write_digest_lines(alloc, settings, form, names, opener, out) {
         Ok(printed) => Ok(PrintedFiles { printed }),
         Err(fault) => Err(fault),
     }

@@ -5,22 +5,24 @@ ghost use Rattle.verity_hash.specs.declared.salting.SaltRule.TheVariants.{Padded
 ghost use Rattle.verity_plan.specs.Settings.{digest_len};
 ghost use Rattle.fsverity.specs.Openers.Opening.{SameFiles, opener_change};
 ghost use Rattle.fsverity.specs.Runs.Digest.{CountsFault, EndsAt, first_without_digest};
-ghost use Rattle.fsverity.specs.Runs.Digested.{AreLines, IsDigestAt};
+ghost use Rattle.fsverity.specs.Runs.Digested.{AreDigestLines, IsDigestAt};
 ghost use Rattle.fsverity.specs.Faults.{status_failed, status_of};
 ghost use Rattle.fsverity.specs.Runs.DigestSteps.{StopsRun, StopsStep, WritesStep};
-ghost use Rattle.fsverity.specs.Texts.Lines.{line};
-ghost use Rattle.fsverity.specs.declared.runs.run_fault.RunFault.TheVariants.{NotWritten};
+ghost use Rattle.fsverity.specs.Texts.Lines.{digest_line};
+ghost use Rattle.fsverity.specs.declared.runs.run_fault.RunFault.TheVariants.{DigestLineUnwritten};
 
 use crate::fault::{Fault, end_run};
 use crate::runs::completed::Completed;
-use crate::texts::line_writing::write_line;
-use crate::{DigestFault, FileDigest, Form, Opener, PrintFault, RunFault, digest_file};
+use crate::runs::run_fault::RunFault;
+use crate::texts::digest_line_writing::write_digest_line;
+use crate::{FileDigest, Form, Opener, digest_file};
+use command_line::PrintFault;
 use std::alloc::Global;
 use std::io::Write;
 use verity_tree::TreeSettings;
 
-/// The lines of all files of a run are written: so many, by these settings and in this form. Only `write_lines` makes
-/// one.
+/// The lines of all files of a run are written: so many, by these settings and in this form. Only `write_digest_lines`
+/// makes one.
 #[derive(Drop)]
 pub(crate) struct Printed {
     settings: TreeSettings,
@@ -48,10 +50,10 @@ fn next_digest<O: Opener>(
     ensures length { IfOk result (λ made. length made.digest ≡ digest_len settings.now) }
     ensures digest { IfOk result (λ made. IsDigestAt settings.now (O.tells opener.old) (O.files opener.old)
         (O.next opener.old) made.digest) }
-    ensures unwritten { IfErr result (λ fault. fault ≢ NotWritten) }
+    ensures unwritten { IfErr result (λ fault. fault ≢ DigestLineUnwritten) }
 {
     match opener.start() {
-        Err(_) => Err(RunFault::NotOpened),
+        Err(_) => Err(RunFault::Unopened),
         Ok((length, mut stream)) => {
             let made = digest_file(alloc, settings, length, &mut stream);
             opener.end(stream);
@@ -64,7 +66,7 @@ fn next_digest<O: Opener>(
 }
 
 /// Writes the line of the opener's next file.
-fn write_next_line<O: Opener, W: Write>(
+fn write_next_digest_line<O: Opener, W: Write>(
     alloc: Global,
     settings: &TreeSettings,
     form: Form,
@@ -81,20 +83,20 @@ fn write_next_line<O: Opener, W: Write>(
         (opener_change O.tells O.files O.next O.failures opener.old opener.new)) }
     ensures counted { MatchResult result (λ _. O.failures opener.new ≡ O.failures opener.old)
         (λ fault. CountsFault fault (O.failures opener.old) (O.failures opener.new)) }
-    ensures written { WritesStep settings.now (λ digest. line form settings.now.algorithm digest name.now)
+    ensures written { WritesStep settings.now (λ digest. digest_line form settings.now.algorithm digest name.now)
         (O.tells opener.old) (O.files opener.old) (O.next opener.old) result (W.contents out.old) (W.contents out.new) }
 {
     let made = next_digest(alloc, settings, opener)?;
-    match write_line(alloc, settings, form, name, &made, out) {
+    match write_digest_line(alloc, settings, form, name, &made, out) {
         Ok(()) => Ok(()),
-        Err(PrintFault::Memory) => Err(RunFault::Digest(DigestFault::Memory)),
-        Err(PrintFault::Output(_)) => Err(RunFault::NotWritten),
+        Err(PrintFault::Memory) => Err(RunFault::DigestLineMemory),
+        Err(PrintFault::Output(_)) => Err(RunFault::DigestLineUnwritten),
     }
 }
 
 /// Writes the line of each file to `out`, in the order of their names, up to the first file that fails: the fault names
 /// it.
-pub(crate) fn write_lines<'a, O: Opener, W: Write>(
+pub(crate) fn write_digest_lines<'a, O: Opener, W: Write>(
     alloc: Global,
     settings: &TreeSettings,
     form: Form,
@@ -109,7 +111,7 @@ pub(crate) fn write_lines<'a, O: Opener, W: Write>(
     ensures no_failure { OnOk result (O.failures opener.new ≡ O.failures opener.old) }
     ensures all { O.tells opener.old
         → OnOk result (first_without_digest settings.now (O.files opener.old) ≡ length names.now) }
-    ensures printed { OnOk result ((lines : List ℕ) × AreLines
+    ensures printed { OnOk result ((lines : List ℕ) × AreDigestLines
         (record { settings = settings.now; form = form; names = map (λ n. n.now) names.now })
         (O.tells opener.old) (O.files opener.old) (length names.now) lines
         × Appends (W.contents out.old) (W.contents out.new) lines) }
@@ -122,7 +124,7 @@ pub(crate) fn write_lines<'a, O: Opener, W: Write>(
         × (done.lines ≡ length names.now)) }
 {
     for name in names {
-        match write_next_line(alloc, settings, form, name, opener, out) {
+        match write_next_digest_line(alloc, settings, form, name, opener, out) {
             Ok(()) => {}
             Err(fault) => return Err(Fault::File(fault, name)),
         }
@@ -160,7 +162,7 @@ pub fn run_digest<O: Opener, W: Write, M: Write>(
     ensures quiet { result ≡ 0 → msgs.new ≡ msgs.old }
     ensures no_failure { result ≡ 0 → O.failures opener.new ≡ O.failures opener.old }
     ensures all { O.tells opener.old → result ≡ 0 → first_without_digest settings.now (O.files opener.old) ≡ length names.now }
-    ensures printed { result ≡ 0 → (lines : List ℕ) × AreLines
+    ensures printed { result ≡ 0 → (lines : List ℕ) × AreDigestLines
         (record { settings = settings.now; form = form; names = map (λ n. n.now) names.now })
         (O.tells opener.old) (O.files opener.old) (length names.now) lines
         × Appends (W.contents out.old) (W.contents out.new) lines }
@@ -171,6 +173,6 @@ pub fn run_digest<O: Opener, W: Write, M: Write>(
         (opener_change O.tells O.files O.next O.failures opener.old opener.new)
         (W.contents out.old) (W.contents out.new) (M.contents msgs.old) (M.contents msgs.new) }
 {
-    let result = write_lines(alloc, settings, form, names, opener, out);
+    let result = write_digest_lines(alloc, settings, form, names, opener, out);
     end_run(alloc, result, msgs)
 }

@@ -9,13 +9,14 @@ ghost use Rattle.fsverity.specs.Runs.Digested.{is_too_large};
 ghost use Rattle.fsverity.specs.Runs.Outputs.{IsWritten, OutputRun, Reads, WritesOutputs, WritesTree, digest_result};
 ghost use Rattle.fsverity.specs.Runs.Outputs.{output_task};
 ghost use Rattle.fsverity.specs.Texts.TextChanges.{output_change};
-ghost use Rattle.fsverity.specs.Runs.OutputSteps.{PutsDescriptor, task_of};
+ghost use Rattle.fsverity.specs.Runs.OutputSteps.{WritesIfWanted, task_of};
 ghost use Rattle.fsverity.specs.declared.runs.digest_fault.DigestFault.TheVariants.{TooLarge};
 
 use crate::fault::{Fault, end_run};
 use crate::runs::completed::Completed;
-use crate::texts::line_writing::write_line;
-use crate::{DigestFault, FileDigest, Form, OutputFault, digest_file, digest_file_with_tree};
+use crate::runs::output_fault::OutputFault;
+use crate::texts::digest_line_writing::write_digest_line;
+use crate::{DigestFault, FileDigest, Form, digest_file, digest_file_with_tree};
 use std::alloc::Global;
 use std::io::Write;
 use verity_io::{PutFault, put_all};
@@ -86,13 +87,13 @@ fn digest_for_task<S: Source, D: Device>(
 }
 
 /// Writes the descriptor if it is wanted. The fault says how many of its bytes were taken.
-fn put_descriptor<W: Write>(
+fn write_descriptor_to<W: Write>(
     made: &FileDigest,
     wants_descriptor: bool,
     descriptor: &mut W,
 ) -> Result<(), PutFault>
     ensures kept { wants_descriptor ≡ false → descriptor.new ≡ descriptor.old }
-    ensures put { PutsDescriptor made.now.descriptor wants_descriptor result
+    ensures written { WritesIfWanted made.now.descriptor wants_descriptor result
         (W.contents descriptor.old) (W.contents descriptor.new) }
 {
     if wants_descriptor {
@@ -133,15 +134,15 @@ pub(crate) fn write_outputs<'a, S: Source, D: Device, W: Write, O: Write>(
         Ok(made) => made,
         Err(fault) => return Err(OutputFault::Digest(fault)),
     };
-    match put_descriptor(&made, task.wants_descriptor, descriptor) {
+    match write_descriptor_to(&made, task.wants_descriptor, descriptor) {
         Ok(()) => {}
         Err(PutFault(count)) => return Err(OutputFault::Descriptor(count)),
     }
-    match write_line(alloc, &task.settings, task.form, task.name, &made, out) {
+    match write_digest_line(alloc, &task.settings, task.form, task.name, &made, out) {
         Ok(()) => Ok(Written {
             task: task.copied(),
         }),
-        Err(fault) => Err(OutputFault::Line(fault)),
+        Err(fault) => Err(OutputFault::DigestLine(fault)),
     }
 }
 

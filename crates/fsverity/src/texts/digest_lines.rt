@@ -2,7 +2,7 @@
 ghost use Rattle.std.specs.Prelude.{◌≡◌, IfOk, string_bytes};
 ghost use Rattle.hex.specs.Hex.{encode_lower};
 ghost use Rattle.verity_format.specs.Descriptors.{formatted_digest};
-ghost use Rattle.fsverity.specs.Texts.Lines.{FitsForm, IsFormattable, line};
+ghost use Rattle.fsverity.specs.Texts.Lines.{FitsForm, IsFormattable, digest_line};
 
 use std::alloc::{AllocError, Global};
 use verity_format::formatted_digest;
@@ -32,7 +32,7 @@ pub fn digest_line(
     name: &str,
 ) -> Result<String, AllocError>
     requires { FitsForm form algorithm digest.now }
-    ensures { IfOk result (λ text. string_bytes text ≡ line form algorithm digest.now name.now) }
+    ensures { IfOk result (λ text. string_bytes text ≡ digest_line form algorithm digest.now name.now) }
 {
     match form {
         Form::Full => {

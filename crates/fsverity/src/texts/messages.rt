@@ -6,7 +6,7 @@ use crate::{DigestFault, FsOptionFault};
 use std::alloc::{AllocError, Global};
 
 /// There is no memory. The text is fixed, so that it needs none.
-pub const OUT_OF_MEMORY: &str = "fsverity: out of memory.\n";
+pub(crate) const OUT_OF_MEMORY: &str = "fsverity: out of memory.\n";
 
 /// How the message of a file that can't be opened begins; the file's name follows. It is made of pieces, so that it
 /// needs no memory.

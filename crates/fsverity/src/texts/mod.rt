@@ -1,5 +1,5 @@
 //! What is printed: lines and messages.
 
+pub(crate) mod digest_line_writing;
 pub(crate) mod digest_lines;
-pub(crate) mod line_writing;
 pub(crate) mod messages;

@@ -1,4 +1,4 @@
-//! The functions of FIPS 180-4, 4.1.3, on vectors: each lane has a word of its own.
+//! The functions of FIPS 180-4, 4.1.3, and two operations of 3.2, on vectors: each lane has a word of its own.
 ghost use Rattle.std.specs.Prelude.{ℕ, ◌<◌, slice_index};
 ghost use Rattle.std.specs.Int.{w64, rotate_right};
 ghost use Rattle.sha2.specs.Sha512 as S512;

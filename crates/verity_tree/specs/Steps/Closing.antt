@@ -1,5 +1,5 @@
 -- The hash blocks that close with a data block, in rising order of level.
--- For the private steps; not needed to read a public contract.
+-- For the private functions; not needed to read a public contract.
 use Rattle.std.specs.Prelude.{◌≡◌, ◌⊎◌, ℕ, ◌+◌, ◌/◌, ◌%◌, ◌<◌, ◌≤◌, ◌^◌, true}
 use Rattle.verity_plan.specs.Plans.{PlanFields}
 use Rattle.verity_plan.specs.PlanCounts.{level_count_of}
@@ -11,7 +11,7 @@ abbrev pub EndsBlock : ℕ → ℕ → ℕ → Type 0
 EndsBlock fan n i = (i % fan + 1 ≡ fan) ⊎ (i + 1 ≡ n)
 
 -- the block that closes with data block i after those of the levels below it
-pub record ClosesWith (p : PlanFields) (i level block : ℕ) : Type 0 where
+pub record ClosesWith (p : PlanFields) (i level index : ℕ) : Type 0 where
   pub level_below : level < level_count_of p
-  pub block_is : block ≡ i / fan p.settings ^ (level + 1)
+  pub index_is : index ≡ i / fan p.settings ^ (level + 1)
   pub all : (k : ℕ) → k ≤ level → closes (fan p.settings) p.blocks i k ≡ true

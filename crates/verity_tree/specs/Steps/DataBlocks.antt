@@ -1,5 +1,5 @@
 -- How a window of data blocks is read, and how a source stops within one of them.
--- For the private steps; not needed to read a public contract.
+-- For the private functions; not needed to read a public contract.
 use Rattle.std.specs.Prelude.{◌≡◌, ℕ, ◌+◌, ◌*◌, ◌<◌, ◌≤◌, List, length, take, drop, Option, Some, None, Result, Ok, Err}
 use Rattle.verity_io.specs.Counting.{Side, TheSource}
 use Rattle.verity_io.specs.Reading.{HasRead}
@@ -20,7 +20,8 @@ StopsInBlock p i bytes Short after = EndsWithin p i bytes after
 StopsInBlock p i bytes Failed after = FailsWithin p i bytes after
 
 -- the source stopped within a data block of a window, before which so many bytes were read
-pub record StopsInWindow (p : PlanFields) (fed : ℕ) (bytes : List ℕ) (stop : SourceStop) (window after : List ℕ) : Type 0 where
+pub record StopsInWindow (p : PlanFields) (fed : ℕ) (bytes : List ℕ) (stop : SourceStop)
+    (window after : List ℕ) : Type 0 where
   pub from : fed ≤ stop.block * p.settings.data_block
   pub to : stop.block * p.settings.data_block < fed + length window
   pub stopped : StopsInBlock p stop.block bytes stop.why after

@@ -1,5 +1,5 @@
 -- A tree that is made as its data come, read or fed: the open blocks and the window between two steps, and each step.
--- For the private steps; a public contract says only that bytes were fed, and it needs none of these to be read.
+-- For the private functions; a public contract says only that bytes were fed, and it needs none of these to be read.
 use Rattle.std.specs.Prelude.{◌≡◌, ◌⊎◌, ◌<◌, ◌≤◌, ℕ, zero, suc, ◌+◌, ◌-◌, ◌*◌, ◌/◌, ◌^◌, Bool, true, false, List}
 use Rattle.std.specs.Prelude.{◌++◌, ◌∷◌, [], length, take, drop}
 use Rattle.verity_plan.specs.Plans.{IsPlan, PlanFields}
@@ -90,8 +90,8 @@ ClosesNext p levels fed closed true opened window = IsHandingOut p levels closed
     × (handed_out p (length fed) (closed + 1) ≡ handed_out p (length fed) closed ++ handed_at p (length fed) closed ∷ [])
 ClosesNext p levels fed closed false opened window = TakesMore p levels fed closed opened window
 
--- what a step needs of what it is given: memory for the open blocks and the window of a plan that can be carried out, and
--- no more bytes, nor levels whose hash blocks were handed out, than the plan has
+-- what a step needs of what it is given: memory for the open blocks and the window of a plan that can be carried out,
+-- and no more bytes, nor levels whose hash blocks were handed out, than the plan has
 pub record CanStep (p : PlanFields) (count closed : ℕ) (opened window : List ℕ) : Type 0 where
   pub planned : IsPlan p
   pub open_room : level_count_of p * p.settings.hash_block ≤ length opened

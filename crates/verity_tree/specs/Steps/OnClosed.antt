@@ -1,5 +1,5 @@
 -- What becomes of hash blocks that have closed, and of a device with them: they are written, or compared.
--- For the private steps; not needed to read a public contract.
+-- For the private functions; not needed to read a public contract.
 use Rattle.std.specs.Prelude.{◌≡◌, ◌≢◌, ℕ, Bool, true, false, List, Option, Some, None, if◌then◌else◌}
 use Rattle.verity_io.specs.Counting.{Side, TheDevice}
 use Rattle.verity_io.specs.Writing.{Spoiled}
@@ -67,8 +67,8 @@ abbrev pub StopsComparing : PlanFields → List (List ℕ) → List BlockIndex �
 StopsComparing p blocks done stop before after = (after ≡ before) × NoneDiffers p blocks before done
     × IsStopFor p blocks before (block_index stop.level stop.block) stop.why
 
--- what an implementation says becomes of a device with the hash blocks that close, and which of its reasons to stop is a
--- failure
+-- what an implementation says becomes of a device with the hash blocks that close, and which of its reasons to stop is
+-- a failure
 pub record Effects (F : Type 0) : Type 1 where
   pub is_failure : F → Bool
   pub keeps : List ℕ → List ℕ → Type 0

@@ -1,5 +1,5 @@
 -- One pass over the data: how much was read, and what becomes of a device with the hash blocks that closed.
--- For the private steps; not needed to read a public contract.
+-- For the private functions; not needed to read a public contract.
 use Rattle.std.specs.Prelude.{◌≡◌, ℕ, ◌+◌, ◌<◌, ◌≤◌, List, [], length, Result, Ok, Err, IfOk}
 use Rattle.verity_io.specs.Counting.{Change, Counts, TheDevice, TheSource, failed_at}
 use Rattle.verity_hash.specs.declared.digest.Digest.{Digest}
@@ -23,8 +23,8 @@ Passes p (Err (InData stop)) before after = StopsInBlock p stop.block before sto
 Passes p (Err (AtBlock stop)) before after = ReadsUpTo p stop.level stop.block before after
 
 -- a pass over these bytes stops at a hash block: those before it in closing order have closed
-pub record StopsFor {F : Type 0} (w : Effects F) (p : PlanFields) (bytes : List ℕ) (stop : Stop F) (before after : List ℕ)
-    : Type 0 where
+pub record StopsFor {F : Type 0} (w : Effects F) (p : PlanFields) (bytes : List ℕ) (stop : Stop F)
+    (before after : List ℕ) : Type 0 where
   pub i : ℕ
   pub below : i < p.blocks
   pub enough : bytes_of p (i + 1) ≤ length bytes
@@ -45,8 +45,10 @@ PassesOver w p bytes (Err (AtBlock stop)) before after = StopsFor w p bytes stop
 pub record PassRun {F : Type 0} (w : Effects F) (p : PlanFields) (result : Result Digest (PassFault F))
     (source device : Change) : Type 0 where
   pub size : IfOk result (λ root. length root ≡ digest_len p.settings)
-  pub source_counted : Counts (failed_at (side_of w.is_failure) TheSource result) source.failures_before source.failures_after
-  pub device_counted : Counts (failed_at (side_of w.is_failure) TheDevice result) device.failures_before device.failures_after
+  pub source_counted : Counts (failed_at (side_of w.is_failure) TheSource result) source.failures_before
+      source.failures_after
+  pub device_counted : Counts (failed_at (side_of w.is_failure) TheDevice result) device.failures_before
+      device.failures_after
   pub read : source.told → Passes p result source.before source.after
   pub keeps : device.told → w.keeps device.before device.before → w.keeps device.before device.after
   pub leaves : source.told → device.told → w.leaves p (data_blocks p source.before) [] device.before device.before

@@ -1,5 +1,5 @@
 -- The open blocks of a tree, to which digests come, and which close.
--- For the private steps; not needed to read a public contract.
+-- For the private functions; not needed to read a public contract.
 use Rattle.std.specs.Prelude.{◌≡◌, ℕ, ◌+◌, ◌*◌, ◌/◌, ◌%◌, ◌^◌, ◌<◌, ◌≤◌, List, [], take, drop, length, map}
 use Rattle.std.specs.Prelude.{slice_index_or, Bool, true, false}
 use Rattle.std.specs.Fork.{slice_chunk}
@@ -39,14 +39,15 @@ abbrev pub carry_state : ℕ → ℕ → ℕ → CarryState
 carry_state i level levels = record { i = i; level = level; levels = levels }
 
 -- the digest of data block i has come to a level as this one: the levels below have closed
-pub record IsCarrying (s : TreeSettingsFields) (blocks : List (List ℕ)) (c : CarryState) (store digest : List ℕ) : Type 0 where
+pub record IsCarrying (s : TreeSettingsFields) (blocks : List (List ℕ)) (c : CarryState)
+    (store digest : List ℕ) : Type 0 where
   pub reached : c.i + 1 < length blocks → IsReached (fan s) c.i c.level
   pub above : HasOpenBlocks s blocks c.level c.levels c.i store
   pub below : c.i + 1 < length blocks → HasOpenBlocks s blocks 0 c.level (c.i + 1) store
   pub digest_is : digest ≡ level_digest s blocks c.i c.level
 
--- the digest of the last data block has come to a level as this one, and the open blocks below it are again those before
--- data block `first`
+-- the digest of the last data block has come to a level as this one, and the open blocks below it are again those
+-- before data block `first`
 pub record IsAsking (s : TreeSettingsFields) (blocks : List (List ℕ)) (first : ℕ) (c : CarryState)
     (store digest : List ℕ) : Type 0 where
   pub below : HasOpenBlocks s blocks 0 c.level first store
@@ -55,7 +56,8 @@ pub record IsAsking (s : TreeSettingsFields) (blocks : List (List ℕ)) (first :
 
 -- the hash block of a level has closed above data block i, and still stands in its open block; those below it closed
 -- before
-pub record HasClosed (s : TreeSettingsFields) (blocks : List (List ℕ)) (i level levels : ℕ) (opened : List ℕ) : Type 0 where
+pub record HasClosed (s : TreeSettingsFields) (blocks : List (List ℕ)) (i level levels : ℕ)
+    (opened : List ℕ) : Type 0 where
   pub reached : i + 1 < length blocks → IsReached (fan s) i (level + 1)
   pub stands : slice_chunk opened s.hash_block level ≡ tree_block s blocks level (i / fan s ^ (level + 1))
   pub above : HasOpenBlocks s blocks (level + 1) levels i opened

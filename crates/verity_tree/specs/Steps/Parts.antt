@@ -1,10 +1,10 @@
--- A part of a tree, and the join of parts, between two calls. For the private steps; a public contract says only that
--- bytes were fed, or digests joined, and it needs none of these to be read.
+-- A part of a tree, and the join of parts, between two calls. For the private functions; a public contract says only
+-- that bytes were fed, or digests joined, and it needs none of these to be read.
 use Rattle.std.specs.Prelude.{◌≡◌, ◌<◌, ◌≤◌, ℕ, zero, suc, ◌+◌, ◌-◌, ◌*◌, ◌/◌, ◌%◌, ◌^◌, ◌++◌, ◌∷◌, [], Bool, true}
 use Rattle.std.specs.Prelude.{false, List, length}
 use Rattle.std.specs.Fork.{slice_chunk}
 use Rattle.verity_plan.specs.Plans.{PlanFields}
-use Rattle.verity_plan.specs.PlanCounts.{size_under}
+use Rattle.verity_plan.specs.PlanCounts.{count_under}
 use Rattle.verity_plan.specs.Settings.{TreeSettingsFields, digest_len, fan}
 use Rattle.verity_tree.specs.ClosingOrder.{BlockIndex, block_index, blocks_before, closed_after, first_closing}
 use Rattle.verity_tree.specs.Levels.{data_blocks}
@@ -33,8 +33,8 @@ pub record FeedsPartOn (p : PlanFields) (levels : ℕ) (fed : List ℕ) (closed 
 abbrev pub plan_of_join : PlanFields → ℕ → PlanFields
 plan_of_join p level = record {
   settings = p.settings;
-  blocks = size_under p level;
-  wanted = size_under p level * p.settings.data_block;
+  blocks = count_under p level;
+  wanted = count_under p level * p.settings.data_block;
   base = 0;
 }
 

@@ -1,5 +1,5 @@
 -- Why a pass ends early.
--- For the private steps; not needed to read a public contract.
+-- For the private functions; not needed to read a public contract.
 use Rattle.std.specs.Prelude.{Bool, Option}
 use Rattle.verity_io.specs.Counting.{Side}
 use Rattle.verity_tree.specs.Steps.DataBlocks.{side_of as block_side}

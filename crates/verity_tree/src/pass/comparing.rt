@@ -39,7 +39,7 @@ impl OnClosed for Comparing {
         stored: &mut [u8],
         device: &mut D,
     ) -> Result<(), CompareStop> {
-        match device.read_at(plan.byte(level, index), stored) {
+        match device.read_at(plan.start(level, index), stored) {
             Ok(count) if count < stored.len() => Err(CompareStop::Differs(Part::Missing)),
             Ok(_) if &*stored == bytes => Ok(()),
             Ok(_) => Err(CompareStop::Differs(part_between(plan, level, index, stored, bytes))),

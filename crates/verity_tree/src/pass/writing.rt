@@ -29,6 +29,6 @@ impl OnClosed for Writing {
         stored: &mut [u8],
         device: &mut D,
     ) -> Result<(), Failed> {
-        device.write_at(plan.byte(level, index), bytes)
+        device.write_at(plan.start(level, index), bytes)
     }
 }

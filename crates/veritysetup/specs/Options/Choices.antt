@@ -24,9 +24,9 @@ use Rattle.veritysetup.specs.Options.Settings.{SettingsFields}
 
 -- what the tree is made by, with this salt if there is one, or the first fault of block sizes and salt
 abbrev pub tree_of : Algorithm → HashType → ℕ → ℕ → Option (List ℕ) → Result TreeSettingsFields OptionFault
-tree_of algorithm hash_type data_size hash_size given = do
-  data_block ← ok_or (block_size_of data_size) (BadBlockSize DataBlockSize)
-  hash_block ← ok_or (block_size_of hash_size) (BadBlockSize HashBlockSize)
+tree_of algorithm hash_type data_block_size hash_block_size given = do
+  data_block ← ok_or (block_size_of data_block_size) (BadBlockSize DataBlockSize)
+  hash_block ← ok_or (block_size_of hash_block_size) (BadBlockSize HashBlockSize)
   salt ← ok_or given BadSalt
   Ok (record {
     algorithm = algorithm;
@@ -49,13 +49,13 @@ accepted_plan same_file offset (Err plan.TooLarge) = Err TooLarge
 abbrev pub settings_of : OptionTexts → ℕ → Option (List ℕ) → Result SettingsFields OptionFault
 settings_of texts length random = do
   format ← number_option Format 1 texts.format
-  data_size ← number_option DataBlockSize default_block_size texts.data_block_size
-  hash_size ← number_option HashBlockSize default_block_size texts.hash_block_size
+  data_block_size ← number_option DataBlockSize default_block_size texts.data_block_size
+  hash_block_size ← number_option HashBlockSize default_block_size texts.hash_block_size
   blocks ← ok_or (number_if_given texts.data_blocks) (BadNumber DataBlocks)
   bytes ← number_option HashOffset 0 texts.hash_offset
   algorithm ← ok_or (algorithm_or_default texts.hash) UnknownHash
   hash_type ← ok_or (type_of_number format) BadHashType
-  tree ← tree_of algorithm hash_type data_size hash_size (salt_or_random texts.salt random)
+  tree ← tree_of algorithm hash_type data_block_size hash_block_size (salt_or_random texts.salt random)
   uuid ← ok_or (uuid_or_random texts.uuid random) BadUuid
   let superblock = not texts.no_superblock
   offset ← ok_or (multiple_of (offset_unit superblock tree.hash_block) bytes) BadHashOffset

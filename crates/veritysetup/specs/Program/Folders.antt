@@ -1,4 +1,4 @@
--- The folder in which a path's last name stands. Only the contract of a private step speaks of it.
+-- The folder in which a path's last name stands. Only the contract of a private function speaks of it.
 use Rattle.std.specs.Prelude.{ℕ, ◌==◌, List, length, Option, None, Some, if◌then◌else◌}
 use Rattle.std.specs.Path.{cur_dir, path_parent}
 

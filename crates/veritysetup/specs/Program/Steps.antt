@@ -1,5 +1,5 @@
 -- What the steps of a command answer when all is done: by which options of the line, and over which of its files.
--- For the private steps; not needed to read a public contract.
+-- For the private functions; not needed to read a public contract.
 use Rattle.std.specs.Prelude.{◌≡◌, ◌↔◌, ℕ, Bool, true, false, List, [], ◌∷◌, map, Option, Some, None, Ok, option_map}
 use Rattle.std.specs.Prelude.{IfSome, IsOkAnd, IsTrue, is_some, not, ◌&&◌, string_bytes}
 use Rattle.command_line.specs.FileIdentities.{PathsAreSameFile}
@@ -51,8 +51,8 @@ pub record IsVerifiedByLine (line : Line) (root : List ℕ) (files : VerifiedFil
       → IsOkAnd (settings_of (line_texts line false) files.length None) (IsBySettings files.verified)
 
 -- files are formatted by the settings that a line chooses for the length of DATA, with random bytes that are drawn if
--- salt or UUID is missing; DATA and HASH are one file as their paths and the system's answers say. `FileIs` and `PathIs`
--- say which answers the system may give of an opened file and of a path, `IsDrawn` which bytes may be drawn
+-- salt or UUID is missing; DATA and HASH are one file as their paths and the system's answers say. `FileIs` and
+-- `PathIs` say which answers the system may give of an opened file and of a path, `IsDrawn` which bytes may be drawn
 pub record IsFormattedByLine (FileIs : Option FileIdentity → Type 0) (PathIs : List ℕ → Option FileIdentity → Type 0)
     (IsDrawn : List ℕ → Type 0) (line : Line) (files : FormattedFiles) : Type 0 where
   pub opened : Option FileIdentity

@@ -1,5 +1,5 @@
 -- What a step that only reads a hash device keeps of it.
--- For the private steps; not needed to read a public contract.
+-- For the private functions; not needed to read a public contract.
 use Rattle.std.specs.Prelude.{◌≡◌, ℕ, List, Result}
 use Rattle.verity_io.specs.Counting.{Counts, TheDevice, failed_at}
 use Rattle.veritysetup.specs.Faults.{side_of}

@@ -21,7 +21,7 @@ use Rattle.veritysetup.specs.Runs.Verified.{Trusts}
 -- the faults before anything is compared: no superblock is read, the hash area that one describes is too large, or the
 -- text is no root hash
 abbrev pub IsInputFault : Fault → Type 0
-IsInputFault (fault.Option option.TooLarge) = Unit {0}
+IsInputFault fault.HashAreaTooLarge = Unit {0}
 IsInputFault (fault.Option option.BadRoot) = Unit {0}
 IsInputFault other = IsSuperblockFault other
 
@@ -49,7 +49,7 @@ pub record IsBadRoot (offset : ℕ) (text device : List ℕ) : Type 0 where
 
 -- why nothing is compared, the first of these: no superblock is read, there is no plan, the text is no root hash
 abbrev pub RefusesStored : ℕ → List ℕ → List ℕ → Fault → Type 0
-RefusesStored offset text device (fault.Option option.TooLarge) = IsTooLarge offset device
+RefusesStored offset text device fault.HashAreaTooLarge = IsTooLarge offset device
 RefusesStored offset text device (fault.Option option.BadRoot) = IsBadRoot offset text device
 RefusesStored offset text device other = ReadsSuperblock (Err other) offset device
 

@@ -1,5 +1,5 @@
 -- What a step of verify answers before the comparison, and what a device was verified by after it.
--- For the private steps; not needed to read a public contract.
+-- For the private functions; not needed to read a public contract.
 use Rattle.std.specs.Prelude.{◌≡◌, ℕ, List, Option, Some, None, Result, Ok, Err}
 use Rattle.verity_plan.specs.Plans.{PlanFields}
 use Rattle.veritysetup.specs.Options.Settings.{read_root}
@@ -26,8 +26,8 @@ abbrev pub superblock_offset : VerifyInput → Option ℕ
 superblock_offset (Stored offset text) = Some offset
 superblock_offset (Given settings) = None
 
--- the plan and the root hash that an input asks for, as far as it says so without the device: the root hash of the text,
--- or the plan and the root hash of the settings
+-- the plan and the root hash that an input asks for, as far as it says so without the device: the root hash of the
+-- text, or the plan and the root hash of the settings
 abbrev pub IsAskedFor : VerifyInput → PlanFields → List ℕ → Type 0
 IsAskedFor (Stored offset text) plan root = read_root plan.settings.algorithm text.now ≡ Some root
 IsAskedFor (Given settings) plan root = (plan ≡ settings.now.plan) × (settings.now.root ≡ Some root)

@@ -1,5 +1,5 @@
 -- What the steps of the report add to its text.
--- For the private steps; not needed to read a public contract.
+-- For the private functions; not needed to read a public contract.
 use Rattle.std.specs.Prelude.{ℕ, List, ◌++◌, codes}
 use Rattle.std.specs.Fmt.{decimal}
 use Rattle.verity_format.specs.Superblocks.{SuperblockFields}

@@ -130,12 +130,12 @@ pub fn settings_of(
     ensures { result ≡ settings_of (option_texts raw.now) length (option_map (λ b. b.now) random.entry) }
 {
     let format = number_option(OptionName::Format, 1, raw.format)?;
-    let data_size = number_option(
+    let data_block_size = number_option(
         OptionName::DataBlockSize,
         DEFAULT_BLOCK_SIZE,
         raw.data_block_size,
     )?;
-    let hash_size = number_option(
+    let hash_block_size = number_option(
         OptionName::HashBlockSize,
         DEFAULT_BLOCK_SIZE,
         raw.hash_block_size,
@@ -147,7 +147,7 @@ pub fn settings_of(
     let algorithm = algorithm_or_default(raw.hash).ok_or(OptionFault::UnknownHash)?;
     let hash_type = HashType::from_number(format).ok_or(OptionFault::BadHashType)?;
     let salt = salt_or_random(raw.salt, random);
-    let tree = tree_of(algorithm, hash_type, data_size, hash_size, salt)?;
+    let tree = tree_of(algorithm, hash_type, data_block_size, hash_block_size, salt)?;
     let uuid = uuid_or_random(raw.uuid, random).ok_or(OptionFault::BadUuid)?;
     let superblock = !raw.no_superblock;
     let unit = offset_unit(superblock, &tree);

@@ -1,19 +1,19 @@
 //! The data file of format and verify.
 ghost use Rattle.std.specs.Prelude.{◌≡◌, [], take, IfOk, IsSome, unwrap_or};
 
-use command_line::{MeasuredFile, ProgressLine, ProgressReader, ProgressRuntime, open_measured};
+use command_line::{MeasuredFile, ProgressReader, ProgressRuntime, ShownProgress, open_measured};
 use std::io;
 use std::io::Read;
 use std::rt::Files;
 use verity_tree::{FileSource, Source};
 
-/// An opened data file, and the line on which the reading of it is shown.
+/// An opened data file, and the progress line of its reading.
 #[derive(Drop)]
 pub(crate) struct DataFile<'a, 'p, R, F> {
     /// The file, before its first byte is read, and its length.
     measured: MeasuredFile<'p, F>,
-    /// The line that says how much of it is read.
-    progress: &'a ProgressLine<'a, R>,
+    /// Shows how much of it is read.
+    progress: &'a ShownProgress<'a, R>,
 }
 
 /// A source of the bytes of an opened data file, with the file's path and length. Only a `DataFile` makes one.
@@ -76,7 +76,7 @@ impl<'a, 'p, R: ProgressRuntime, F: Read> DataFile<'a, 'p, R, F> {
 pub(crate) fn open_data<'a, 'p, R: Files + ProgressRuntime>(
     rt: &R,
     path: &'p str,
-    progress: &'a ProgressLine<'a, R>,
+    progress: &'a ShownProgress<'a, R>,
 ) -> io::Result<DataFile<'a, 'p, R, R::File>>
     ensures { IfOk result (λ data_file. data_file.measured.opened.path ≡ path.entry) }
 {

@@ -16,7 +16,7 @@ use crate::words::reading::read_words;
 use crate::words::usage::usage_of;
 use crate::{CommandName, Line};
 use command_line::{
-    Identities, NULL_DEVICE, NullFiles, ProgressLine, ProgressRuntime, WordsFault, given_words,
+    Identities, NULL_DEVICE, NullFiles, ProgressRuntime, ShownProgress, WordsFault, given_words,
     texts_of,
 };
 use rand::rngs::StdRng;
@@ -31,7 +31,12 @@ use std::random::RandomSource;
 /// end. The answer is the status: 0 done, 1 the command line, an option, the superblock or the root hash is refused, 2
 /// verification failed, 3 out of memory, 4 a file can't be opened, read or written, there are no random bytes, or the
 /// data is too short.
-pub fn run_program<R, O, M>(rt: &R, progress: &ProgressLine<'_, R>, out: &mut O, msgs: &mut M) -> u8
+pub fn run_program<R, O, M>(
+    rt: &R,
+    progress: &ShownProgress<'_, R>,
+    out: &mut O,
+    msgs: &mut M,
+) -> u8
 where
     R: Env + Identities + ProgressRuntime + RandomSource + AllocGlobal,
     O: Write,
@@ -73,7 +78,7 @@ fn read_line<R: Env + AllocGlobal>(rt: &R) -> Result<Line, Fault<'static>> {
 /// may be closed, and no file of the command is to get its number.
 fn run_line<'a, R, O>(
     rt: &R,
-    progress: &ProgressLine<'_, R>,
+    progress: &ShownProgress<'_, R>,
     line: &'a Line,
     out: &mut O,
 ) -> Result<Done<'a>, Fault<'a>>

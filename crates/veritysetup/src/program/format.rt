@@ -21,7 +21,9 @@ use crate::program::formatted_files::{FormattedFiles, format_opened};
 use crate::program::hash_device::HashDevice;
 use crate::program::random_bytes::draw_seeded;
 use crate::program::syncing::is_unknown;
-use command_line::{Identities, ProgressLine, ProgressRuntime, open_writable, paths_are_same_file};
+use command_line::{
+    Identities, ProgressRuntime, ShownProgress, open_writable, paths_are_same_file,
+};
 use rand::rngs::StdRng;
 use rand::{Rng, SeedableRng};
 use std::alloc::AllocGlobal;
@@ -45,7 +47,7 @@ struct FormatOptions<'a> {
 #[tactic(auto, using(crate::proofs::LineLemmas::some_text))]
 pub(crate) fn format_files<'a, R, O>(
     rt: &R,
-    progress: &ProgressLine<'_, R>,
+    progress: &ShownProgress<'_, R>,
     line: &Line,
     paths: FilePaths<'a>,
     out: &mut O,

@@ -16,7 +16,7 @@ use crate::program::file_paths::FilePaths;
 use crate::program::hash_device::HashDevice;
 use crate::program::verified_files::{VerifiedFiles, verify_opened};
 use crate::runs::verify_input::VerifyInput;
-use command_line::{ProgressLine, ProgressRuntime, open_readable};
+use command_line::{ProgressRuntime, ShownProgress, open_readable};
 use std::alloc::AllocGlobal;
 use std::rt::Files;
 use verity_tree::Source;
@@ -26,7 +26,7 @@ use verity_tree::Source;
 /// opened.
 pub(crate) fn verify_files<'a, R>(
     rt: &R,
-    progress: &ProgressLine<'_, R>,
+    progress: &ShownProgress<'_, R>,
     line: &Line,
     paths: FilePaths<'a>,
     root: &str,
@@ -58,7 +58,7 @@ where
 /// Verifies a hash device without a superblock, by the options.
 fn verify_without_superblock<'a, R>(
     rt: &R,
-    progress: &ProgressLine<'_, R>,
+    progress: &ShownProgress<'_, R>,
     line: &Line,
     paths: FilePaths<'a>,
 ) -> Result<VerifiedFiles<'a>, Fault<'a>>

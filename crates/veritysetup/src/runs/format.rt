@@ -23,7 +23,7 @@ use verity_hash::Digest;
 use verity_tree::{Device, Failed, Source, Store, build};
 
 /// Writes the superblock at the hash offset, if the settings have one.
-fn put_superblock<D: Device>(settings: &Settings, device: &mut D) -> Result<(), Failed>
+fn write_superblock_to<D: Device>(settings: &Settings, device: &mut D) -> Result<(), Failed>
     ensures told { D.tells device.old → D.tells device.new }
     ensures ok { D.tells device.old →
         OnOk result (D.content device.new ≡ with_superblock settings.now (D.content device.old)) }
@@ -102,7 +102,7 @@ pub(crate) fn format<S: Source, D: Device, O: Write>(
         Ok(root) => root,
         Err(fault) => return Err(Fault::Build(fault)),
     };
-    match put_superblock(settings, device) {
+    match write_superblock_to(settings, device) {
         Ok(()) => {}
         Err(Failed) => return Err(Fault::SuperblockUnwritten),
     }
@@ -116,7 +116,7 @@ pub(crate) fn format<S: Source, D: Device, O: Write>(
 }
 
 /// What all settings keep to. Called for the proof.
-fn settings_are_whole(settings: &Settings)
+fn settings_are_valid(settings: &Settings)
     ensures planned { IsPlan settings.now.plan }
     ensures agree { PartsAgree settings.now }
     ensures uuid { length settings.now.uuid ≡ 16 }
@@ -152,7 +152,7 @@ pub fn run_format<S: Source, D: Device, O: Write, M: Write>(
         (change D.tells D.content D.failures device.old device.new)
         (text_change O.contents M.contents out.old out.new msgs.old msgs.new) }
 {
-    settings_are_whole(settings);
+    settings_are_valid(settings);
     let outcome = format(alloc, settings, hash_path, source, device, out);
     end_run(alloc, outcome, msgs)
 }

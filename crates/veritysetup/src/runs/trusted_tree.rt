@@ -63,7 +63,7 @@ fn read_stored_tree<D: Device>(
     let tree = superblock.tree();
     let plan = match plan_at(tree, superblock.blocks(), offset, true) {
         Ok(plan) => plan,
-        Err(_) => return Err(Fault::Option(OptionFault::TooLarge)),
+        Err(_) => return Err(Fault::HashAreaTooLarge),
     };
     match read_root(tree.algorithm(), root) {
         Some(root) => Ok(TrustedTree { plan, root }),

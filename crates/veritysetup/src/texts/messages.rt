@@ -12,34 +12,34 @@ use verity_tree::{BuildFault, CompareFault, Part};
 const NO_DATA: &str = "No data blocks.\n";
 
 /// The data area or the hash area is past its limit.
-const TOO_LARGE: &str = "Data or hash area is too large.\n";
+pub(crate) const TOO_LARGE: &str = "Data or hash area is too large.\n";
 
 /// There is no memory. The text is fixed, so that it needs none.
-pub const OUT_OF_MEMORY: &str = "Out of memory.\n";
+pub(crate) const OUT_OF_MEMORY: &str = "Out of memory.\n";
 
 /// The command line is accepted, but without a file that it must have.
-pub const INCOMPLETE_LINE: &str = "error: the command line is not complete\n";
+pub(crate) const INCOMPLETE_LINE: &str = "error: the command line is not complete\n";
 
 /// What stands before the path of a file that can't be opened.
-pub const CANNOT_OPEN: &str = "Cannot open ";
+pub(crate) const CANNOT_OPEN: &str = "Cannot open ";
 
 /// What stands before the path of a file that the system does not keep as it was written.
-pub const CANNOT_WRITE: &str = "Cannot write ";
+pub(crate) const CANNOT_WRITE: &str = "Cannot write ";
 
 /// What stands after such a path.
-pub const LINE_END: &str = ".\n";
+pub(crate) const LINE_END: &str = ".\n";
 
 /// There are no random bytes.
-pub const NO_RANDOM_BYTES: &str = "Cannot get random bytes.\n";
+pub(crate) const NO_RANDOM_BYTES: &str = "Cannot get random bytes.\n";
 
 /// The superblock could not be read from the device.
-pub const SUPERBLOCK_UNREAD: &str = "Cannot read superblock.\n";
+pub(crate) const SUPERBLOCK_UNREAD: &str = "Cannot read superblock.\n";
 
 /// The superblock could not be written.
-pub const SUPERBLOCK_UNWRITTEN: &str = "Cannot write superblock.\n";
+pub(crate) const SUPERBLOCK_UNWRITTEN: &str = "Cannot write superblock.\n";
 
 /// The report could not be written.
-pub const OUTPUT_UNWRITTEN: &str = "Cannot write output.\n";
+pub(crate) const OUTPUT_UNWRITTEN: &str = "Cannot write output.\n";
 
 /// The message of a refused option.
 pub fn option_message(alloc: Global, fault: &OptionFault) -> Result<String, AllocError>

@@ -1,17 +1,18 @@
-//! A run over one file of the system, with output files.
+//! A run over one input file, with those output files that there are.
 ghost use Rattle.std.specs.Prelude.{◌≡◌, [], ◌∷◌, is_some, IfOk, OnOk};
 ghost use Rattle.verity_hash.specs.declared.salting.SaltRule.TheVariants.{PaddedBefore};
 ghost use Rattle.verity_io.specs.Counting.{change};
 ghost use Rattle.fsverity.specs.OutputFiles.{contents_in, content_in, failures_in, file_task, names_of, tells_in};
-ghost use Rattle.fsverity.specs.Program.{PrintsLines};
+ghost use Rattle.fsverity.specs.Program.{PrintsDigestLines};
 ghost use Rattle.fsverity.specs.Runs.OutputSteps.{task_of};
 ghost use Rattle.fsverity.specs.Runs.Outputs.{IsWritten};
 ghost use Rattle.fsverity.specs.Texts.TextChanges.{output_change};
 
+use crate::Form;
 use crate::openers::input_file::InputFile;
 use crate::program::output_files::{OutputFile, OutputFiles, OutputNames};
+use crate::runs::output_fault::OutputFault;
 use crate::runs::outputs::{OutputTask, Written, write_outputs};
-use crate::{Form, OutputFault};
 use std::alloc::Global;
 use std::io;
 use std::io::Write;
@@ -36,7 +37,7 @@ pub(crate) fn write_to_files<'a, S: Source, D: Device, W: Write, O: Write>(
     requires { settings.now.rule ≡ PaddedBefore }
     ensures task { IfOk result (λ done. done.written.task ≡ file_task settings.now form input.old files.old) }
     ensures names { IfOk result (λ done. done.names ≡ names_of files.old) }
-    ensures line { OnOk result (PrintsLines settings.now form (input.old.name.now ∷ [])
+    ensures line { OnOk result (PrintsDigestLines settings.now form (input.old.name.now ∷ [])
         (O.contents out.old) (O.contents out.new)) }
     ensures all { OnOk result (S.tells input.old.source
         → IsWritten (task_of (file_task settings.now form input.old files.old))
@@ -84,7 +85,7 @@ fn write_to_present<'a, S: Source, D: Device, W: Write, O: Write>(
     requires tree { task.now.wants_tree ≡ is_some files.old.tree }
     requires descriptor { task.now.wants_descriptor ≡ is_some files.old.descriptor }
     ensures value { IfOk result (λ written. written.task ≡ task.now) }
-    ensures line { OnOk result (PrintsLines task.now.settings task.now.form (task.now.name.now ∷ [])
+    ensures line { OnOk result (PrintsDigestLines task.now.settings task.now.form (task.now.name.now ∷ [])
         (O.contents out.old) (O.contents out.new)) }
     ensures all { OnOk result (S.tells source.old → IsWritten (task_of task.now)
         (change S.tells S.remaining S.failures source.old source.new)
@@ -125,7 +126,7 @@ fn write_to_device<'a, S: Source, D: Device, W: Write, O: Write>(
     requires rule { task.now.settings.rule ≡ PaddedBefore }
     requires descriptor { task.now.wants_descriptor ≡ is_some descriptor.old }
     ensures value { IfOk result (λ written. written.task ≡ task.now) }
-    ensures line { OnOk result (PrintsLines task.now.settings task.now.form (task.now.name.now ∷ [])
+    ensures line { OnOk result (PrintsDigestLines task.now.settings task.now.form (task.now.name.now ∷ [])
         (O.contents out.old) (O.contents out.new)) }
     ensures all { OnOk result (S.tells source.old → IsWritten (task_of task.now)
         (change S.tells S.remaining S.failures source.old source.new)

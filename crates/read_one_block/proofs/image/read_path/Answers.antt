@@ -5,8 +5,8 @@ use Rattle.verity_tree.proofs.ClosingLemmas.{closing-below}
 use Rattle.read_one_block.proofs.ReadLemmas.{closing-place, length-run, path-more, read-stored, run-within}
 use Rattle.read_one_block.proofs.image.read_path.Goals as goal
 
-pub byte-at-requires : goal.byte-at-requires
-byte-at-requires g c =
+pub start-at-requires : goal.start-at-requires
+start-at-requires g c =
     let p = c.args.plan.now in
     let l = c.loop-level.level in
     let some : 0 < fan p.settings = omega (arith, c.fan-fan.ensures.two, c.fan-fan.ensures.value) in
@@ -14,7 +14,7 @@ byte-at-requires g c =
     c.loop-level.invariant.quotient c.fan-fan.ensures.value in
     record {
       level_below = omega (arith, c.loop-level-test.true, c.levels-level-end.ensures);
-      block_below = omega (arith, here, closing-below (fan p.settings) p.blocks l c.args.i some c.requires.index);
+      index_below = omega (arith, here, closing-below (fan p.settings) p.blocks l c.args.i some c.requires.index);
     }
 
 pub loop-level-preserved : goal.loop-level-preserved
@@ -40,8 +40,8 @@ loop-level-preserved g c =
       read = λ tells.
           let device = g.D.Device.content c.args.device.now in
           let stored = c.in-Ok.ensures.bytes (inv.told tells)
-          ∙ read-stored p c.args.i l c.byte-at.result _ _ device _
-          (run ∙ c.hash_block-size.ensures) c.byte-at.ensures.value here (inv.same tells) in
+          ∙ read-stored p c.args.i l c.start-at.result _ _ device _
+          (run ∙ c.hash_block-size.ensures) c.start-at.ensures.value here (inv.same tells) in
           path-more p c.args.i l size path c.read_filled.new.buf device c.hash_block-size.ensures len within stored
           (inv.read tells);
     }

@@ -6,7 +6,7 @@ use Rattle.verity_tree.specs.Levels.{root_of_file}
 use Rattle.verity_c.specs.Answers.{value_or}
 use Rattle.verity_c.specs.Building.{digest_of_fed, file_builder_of, file_root_in}
 use Rattle.verity_c.specs.declared.fault.Fault.{Fault}
-use Rattle.verity_c.proofs.BuildingLemmas.{IsFedFileTo-at, IsFedFileTo-of, file_digest_in-ok, file_root-put, file_size}
+use Rattle.verity_c.proofs.BuildingLemmas.{IsFedFileTo-at, IsFedFileTo-of, file_digest_in-ok, file_root-set, file_size}
 use Rattle.verity_c.proofs.file_building.fsverity_build_end.Goals as goal
 
 pub returns-in-Ok-end-clause-root : goal.returns-in-Ok-end-clause-root
@@ -14,13 +14,13 @@ returns-in-Ok-end-clause-root c =
     λ fed h _.
     let made = c.in-Ok.ensures.made in
     let same = c.digest_len-digest_len.ensures ∙ ap digest_len_of c.algorithm.ensures in
-    file_root-put c.args.params.now c.in-Ok.tree.now c.args.memory.now fed c.in-Ok-end.answer c.args.root.now
-    c.put_digest.new.buffer
+    file_root-set c.args.params.now c.in-Ok.tree.now c.args.memory.now fed c.in-Ok-end.answer c.args.root.now
+    c.set_digest.new.buffer
     made
     h
     c.in-Ok-end.ensures.root
     (c.if-root-digest_len.false ∙ same)
-    c.put_digest.ensures
+    c.set_digest.ensures
     ∙ sym (ap (λ (r : Result TreeSettingsFields Fault). value_or c.args.root.now (file_root_in r fed)) made)
 
 pub returns-in-Ok-end-clause-digest : goal.returns-in-Ok-end-clause-digest
@@ -29,22 +29,22 @@ returns-in-Ok-end-clause-digest c =
     let tree = c.in-Ok.tree.now in
     let made = c.in-Ok.ensures.made in
     let same = c.digest_len-digest_len.ensures ∙ ap digest_len_of c.algorithm.ensures in
-    let hash : c.put_digest.new.buffer ≡ root_of_file tree (length fed) fed =
-    file_root-put c.args.params.now tree c.args.memory.now fed c.in-Ok-end.answer c.args.root.now
-    c.put_digest.new.buffer
+    let hash : c.set_digest.new.buffer ≡ root_of_file tree (length fed) fed =
+    file_root-set c.args.params.now tree c.args.memory.now fed c.in-Ok-end.answer c.args.root.now
+    c.set_digest.new.buffer
     made
     h
     c.in-Ok-end.ensures.root
     (c.if-root-digest_len.false ∙ same)
-    c.put_digest.ensures in
-    let answered = file_digest_in-ok _ tree c.args.params.now.size c.put_digest.new.buffer (length c.args.digest.now)
+    c.set_digest.ensures in
+    let answered = file_digest_in-ok _ tree c.args.params.now.size c.set_digest.new.buffer (length c.args.digest.now)
     made
-    (c.put_digest.auto.buffer ∙ c.if-root-digest_len.false ∙ same)
+    (c.set_digest.auto.buffer ∙ c.if-root-digest_len.false ∙ same)
     (c.if-digest-digest_len.false ∙ same) in
     let size = file_size c.args.params.now c.args.memory.now fed h in
     c.fsverity_file_digest.ensures.digest
     ∙ ap (value_or c.args.digest.now) answered
-    ∙ ap (λ (n : ℕ). digest_of_file (record { tree = tree; size = n; root = c.put_digest.new.buffer })) size
+    ∙ ap (λ (n : ℕ). digest_of_file (record { tree = tree; size = n; root = c.set_digest.new.buffer })) size
     ∙ ap (λ (r : List ℕ). digest_of_file (record { tree = tree; size = length fed; root = r })) hash
     ∙ sym (ap (λ (r : Result TreeSettingsFields Fault). value_or c.args.digest.now (digest_of_fed r fed)) made)
 

@@ -8,16 +8,17 @@ use Rattle.verity_c.specs.Building.{digest_of_fed}
 use Rattle.verity_c.specs.Statuses.{status_of}
 use Rattle.verity_c.specs.declared.fault.Fault.{Fault}
 use Rattle.verity_c.proofs.BuildingLemmas.{file_digest_in-ok}
-use Rattle.verity_c.proofs.FileTreeLemmas.{IsFedTreeTo-at, tree_of_sized, with_tree_end-ok}
+use Rattle.verity_c.proofs.FileTreeLemmas.{IsFedTreeTo-at, with_tree_end-ok}
+use Rattle.verity_c.proofs.ParameterLemmas.{tree_of_sized}
 use Rattle.verity_c.proofs.file_tree_building.fsverity_tree_build_end.Goals as goal
 
 pub returns-in-Ok-end-clause-status : goal.returns-in-Ok-end-clause-status
 returns-in-Ok-end-clause-status c =
     let tree = c.in-Ok.tree.now in
     let same = c.digest_len-digest_len.ensures ∙ ap digest_len_of c.algorithm.ensures in
-    let answered = file_digest_in-ok _ tree c.args.build.now.fed c.put_digest.new.buffer (length c.args.digest.now)
+    let answered = file_digest_in-ok _ tree c.args.build.now.fed c.set_digest.new.buffer (length c.args.digest.now)
     (tree_of_sized c.args.params.now c.args.build.now.fed ∙ c.in-Ok.ensures.made)
-    (c.put_digest.auto.buffer ∙ c.if-root-digest_len.false ∙ same)
+    (c.set_digest.auto.buffer ∙ c.if-root-digest_len.false ∙ same)
     (c.if-digest-digest_len.false ∙ same) in
     ap (λ (z : ℤ). to_z w32 (of_z w32 z)) (c.fsverity_file_digest.ensures.status
     ∙ ap (λ (r : Result (List ℕ) Fault). status_of r) answered)
@@ -32,9 +33,9 @@ returns-in-Ok-end-clause-refused c =
     λ refused.
     let tree = c.in-Ok.tree.now in
     let same = c.digest_len-digest_len.ensures ∙ ap digest_len_of c.algorithm.ensures in
-    let answered = file_digest_in-ok _ tree c.args.build.now.fed c.put_digest.new.buffer (length c.args.digest.now)
+    let answered = file_digest_in-ok _ tree c.args.build.now.fed c.set_digest.new.buffer (length c.args.digest.now)
     (tree_of_sized c.args.params.now c.args.build.now.fed ∙ c.in-Ok.ensures.made)
-    (c.put_digest.auto.buffer ∙ c.if-root-digest_len.false ∙ same)
+    (c.set_digest.auto.buffer ∙ c.if-root-digest_len.false ∙ same)
     (c.if-digest-digest_len.false ∙ same) in
     absurd (refused (ap (λ (z : ℤ). to_z w32 (of_z w32 z)) (c.fsverity_file_digest.ensures.status
     ∙ ap (λ (r : Result (List ℕ) Fault). status_of r) answered)))
@@ -48,14 +49,14 @@ returns-in-Ok-end-clause-digest c =
     let same = c.digest_len-digest_len.ensures ∙ ap digest_len_of c.algorithm.ensures in
     let room = c.if-root-digest_len.false ∙ same in
     let fed = IsFedTreeTo-at c.args.params.now tree c.args.build.now c.args.memory.now bytes made h in
-    let hash : c.put_digest.new.buffer ≡ root_of_file tree (length bytes) bytes =
-    c.put_digest.ensures (c.in-Ok-end.ensures.size ∙ sym room) ∙ c.in-Ok-end.ensures.root bytes fed in
-    let answered = file_digest_in-ok _ tree size c.put_digest.new.buffer (length c.args.digest.now)
+    let hash : c.set_digest.new.buffer ≡ root_of_file tree (length bytes) bytes =
+    c.set_digest.ensures (c.in-Ok-end.ensures.size ∙ sym room) ∙ c.in-Ok-end.ensures.root bytes fed in
+    let answered = file_digest_in-ok _ tree size c.set_digest.new.buffer (length c.args.digest.now)
     (tree_of_sized c.args.params.now size ∙ made)
-    (c.put_digest.auto.buffer ∙ room)
+    (c.set_digest.auto.buffer ∙ room)
     (c.if-digest-digest_len.false ∙ same) in
     c.fsverity_file_digest.ensures.digest
     ∙ ap (value_or c.args.digest.now) answered
-    ∙ ap (λ (n : ℕ). digest_of_file (record { tree = tree; size = n; root = c.put_digest.new.buffer })) (sym fed.count)
+    ∙ ap (λ (n : ℕ). digest_of_file (record { tree = tree; size = n; root = c.set_digest.new.buffer })) (sym fed.count)
     ∙ ap (λ (r : List ℕ). digest_of_file (record { tree = tree; size = length bytes; root = r })) hash
     ∙ sym (ap (λ (r : Result TreeSettingsFields Fault). value_or c.args.digest.now (digest_of_fed r bytes)) made)

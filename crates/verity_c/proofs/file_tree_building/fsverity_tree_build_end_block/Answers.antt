@@ -2,7 +2,8 @@ use Rattle.std.proofs.Common.{ℤ, Result, ap, of_z, sym, to_z, w32, ◌∙◌}
 use Rattle.verity_plan.specs.Settings.{TreeSettingsFields}
 use Rattle.verity_c.specs.Statuses.{code_of, fault_of_feed, status_of}
 use Rattle.verity_c.specs.declared.fault.Fault.{Fault}
-use Rattle.verity_c.proofs.FileTreeLemmas.{code-fits, with_last_block-fault, with_last_block-ok}
+use Rattle.verity_c.proofs.FileTreeLemmas.{with_last_block-fault, with_last_block-ok}
+use Rattle.verity_c.proofs.StatusLemmas.{code-fits}
 use Rattle.verity_c.proofs.file_tree_building.fsverity_tree_build_end_block.Goals as goal
 
 pub returns-in-Ok-end_block-clause-status : goal.returns-in-Ok-end_block-clause-status

@@ -1,8 +1,8 @@
 use Rattle.std.proofs.Common.{◌∙◌, sym}
-use Rattle.verity_c.proofs.MadeLemmas.{file_settings-made, made-data_least, plan-made}
+use Rattle.verity_c.proofs.ParameterLemmas.{file_settings-made, made-data_least, plan-made}
 use Rattle.verity_c.proofs.PathLengthLemmas.{file_memory-most, memory-most}
-use Rattle.verity_c.proofs.PathLengthRows.{longest, longest-memory, longest-planned, longest_file, longest_file-made}
-use Rattle.verity_c.proofs.PathLengthRows.{longest_file-memory, longest_file_plan, longest_plan}
+use Rattle.verity_c.proofs.LongestPaths.{longest, longest-memory, longest-planned, longest_file, longest_file-made}
+use Rattle.verity_c.proofs.LongestPaths.{longest_file-memory, longest_file_plan, longest_plan}
 use Rattle.verity_c.proofs.laws.memories_are_short.Goals as goal
 
 pub returns-clause-verity : goal.returns-clause-verity

@@ -1,8 +1,8 @@
 use Rattle.std.proofs.Common.{◌∙◌, sym}
-use Rattle.verity_c.proofs.MadeLemmas.{file_plan-made, file_settings-made, made-data_least, made-hash_block, plan-made}
+use Rattle.verity_c.proofs.ParameterLemmas.{file_plan-made, file_settings-made, made-data_least, made-hash_block, plan-made}
 use Rattle.verity_c.proofs.PathLengthLemmas.{file_path-most, path-most}
-use Rattle.verity_c.proofs.PathLengthRows.{longest, longest-path, longest-planned, longest_file, longest_file-path}
-use Rattle.verity_c.proofs.PathLengthRows.{longest_file-planned, longest_file_plan, longest_plan}
+use Rattle.verity_c.proofs.LongestPaths.{longest, longest-path, longest-planned, longest_file, longest_file-path}
+use Rattle.verity_c.proofs.LongestPaths.{longest_file-planned, longest_file_plan, longest_plan}
 use Rattle.verity_c.proofs.laws.paths_are_short.Goals as goal
 
 pub returns-clause-verity : goal.returns-clause-verity

@@ -4,18 +4,19 @@ use Rattle.verity_plan.specs.Plans.{plan_for_bytes}
 use Rattle.verity_plan.specs.Settings.{TreeSettingsFields}
 use Rattle.verity_plan.proofs.PlanLemmas.{blocks_few}
 use Rattle.verity_tree.specs.Parts.{first_block, plan_of_part}
-use Rattle.verity_tree.proofs.PlanOfPart.{first_block-by_size, has-part, plan_of_part-made, wanted-by_size}
+use Rattle.verity_tree.proofs.PlanOfPart.{first_block-by_count, has-part, plan_of_part-made, wanted-by_count}
 use Rattle.verity_c.proofs.parts.own_plan.Goals as goal
 use Rattle.verity_c.proofs.parts.own_plan.Goals.{After-for_bytes, After-wanted}
 
 -- the number of the part's first data block
-first : (c : After-wanted) → c.args.part * c.size-size.result ≡ first_block c.args.plan.now c.args.level c.args.part
+first : (c : After-wanted) → c.args.part * c.blocks-count.result ≡ first_block c.args.plan.now c.args.level c.args.part
 first c =
-    first_block-by_size c.args.plan.now c.args.level c.args.part c.size-size.result c.wanted.ensures.planned c.requires
-    c.size-size.ensures
+    first_block-by_count c.args.plan.now c.args.level c.args.part c.blocks-count.result
+    c.wanted.ensures.planned c.requires
+    c.blocks-count.ensures
 
 -- the byte at which the part begins
-first_byte : (c : After-wanted) → c.args.part * c.size-size.result * c.data_block-block.result
+first_byte : (c : After-wanted) → c.args.part * c.blocks-count.result * c.data_block-block.result
     ≡ first_block c.args.plan.now c.args.level c.args.part * c.args.plan.now.settings.data_block
 first_byte c =
     ap (λ (n : ℕ). n * c.data_block-block.result) (first c)
@@ -45,15 +46,15 @@ made : (c : After-for_bytes) → c.for_bytes.result ≡ Ok (plan_of_part c.args.
 made c =
     let p = c.args.plan.now in
     let at = (goal.at.After-for_bytes c).After-wanted in
-    let size = c.size-size.result in
+    let count = c.blocks-count.result in
     let asked : c.min-wanted.result ≡ (plan_of_part p c.args.level c.args.part).wanted =
     omega (
       arith,
       c.min-wanted.ensures,
       first_byte at,
       c.wanted.ensures.value,
-      ap (λ (n : ℕ). size * n) c.data_block-block.ensures,
-      wanted-by_size p c.args.level c.args.part size c.wanted.ensures.planned c.size-size.ensures,
+      ap (λ (n : ℕ). count * n) c.data_block-block.ensures,
+      wanted-by_count p c.args.level c.args.part count c.wanted.ensures.planned c.blocks-count.ensures,
     ) in
     c.for_bytes.ensures
     ∙ ap (λ (s : TreeSettingsFields). plan_for_bytes s c.min-wanted.result 0) c.settings.ensures

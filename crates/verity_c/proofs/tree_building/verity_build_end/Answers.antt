@@ -16,7 +16,7 @@ returns-in-Ok-end-clause-root c =
     let is : c.in-Ok-end.digest ≡ hash =
     c.in-Ok-end.ensures.root fed (IsFedTo-at c.args.params.now p c.args.build.now c.args.memory.now fed made h) in
     let room = c.if-root-digest_len.false ∙ c.digest_len.ensures in
-    c.put_digest.ensures (ap length is ∙ length-root p.settings (data_blocks p fed) ∙ sym room)
+    c.set_digest.ensures (ap length is ∙ length-root p.settings (data_blocks p fed) ∙ sym room)
     ∙ is
     ∙ sym (ap (λ (r : Result PlanFields Fault). value_or c.args.root.now (root_in r fed)) made)
 

@@ -1,4 +1,4 @@
--- Each field is put after those before it.
+-- Each field is appended to those before it.
 use Rattle.std.proofs.Common.{refl}
 use Rattle.verity_format.specs.Descriptors.{descriptor_bytes}
 use Rattle.verity_format.proofs.descriptor.write_descriptor.Goals as goal
@@ -9,11 +9,11 @@ returns c =
     rw (
       ← c.descriptor.view_is,
       c.finish.ensures,
-      c.put-2.ensures.bytes,
-      c.put_with_zeros.ensures.bytes,
-      c.put_u64.ensures.bytes,
-      c.put_zeros.ensures.bytes,
-      c.put.ensures.bytes,
+      c.append-2.ensures.bytes,
+      c.append_with_zeros.ensures.bytes,
+      c.append_u64.ensures.bytes,
+      c.append_zeros.ensures.bytes,
+      c.append.ensures.bytes,
       c.new-fields.ensures,
       c.algorithm_number.ensures,
       c.algorithm.ensures,

@@ -1,4 +1,4 @@
--- Each field is put after those before it.
+-- Each field is appended to those before it.
 use Rattle.std.proofs.Common.{refl}
 use Rattle.verity_format.specs.Superblocks.{superblock_bytes}
 use Rattle.verity_format.proofs.writing.write_superblock.Goals as goal
@@ -8,17 +8,17 @@ unfolding superblock_bytes
 returns c =
     rw (
       c.finish.ensures,
-      c.put-3.ensures.bytes,
-      c.put_zeros.ensures.bytes,
-      c.put_u16.ensures.bytes,
-      c.put_u64.ensures.bytes,
-      c.put_u32-4.ensures.bytes,
-      c.put_u32-3.ensures.bytes,
-      c.put_with_zeros.ensures.bytes,
-      c.put-2.ensures.bytes,
-      c.put_u32-2.ensures.bytes,
-      c.put_u32.ensures.bytes,
-      c.put.ensures.bytes,
+      c.append-3.ensures.bytes,
+      c.append_zeros.ensures.bytes,
+      c.append_u16.ensures.bytes,
+      c.append_u64.ensures.bytes,
+      c.append_u32-4.ensures.bytes,
+      c.append_u32-3.ensures.bytes,
+      c.append_with_zeros.ensures.bytes,
+      c.append-2.ensures.bytes,
+      c.append_u32-2.ensures.bytes,
+      c.append_u32.ensures.bytes,
+      c.append.ensures.bytes,
       c.new-fields.ensures,
       c.number.ensures,
       c.hash_type.ensures,

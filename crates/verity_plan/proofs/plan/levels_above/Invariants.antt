@@ -6,14 +6,14 @@ use Rattle.verity_plan.proofs.plan.levels_above.Given as goal
 -- the levels so far are counted, and those that are left stand above them
 abbrev pub invariant-levels : goal.invariant-levels
 invariant-levels l = record {
-  size_is : l.size ≡ div_ceil l.blocks (l.fan ^ l.tree.levels);
-  some : 0 < l.size;
+  count_is : l.count ≡ div_ceil l.blocks (l.fan ^ l.tree.levels);
+  some : 0 < l.count;
   within : l.tree.levels ≤ level_count l.fan l.blocks;
   counted : l.tree.blocks + blocks_from l.fan l.blocks l.tree.levels (level_count l.fan l.blocks - l.tree.levels)
       ≡ blocks_from l.fan l.blocks 0 (level_count l.fan l.blocks);
-  most : l.tree.blocks + 2 * l.size ≤ 2 * l.blocks;
-  few : l.tree.levels + l.size ≤ l.blocks;
+  most : l.tree.blocks + 2 * l.count ≤ 2 * l.blocks;
+  few : l.tree.levels + l.count ≤ l.blocks;
 }
 
 abbrev pub decreases-levels : goal.decreases-levels
-decreases-levels l = l.size
+decreases-levels l = l.count

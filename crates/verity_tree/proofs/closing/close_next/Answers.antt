@@ -10,7 +10,8 @@ use Rattle.verity_tree.specs.Steps.Feeding.{EndsWindow, Stands}
 use Rattle.verity_tree.specs.Steps.OpenBlocks.{IsCarrying, carry_state}
 use Rattle.verity_tree.specs.Windows.{window_length}
 use Rattle.verity_tree.proofs.AdvanceLemmas.{KeepsOpen-settled, Stands-ends, Stands-settled}
-use Rattle.verity_tree.proofs.ClimbLemmas.{climbs-closed, climbs-kept, climbs-past, handing-out, last-block}
+use Rattle.verity_tree.proofs.ClimbLemmas.{climbs-closed, climbs-kept, climbs-past, handing-out}
+use Rattle.verity_tree.proofs.LastByteLemmas.{last-block}
 use Rattle.verity_tree.proofs.ClimbLemmas.{nothing-out}
 use Rattle.verity_tree.proofs.LevelLemmas.{length-cut}
 use Rattle.verity_tree.proofs.OpenBlockSteps.{IsCarrying-first}

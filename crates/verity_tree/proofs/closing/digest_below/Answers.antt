@@ -5,7 +5,7 @@ use Rattle.verity_tree.specs.Levels.{data_blocks}
 use Rattle.verity_tree.specs.Steps.Feeding.{last_window, windows_before}
 use Rattle.verity_tree.specs.Windows.{window_blocks}
 use Rattle.verity_tree.proofs.AskingLemmas.{IsAsking-first}
-use Rattle.verity_tree.proofs.ClimbLemmas.{last-block}
+use Rattle.verity_tree.proofs.LastByteLemmas.{last-block}
 use Rattle.verity_tree.proofs.DataBlockLemmas.{blocks-some}
 use Rattle.verity_tree.proofs.LevelLemmas.{length-cut}
 use Rattle.verity_tree.proofs.WindowLemmas.{window-beside}

@@ -2,7 +2,7 @@ use Rattle.std.proofs.Common.{arith, ◌-◌, ◌≤◌}
 use Rattle.std.proofs.Math.Nat.{mul-le-mul}
 use Rattle.verity_plan.proofs.FanLemmas.{hash_most, some_data}
 use Rattle.verity_plan.proofs.PlanLemmas.{levels_few}
-use Rattle.verity_tree.proofs.ClimbLemmas.{last-below}
+use Rattle.verity_tree.proofs.LastByteLemmas.{last-below}
 use Rattle.verity_tree.proofs.closing.handed_out.Goals as goal
 
 pub nonzero_div-i : goal.nonzero_div-i
@@ -10,8 +10,8 @@ nonzero_div-i c =
     let p = c.args.plan.now in
     omega (arith, c.data_block.ensures, some_data p.settings c.planned.ensures.valid)
 
-pub byte_above-requires-clause-index : goal.byte_above-requires-clause-index
-byte_above-requires-clause-index c =
+pub start_above-requires-clause-index : goal.start_above-requires-clause-index
+start_above-requires-clause-index c =
     rw c.data_block.ensures
     (last-below c.args.plan.now c.args.progress.now.fed c.planned.ensures c.requires.some c.requires.most)
 

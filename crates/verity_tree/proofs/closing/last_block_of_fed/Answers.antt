@@ -10,7 +10,7 @@ use Rattle.verity_tree.specs.Steps.OpenBlocks.{IsAsking, carry_state}
 use Rattle.verity_tree.specs.TreeOnDevice.{tree_block}
 use Rattle.verity_tree.specs.Windows.{window_blocks}
 use Rattle.verity_tree.proofs.AskingLemmas.{HasFed-asked, above-level}
-use Rattle.verity_tree.proofs.ClimbLemmas.{last-block}
+use Rattle.verity_tree.proofs.LastByteLemmas.{last-block}
 use Rattle.verity_tree.proofs.DataBlockLemmas.{blocks-some}
 use Rattle.verity_tree.proofs.LevelLemmas.{length-cut}
 use Rattle.verity_tree.proofs.WindowLemmas.{window-beside}

@@ -2,7 +2,7 @@ use Rattle.std.proofs.Common.{arith, ℕ, ◌+◌, ◌-◌, ◌/◌, ◌<◌, �
 use Rattle.std.proofs.Math.Nat.{mul-le-mul, one-le-pow}
 use Rattle.std.specs.Int.{div_ceil}
 use Rattle.verity_plan.specs.Settings.{fan}
-use Rattle.verity_plan.specs.PlanCounts.{size_under}
+use Rattle.verity_plan.specs.PlanCounts.{count_under}
 use Rattle.verity_plan.proofs.FanLemmas.{fan-some, hash_most}
 use Rattle.verity_plan.proofs.IndexLemmas.{quotient-below}
 use Rattle.verity_plan.proofs.PlanLemmas.{levels_few}
@@ -15,21 +15,21 @@ overflow_add-result c = omega (arith, c.requires.levels, levels_few c.args.plan.
 pub overflow_add-level : goal.overflow_add-level
 overflow_add-level c = omega (arith, c.requires.levels, levels_few c.args.plan.now c.planned.ensures)
 
-pub byte-requires : goal.byte-requires
-byte-requires c =
+pub start-requires : goal.start-requires
+start-requires c =
     let p = c.args.plan.now in
     let f = fan p.settings in
     let closed = c.args.progress.now.closed in
     let some = fan-some p.settings in
-    let last : c.args.progress.now.fed - 1 < size_under p c.args.level =
+    let last : c.args.progress.now.fed - 1 < count_under p c.args.level =
     omega (arith, c.requires.some, c.requires.most) in
     let up : c.args.level + closed ≡ c.args.level + (closed - 1) + 1 = omega (arith, c.requires.closed) in
-    let below : (c.args.progress.now.fed - 1) / f ^ closed < div_ceil (size_under p c.args.level) (f ^ closed) =
-    quotient-below (c.args.progress.now.fed - 1) (size_under p c.args.level) (f ^ closed)
+    let below : (c.args.progress.now.fed - 1) / f ^ closed < div_ceil (count_under p c.args.level) (f ^ closed) =
+    quotient-below (c.args.progress.now.fed - 1) (count_under p c.args.level) (f ^ closed)
     (one-le-pow closed f some) last in
     record {
       level_below = omega (arith, c.requires.closed, c.requires.levels);
-      block_below = omega (
+      index_below = omega (
         arith,
         below,
         c.index_above-index.ensures,

@@ -10,9 +10,9 @@ use Rattle.verity_tree.proofs.join_builder.joining_plan.Goals.{After-for_blocks}
 -- the plan is found
 found : (c : After-for_blocks) → c.for_blocks.result ≡ Ok (plan_of_join c.args.plan.now c.args.level)
 found c =
-    plan-found c.args.plan.now c.settings.result.now c.args.level c.size_under.result c.for_blocks.result
+    plan-found c.args.plan.now c.settings.result.now c.args.level c.count_under.result c.for_blocks.result
     c.planned.ensures
-    c.requires c.settings.ensures c.size_under.ensures c.for_blocks.ensures
+    c.requires c.settings.ensures c.count_under.ensures c.for_blocks.ensures
 
 -- and it is this one
 found-is : (c : After-for_blocks) (own : PlanFields) → c.for_blocks.result ≡ Ok own

@@ -1,6 +1,6 @@
 use Rattle.std.proofs.Common.{arith, ◌+◌, ◌^◌}
 use Rattle.std.proofs.Math.Nat.{one-le-pow}
-use Rattle.verity_tree.proofs.QuotientLemmas.{div_ceil-last}
+use Rattle.verity_tree.proofs.ReachedLemmas.{div_ceil-last}
 use Rattle.verity_tree.proofs.laws.closing_blocks_by_count.Goals as goal
 
 pub returns : goal.returns

@@ -12,7 +12,8 @@ use Rattle.verity_tree.proofs.OpenBlockSteps.{IsCarrying-first}
 use Rattle.verity_tree.proofs.open_blocks.add_batch.Goals as goal
 
 -- a row's digest, as it is read from all of them
-row-digest : (digests : List (List ℕ)) (row count : ℕ) (read : List ℕ) (of : ℕ → List ℕ) → length digests ≡ 8 → count ≤ 8
+row-digest : (digests : List (List ℕ)) (row count : ℕ) (read : List ℕ) (of : ℕ → List ℕ) → length digests ≡ 8
+    → count ≤ 8
     → ((r : ℕ) → r < count → get_or digests r [] ≡ of r) → row < count → get_or digests row read ≡ of row
 row-digest digests row count read of long most each below =
     get_or_default digests row read [] (omega arith) ∙ each row below

@@ -4,10 +4,10 @@ use Rattle.verity_tree.specs.ClosingOrder.{blocks_before}
 use Rattle.verity_tree.specs.Levels.{data_blocks}
 use Rattle.verity_tree.specs.Steps.OpenBlocks.{IsCarrying, carry_state}
 use Rattle.verity_tree.specs.Steps.Parts.{PartStands}
-use Rattle.verity_tree.proofs.ClimbLemmas.{last-block}
+use Rattle.verity_tree.proofs.LastByteLemmas.{last-block}
 use Rattle.verity_tree.proofs.LevelLemmas.{length-cut}
 use Rattle.verity_tree.proofs.OpenBlockSteps.{IsCarrying-first}
-use Rattle.verity_tree.proofs.PartFeeding.{part-handing-out, part-nothing-out}
+use Rattle.verity_tree.proofs.PartSteps.{part-handing-out, part-nothing-out}
 use Rattle.verity_tree.proofs.part_builder.close_single.Goals as goal
 use Rattle.verity_tree.proofs.part_builder.close_single.Goals.{Joined-level-eq0, else-level-eq0, then-level-eq0}
 

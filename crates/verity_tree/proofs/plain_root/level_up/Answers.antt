@@ -11,8 +11,8 @@ use Rattle.verity_tree.proofs.plain_root.level_up.Goals as goal
 pub loop-j-preserved : goal.loop-j-preserved
 loop-j-preserved c =
     let settings = c.args.settings.now in
-    let run = take-run c.args.digests.now c.loop-j.j c.fan-fan.result c.min-size.result
-    (fan settings) c.fan-fan.ensures.value c.min-size.ensures in
+    let run = take-run c.args.digests.now c.loop-j.j c.fan-fan.result c.min-count.result
+    (fan settings) c.fan-fan.ensures.value c.min-count.ensures in
     mapped_more (digest_of_group settings c.args.digests.now) c.loop-j.above.items _ c.loop-j.j c.hash.result c.in_ok-push.ensures.items
     c.loop-j.invariant (grind (arith, run))
 

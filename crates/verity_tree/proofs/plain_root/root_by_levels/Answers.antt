@@ -13,7 +13,8 @@ use Rattle.verity_tree.proofs.DataBlockLemmas.{blocks-some}
 use Rattle.verity_tree.proofs.plain_root.root_by_levels.Goals as goal
 
 -- the digests are those of the plan's data blocks
-digests-are : (p : PlanFields) → IsPlan p → (s : TreeSettingsFields) (bytes : List ℕ) (digests : List (List ℕ)) → s ≡ p.settings
+digests-are : (p : PlanFields) → IsPlan p → (s : TreeSettingsFields) (bytes : List ℕ) (digests : List (List ℕ))
+    → s ≡ p.settings
     → length bytes ≡ p.wanted
     → digests ≡ map (hash s) (cut s (div_ceil (length bytes) s.data_block) (length bytes) bytes)
     → digests ≡ map (hash p.settings) (data_blocks p bytes)

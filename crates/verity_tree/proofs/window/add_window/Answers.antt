@@ -1,6 +1,6 @@
 use Rattle.std.proofs.Common.{◌≡◌, ℕ, ◌+◌, ◌*◌, ap, arith, subst, sym}
 use Rattle.verity_tree.specs.Steps.Feeding.{IsWindowPlace}
-use Rattle.verity_tree.proofs.PieceOfBytesLemmas.{HasCome-window, window-end, window-filled}
+use Rattle.verity_tree.proofs.WindowSteps.{HasCome-window, window-end, window-filled}
 use Rattle.verity_tree.proofs.window.add_window.Goals as goal
 
 pub slice_bounds-fill-start : goal.slice_bounds-fill-start

@@ -14,7 +14,8 @@ blocks c =
     let s = c.args.settings.now in
     let valid = c.data_block.ensures.valid in
     let size : s.data_block ≡ 2 ^ c.ilog2-room.result =
-    power_of_two-exponent s.data_block c.ilog2-room.result (some_data s valid) (block_power _ s.data_block valid.data_size)
+    power_of_two-exponent s.data_block c.ilog2-room.result (some_data s valid)
+    (block_power _ s.data_block valid.data_block_size)
     (omega (arith, c.data_block.ensures.value, c.ilog2-room.ensures.power_le))
     (omega (arith, c.data_block.ensures.value, c.ilog2-room.ensures.next_power_gt)) in
     c.min-2.ensures

@@ -5,7 +5,7 @@ use Rattle.verity_plan.proofs.CountLemmas.{mul_le}
 use Rattle.verity_tree.specs.ClosingOrder.{blocks_before}
 use Rattle.verity_tree.specs.Steps.Feeding.{windows_before, IsWindowPlace}
 use Rattle.verity_tree.specs.Windows.{window_blocks, window_length}
-use Rattle.verity_tree.proofs.ClimbLemmas.{last-below}
+use Rattle.verity_tree.proofs.LastByteLemmas.{last-below}
 use Rattle.verity_tree.proofs.WindowLemmas.{placed-in-window, window-batch, windows-are}
 use Rattle.verity_tree.proofs.window.window_place.Goals as goal
 

@@ -2,14 +2,15 @@ use Rattle.std.proofs.Common.{subst, sym}
 use Rattle.verity_tree.specs.Levels.{data_blocks}
 use Rattle.veritysetup.specs.Runs.Format.{formatted_device}
 use Rattle.veritysetup.specs.Runs.Formatted.{IsFormattedDevice}
-use Rattle.veritysetup.proofs.FormattedLemmas.{AreWhole, formatted-same, written-formatted}
+use Rattle.veritysetup.proofs.FormattedLemmas.{formatted-same, written-formatted}
+use Rattle.veritysetup.proofs.SettingsLemmas.{AreValid}
 use Rattle.veritysetup.proofs.laws.formatted_devices_are_written.Goals as goal
 
 pub returns : goal.returns
 returns c = λ s source before after planned agree uuid enough.
-    let whole : AreWhole s = record { planned = planned; agree = agree; uuid = uuid } in
-    let written = written-formatted s source before whole enough in (
+    let valid : AreValid s = record { planned = planned; agree = agree; uuid = uuid } in
+    let written = written-formatted s source before valid enough in (
       λ same. subst (IsFormattedDevice s source before) (sym same) written,
       λ formatted. formatted-same s source before after
-          (formatted_device s (data_blocks s.plan source) before) whole formatted written,
+          (formatted_device s (data_blocks s.plan source) before) valid formatted written,
     )

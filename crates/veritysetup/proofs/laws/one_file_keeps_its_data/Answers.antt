@@ -8,12 +8,12 @@ use Rattle.verity_plan.specs.Plans.{base_of, end_place_of, offset_unit}
 use Rattle.veritysetup.specs.Options.Settings.{SettingsFields}
 use Rattle.veritysetup.specs.Runs.Formatted.{IsFormattedDevice, is_within, is_written}
 use Rattle.veritysetup.proofs.AcceptedLemmas.{verified-back}
-use Rattle.veritysetup.proofs.FormattedLemmas.{AreWhole, superblock-before}
+use Rattle.veritysetup.proofs.SettingsLemmas.{AreValid, superblock-before}
 use Rattle.veritysetup.proofs.laws.one_file_keeps_its_data.Goals as goal
 
 -- the tree doesn't begin before the hash offset
-area-after : (s : SettingsFields) → AreWhole s → s.offset ≤ s.plan.base * s.plan.settings.hash_block
-area-after s whole = by_superblock s.superblock refl
+area-after : (s : SettingsFields) → AreValid s → s.offset ≤ s.plan.base * s.plan.settings.hash_block
+area-after s valid = by_superblock s.superblock refl
   where
     by_test : (b : Bool) → cond b (Some (s.offset / s.plan.settings.hash_block)) None ≡ Some s.plan.base
         → s.offset % s.plan.settings.hash_block ≡ 0 → s.offset ≤ s.plan.base * s.plan.settings.hash_block
@@ -28,12 +28,12 @@ area-after s whole = by_superblock s.superblock refl
     by_test false e aligned = cc
 
     by_superblock : (b : Bool) → s.superblock ≡ b → s.offset ≤ s.plan.base * s.plan.settings.hash_block
-    by_superblock true has = omega (arith, superblock-before s whole has)
+    by_superblock true has = omega (arith, superblock-before s valid has)
     by_superblock false none =
         let size = s.plan.settings.hash_block in
         by_test (nat_le s.offset most_bytes)
-        (ap (λ (b : Bool). base_of s.offset b size) (sym none) ∙ whole.agree.based)
-        (ap (λ (b : Bool). s.offset % offset_unit b size) (sym none) ∙ whole.agree.aligned)
+        (ap (λ (b : Bool). base_of s.offset b size) (sym none) ∙ valid.agree.based)
+        (ap (λ (b : Bool). s.offset % offset_unit b size) (sym none) ∙ valid.agree.aligned)
 
 not_within : (first end i : ℕ) → i < first → is_within first end i ≡ false
 not_within first end i below = grind (arith, nat_tests, below)
@@ -44,25 +44,25 @@ neither true true z e f = cc
 neither false y z e f = f
 
 -- nor is a byte written before it
-untouched : (s : SettingsFields) → AreWhole s → (i : ℕ) → i < s.offset → is_written s i ≡ false
-untouched s whole i below =
+untouched : (s : SettingsFields) → AreValid s → (i : ℕ) → i < s.offset → is_written s i ≡ false
+untouched s valid i below =
     let size = s.plan.settings.hash_block in
     neither s.superblock (is_within s.offset (s.offset + 512) i)
     (is_within (s.plan.base * size) (end_place_of s.plan * size) i)
     (not_within s.offset (s.offset + 512) i below)
-    (not_within (s.plan.base * size) (end_place_of s.plan * size) i (omega (arith, below, area-after s whole)))
+    (not_within (s.plan.base * size) (end_place_of s.plan * size) i (omega (arith, below, area-after s valid)))
 
-kept : (s : SettingsFields) (source before after : List ℕ) → AreWhole s → s.plan.wanted ≤ s.offset
+kept : (s : SettingsFields) (source before after : List ℕ) → AreValid s → s.plan.wanted ≤ s.offset
     → s.plan.wanted ≤ length before → IsFormattedDevice s source before after
     → take s.plan.wanted after ≡ take s.plan.wanted before
-kept s source before after whole apart enough formatted =
+kept s source before after valid apart enough formatted =
     let n = s.plan.wanted in
     let m : length (take n after) ≡ n = length-take-le n after (omega (arith, enough, formatted.no_shorter)) in
     let k : length (take n before) ≡ n = length-take-le n before enough in
     ext_get_or 0 (take n after) (take n before) (m ∙ sym k) (λ i below.
     let inside : i < n = omega (arith, below, m) in
     get_or-take n after i 0 inside
-    ∙ formatted.others i (untouched s whole i (omega (arith, inside, apart)))
+    ∙ formatted.others i (untouched s valid i (omega (arith, inside, apart)))
     ∙ sym (get_or-take n before i 0 inside))
 
 pub returns-clause-kept : goal.returns-clause-kept
@@ -72,6 +72,6 @@ returns-clause-kept c = λ s source before after planned agree uuid apart enough
 pub returns-clause-verified : goal.returns-clause-verified
 returns-clause-verified c =
     λ s path source rest before after out out_after input planned agree uuid apart enough same formatted given.
-    let whole : AreWhole s = record { planned = planned; agree = agree; uuid = uuid } in
-    verified-back s input source after before after whole formatted.stands given
-    (kept s source before after whole apart enough formatted.stands ∙ sym same)
+    let valid : AreValid s = record { planned = planned; agree = agree; uuid = uuid } in
+    verified-back s input source after before after valid formatted.stands given
+    (kept s source before after valid apart enough formatted.stands ∙ sym same)

@@ -12,9 +12,11 @@ use Rattle.veritysetup.specs.Runs.HashDevice.{superblock_at, superblock_for}
 use Rattle.veritysetup.specs.Runs.Resumed.{KeepsOthers}
 use Rattle.veritysetup.specs.Texts.Reports.{no_uuid_text, report_text, uuid_text}
 use Rattle.veritysetup.proofs.AcceptedLemmas.{root-back, superblock-back}
-use Rattle.veritysetup.proofs.FormattedLemmas.{AreWhole, formatted-same}
-use Rattle.veritysetup.proofs.PrintedLemmas.{one-chosen, printed-back, verified-options}
+use Rattle.veritysetup.proofs.ChoiceLemmas.{one-chosen}
+use Rattle.veritysetup.proofs.FormattedLemmas.{formatted-same}
+use Rattle.veritysetup.proofs.PrintedLemmas.{printed-back, verified-options}
 use Rattle.veritysetup.proofs.ResumedLemmas.{begun-formatted, keeps-refl}
+use Rattle.veritysetup.proofs.SettingsLemmas.{AreValid}
 use Rattle.veritysetup.proofs.laws.printed_options_give_the_settings.Goals as goal
 
 -- a device is formatted whatever root hash the settings have
@@ -63,17 +65,17 @@ pub returns-clause-dumped : goal.returns-clause-dumped
 returns-clause-dumped c =
     λ s again v same_file size random source before after between last planned agree long uuid salt apart has formatted
     read chosen base formatted_again.
-    let whole : AreWhole s = record { planned = planned; agree = agree; uuid = long } in
+    let valid : AreValid s = record { planned = planned; agree = agree; uuid = long } in
     let one : v ≡ superblock_for s =
     one-superblock (superblock_at s.offset after) v (superblock_for s) read
-    (superblock-back s source before after whole formatted has) in
+    (superblock-back s source before after valid formatted has) in
     let same : again ≡ without_root s =
     one-chosen again (without_root s)
     (sym chosen
     ∙ ap (λ (w : SuperblockFields). settings_of (printed_options w s.offset true same_file) size random) one
     ∙ ap (λ (b : Bool). settings_of (printed_options (superblock_for s) s.offset b same_file) size random) (sym has)
-    ∙ printed-back s same_file size random whole uuid salt apart) in
-    formatted-same s source before last after whole
+    ∙ printed-back s same_file size random valid uuid salt apart) in
+    formatted-same s source before last after valid
     (begun-formatted s source before between last (either-keeps s source before after between formatted base)
     (with-root s source between last
     (subst (λ (t : SettingsFields). IsFormattedDevice t source between last) same formatted_again)))

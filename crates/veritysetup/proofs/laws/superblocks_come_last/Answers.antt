@@ -1,7 +1,8 @@
 use Rattle.std.proofs.Common.{subst, sym}
 use Rattle.veritysetup.specs.Runs.Formatted.{IsFormattedDevice}
-use Rattle.veritysetup.proofs.FormattedLemmas.{AreWhole, written-formatted}
+use Rattle.veritysetup.proofs.FormattedLemmas.{written-formatted}
 use Rattle.veritysetup.proofs.ResumedLemmas.{begun-unread, unread-refused}
+use Rattle.veritysetup.proofs.SettingsLemmas.{AreValid}
 use Rattle.veritysetup.proofs.laws.superblocks_come_last.Goals as goal
 
 pub returns-clause-unread : goal.returns-clause-unread
@@ -20,5 +21,5 @@ returns-clause-refused c =
 
 pub returns-clause-reported : goal.returns-clause-reported
 returns-clause-reported c = λ s source left before between cause planned agree uuid read stands.
-    let whole : AreWhole s = record { planned = planned; agree = agree; uuid = uuid } in
-    subst (IsFormattedDevice s source before) (sym stands) (written-formatted s source before whole read.enough)
+    let valid : AreValid s = record { planned = planned; agree = agree; uuid = uuid } in
+    subst (IsFormattedDevice s source before) (sym stands) (written-formatted s source before valid read.enough)

@@ -1,4 +1,4 @@
-use Rattle.veritysetup.proofs.VerdictLemmas.{judged-one, verifies-alike}
+use Rattle.veritysetup.proofs.SameVerdictLemmas.{judged-one, verifies-alike}
 use Rattle.veritysetup.proofs.laws.verdicts_depend_on_what_is_covered.Goals as goal
 
 pub returns-clause-possible : goal.returns-clause-possible

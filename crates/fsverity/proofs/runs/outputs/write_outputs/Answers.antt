@@ -1,7 +1,7 @@
 use Rattle.std.proofs.Common.{refl}
+use Rattle.command_line.proofs.Prefixes.{Keeps-refl}
 use Rattle.verity_tree.specs.Levels.{root_of_file}
 use Rattle.fsverity.proofs.DigestLemmas.{length-root_of_file}
-use Rattle.fsverity.proofs.FormLemmas.{Keeps-same}
 use Rattle.fsverity.proofs.runs.outputs.write_outputs.Goals as goal
 
 pub returns-in-Err-clause-written : goal.returns-in-Err-clause-written
@@ -9,6 +9,6 @@ returns-in-Err-clause-written g c = record {
   root = root_of_file c.args.task.now.settings c.args.task.now.size (g.S.Source.remaining c.args.source.now);
   root_length = length-root_of_file _ _ _;
   root_is = λ told. refl;
-  descriptor = Keeps-same _;
-  printed = Keeps-same _;
+  descriptor = Keeps-refl _;
+  printed = Keeps-refl _;
 }

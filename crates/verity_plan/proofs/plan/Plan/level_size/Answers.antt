@@ -1,8 +1,8 @@
 use Rattle.std.proofs.Common.{ℕ, ◌<◌, arith, ap, ◌∙◌, refl}
 use Rattle.std.specs.Int.{div_ceil}
-use Rattle.verity_plan.specs.PlanCounts.{size_under}
+use Rattle.verity_plan.specs.PlanCounts.{count_under}
 use Rattle.verity_plan.specs.Settings.{fan}
-use Rattle.verity_plan.proofs.PlanLemmas.{size-more}
+use Rattle.verity_plan.proofs.PlanLemmas.{count-more}
 use Rattle.verity_plan.proofs.plan.Plan.level_size.Goals as goal
 
 pub returns : goal.returns
@@ -10,6 +10,6 @@ returns c =
     let p = c.args.self.now in
     let some : 0 < fan p.settings = omega (arith, c.fan.ensures.two, c.fan.ensures.value) in
     c.div_ceil.ensures
-    ∙ ap (λ (n : ℕ). div_ceil n c.fan.result) c.size_under.ensures
-    ∙ ap (λ (n : ℕ). div_ceil (size_under p c.args.level) n) c.fan.ensures.value
-    ∙ size-more (fan p.settings) p.blocks c.args.level (size_under p c.args.level) some refl
+    ∙ ap (λ (n : ℕ). div_ceil n c.fan.result) c.count_under.ensures
+    ∙ ap (λ (n : ℕ). div_ceil (count_under p c.args.level) n) c.fan.ensures.value
+    ∙ count-more (fan p.settings) p.blocks c.args.level (count_under p c.args.level) some refl

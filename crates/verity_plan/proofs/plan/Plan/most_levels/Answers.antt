@@ -13,7 +13,7 @@ largest-is : (s : TreeSettingsFields) (size log : ℕ) → IsValid s → size �
     → size < 2 * 2 ^ log → most_bytes / 2 ^ log ≡ most_bytes / s.data_block
 largest-is s size log valid same low high =
     ap (λ (n : ℕ). most_bytes / n)
-    (sym (power_of_two-exponent s.data_block log (some_data s valid) (block_power _ s.data_block valid.data_size)
+    (sym (power_of_two-exponent s.data_block log (some_data s valid) (block_power _ s.data_block valid.data_block_size)
     (omega (arith, low, same)) (omega (arith, high, same))))
 
 pub returns-clause-value : goal.returns-clause-value

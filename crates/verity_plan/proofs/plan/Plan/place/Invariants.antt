@@ -5,10 +5,10 @@ use Rattle.verity_plan.specs.PlanCounts.{level_count_of}
 use Rattle.verity_plan.specs.Settings.{fan}
 use Rattle.verity_plan.proofs.plan.Plan.place.Given as goal
 
--- the levels from this one upward stand before the start
+-- the levels from this one upward stand before this place
 abbrev pub invariant-loop-below : goal.invariant-loop-below
 invariant-loop-below l = record {
-  size_is : l.size ≡ div_ceil l.self.blocks (fan l.self.settings ^ l.below);
-  start_is : l.start ≡ l.self.base + blocks_from (fan l.self.settings) l.self.blocks l.below
+  count_is : l.count ≡ div_ceil l.self.blocks (fan l.self.settings ^ l.below);
+  first_is : l.first ≡ l.self.base + blocks_from (fan l.self.settings) l.self.blocks l.below
       (level_count_of l.self - l.below);
 }

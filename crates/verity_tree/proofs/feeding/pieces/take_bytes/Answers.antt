@@ -3,8 +3,8 @@ use Rattle.std.proofs.lemmas.List.{length-take-le}
 use Rattle.verity_plan.specs.Settings.{fan}
 use Rattle.verity_tree.specs.ClosingOrder.{closed_after}
 use Rattle.verity_tree.specs.Windows.{window_blocks, window_length}
-use Rattle.verity_tree.proofs.ClimbLemmas.{last-below}
-use Rattle.verity_tree.proofs.PieceOfBytesLemmas.{HasFed-filled, closed_after-placed, windows_before-filled}
+use Rattle.verity_tree.proofs.LastByteLemmas.{last-below}
+use Rattle.verity_tree.proofs.WindowSteps.{HasFed-filled, closed_after-placed, windows_before-filled}
 use Rattle.verity_tree.proofs.feeding.pieces.take_bytes.Goals as goal
 
 pub returns-clause-none_closes : goal.returns-clause-none_closes

@@ -7,7 +7,7 @@ use Rattle.verity_plan.specs.Settings.{TreeSettingsFields}
 use Rattle.verity_tree.specs.Steps.Feeding.{HasFed, HasWindow, IsSettled, windows_before}
 use Rattle.verity_tree.specs.Windows.{window_length}
 use Rattle.verity_tree.proofs.AdvanceLemmas.{partial-quotient}
-use Rattle.verity_tree.proofs.PieceOfBytesLemmas.{HasFed-filled}
+use Rattle.verity_tree.proofs.WindowSteps.{HasFed-filled}
 use Rattle.verity_tree.proofs.feeding.pieces.take_short_piece.Goals as goal
 
 -- a piece that has room in the window is put after the bytes that are in it

@@ -7,7 +7,8 @@ use Rattle.verity_plan.specs.PlanCounts.{most_level_count}
 use Rattle.verity_plan.specs.Settings.{TreeSettingsFields}
 use Rattle.verity_tree.specs.Levels.{root_of_file, data_blocks, root}
 use Rattle.verity_tree.specs.Steps.Feeding.{HasFed}
-use Rattle.verity_tree.proofs.FeedingLemmas.{FilePlan-is, IsFedFile-parted, file_levels, file_room, joined}
+use Rattle.verity_tree.proofs.FeedingLemmas.{IsFedFile-parted, joined}
+use Rattle.verity_tree.proofs.FilePlans.{file_levels, file_room, plan_of_file-is}
 use Rattle.verity_tree.proofs.file_builder.FileBuilder.end.Goals as goal
 
 pub root_of_fed-requires-clause-opened : goal.root_of_fed-requires-clause-opened
@@ -26,7 +27,7 @@ file_root-some : (s : TreeSettingsFields) (plan : PlanFields) (size : ℕ) (fed 
 file_root-some s plan size fed planned is had =
     let asked : Ok plan ≡ plan_for_bytes s (length fed) 0 =
     subst (λ (n : ℕ). Ok plan ≡ plan_for_bytes s n 0) (sym had) is in
-    let same = FilePlan-is plan s (length fed) asked in
+    let same = plan_of_file-is plan s (length fed) asked in
     let some : 0 < length fed = omega (arith, planned.some, ap (λ (p : PlanFields). p.wanted) same) in
     let tested : nat_eq (length fed) 0 ≡ false = grind (arith, nat_tests, some) in
     ap (λ (p : PlanFields). root p.settings (data_blocks p fed)) same ∙ rw tested refl
@@ -38,7 +39,7 @@ returns-in-Ok-clause-root c = λ fed h.
     let count = c.args.self.now.fed in
     let levels = most_level_count s in
     let planned = c.planned.ensures in
-    let same : plan ≡ _ = FilePlan-is plan s count c.in-Ok.ensures in
+    let same : plan ≡ _ = plan_of_file-is plan s count c.in-Ok.ensures in
     let stood = IsFedFile-parted c.args.self.now _ c.args.memory.now c.split_at_mut-opened.result.0.now
     c.split_at_mut-opened.result.1.now fed c.open_length.ensures.value c.split_at_mut-opened.ensures.front
     c.split_at_mut-opened.ensures.back h in
@@ -57,7 +58,7 @@ returns-in-Ok-clause-stays c = λ fed h.
     let count = c.args.self.now.fed in
     let levels = most_level_count s in
     let planned = c.planned.ensures in
-    let same : plan ≡ _ = FilePlan-is plan s count c.in-Ok.ensures in
+    let same : plan ≡ _ = plan_of_file-is plan s count c.in-Ok.ensures in
     let settings : plan.settings ≡ s = ap (λ (p : PlanFields). p.settings) same in
     let stood = IsFedFile-parted c.args.self.now _ c.args.memory.now c.split_at_mut-opened.result.0.now
     c.split_at_mut-opened.result.1.now fed c.open_length.ensures.value c.split_at_mut-opened.ensures.front

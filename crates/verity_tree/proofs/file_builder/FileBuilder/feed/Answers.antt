@@ -14,8 +14,8 @@ use Rattle.verity_tree.specs.Feeding.{IsFedFile, is_too_large}
 use Rattle.verity_tree.specs.Steps.Feeding.{HasFed}
 use Rattle.verity_tree.specs.declared.feed_fault.FeedFault.TheVariants.{TooLarge}
 use Rattle.verity_tree.specs.declared.file_builder.FileBuilder.{FileBuilder}
-use Rattle.verity_tree.proofs.FeedingLemmas.{FilePlan-is, FilePlan-large, FilePlan-none, IsFedFile-parted, file_levels}
-use Rattle.verity_tree.proofs.FeedingLemmas.{file_room, joined}
+use Rattle.verity_tree.proofs.FeedingLemmas.{IsFedFile-parted, joined}
+use Rattle.verity_tree.proofs.FilePlans.{file_levels, file_room, plan_of_file-is, plan_of_file-large, plan_of_file-none}
 use Rattle.verity_tree.proofs.SmallFileLemmas.{small-plan}
 use Rattle.verity_tree.proofs.file_builder.FileBuilder.feed.Goals as goal
 
@@ -24,7 +24,7 @@ returns-in_default-clause-fault c =
     let count = c.args.self.now.fed + length c.args.piece.now in
     let past : most_bytes < count = omega (arith, c.in_default.ensures) in
     sym (ap (λ (r : Result PlanFields PlanFault). if is_too_large r then Some TooLarge else None)
-    (FilePlan-large c.args.self.now.settings count c.window_length.ensures.valid past))
+    (plan_of_file-large c.args.self.now.settings count c.window_length.ensures.valid past))
 
 pub feed_all-requires : goal.feed_all-requires
 feed_all-requires c =
@@ -51,7 +51,7 @@ returns-in-Ok-clause-fed c = λ fed h.
     omega (arith, c.window_length.ensures.value, c.requires) in
     let size = c.split_at_mut-opened.ensures.front_len ∙ from in
     let same : plan.settings ≡ s =
-    ap (λ (p : PlanFields). p.settings) (FilePlan-is plan s c.in-Some.count c.in-Ok.ensures) in
+    ap (λ (p : PlanFields). p.settings) (plan_of_file-is plan s c.in-Some.count c.in-Ok.ensures) in
     let window : c.take_short_piece.new.window ≡ c.split_at_mut-opened.result.1.now =
     c.take_short_piece.ensures.refused c.if-take_short_piece.false in
     let stood : HasFed s levels fed c.split_at_mut-opened.result.0.now c.take_short_piece.new.window =
@@ -97,7 +97,7 @@ returns-in-Err-NoData-clause-fed c = λ fed h.
     let s = c.args.self.now.settings in
     let is : Err NoData ≡ plan_for_bytes s c.in-Some.count 0 =
     ap (λ (f : PlanFault). Err f) (sym c.in-Err-NoData.field-0-is) ∙ c.in-Err-NoData.ensures in
-    let none = FilePlan-none s c.in-Some.count c.window_length.ensures.valid is in
+    let none = plan_of_file-none s c.in-Some.count c.window_length.ensures.valid is in
     subst (λ (xs : List ℕ). IsFedFile c.args.self.now xs (fed ++ c.args.piece.now))
     (sym (memory-back _ c.args.memory.now c.split_at_mut-opened.result.0.now c.split_at_mut-opened.result.1.now
     c.take_short_piece.new.window c.split_at_mut-opened.ensures.front c.split_at_mut-opened.ensures.back

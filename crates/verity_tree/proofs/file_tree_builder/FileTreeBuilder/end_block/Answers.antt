@@ -11,8 +11,9 @@ use Rattle.verity_tree.specs.FileTrees.{IsFedFileTree, levels_of_file}
 use Rattle.verity_tree.specs.Levels.{data_blocks}
 use Rattle.verity_tree.specs.Steps.Feeding.{HasFed}
 use Rattle.verity_tree.specs.TreeOnDevice.{tree_block}
-use Rattle.verity_tree.proofs.FeedingLemmas.{FilePlan-is, IsFedFile-parted, file_levels, file_room, joined}
-use Rattle.verity_tree.proofs.FileTreeFeeding.{file-of_tree, no-levels, tree-of_file}
+use Rattle.verity_tree.proofs.FeedingLemmas.{IsFedFile-parted, joined}
+use Rattle.verity_tree.proofs.FilePlans.{file_levels, file_room, no-levels, plan_of_file-is}
+use Rattle.verity_tree.proofs.FileTreeFeeding.{file-of_tree, tree-of_file}
 use Rattle.verity_tree.proofs.file_tree_builder.FileTreeBuilder.end_block.Goals as goal
 use Rattle.verity_tree.proofs.file_tree_builder.FileTreeBuilder.end_block.Goals.{After-split_at_mut-opened}
 
@@ -27,7 +28,7 @@ last_block_of_fed-requires-clause-opened c =
 
 -- the plan is that of the file that ends here
 plan-is : (c : After-split_at_mut-opened) → c.in-Ok.plan ≡ plan_of_file c.args.self.now.settings c.args.self.now.fed
-plan-is c = FilePlan-is c.in-Ok.plan c.args.self.now.settings c.args.self.now.fed c.in-Ok.ensures
+plan-is c = plan_of_file-is c.in-Ok.plan c.args.self.now.settings c.args.self.now.fed c.in-Ok.ensures
 
 -- what was fed stands in the memory's two parts
 stood : (c : After-split_at_mut-opened) → (fed : List ℕ) → IsFedFileTree c.args.self.now c.args.memory.now fed

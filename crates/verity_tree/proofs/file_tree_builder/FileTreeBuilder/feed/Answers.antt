@@ -13,8 +13,8 @@ use Rattle.verity_tree.specs.FileTrees.{IsFedFileTree, levels_of_file}
 use Rattle.verity_tree.specs.Steps.Feeding.{FeedsOn, Stands}
 use Rattle.verity_tree.specs.declared.feed_fault.FeedFault.TheVariants.{Level, TooLarge}
 use Rattle.verity_tree.proofs.AdvanceLemmas.{length-fed}
-use Rattle.verity_tree.proofs.FeedingLemmas.{FilePlan-is, FilePlan-large, file_levels, file_room}
-use Rattle.verity_tree.proofs.FileTreeFeeding.{FeedsFile-none, FeedsFile-some, HasFedOnFile, no-levels, tree-parted}
+use Rattle.verity_tree.proofs.FilePlans.{file_levels, file_room, no-levels, plan_of_file-is, plan_of_file-large}
+use Rattle.verity_tree.proofs.FileTreeFeeding.{FeedsFile-none, FeedsFile-some, HasFedOnFile, IsFedFileTree-parted}
 use Rattle.verity_tree.proofs.FileTreeLemmas.{Stands-moves}
 use Rattle.verity_tree.proofs.file_tree_builder.FileTreeBuilder.feed.Goals as goal
 use Rattle.verity_tree.proofs.file_tree_builder.FileTreeBuilder.feed.Goals.{After-feed_before_end-taken}
@@ -26,7 +26,7 @@ returns-in_default-clause-fault c =
     let past : most_bytes < count = omega (arith, c.in_default.ensures) in
     sym (ap (λ (r : Result PlanFields PlanFault). if is_too_large r then Some TooLarge
     else (if nat_lt (levels_of_file b.settings count) b.closed then Some Level else None))
-    (FilePlan-large b.settings count c.open_length-from.ensures.valid past))
+    (plan_of_file-large b.settings count c.open_length-from.ensures.valid past))
 
 pub returns-then-self-gt0-clause-fault : goal.returns-then-self-gt0-clause-fault
 returns-then-self-gt0-clause-fault c =
@@ -49,7 +49,7 @@ feed_before_end-taken-requires c =
     let room = file_room plan s c.in-Some.count (most_level_count s) _ c.in-Ok.ensures size in
     let most = file_levels plan s c.in-Some.count c.planned.ensures c.in-Ok.ensures in
     let wanted : plan.wanted ≡ c.in-Some.count =
-    ap (λ (p : PlanFields). p.wanted) (FilePlan-is plan s c.in-Some.count c.in-Ok.ensures) in
+    ap (λ (p : PlanFields). p.wanted) (plan_of_file-is plan s c.in-Some.count c.in-Ok.ensures) in
     record {
       step = record {
         planned = c.planned.ensures;
@@ -72,10 +72,10 @@ fed-on c fed h =
     let count = c.in-Some.count in
     let plan = c.in-Ok.plan in
     let step = c.feed_before_end-taken in
-    let same : plan ≡ plan_of_file s count = FilePlan-is plan s count c.in-Ok.ensures in
+    let same : plan ≡ plan_of_file s count = plan_of_file-is plan s count c.in-Ok.ensures in
     let room = c.split_at_mut-opened.ensures.front_len ∙ c.open_length-from.ensures.value in
     let some : 0 < length c.args.piece.now = grind (arith, nat_tests, c.if-is_empty.false, c.if-is_empty.ensures) in
-    let stood = tree-parted b c.open_length-from.result c.args.memory.now c.split_at_mut-opened.result.0.now
+    let stood = IsFedFileTree-parted b c.open_length-from.result c.args.memory.now c.split_at_mut-opened.result.0.now
     c.split_at_mut-opened.result.1.now fed c.open_length-from.ensures.value c.split_at_mut-opened.ensures.front
     c.split_at_mut-opened.ensures.back h in
     let moved = Stands-moves s levels b.closed (length fed + 1) count fed c.split_at_mut-opened.result.0.now
@@ -102,7 +102,7 @@ returns-then-closes-clause-takes c =
     let step = c.feed_before_end-taken.ensures in
     let s = c.args.self.now.settings in
     let same : c.in-Ok.plan.settings ≡ s =
-    ap (λ (p : PlanFields). p.settings) (FilePlan-is c.in-Ok.plan s c.in-Some.count c.in-Ok.ensures) in
+    ap (λ (p : PlanFields). p.settings) (plan_of_file-is c.in-Ok.plan s c.in-Some.count c.in-Ok.ensures) in
     record {
       settings_are = refl;
       fed_is = step.fed;
@@ -120,7 +120,7 @@ pub returns-then-closes-clause-fed : goal.returns-then-closes-clause-fed
 returns-then-closes-clause-fed c = λ fed h.
     let s = c.args.self.now.settings in
     let same : c.in-Ok.plan.settings ≡ s =
-    ap (λ (p : PlanFields). p.settings) (FilePlan-is c.in-Ok.plan s c.in-Some.count c.in-Ok.ensures) in
+    ap (λ (p : PlanFields). p.settings) (plan_of_file-is c.in-Ok.plan s c.in-Some.count c.in-Ok.ensures) in
     FeedsFile-some c.args.self.now c.in-Some.count _ _ fed _ c.feed_before_end-taken.new.opened
     c.feed_before_end-taken.new.window c.closed_block.result
     (rw (← c.if-closes.true) (fed-on (goal.at.returns-then-closes-clause-fed c).After-feed_before_end-taken fed h))

@@ -15,7 +15,7 @@ returns-then-levels-eq0-clause-root c = λ bytes h.
     c.digest_in.ensures
     ∙ root-of_part b _ c.args.memory.now bytes c.levels_left.ensures.planned (omega (arith, left.0))
     (omega (arith, left.1, c.if-levels-eq0.true)) (rw (left.1, c.hash_block-size.ensures) refl)
-    (omega (arith, c.if-self-parts.false, c.if-self-parts-2.false, c.size_under-parts.ensures)) h
+    (omega (arith, c.if-self-parts.false, c.if-self-parts-2.false, c.count_under-parts.ensures)) h
 
 pub returns-clause-root : goal.returns-clause-root
 returns-clause-root c = λ bytes h.
@@ -25,4 +25,4 @@ returns-clause-root c = λ bytes h.
     ∙ root-of_top b c.in-Some.levels c.hash_block-size.result c.args.memory.now bytes c.levels_left.ensures.planned
     (omega (arith, left.0)) (omega (arith, c.if-levels-eq0.false)) left.1 c.hash_block-size.ensures
     (omega (arith, c.if-self-levels.false))
-    (omega (arith, c.if-self-parts.false, c.if-self-parts-2.false, c.size_under-parts.ensures)) h
+    (omega (arith, c.if-self-parts.false, c.if-self-parts-2.false, c.count_under-parts.ensures)) h

@@ -56,7 +56,7 @@ returns-then-closes-clause-joins c = λ bytes h digests.
       level_least = omega (arith, c.joined.ensures.level, some);
       level_below = omega (arith, c.joined.ensures.level, most);
       index_is = c.joined.ensures.index;
-      byte_is = c.joined.ensures.byte;
+      start_is = c.joined.ensures.start;
       at_is = c.joined.ensures.at;
     })
 

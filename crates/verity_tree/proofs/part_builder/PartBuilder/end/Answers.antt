@@ -11,8 +11,8 @@ use Rattle.verity_tree.specs.Steps.Feeding.{HasFed}
 use Rattle.verity_tree.specs.Steps.Parts.{PartStands}
 use Rattle.verity_tree.proofs.FeedingLemmas.{joined}
 use Rattle.verity_tree.proofs.OpenBlockLemmas.{hash-by, length-hash}
-use Rattle.verity_tree.proofs.PartFeeding.{part-handing-out, part-nothing-out}
-use Rattle.verity_tree.proofs.PartLemmas.{IsFedPart-parted, most_closed-le, part-root, part-top}
+use Rattle.verity_tree.proofs.PartFeeding.{IsFedPart-parted, most_closed-le, part-root, part-top}
+use Rattle.verity_tree.proofs.PartSteps.{part-handing-out, part-nothing-out}
 use Rattle.verity_tree.proofs.PlanOfPart.{has-part}
 use Rattle.verity_tree.proofs.part_builder.PartBuilder.end.Goals as goal
 use Rattle.verity_tree.proofs.part_builder.PartBuilder.end.Goals.{After-split_at_mut-opened}

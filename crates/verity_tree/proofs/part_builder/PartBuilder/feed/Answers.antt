@@ -3,8 +3,8 @@ use Rattle.std.proofs.Common.{inl, inr}
 use Rattle.verity_plan.specs.Plans.{PlanFields}
 use Rattle.verity_tree.specs.Parts.{IsFedPart, IsPlacedOfPart, most_closed, plan_of_part}
 use Rattle.verity_tree.proofs.AdvanceLemmas.{length-fed}
-use Rattle.verity_tree.proofs.PartLemmas.{FeedsPart-none, FeedsPart-some, HasFedPartOn, IsFedPart-parted}
-use Rattle.verity_tree.proofs.PartLemmas.{most_closed-le}
+use Rattle.verity_tree.proofs.PartFeeding.{FeedsPart-none, FeedsPart-some, HasFedPartOn, IsFedPart-parted}
+use Rattle.verity_tree.proofs.PartFeeding.{most_closed-le}
 use Rattle.verity_tree.proofs.PartOwnOrder.{part-last-below}
 use Rattle.verity_tree.proofs.PlanOfPart.{has-part}
 use Rattle.verity_tree.proofs.part_builder.PartBuilder.feed.Goals as goal
@@ -80,7 +80,7 @@ placed c =
       level_is = c.placed.ensures.level;
       level_below = omega (arith, c.placed.ensures.level, c.feed_part-taken.ensures.closed);
       index_is = rw c.in-Ok.ensures.first at c.placed.ensures.index;
-      byte_is = c.placed.ensures.byte;
+      start_is = c.placed.ensures.start;
       at_is = c.placed.ensures.at;
     }
 

@@ -1,7 +1,7 @@
 use Rattle.std.proofs.Common.{arith, ◌≤◌, ap}
 use Rattle.verity_plan.specs.Plans.{PlanFields}
 use Rattle.verity_tree.specs.Parts.{IsPlacedOfPart, most_closed, plan_of_part}
-use Rattle.verity_tree.proofs.PartLemmas.{IsHandedOutOfPart-last, most_closed-le, most_closed-stands, part_fault-none}
+use Rattle.verity_tree.proofs.PartFeeding.{IsHandedOutOfPart-last, most_closed-le, most_closed-stands, part_fault-none}
 use Rattle.verity_tree.proofs.PartOwnOrder.{part-last-below}
 use Rattle.verity_tree.proofs.PlanOfPart.{has-part}
 use Rattle.verity_tree.proofs.part_builder.PartBuilder.last_block.Goals as goal
@@ -76,7 +76,7 @@ placed c = record {
     few (goal.at.After-placed c).After-most_closed_of c.if-self-most_closed_of.false,
   );
   index_is = rw c.in-Ok.ensures.first at c.placed.ensures.index;
-  byte_is = c.placed.ensures.byte;
+  start_is = c.placed.ensures.start;
   at_is = c.placed.ensures.at;
 }
 

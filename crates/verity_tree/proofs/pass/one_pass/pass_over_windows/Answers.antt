@@ -12,13 +12,13 @@ use Rattle.verity_tree.specs.Steps.OnClosed.{effects, stop_at}
 use Rattle.verity_io.specs.Reading.{HasRead}
 use Rattle.verity_tree.proofs.LevelLemmas.{length-cut}
 use Rattle.verity_tree.specs.Windows.{window_length}
-use Rattle.verity_tree.proofs.ClimbLemmas.{last-below}
+use Rattle.verity_tree.proofs.LastByteLemmas.{last-below}
 use Rattle.verity_tree.proofs.ClosingLemmas.{closing-below}
 use Rattle.verity_tree.proofs.HandedOutLemmas.{all-handed-out, none-handed-out}
 use Rattle.verity_tree.proofs.OnePassLemmas.{HandsOn, HasFed-zeros, chunk-at, data_blocks-front, feeds-window, hands-on}
 use Rattle.verity_tree.proofs.OnePassLemmas.{not-of_device, not-of_source, reads-up-to, stopped-below, stops-for, stops-in-window}
 use Rattle.verity_tree.proofs.OnePassLemmas.{whole-windows}
-use Rattle.verity_tree.proofs.QuotientLemmas.{whole-next}
+use Rattle.verity_tree.proofs.ReachedLemmas.{whole-next}
 use Rattle.verity_tree.proofs.WindowLemmas.{window-wide}
 use Rattle.verity_tree.proofs.pass.one_pass.pass_over_windows.Goals as goal
 use Rattle.verity_tree.proofs.pass.one_pass.pass_over_windows.Given.{Over}
@@ -92,7 +92,7 @@ take-requires-clause-here g c =
     let some = c.if-close_next.ensures.closed refl in
     record {
       level_below = omega (arith, some.1, level-is g own);
-      block_below = omega (
+      index_below = omega (
         arith,
         index-is g own,
         closing-below (fan p.settings) p.blocks c.handed_out-next.result.level (blocks_before p.settings n)
@@ -180,7 +180,8 @@ at-within g c =
     )
 
 -- as long as a hash block
-part-long : (at n : ℕ) (opened : List ℕ) → at + n ≤ length opened → length (take n (take (length opened - at) (drop at opened))) ≡ n
+part-long : (at n : ℕ) (opened : List ℕ) → at + n ≤ length opened
+    → length (take n (take (length opened - at) (drop at opened))) ≡ n
 part-long at n opened within =
     length-take-le n (take (length opened - at) (drop at opened))
     (omega (arith, within, length-take (length opened - at) (drop at opened), length-drop at opened))

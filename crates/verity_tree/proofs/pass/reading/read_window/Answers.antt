@@ -7,7 +7,7 @@ use Rattle.verity_io.specs.Reading.{HasRead}
 use borrow.Rule.Slice.PartMut.{put_mid}
 use Rattle.verity_plan.proofs.FanLemmas.{some_data}
 use Rattle.verity_tree.proofs.DataBlockLemmas.{HasRead-blocks, HasRead-more, failed-within, short-within}
-use Rattle.verity_tree.proofs.QuotientLemmas.{whole-next}
+use Rattle.verity_tree.proofs.ReachedLemmas.{whole-next}
 use Rattle.verity_tree.proofs.pass.reading.read_window.Goals as goal
 
 -- the part of the window that is read into is as long as what is wanted of it

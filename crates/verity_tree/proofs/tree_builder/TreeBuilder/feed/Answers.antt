@@ -35,7 +35,7 @@ returns-then-closes-clause-fed c = λ fed h.
       level_is = c.handed_out.ensures.level;
       level_below = omega (arith, c.handed_out.ensures.level, c.feed_until_closed-taken.ensures.closed);
       index_is = c.handed_out.ensures.index;
-      byte_is = c.handed_out.ensures.byte;
+      start_is = c.handed_out.ensures.start;
       at_is = c.handed_out.ensures.at;
     })
 

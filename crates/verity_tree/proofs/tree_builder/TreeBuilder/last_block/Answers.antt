@@ -9,6 +9,6 @@ returns-clause-stands c = λ memory fed h.
       level_is = c.handed_out.ensures.level;
       level_below = omega (arith, c.handed_out.ensures.level, c.levels.ensures, c.if-self-levels.false);
       index_is = c.handed_out.ensures.index;
-      byte_is = c.handed_out.ensures.byte;
+      start_is = c.handed_out.ensures.start;
       at_is = c.handed_out.ensures.at;
     }) h

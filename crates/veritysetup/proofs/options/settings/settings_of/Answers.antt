@@ -2,7 +2,7 @@ use Rattle.std.proofs.Common.{◌≡◌, ◌∙◌, ℕ, ap, refl, Bool, true, f
 use Rattle.std.proofs.Common.{◌%◌, ◌==◌, sym, subst, arith}
 use Rattle.std.proofs.lemmas.Bool.Decides.{nat_tests}
 use Rattle.verity_plan.specs.Plans.{PlanFields, multiple_of}
-use Rattle.veritysetup.proofs.OptionLemmas.{apart-is, plan_is}
+use Rattle.veritysetup.proofs.ChosenPlanLemmas.{accepted_plan-is, plan_is}
 use Rattle.veritysetup.proofs.options.settings.settings_of.Goals as goal
 
 -- a number that is taken as a multiple of a unit is one
@@ -19,7 +19,7 @@ aligned-is unit same_unit bytes offset r made given same =
 
 pub invariant_of-result : goal.invariant_of-result
 invariant_of-result c =
-    let planned = apart-is _ _ _ c.in_ok-plan.plan c.in_ok-plan.ensures in
+    let planned = accepted_plan-is _ _ _ c.in_ok-plan.plan c.in_ok-plan.ensures in
     let made = plan_is c.in_ok-tree.tree _ _ c.in_ok-plan.plan (planned ∙ c.plan_at-planned.ensures) in
     record {
       of_type = ap (λ (p : PlanFields). p.settings.rule) made.plan_is ∙ c.in_ok-tree.ensures.of_type;

@@ -4,7 +4,8 @@ use Rattle.veritysetup.specs.Runs.Format.{PrintsReport, Reads, Writes}
 use Rattle.veritysetup.specs.Runs.Formatted.{IsFormattedDevice, format_report}
 use Rattle.veritysetup.specs.declared.fault.Fault.{Fault}
 use Rattle.veritysetup.specs.declared.runs.format.Formatted.{Formatted}
-use Rattle.veritysetup.proofs.FormattedLemmas.{AreWhole, written-formatted}
+use Rattle.veritysetup.proofs.FormattedLemmas.{written-formatted}
+use Rattle.veritysetup.proofs.SettingsLemmas.{AreValid}
 use Rattle.veritysetup.proofs.runs.format.run_format.Goals as goal
 
 pub returns-clause-formatted : goal.returns-clause-formatted
@@ -16,10 +17,10 @@ returns-clause-formatted g c = λ zero source_told device_told.
     let before = g.D.Device.content c.args.device.now in
     let after = g.D.Device.content c.format-outcome.new.device in
     let done = (c.end_run.ensures.done zero).1 in
-    let whole : AreWhole s = record {
-      planned = c.settings_are_whole.ensures.planned;
-      agree = c.settings_are_whole.ensures.agree;
-      uuid = c.settings_are_whole.ensures.uuid;
+    let valid : AreValid s = record {
+      planned = c.settings_are_valid.ensures.planned;
+      agree = c.settings_are_valid.ensures.agree;
+      uuid = c.settings_are_valid.ensures.uuid;
     } in
     let read = subst (λ (outcome : Result Formatted Fault). Reads s outcome source rest) done
     (c.format-outcome.ensures.read source_told) in
@@ -30,7 +31,7 @@ returns-clause-formatted g c = λ zero source_told device_told.
     (g.O.Write.contents c.args.out.now) (g.O.Write.contents c.format-outcome.new.out)) done printed.2 in
     record {
       read = read;
-      stands = subst (IsFormattedDevice s source before) (sym stands) (written-formatted s source before whole read.enough);
+      stands = subst (IsFormattedDevice s source before) (sym stands) (written-formatted s source before valid read.enough);
       printed = rw (printed.1 source_told) at report;
     }
 

@@ -1,7 +1,0 @@
-use Rattle.std.proofs.Common.{◌≡◌, ◌^◌}
-use Rattle.std.specs.Int.{div_ceil}
-use Rattle.verity_plan.specs.Settings.{fan}
-use Rattle.verity_plan.proofs.plan.Plan.size_under.Given as goal
-
-abbrev pub invariant-loop-below : goal.invariant-loop-below
-invariant-loop-below l = l.size ≡ div_ceil l.self.blocks (fan l.self.settings ^ l.below)

@@ -1,0 +1,30 @@
+-- Lists of one length, joined.
+use Rattle.std.proofs.Common.{◌≡◌, ℕ, zero, suc, ◌+◌, ◌*◌, ◌<◌, ◌≤◌, List, length, arith, ◌∙◌, ap}
+use Rattle.std.proofs.Common.{length-append}
+use Rattle.std.proofs.lemmas.List.{take_at}
+use Rattle.std.proofs.Math.Seq.{drop-append-add}
+use Rattle.std.specs.Fork.{slice_chunk}
+use Rattle.std.specs.List.{flat_map, range_with_len}
+
+-- some pieces
+pub length-pieces : (f : ℕ → List ℕ) (size from n : ℕ) → ((m : ℕ) → from ≤ m → m < from + n → length (f m) ≡ size)
+    → length (flat_map f (range_with_len from n)) ≡ n * size
+length-pieces f size from zero each = let none : 0 ≡ 0 * size = omega arith in none
+length-pieces f size from (suc n) each =
+    let rest = length-pieces f size (from + 1) n (λ m a b. each m (omega (arith, a)) (omega (arith, b))) in
+    length-append (f from) (flat_map f (range_with_len (from + 1) n))
+    ∙ omega (arith, rest, each from (omega arith) (omega arith))
+
+-- one piece
+pub piece : (f : ℕ → List ℕ) (size from n l : ℕ) → l < n → ((m : ℕ) → from ≤ m → m < from + n → length (f m) ≡ size)
+    → slice_chunk (flat_map f (range_with_len from n)) size l ≡ f (from + l)
+piece f size from zero l below each = absurd (omega arith)
+piece f size from (suc n) zero below each =
+    let start : 0 * size ≡ 0 = omega arith in
+    let same : from ≡ from + 0 = omega arith in
+    rw start (take_at (f from) _ size (each from (omega arith) (omega arith)) ∙ ap f same)
+piece f size from (suc n) (suc l) below each =
+    let past : suc l * size ≡ length (f from) + l * size = omega (arith, each from (omega arith) (omega arith)) in
+    let same : from + 1 + l ≡ from + suc l = omega arith in
+    rw (past, drop-append-add (f from)) (piece f size (from + 1) n l (omega arith)
+    (λ m a b. each m (omega (arith, a)) (omega (arith, b))) ∙ ap f same)

@@ -1,0 +1,271 @@
+//! The program over files in memory: which files it opens, in which order, what it syncs, and how long it holds each.
+use crate::program_runs::{NULL_FILES, disk_of, run};
+use memory_runtime::{Call, Disk, Kind};
+use std::test::Fail;
+
+const NULL_FILES_OPENED: &str = "open /dev/null\nopen /dev/null\nopen /dev/null\n";
+
+const NULL_FILES_CLOSED: &str = "close /dev/null\nclose /dev/null\nclose /dev/null\n";
+
+/// The message for the folder, from which nothing is read.
+const NOT_OPENED: &str = "Cannot open images.\n";
+
+/// Words, what is opened after the null files, what is opened, synced and closed while these are open, and the status
+/// and the message.
+const RUNS: [(&str, &str, &str, u8, &str); 24] = [
+    (
+        "veritysetup format data hash",
+        "data: read\nhash: read write create\n.: read\n",
+        "open data\nopen hash\nsync hash\nopen .\nsync .\nclose .\nclose hash\nclose data\n",
+        0,
+        "",
+    ),
+    (
+        "veritysetup format --no-superblock --salt=- data hash",
+        "data: read\nhash: read write create\n.: read\n",
+        "open data\nopen hash\nsync hash\nopen .\nsync .\nclose .\nclose hash\nclose data\n",
+        0,
+        "",
+    ),
+    (
+        "veritysetup format data images/new",
+        "data: read\nimages/new: read write create\nimages: read\n",
+        "open data\nopen images/new\nsync images/new\nopen images\nsync images\nclose images\nclose images/new\nclose data\n",
+        0,
+        "",
+    ),
+    // The folder of an old file isn't synced.
+    (
+        "veritysetup format data hash.img",
+        "data: read\nhash.img: read write create\n",
+        "open data\nopen hash.img\nsync hash.img\nclose hash.img\nclose data\n",
+        0,
+        "",
+    ),
+    (
+        "veritysetup format --data-blocks 3 data hash",
+        "data: read\n",
+        "open data\nclose data\n",
+        4,
+        "Data ends before the end of block 2.\n",
+    ),
+    (
+        "veritysetup format --hash md5 data hash",
+        "data: read\n",
+        "open data\nclose data\n",
+        1,
+        "Unknown hash algorithm.\n",
+    ),
+    (
+        "veritysetup format --format 2 data hash",
+        "data: read\n",
+        "open data\nclose data\n",
+        1,
+        "Hash type must be 0 or 1.\n",
+    ),
+    (
+        "veritysetup format data data",
+        "data: read\n",
+        "open data\nclose data\n",
+        1,
+        "Data area and hash area overlap.\n",
+    ),
+    (
+        "veritysetup format missing hash",
+        "missing: read\n",
+        "",
+        4,
+        "Cannot open missing.\n",
+    ),
+    // A folder is opened, but not read.
+    (
+        "veritysetup format images hash",
+        "images: read\n",
+        "open images\nclose images\n",
+        4,
+        NOT_OPENED,
+    ),
+    (
+        "veritysetup format data images",
+        "data: read\nimages: read write create\n",
+        "open data\nclose data\n",
+        4,
+        NOT_OPENED,
+    ),
+    (
+        "veritysetup dump hash.img",
+        "hash.img: read\n",
+        "open hash.img\nclose hash.img\n",
+        1,
+        "No verity superblock.\n",
+    ),
+    (
+        "veritysetup dump hash",
+        "hash: read\n",
+        "",
+        4,
+        "Cannot open hash.\n",
+    ),
+    (
+        "veritysetup dump images",
+        "images: read\n",
+        "open images\nclose images\n",
+        4,
+        NOT_OPENED,
+    ),
+    (
+        "veritysetup dump --hash-offset 1 hash.img",
+        "",
+        "",
+        1,
+        "Hash offset is not valid.\n",
+    ),
+    (
+        "veritysetup verify data hash.img 00",
+        "data: read\nhash.img: read\n",
+        "open data\nopen hash.img\nclose hash.img\nclose data\n",
+        1,
+        "No verity superblock.\n",
+    ),
+    (
+        "veritysetup verify data data 00",
+        "data: read\ndata: read\n",
+        "open data\nopen data\nclose data\nclose data\n",
+        1,
+        "No verity superblock.\n",
+    ),
+    (
+        "veritysetup verify data hash ab",
+        "data: read\nhash: read\n",
+        "open data\nclose data\n",
+        4,
+        "Cannot open hash.\n",
+    ),
+    (
+        "veritysetup verify missing hash.img ab",
+        "missing: read\n",
+        "",
+        4,
+        "Cannot open missing.\n",
+    ),
+    (
+        "veritysetup verify images hash.img ab",
+        "images: read\n",
+        "open images\nclose images\n",
+        4,
+        NOT_OPENED,
+    ),
+    (
+        "veritysetup verify data images ab",
+        "data: read\nimages: read\n",
+        "open data\nopen images\nclose images\nclose data\n",
+        4,
+        NOT_OPENED,
+    ),
+    (
+        "veritysetup verify --hash-offset 1 data hash.img ab",
+        "",
+        "",
+        1,
+        "Hash offset is not valid.\n",
+    ),
+    (
+        "veritysetup verify --no-superblock --salt=- data hash.img ab",
+        "data: read\n",
+        "open data\nclose data\n",
+        1,
+        "Root hash is not valid.\n",
+    ),
+    (
+        "veritysetup verify --no-superblock --salt=- images hash.img ab",
+        "images: read\n",
+        "open images\nclose images\n",
+        4,
+        NOT_OPENED,
+    ),
+];
+
+/// Only a run that goes through prints a report.
+#[test]
+fn files_are_opened_and_held_in_order(rt: HostRuntime) -> Result<(), Fail> {
+    let alloc = rt.alloc();
+    for &(words, opened, held, status, message) in &RUNS {
+        let disk = disk_of(alloc, &[5; 8192])?;
+        disk.make_kind("images", Kind::Folder, Vec::new(alloc))?;
+        disk.make("hash.img", [0; 8192].to_vec(alloc)?)?;
+        let output = run(alloc, &disk, words);
+        let all_opened = disk.opened()?;
+        let all_held = disk.held()?;
+        let found = (
+            all_opened.as_str().strip_prefix(NULL_FILES),
+            all_held
+                .as_str()
+                .strip_prefix(NULL_FILES_OPENED)
+                .unwrap_or("")
+                .strip_suffix(NULL_FILES_CLOSED),
+            output.status,
+            output.msgs.as_slice(),
+            output.out.is_empty(),
+            message == NOT_OPENED && disk.calls(Call::Read)? == 0,
+        );
+        let expected = (
+            Some(opened),
+            Some(held),
+            status,
+            message.as_bytes(),
+            status != 0,
+            message == NOT_OPENED,
+        );
+        assert_eq!(rt; found, expected, "at {words}");
+    }
+    Ok(())
+}
+
+/// Words, the number of the question that the system doesn't answer, and the message.
+const UNANSWERED: [(&str, u64, &str); 5] = [
+    ("veritysetup format data hash", 1, "Cannot open data.\n"),
+    ("veritysetup dump hash.img", 1, "Cannot open hash.img.\n"),
+    (
+        "veritysetup verify data hash.img 00",
+        1,
+        "Cannot open data.\n",
+    ),
+    (
+        "veritysetup verify data hash.img 00",
+        2,
+        "Cannot open hash.img.\n",
+    ),
+    (
+        "veritysetup verify --no-superblock --salt=- data hash.img 00",
+        1,
+        "Cannot open data.\n",
+    ),
+];
+
+/// It may be a folder.
+#[test]
+fn an_opened_file_of_which_the_system_says_nothing_is_refused(rt: HostRuntime) -> Result<(), Fail> {
+    let alloc = rt.alloc();
+    for &(words, number, message) in &UNANSWERED {
+        let disk = disk_of(alloc, &[5; 8192])?;
+        disk.make("hash.img", [0; 8192].to_vec(alloc)?)?;
+        disk.fail(Call::Metadata, number)?;
+        let output = run(alloc, &disk, words);
+        let differs = output.differs(4, b"", message.as_bytes());
+        let found = (differs, disk.calls(Call::Read)?, disk.has("hash")?);
+        assert_eq!(rt; found, (None, 0, false), "at {words}");
+    }
+    Ok(())
+}
+
+#[test]
+fn the_root_folder_stands_for_the_null_device(rt: HostRuntime) -> Result<(), Fail> {
+    let alloc = rt.alloc();
+    let disk = Disk::new(alloc);
+    disk.make("data", [5; 8192].to_vec(alloc)?)?;
+    disk.make_kind("/", Kind::Character, Vec::new(alloc))?;
+    let status = run(alloc, &disk, "veritysetup format data hash").status;
+    let found = (status, disk.has("hash")?);
+    assert_eq!(rt; found, (0, true));
+    Ok(())
+}
