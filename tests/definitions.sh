@@ -7,7 +7,7 @@ cd "$(dirname "$0")/.."
 needs python3 python3
 
 most_definitions=108
-most_lines=360
+most_lines=359
 most_files=16
 
 found=$(tests/definitions.py) || { fail 'tests/definitions.py' "$found"; finish; exit 1; }

@@ -23,8 +23,7 @@ digest_line Full algorithm digest name =
 digest_line Compact algorithm digest name = concat (encode_lower digest ∷ codes "\n" ∷ [])
 digest_line Builtin algorithm digest name =
     concat (encode_lower (formatted_digest algorithm digest) ∷ codes " " ∷ name ∷ codes "\n" ∷ [])
-digest_line CompactBuiltin algorithm digest name =
-    concat (encode_lower (formatted_digest algorithm digest) ∷ codes "\n" ∷ [])
+digest_line CompactBuiltin algorithm digest name = concat (encode_lower (formatted_digest algorithm digest) ∷ codes "\n" ∷ [])
 
 -- a digest of this algorithm has a formatted digest
 abbrev pub IsFormattable : Algorithm → List ℕ → Type 0
